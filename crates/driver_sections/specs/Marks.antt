@@ -23,11 +23,6 @@ are_next is_same [] tokens = true
 are_next is_same (word ∷ words) [] = false
 are_next is_same (word ∷ words) (t ∷ tokens) = is_same t.bytes word && are_next is_same words tokens
 
--- these words stand somewhere among the tokens
-abbrev pub stand_somewhere : (List ℕ → List ℕ → Bool) → List (List ℕ) → List Token → Bool
-stand_somewhere is_same words [] = false
-stand_somewhere is_same words (t ∷ tokens) = are_next is_same words (t ∷ tokens) || stand_somewhere is_same words tokens
-
 -- the offset behind a token
 abbrev pub behind : Token → ℕ
 behind t = t.at + length t.bytes

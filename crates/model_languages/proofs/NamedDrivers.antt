@@ -7,9 +7,9 @@ use Rattle.rule_readers.specs.declared.refusal.Refusal.TheVariants.{Syntax, Unde
 use Rattle.rule_readers.specs.Words.{is_among, fresh, new_name, known, allowed_by}
 use Rattle.rule_readers.proofs.Passing.{fits_if, fits_unless, fits_allowed, some_if}
 use Rattle.udp_tables.specs.declared.models.VPort.{VPort}
-use Rattle.driver_models.specs.declared.model.DriverModel.{DriverModel}
-use Rattle.driver_models.specs.Cores.{Core, core_ports, fits, core_name}
-use Rattle.driver_texts.proofs.SoundCores.{AnyToken}
+use Rattle.file_models.specs.driver_models.declared.model.DriverModel.{DriverModel}
+use Rattle.file_models.specs.driver_models.Cores.{Core, core_ports, fits, core_name}
+use Rattle.file_models.proofs.driver_texts.SoundCores.{AnyToken}
 
 -- the names of a driver and of its core are names, and its ports have different ones
 pub record IsNamed (is_name : List ℕ → Bool) (eq : List ℕ → List ℕ → Bool) (driver : DriverModel) : Type 0 where

@@ -7,7 +7,7 @@ use Rattle.std.proofs.lemmas.List.Folds.{list_any-append}
 use Rattle.udp_tables.specs.declared.models.VPort.{VPort}
 use Rattle.specify_blocks.specs.WellFormed.{AreApart}
 use Rattle.specify_blocks.proofs.ReadNames.{bytes_equivalence}
-use Rattle.bool_functions.proofs.NameLists.{position-none}
+use Rattle.file_models.proofs.bool_functions.NameLists.{position-none}
 use Rattle.model_files.specs.ModelNames.{input_names, output_names, AreNew, HasOwnNames}
 
 -- this name is none of those after it

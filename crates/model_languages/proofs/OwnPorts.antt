@@ -4,10 +4,10 @@ use Rattle.std.specs.Prelude.{All, map, flat_map}
 use Rattle.std.proofs.lemmas.List.Elements.{All-nil, All-cons, All-append, All-map, All-weaker}
 use Rattle.udp_tables.specs.declared.models.VPort.{VPort}
 use Rattle.specify_blocks.specs.WellFormed.{AreApart}
-use Rattle.driver_models.specs.declared.model.DriverModel.{DriverModel}
-use Rattle.sectioned_texts.specs.declared.driven_models.DrivenModels.{DrivenModels}
-use Rattle.sectioned_texts.specs.DrivenModels.{SectionLanguage}
-use Rattle.sectioned_texts.specs.Drivers.{AllMayStand}
+use Rattle.file_models.specs.driver_models.declared.model.DriverModel.{DriverModel}
+use Rattle.file_models.specs.sectioned_texts.declared.driven_models.DrivenModels.{DrivenModels}
+use Rattle.file_models.specs.sectioned_texts.DrivenModels.{SectionLanguage}
+use Rattle.file_models.specs.sectioned_texts.Drivers.{AllMayStand}
 use Rattle.file_models.specs.declared.file_model.FileModel.{FileModel}
 use Rattle.file_models.specs.FileModels.{driver_over, over_core, own_model, over_its_core, file_models}
 use Rattle.file_models.proofs.RunnableModels.{StandsOver, all_stand_over, all_parts}

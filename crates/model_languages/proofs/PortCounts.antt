@@ -3,7 +3,7 @@ use Rattle.std.proofs.Common.{◌≡◌, ℕ, suc, ◌+◌, true, false, not, co
 use Rattle.std.proofs.lemmas.List.Recursion.{is_count_by}
 use Rattle.udp_tables.specs.declared.models.VPort.{VPort}
 use Rattle.vital_models.specs.Sound.{output_ports_from}
-use Rattle.driver_models.specs.Models.{is_input, input_count, output_count}
+use Rattle.file_models.specs.driver_models.Models.{is_input, input_count, output_count}
 use Rattle.model_traces.specs.PortNumbers.{output_by, outputs_from, output_ports}
 use Rattle.model_files.specs.ModelNames.{input_names, output_names}
 

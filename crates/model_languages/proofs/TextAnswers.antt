@@ -2,10 +2,10 @@
 use Rattle.std.proofs.Common.{◌≡◌, ℕ, List, [], map, Result, Ok, Err, IfOk, refl, ap, ◌∙◌, append-nil}
 use Rattle.std.specs.Result.{result_map_both}
 use Rattle.udp_tables.specs.declared.models.ModelFault.{ModelFault}
-use Rattle.driver_sections.specs.Sections.{sections}
-use Rattle.sectioned_texts.specs.DrivenModels.{SectionLanguage, driven_models}
-use Rattle.sectioned_texts.specs.Laws.{without_drivers}
-use Rattle.sectioned_texts.proofs.TextLaws.{reads_as_before}
+use Rattle.file_models.specs.driver_sections.Sections.{sections}
+use Rattle.file_models.specs.sectioned_texts.DrivenModels.{SectionLanguage, driven_models}
+use Rattle.file_models.specs.sectioned_texts.Laws.{without_drivers}
+use Rattle.file_models.proofs.sectioned_texts.TextLaws.{reads_as_before}
 use Rattle.file_models.specs.FileModels.{own_model, file_models}
 
 -- what a value is made of

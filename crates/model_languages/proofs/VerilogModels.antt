@@ -4,7 +4,7 @@ use Rattle.std.specs.Prelude.{All, flat_map}
 use Rattle.std.specs.Str.{bytes_eq}
 use Rattle.std.specs.List.{IsDistinct, AllByRecursion, list_any}
 use Rattle.std.proofs.lemmas.List.Folds.{list_any-append}
-use Rattle.verilog_tokens.specs.Tokens.{is_name}
+use Rattle.driven_files.specs.verilog_tokens.Tokens.{is_name}
 use Rattle.specify_blocks.specs.declared.model.VModule.{VModule}
 use Rattle.specify_blocks.specs.Sound.{IsSound}
 use Rattle.specify_blocks.specs.VerilogModules.{port_names}
@@ -13,11 +13,11 @@ use Rattle.specify_blocks.proofs.ReadNames.{bytes_equivalence}
 use Rattle.specify_blocks.proofs.ReadText.{text_modules}
 use Rattle.specify_blocks.proofs.VerilogAnswers.{is_answer}
 use Rattle.model_traces.specs.ModuleTrace.{module_machine}
-use Rattle.sectioned_texts.specs.declared.driven_models.DrivenModels.{DrivenModels}
-use Rattle.sectioned_texts.specs.DrivenModels.{rest_of, driven_models}
-use Rattle.sectioned_texts.specs.Drivers.{AllMayStand}
-use Rattle.sectioned_texts.proofs.TextLaws.{drivers_stand}
-use Rattle.verilog_drivers.proofs.StandingDrivers.{text_may_stand}
+use Rattle.file_models.specs.sectioned_texts.declared.driven_models.DrivenModels.{DrivenModels}
+use Rattle.file_models.specs.sectioned_texts.DrivenModels.{rest_of, driven_models}
+use Rattle.file_models.specs.sectioned_texts.Drivers.{AllMayStand}
+use Rattle.file_models.proofs.sectioned_texts.TextLaws.{drivers_stand}
+use Rattle.driven_files.proofs.verilog_drivers.StandingDrivers.{text_may_stand}
 use Rattle.driven_files.specs.Verilog.{verilog_sections}
 use Rattle.file_models.specs.declared.file_model.FileModel.{FileModel}
 use Rattle.file_models.specs.FileModels.{file_models}

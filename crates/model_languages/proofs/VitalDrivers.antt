@@ -10,17 +10,17 @@ use Rattle.rule_readers.specs.declared.refusal.Refusal.TheVariants.{Syntax, Unde
 use Rattle.rule_readers.specs.Words.{is_among}
 use Rattle.rule_readers.proofs.Passing.{fits_if, fits_unless}
 use Rattle.udp_tables.specs.declared.models.VPort.{VPort}
-use Rattle.vhdl_tokens.specs.Tokens.{is_name}
-use Rattle.vhdl_tokens.specs.Spelling.{is_same}
+use Rattle.driven_files.specs.vhdl_tokens.Tokens.{is_name}
+use Rattle.driven_files.specs.vhdl_tokens.Spelling.{is_same}
 use Rattle.vhdl_text.specs.VhdlText.{text_tokens}
 use Rattle.vhdl_text.specs.VhdlDeclarations.{name_of_port, port_names, has_underscore, port_by, next_port, port_list}
 use Rattle.vhdl_text.specs.WellFormed.{AreApart}
 use Rattle.model_languages.proofs.SameNames.{push_apart}
-use Rattle.driver_models.specs.declared.model.DriverModel.{DriverModel}
-use Rattle.driver_models.specs.Cores.{Core}
-use Rattle.driver_texts.proofs.SoundCores.{AnyToken, all_tokens, behind}
-use Rattle.vhdl_drivers.specs.DriverSections.{driver_name, driver_ports, section_front, core_call, section_core, section_process, section_rest, section, section_text}
-use Rattle.vhdl_drivers.proofs.SoundDrivers.{section_answer}
+use Rattle.file_models.specs.driver_models.declared.model.DriverModel.{DriverModel}
+use Rattle.file_models.specs.driver_models.Cores.{Core}
+use Rattle.file_models.proofs.driver_texts.SoundCores.{AnyToken, all_tokens, behind}
+use Rattle.driven_files.specs.vhdl_drivers.DriverSections.{driver_name, driver_ports, section_front, core_call, section_core, section_process, section_rest, section, section_text}
+use Rattle.driven_files.proofs.vhdl_drivers.SoundDrivers.{section_answer}
 use Rattle.model_languages.proofs.NamedDrivers.{IsNamed, declared_names, core_names}
 
 -- Ports.

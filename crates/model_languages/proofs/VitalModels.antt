@@ -5,10 +5,10 @@ use Rattle.std.specs.Str.{bytes_eq, str_eq_ignore_ascii_case}
 use Rattle.std.specs.List.{IsDistinct}
 use Rattle.std.proofs.lemmas.List.{length-map}
 use Rattle.std.proofs.lemmas.Simd.{map-map}
-use Rattle.bool_functions.specs.NameList.{AreDistinct}
-use Rattle.bool_functions.proofs.NameLists.{IsDistinct-map}
+use Rattle.file_models.specs.bool_functions.NameList.{AreDistinct}
+use Rattle.file_models.proofs.bool_functions.NameLists.{IsDistinct-map}
 use Rattle.vhdl_names.specs.Kept.{lowered}
-use Rattle.vhdl_tokens.specs.Tokens.{is_name}
+use Rattle.driven_files.specs.vhdl_tokens.Tokens.{is_name}
 use Rattle.vital_models.specs.declared.model.VOutput.{VOutput}
 use Rattle.vital_models.specs.declared.model.VEntity.{VEntity}
 use Rattle.vital_models.specs.Sound.{IsSound}
@@ -18,11 +18,11 @@ use Rattle.vhdl_text.specs.WellFormed.{AreApart, IsCount, IsWellFormedEntity, Ar
 use Rattle.vhdl_text.specs.Laws.{TextsAreWellFormed}
 use Rattle.vhdl_text.proofs.VhdlAnswers.{is_answer}
 use Rattle.model_traces.specs.EntityTrace.{entity_machine}
-use Rattle.sectioned_texts.specs.declared.driven_models.DrivenModels.{DrivenModels}
-use Rattle.sectioned_texts.specs.DrivenModels.{rest_of, driven_models}
-use Rattle.sectioned_texts.specs.Drivers.{AllMayStand}
-use Rattle.sectioned_texts.proofs.TextLaws.{drivers_stand}
-use Rattle.vhdl_drivers.proofs.StandingDrivers.{text_may_stand}
+use Rattle.file_models.specs.sectioned_texts.declared.driven_models.DrivenModels.{DrivenModels}
+use Rattle.file_models.specs.sectioned_texts.DrivenModels.{rest_of, driven_models}
+use Rattle.file_models.specs.sectioned_texts.Drivers.{AllMayStand}
+use Rattle.file_models.proofs.sectioned_texts.TextLaws.{drivers_stand}
+use Rattle.driven_files.proofs.vhdl_drivers.StandingDrivers.{text_may_stand}
 use Rattle.driven_files.specs.Vital.{vital_sections}
 use Rattle.file_models.specs.declared.file_model.FileModel.{FileModel}
 use Rattle.file_models.specs.FileModels.{file_models}

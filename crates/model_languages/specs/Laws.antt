@@ -1,14 +1,14 @@
 -- Laws of the languages.
 use Rattle.std.specs.Prelude.{◌≡◌, ℕ, All, List, [], map, length, Ok}
 use Rattle.std.specs.Result.{result_map_both}
-use Rattle.driver_sections.specs.Sections.{sections}
+use Rattle.file_models.specs.driver_sections.Sections.{sections}
 use Rattle.specify_blocks.specs.declared.model.VModule.{VModule}
 use Rattle.specify_blocks.specs.VerilogText.{verilog_text}
 use Rattle.vital_models.specs.declared.model.VEntity.{VEntity}
 use Rattle.vhdl_text.specs.VhdlText.{vhdl_text}
 use Rattle.vhdl_text.specs.WellFormed.{AreApart, IsCount, AreWellFormed}
-use Rattle.sectioned_texts.specs.declared.driven_models.DrivenModels.{DrivenModels}
-use Rattle.sectioned_texts.specs.DrivenModels.{driven_models}
+use Rattle.file_models.specs.sectioned_texts.declared.driven_models.DrivenModels.{DrivenModels}
+use Rattle.file_models.specs.sectioned_texts.DrivenModels.{driven_models}
 use Rattle.driven_files.specs.Verilog.{verilog_sections}
 use Rattle.driven_files.specs.Vital.{vital_sections}
 use Rattle.file_models.specs.declared.file_model.FileModel.{FileModel}

@@ -6,7 +6,7 @@ use Rattle.udp_tables.specs.declared.models.ModelFault.{ModelFault}
 use Rattle.specify_blocks.specs.declared.model.VModule.{VModule}
 use Rattle.specify_blocks.specs.Sound.{IsSound}
 use Rattle.model_traces.specs.ModuleTrace.{module_machine}
-use Rattle.sectioned_texts.specs.DrivenModels.{driven_models}
+use Rattle.file_models.specs.sectioned_texts.DrivenModels.{driven_models}
 use Rattle.driven_files.specs.Verilog.{verilog_sections}
 use Rattle.file_models.specs.declared.file_model.FileModel.{FileModel}
 use Rattle.file_models.specs.FileModels.{file_models, machine_by, IsRunnable}

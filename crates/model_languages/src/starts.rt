@@ -5,14 +5,77 @@ ghost use Rattle.vital_models.specs.Sound as entities_of;
 ghost use Rattle.model_traces.specs.ModuleTrace.{module_machine};
 ghost use Rattle.model_traces.specs.EntityTrace.{entity_machine};
 ghost use Rattle.file_models.specs.FileModels.{machine_by, IsRunnable};
+ghost use Rattle.table_interpreters.specs.ModuleStarts.{IsModuleStart};
+ghost use Rattle.table_interpreters.specs.EntityStarts.{IsEntityStart};
 
+use cell_machine::Shared;
 use driven_traces::DrivenSim;
 use file_models::FileModel;
 use specify_blocks::VModule;
 use std::alloc::{AllocError, Global};
 use stimulus::TraceSim;
-use table_interpreters::{VerilogSim, VitalSim};
+use table_interpreters::{EntityStart, ModuleStart, VerilogSim, VitalSim};
 use vital_models::VEntity;
+
+/// What is known of a model of a Verilog file before any change. An `Err` comes only where memory is wanting.
+pub fn known_module(
+    alloc: Global,
+    model: &FileModel<VModule>,
+) -> Result<Shared<ModuleStart>, AllocError>
+    requires { IsRunnable modules_of.IsSound module_machine model.now }
+    ensures { IfOk result (λ known. IsModuleStart model.now.core known) }
+{
+    Shared::new(alloc, ModuleStart::of(alloc, model.core.get())?)
+}
+
+/// What is known of a model of a VHDL file before any change. An `Err` comes only where memory is wanting.
+pub fn known_entity(
+    alloc: Global,
+    model: &FileModel<VEntity>,
+) -> Result<Shared<EntityStart>, AllocError>
+    requires { IsRunnable entities_of.IsSound entity_machine model.now }
+    ensures { IfOk result (λ known. IsEntityStart model.now.core known) }
+{
+    Shared::new(alloc, EntityStart::of(alloc, model.core.get())?)
+}
+
+/// A model of a Verilog file before any change, of which this is known: its core behind what drives its outputs. An `Err` comes only
+/// where memory is wanting.
+pub fn start_known_module<'a>(
+    alloc: Global,
+    model: &'a FileModel<VModule>,
+    known: &Shared<ModuleStart>,
+) -> Result<DrivenSim<'a, VerilogSim<'a>>, AllocError>
+    requires runs { IsRunnable modules_of.IsSound module_machine model.now }
+    requires known { IsModuleStart model.now.core known.now }
+    ensures machine { IfOk result (λ sim. ⟦<DrivenSim<'a, VerilogSim<'a>> as TraceSim>⟧.machine sim ≡ machine_by module_machine model.now) }
+    ensures stands { IfOk result (λ sim. ⟦<DrivenSim<'a, VerilogSim<'a>> as TraceSim>⟧.stands sim []) }
+{
+    DrivenSim::over(
+        alloc,
+        VerilogSim::start_by(alloc, model.core.get(), known)?,
+        &model.driver,
+    )
+}
+
+/// A model of a VHDL file before any change, of which this is known: its core behind what drives its outputs. An `Err` comes only
+/// where memory is wanting.
+pub fn start_known_entity<'a>(
+    alloc: Global,
+    model: &'a FileModel<VEntity>,
+    known: &Shared<EntityStart>,
+) -> Result<DrivenSim<'a, VitalSim<'a>>, AllocError>
+    requires runs { IsRunnable entities_of.IsSound entity_machine model.now }
+    requires known { IsEntityStart model.now.core known.now }
+    ensures machine { IfOk result (λ sim. ⟦<DrivenSim<'a, VitalSim<'a>> as TraceSim>⟧.machine sim ≡ machine_by entity_machine model.now) }
+    ensures stands { IfOk result (λ sim. ⟦<DrivenSim<'a, VitalSim<'a>> as TraceSim>⟧.stands sim []) }
+{
+    DrivenSim::over(
+        alloc,
+        VitalSim::start_by(alloc, model.core.get(), known)?,
+        &model.driver,
+    )
+}
 
 /// A model of a Verilog file before any change: its core behind what drives its outputs. An `Err` comes only where memory is wanting.
 pub fn start_module<'a>(
@@ -23,11 +86,8 @@ pub fn start_module<'a>(
     ensures machine { IfOk result (λ sim. ⟦<DrivenSim<'a, VerilogSim<'a>> as TraceSim>⟧.machine sim ≡ machine_by module_machine model.now) }
     ensures stands { IfOk result (λ sim. ⟦<DrivenSim<'a, VerilogSim<'a>> as TraceSim>⟧.stands sim []) }
 {
-    DrivenSim::over(
-        alloc,
-        VerilogSim::start(alloc, model.core.get())?,
-        &model.driver,
-    )
+    let known = known_module(alloc, model)?;
+    start_known_module(alloc, model, &known)
 }
 
 /// A model of a VHDL file before any change: its core behind what drives its outputs. An `Err` comes only where memory is wanting.
@@ -39,9 +99,6 @@ pub fn start_entity<'a>(
     ensures machine { IfOk result (λ sim. ⟦<DrivenSim<'a, VitalSim<'a>> as TraceSim>⟧.machine sim ≡ machine_by entity_machine model.now) }
     ensures stands { IfOk result (λ sim. ⟦<DrivenSim<'a, VitalSim<'a>> as TraceSim>⟧.stands sim []) }
 {
-    DrivenSim::over(
-        alloc,
-        VitalSim::start(alloc, model.core.get())?,
-        &model.driver,
-    )
+    let known = known_entity(alloc, model)?;
+    start_known_entity(alloc, model, &known)
 }

@@ -1,14 +1,15 @@
 //! Verilog as a language of models.
 
-use crate::starts::start_module;
-use cell_machine::Change;
+use crate::starts::{known_module, start_known_module};
+use cell_machine::{Change, Shared};
 use driven_files::{VerilogFiles, read_driven_models};
 use file_models::{FileModel, file_models};
 use model_files::{ModelFormat, ModelLanguage};
 use section_runs::write_section;
 use specify_blocks::VModule;
-use std::alloc::Global;
+use std::alloc::{AllocError, Global};
 use stimulus::Ports;
+use table_interpreters::ModuleStart;
 use text_io::{Desk, Stop};
 use udp_tables::{ModelFault, VPort};
 
@@ -17,10 +18,15 @@ pub struct Verilog;
 
 impl ModelLanguage for Verilog {
     ghost use Rattle.model_languages.specs.Verilog.{verilog};
+    ghost use Rattle.table_interpreters.specs.ModuleStarts.{IsModuleStart};
 
     type Model = FileModel<VModule>;
 
+    type Start = Shared<ModuleStart>;
+
     ghost language = { verilog };
+
+    ghost is_start = { λ model start. IsModuleStart model.core start };
 
     fn format() -> ModelFormat {
         ModelFormat::Verilog
@@ -39,14 +45,19 @@ impl ModelLanguage for Verilog {
         model.ports.as_slice()
     }
 
+    fn start(alloc: Global, model: &FileModel<VModule>) -> Result<Shared<ModuleStart>, AllocError> {
+        known_module(alloc, model)
+    }
+
     fn write_model_trace<D: Desk>(
         alloc: Global,
         desk: &mut D,
         model: &FileModel<VModule>,
+        start: &Shared<ModuleStart>,
         ports: &Ports,
         changes: &[Change],
     ) -> Result<(), Stop> {
-        match start_module(alloc, model) {
+        match start_known_module(alloc, model, start) {
             Ok(mut sim) => write_section(
                 alloc,
                 desk,

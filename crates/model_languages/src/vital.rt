@@ -1,13 +1,14 @@
 //! VHDL by VITAL as a language of models.
 
-use crate::starts::start_entity;
-use cell_machine::Change;
+use crate::starts::{known_entity, start_known_entity};
+use cell_machine::{Change, Shared};
 use driven_files::{VitalFiles, read_driven_entities};
 use file_models::{FileModel, file_models};
 use model_files::{ModelFormat, ModelLanguage};
 use section_runs::write_section;
-use std::alloc::Global;
+use std::alloc::{AllocError, Global};
 use stimulus::Ports;
+use table_interpreters::EntityStart;
 use text_io::{Desk, Stop};
 use udp_tables::{ModelFault, VPort};
 use vhdl_text::texts_are_well_formed;
@@ -18,10 +19,15 @@ pub struct Vital;
 
 impl ModelLanguage for Vital {
     ghost use Rattle.model_languages.specs.Vital.{vital};
+    ghost use Rattle.table_interpreters.specs.EntityStarts.{IsEntityStart};
 
     type Model = FileModel<VEntity>;
 
+    type Start = Shared<EntityStart>;
+
     ghost language = { vital };
+
+    ghost is_start = { λ model start. IsEntityStart model.core start };
 
     fn format() -> ModelFormat {
         ModelFormat::Vital
@@ -41,14 +47,19 @@ impl ModelLanguage for Vital {
         model.ports.as_slice()
     }
 
+    fn start(alloc: Global, model: &FileModel<VEntity>) -> Result<Shared<EntityStart>, AllocError> {
+        known_entity(alloc, model)
+    }
+
     fn write_model_trace<D: Desk>(
         alloc: Global,
         desk: &mut D,
         model: &FileModel<VEntity>,
+        start: &Shared<EntityStart>,
         ports: &Ports,
         changes: &[Change],
     ) -> Result<(), Stop> {
-        match start_entity(alloc, model) {
+        match start_known_entity(alloc, model, start) {
             Ok(mut sim) => write_section(
                 alloc,
                 desk,

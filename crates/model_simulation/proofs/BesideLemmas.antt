@@ -26,7 +26,9 @@ use Rattle.section_runs.specs.TraceText.{heading_text}
 use Rattle.section_runs.specs.Comparison.{HavePorts, three_lines, compared_text, first_unlike, verdict_text}
 use Rattle.section_runs.specs.Writes.{WritesTrace}
 use Rattle.section_runs.proofs.Runs.{behind, stops_before, written_part, trace_stops}
+use Rattle.simulation_catalog.specs.Catalog.{simulated_of}
 use Rattle.simulation_catalog.specs.Sections.{CanBeCompared}
+use Rattle.std.proofs.lemmas.Option.{slice_get_within}
 use Rattle.simulation_catalog.specs.Comparisons.{Compared, cell_machine, compared_at, lines_of, compared_section, section_by, section_text, differs_by, differs, any_differs}
 use Rattle.model_simulation.specs.declared.comparisons.Beside.{Beside}
 use Rattle.model_simulation.specs.Besides.{machine_in, compared_with, compared_of, CanBeGiven, IsRunOn}
@@ -150,3 +152,8 @@ differs_more cells modules entities sections i x before here h is so_far one =
 pub differs_whole : (cells : List CellEntry) (modules : List (FileModel VModule)) (entities : List (FileModel VEntity)) (sections : List Section) (i : ℕ) (some_differ : Bool)
     → length sections ≤ i → some_differ ≡ list_any (differs cells modules entities) (take i sections) → some_differ ≡ any_differs cells modules entities sections
 differs_whole cells modules entities sections i some_differ over so_far = so_far ∙ ap (list_any (differs cells modules entities)) (take_all i sections over)
+
+-- a section that can be run has the number of a cell with models
+pub number-within : (cells : List CellEntry) (modules : List (FileModel VModule)) (entities : List (FileModel VEntity)) (section : Section) → CanBeCompared cells modules entities section
+    → section.cell < length (simulated_of cells modules entities).models
+number-within cells modules entities section run = slice_get_within (simulated_of cells modules entities).models section.cell _ run.has_models

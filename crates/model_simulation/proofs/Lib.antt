@@ -5,3 +5,7 @@ pub mod WholeSimulations
 pub mod OwnNames
 pub use Rattle.model_languages.proofs.VerilogModels as VerilogModels
 pub use Rattle.model_languages.proofs.VitalModels as VitalModels
+pub use Rattle.file_models.proofs as file_models
+pub use Rattle.library_items.proofs as library_items
+pub use Rattle.model_files.proofs as model_files
+pub use Rattle.simulation_catalog.proofs as simulation_catalog

@@ -1,5 +1,5 @@
 //! The sections of a simulation: each is run on its cell and on the models of this cell, printed and compared.
-ghost use Rattle.std.specs.Prelude.{◌≡◌, [], length, is_some, Ok, IfOk};
+ghost use Rattle.std.specs.Prelude.{◌≡◌, [], length, is_some, Ok, IfOk, OnOk};
 ghost use Rattle.library_items.specs.LibraryCells.{all_described};
 ghost use Rattle.cell_machine.specs.History.{IsProperFrom};
 ghost use Rattle.section_runs.specs.Comparison.{HavePorts, three_lines, first_unlike};
@@ -8,15 +8,21 @@ ghost use Rattle.text_io.specs.Desk.{StopsWithCause};
 ghost use Rattle.simulation_catalog.specs.Catalog.{simulated_of};
 ghost use Rattle.simulation_catalog.specs.Comparisons.{lines_of, compared_section, section_text, sections_text, differs, any_differs};
 ghost use Rattle.simulation_catalog.specs.Sections.{CanBeCompared};
-ghost use Rattle.model_simulation.specs.Besides.{machine_in, compared_with, compared_of, CanBeGiven, IsRunOn};
+ghost use Rattle.cell_machine.specs.CellData.{data_of};
+ghost use Rattle.cell_machine.specs.CellStarts.{IsCellStart};
+ghost use Rattle.model_simulation.specs.Besides.{machine_in, compared_with, compared_of, CanBeGiven};
+ghost use Rattle.model_simulation.specs.KnownBesides.{StandsFor, AreBesides};
 ghost use Rattle.model_simulation.specs.Simulations.{CanBePrinted};
 
+use crate::known::learn;
+use crate::known_beside::KnownBeside;
 use crate::simulation::Simulation;
-use cell_machine::{Change, LibertySim};
+use cell_machine::{CellStart, Change, LibertySim, Shared};
 use driven_traces::DrivenSim;
 use file_models::FileModel;
 use library_items::LibraryCell;
-use model_languages::{start_entity, start_module};
+use model_files::nothing_known;
+use model_languages::{start_known_entity, start_known_module};
 use section_runs::{Three, write_comparison, write_heading, write_verdict};
 use simulation_catalog::described_are_cells;
 use specify_blocks::VModule;
@@ -28,23 +34,22 @@ use vital_models::VEntity;
 
 /// A cell, the names of its ports, and the models that stand for it.
 #[derive(Clone, Copy)]
-struct Beside<'a> {
+pub(crate) struct Beside<'a> {
     /// The cell.
-    cell: &'a DrivenCell,
+    pub cell: &'a DrivenCell,
     /// The names of its inputs and outputs.
-    ports: &'a Ports,
+    pub ports: &'a Ports,
     /// Its Verilog model.
-    module: &'a FileModel<VModule>,
+    pub module: &'a FileModel<VModule>,
     /// Its VITAL model.
-    entity: &'a FileModel<VEntity>,
+    pub entity: &'a FileModel<VEntity>,
 }
 
 /// The cell that a section names, with the models that stand for it.
-fn stands_beside<'a>(simulation: &'a Simulation, section: &Section) -> Beside<'a>
+pub(crate) fn stands_beside<'a>(simulation: &'a Simulation, section: &Section) -> Beside<'a>
     requires simulated { simulation.now.simulated ≡ simulated_of (all_described simulation.now.read.cells) simulation.now.read.modules simulation.now.read.entities }
     requires run { CanBeCompared (all_described simulation.now.read.cells) simulation.now.read.modules simulation.now.read.entities section.now }
-    ensures is { IsRunOn (all_described simulation.now.read.cells) simulation.now.read.modules simulation.now.read.entities section.now result }
-    ensures can { CanBeGiven result section.now }
+    ensures { StandsFor (all_described simulation.now.read.cells) simulation.now.read.modules simulation.now.read.entities section.now.cell result }
 {
     described_are_cells();
     let LibraryCell::Accepted { cell, .. } = &simulation.read.cells.as_slice()[section.cell] else {
@@ -65,11 +70,14 @@ fn stands_beside<'a>(simulation: &'a Simulation, section: &Section) -> Beside<'a
 fn start_cell<'a>(
     alloc: Global,
     cell: &'a DrivenCell,
+    known: &Shared<CellStart>,
 ) -> Result<DrivenSim<'a, LibertySim<'a>>, AllocError>
+    requires { IsCellStart (data_of cell.now.core) known.now }
     ensures machine { IfOk result (λ sim. ⟦<DrivenSim<'a, LibertySim<'a>> as TraceSim>⟧.machine sim ≡ machine_in cell.now) }
     ensures stands { IfOk result (λ sim. ⟦<DrivenSim<'a, LibertySim<'a>> as TraceSim>⟧.stands sim []) }
 {
-    DrivenSim::over(alloc, LibertySim::start(alloc, &cell.core)?, &cell.driver)
+    let core = LibertySim::start_by(alloc, &cell.core, known)?;
+    DrivenSim::over(alloc, core, &cell.driver)
 }
 
 /// Three simulators, where each was started.
@@ -118,19 +126,20 @@ fn write_started<D: Desk, L: TraceSim + Drop, V: TraceSim + Drop, H: TraceSim + 
 fn write_compared<D: Desk>(
     alloc: Global,
     desk: &mut D,
-    beside: &Beside<'_>,
+    known: &KnownBeside<'_>,
     section: &Section,
 ) -> Result<bool, Stop>
-    requires { CanBeGiven beside.now section.now }
-    ensures text { WritesTrace (D.state desk.old) (D.state desk.new) (compared_section (compared_of beside.now) section.now.changes) result }
-    ensures differs { IfOk result (λ some_differ. some_differ ≡ is_some (first_unlike section.now.changes (lines_of (compared_of beside.now)))) }
+    requires { CanBeGiven known.now.beside section.now }
+    ensures text { WritesTrace (D.state desk.old) (D.state desk.new) (compared_section (compared_of known.now.beside) section.now.changes) result }
+    ensures differs { IfOk result (λ some_differ. some_differ ≡ is_some (first_unlike section.now.changes (lines_of (compared_of known.now.beside)))) }
     ensures cause { StopsWithCause (D.faults desk.old) (D.faults desk.new) result }
 {
+    let beside = known.beside;
     let name = beside.cell.name.as_slice();
     let changes = section.changes.as_slice();
-    let liberty = start_cell(alloc, beside.cell);
-    let verilog = start_module(alloc, beside.module);
-    let vital = start_entity(alloc, beside.entity);
+    let liberty = start_cell(alloc, beside.cell, &known.liberty);
+    let verilog = start_known_module(alloc, beside.module, &known.verilog);
+    let vital = start_known_entity(alloc, beside.entity, &known.vital);
     match all_started(liberty, verilog, vital) {
         Ok(three) => write_started(alloc, desk, name, beside.ports, three, changes),
         Err(_) => Err(Stop::Memory),
@@ -138,21 +147,29 @@ fn write_compared<D: Desk>(
 }
 
 /// Appends a section of a simulation to the report, and answers whether two of its three traces differ. After a fault a prefix of
-/// the section was appended.
-fn write_compared_section<D: Desk>(
+/// the section was appended. What is known of its cell is found where no section was of it before.
+fn write_compared_section<'a, D: Desk>(
     alloc: Global,
     desk: &mut D,
-    simulation: &Simulation,
+    simulation: &'a Simulation,
+    known: &mut Vec<Option<KnownBeside<'a>>>,
     section: &Section,
 ) -> Result<bool, Stop>
     requires simulated { simulation.now.simulated ≡ simulated_of (all_described simulation.now.read.cells) simulation.now.read.modules simulation.now.read.entities }
     requires run { CanBeCompared (all_described simulation.now.read.cells) simulation.now.read.modules simulation.now.read.entities section.now }
+    requires known { AreBesides simulation.now known.old.items }
+    requires each { length known.old.items ≡ length simulation.now.simulated.models }
     ensures text { WritesTrace (D.state desk.old) (D.state desk.new) (section_text (all_described simulation.now.read.cells) simulation.now.read.modules simulation.now.read.entities section.now) result }
     ensures differs { IfOk result (λ some_differ. some_differ ≡ differs (all_described simulation.now.read.cells) simulation.now.read.modules simulation.now.read.entities section.now) }
+    ensures known { OnOk result (AreBesides simulation.now known.new.items) }
+    ensures each { OnOk result (length known.new.items ≡ length known.old.items) }
     ensures cause { StopsWithCause (D.faults desk.old) (D.faults desk.new) result }
 {
-    let beside = stands_beside(simulation, section);
-    write_compared(alloc, desk, &beside, section)
+    learn(alloc, simulation, known, section)?;
+    let Some(beside) = &known[section.cell] else {
+        unreachable!();
+    };
+    write_compared(alloc, desk, beside, section)
 }
 
 /// Appends the sections of a simulation to the report, in order, and answers whether two of the three traces of some section
@@ -167,9 +184,10 @@ pub(crate) fn write_compared_sections<D: Desk>(
     ensures differs { IfOk result (λ some_differ. some_differ ≡ any_differs (all_described simulation.now.read.cells) simulation.now.read.modules simulation.now.read.entities simulation.now.sections) }
     ensures cause { StopsWithCause (D.faults desk.old) (D.faults desk.new) result }
 {
+    let mut known = nothing_known(alloc, simulation.simulated.models.len())?;
     let mut some_differ = false;
     for section in simulation.sections.as_slice() {
-        let section_differs = write_compared_section(alloc, desk, simulation, section)?;
+        let section_differs = write_compared_section(alloc, desk, simulation, &mut known, section)?;
         some_differ = some_differ || section_differs;
     }
     Ok(some_differ)

@@ -3,6 +3,8 @@
 #![tactic(auto)]
 
 mod comparisons;
+mod known;
+mod known_beside;
 mod run;
 mod simulation;
 

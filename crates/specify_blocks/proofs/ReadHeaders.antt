@@ -81,12 +81,12 @@ set_named x ports from p e =
     map-set_same port_name ports p (input_port x) (plain_port x)
     (named ∙ ap port_name at ∙ ap (λ k. (get_or ports k (plain_port x)).name) (sym found.1))
 
-input_named : (found : Inputs) (x : List ℕ) (more : Inputs) → input_at found x ≡ Some more → port_names more.ports ≡ port_names found.ports
+pub input_named : (found : Inputs) (x : List ℕ) (more : Inputs) → input_at found x ≡ Some more → port_names more.ports ≡ port_names found.ports
 input_named found x more e =
     let place = mapped (with_input x found.ports) (place_from (λ (port : VPort). bytes_eq x port.name) found.behind found.ports) more e in
     ap (λ (i : Inputs). port_names i.ports) (sym place.2) ∙ set_named x found.ports found.behind place.0 place.1
 
-abbrev HasNames : List VPort → Inputs → Type 0
+abbrev pub HasNames : List VPort → Inputs → Type 0
 HasNames ports found = port_names found.ports ≡ port_names ports
 
 one_input : (ports : List VPort) (found : Inputs) → HasNames ports found → Promises IsSpelled (declared_input found) (HasNames ports)

@@ -8,3 +8,4 @@ mod paths;
 mod period_lines;
 
 pub use checks::specify;
+pub use netlist_reader as nets;

@@ -7,10 +7,10 @@ ghost use Rattle.rule_readers.specs.Reading.{read, Reads, ReadsAs};
 
 use bool_functions::Names;
 use header_reader::module_declarations;
-use netlist_reader::{Netlist, are_all_driven, module_instances};
 use part_readers::where_read;
 use rule_readers::{Language, Read, Refusal, Stop};
 use specify_blocks::VModule;
+use specify_reader::nets::{Netlist, are_all_driven, module_instances};
 use specify_reader::specify;
 use sqlite_items::Items;
 use std::alloc::Global;

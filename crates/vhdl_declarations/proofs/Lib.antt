@@ -1,2 +1,3 @@
 pub mod NextConstant
 pub mod NextVariable
+pub use Rattle.vhdl_words.proofs as vhdl_words

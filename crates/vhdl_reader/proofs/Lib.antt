@@ -1,3 +1,4 @@
 pub mod Reversed
 pub mod WellRead
 pub mod JoinedParts
+pub mod NextWords

@@ -1,13 +1,13 @@
 -- Wholes of two parts, from a list of the first parts and one of the second.
 use Rattle.std.specs.Prelude.{ℕ, List, [], ◌∷◌}
-use Rattle.vital_models.specs.declared.table.TruthTable.{TruthTable}
-use Rattle.vital_models.specs.declared.table.VStateTable.{VStateTable}
-use Rattle.vital_models.specs.declared.model.VState.{VState}
-use Rattle.vital_models.specs.declared.model.VTruth.{VTruth}
-use Rattle.vital_models.specs.declared.model.OutValue.{OutValue}
-use Rattle.vital_models.specs.declared.model.VOutput.{VOutput}
-use Rattle.vital_models.specs.declared.model.HPath.{HPath}
-use Rattle.vhdl_text.specs.declared.scope.Columns.{Columns}
+use Rattle.vhdl_declarations.specs.vital_models.declared.table.TruthTable.{TruthTable}
+use Rattle.vhdl_declarations.specs.vital_models.declared.table.VStateTable.{VStateTable}
+use Rattle.vhdl_declarations.specs.vital_models.declared.model.VState.{VState}
+use Rattle.vhdl_declarations.specs.vital_models.declared.model.VTruth.{VTruth}
+use Rattle.vhdl_declarations.specs.vital_models.declared.model.OutValue.{OutValue}
+use Rattle.vhdl_declarations.specs.vital_models.declared.model.VOutput.{VOutput}
+use Rattle.vhdl_declarations.specs.vital_models.declared.model.HPath.{HPath}
+use Rattle.vhdl_declarations.specs.vhdl_text.declared.scope.Columns.{Columns}
 use Rattle.vhdl_reader.specs.declared.driven.Driven.{Driven}
 
 -- item by item, up to the end of the shorter list

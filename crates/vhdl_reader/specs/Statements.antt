@@ -1,7 +1,7 @@
 -- The entity of declarations and statements.
-use Rattle.vital_models.specs.declared.model.VEntity.{VEntity}
-use Rattle.vhdl_text.specs.declared.scope.Scope.{Scope}
-use Rattle.vhdl_text.specs.VhdlText.{entity_with}
+use Rattle.vhdl_declarations.specs.vital_models.declared.model.VEntity.{VEntity}
+use Rattle.vhdl_declarations.specs.vhdl_text.declared.scope.Scope.{Scope}
+use Rattle.vhdl_declarations.specs.vhdl_text.VhdlText.{entity_with}
 use Rattle.vhdl_reader.specs.declared.statements.Statements.{Statements}
 
 abbrev pub entity_of : Scope → Statements → VEntity

@@ -1,7 +1,7 @@
 //! What drives an output.
 
 use sqlite_items::Items;
-use vital_models::{HPath, OutValue};
+use vhdl_declarations::entities::{HPath, OutValue};
 
 /// The value of an output, and its paths.
 #[derive(Drop)]

@@ -2,9 +2,9 @@
 
 ghost use Rattle.std.specs.Prelude.{◌≡◌};
 ghost use Rattle.rule_readers.specs.Reading.{read, Reads, ReadsAs};
-ghost use Rattle.vhdl_text.specs.VhdlDeclarations.{input_names};
-ghost use Rattle.vhdl_text.specs.VhdlRules as rules;
-ghost use Rattle.vhdl_text.specs.VhdlText as spec;
+ghost use Rattle.vhdl_declarations.specs.vhdl_text.VhdlDeclarations.{input_names};
+ghost use Rattle.vhdl_declarations.specs.vhdl_text.VhdlRules as rules;
+ghost use Rattle.vhdl_declarations.specs.vhdl_text.VhdlText as spec;
 ghost use Rattle.vhdl_statements.specs.Checked.{checks_of};
 ghost use Rattle.vhdl_reader.specs.File.{entities_of};
 ghost use Rattle.vhdl_reader.specs.Statements.{entity_of};
@@ -17,14 +17,14 @@ use part_readers::{RepeatedPart, while_next, with_read};
 use rule_readers::{Read, Refusal, Stop};
 use sqlite_items::Items;
 use std::alloc::Global;
-use udp_tables::VPort;
+use vhdl_declarations::entities::VEntity;
+use vhdl_declarations::grammar::{Assigned, Columns};
+use vhdl_declarations::primitives::VPort;
+use vhdl_declarations::words::{Cursor, Declarations, Vhdl, expect_all};
 use vhdl_declarations::{input_names, packages, scope_of};
 use vhdl_outputs::{output_lines, values_of};
 use vhdl_statements::{Checks, all_checks, state_calls, violation};
-use vhdl_text::{Assigned, Columns};
 use vhdl_tokens::is_name;
-use vhdl_words::{Cursor, Declarations, Vhdl, expect_all};
-use vital_models::VEntity;
 
 /// The wait at the end of a process in which these names are its sensitivity list, if there are none. (IEEE 1076-1993, 8.1.)
 fn last_wait_of(cursor: &mut Cursor, names: &[Items<u8>]) -> Read<()>
@@ -52,7 +52,7 @@ fn are_looked_up(scope: &Declarations, uses: &[Items<usize>]) -> bool
 }
 
 /// The end of an entity, behind all look-ups of conditions.
-#[tactic(auto, unfolding(vhdl_text::specs::VhdlText::entity_end))]
+#[tactic(auto, unfolding(crate::specs::File::entity_end))]
 fn entity_end(cursor: &mut Cursor, scope: &Declarations, uses: &[Items<usize>]) -> Read<()>
     ensures { Reads (read (spec.entity_end scope.now uses.now) cursor.old) result cursor.new }
 {
@@ -95,7 +95,7 @@ fn behind_checks(cursor: &mut Cursor, scope: &Declarations, checked: Checks) -> 
 }
 
 /// The statements behind these declarations.
-#[tactic(auto, unfolding(vhdl_text::specs::VhdlText::statements, crate::specs::Tails::behind_checks, crate::specs::Tails::behind_values))]
+#[tactic(auto, unfolding(crate::specs::File::statements, crate::specs::Tails::behind_checks, crate::specs::Tails::behind_values))]
 fn all_statements(cursor: &mut Cursor, scope: &Declarations) -> Read<Statements>
     ensures { ReadsAs (entity_of scope.now) (read (spec.statements scope.now) cursor.old) result cursor.new }
 {
@@ -114,7 +114,7 @@ fn entity_body(cursor: &mut Cursor, scope: Declarations) -> Read<VEntity>
 }
 
 /// The name of an entity, where these entities stand before it.
-#[tactic(auto, using(vhdl_words::proofs::NextWords::named_other))]
+#[tactic(auto, using(crate::proofs::NextWords::named_other))]
 fn entity_name(cursor: &mut Cursor, alloc: Global, entities: &Entities) -> Read<Items<u8>>
     ensures { Reads (read (rules.new_name (spec.entity_names entities.now)) cursor.old) result cursor.new }
 {
@@ -127,7 +127,7 @@ fn entity_name(cursor: &mut Cursor, alloc: Global, entities: &Entities) -> Read<
 }
 
 /// An entity behind its first word, where these entities stand before it.
-#[tactic(auto, unfolding(vhdl_text::specs::VhdlText::entity))]
+#[tactic(auto, unfolding(crate::specs::File::entity))]
 fn entity(cursor: &mut Cursor, alloc: Global, entities: &Entities) -> Read<VEntity>
     ensures { Reads (read (spec.entity (spec.entity_names entities.now)) cursor.old) result cursor.new }
 {
@@ -147,7 +147,7 @@ impl RepeatedPart<Vhdl> for NextEntity {
 
     ghost reading = { λ _ entities s. read (spec.next_entity entities) s };
 
-    #[tactic(auto, unfolding(vhdl_text::specs::VhdlText::next_entity))]
+    #[tactic(auto, unfolding(crate::specs::File::next_entity))]
     fn next(&self, cursor: &mut Cursor<'_>, entities: Entities) -> Read<Entities> {
         let more = entity(cursor, self.0, &entities);
         let (entities, more) = with_read(entities, more)?;
@@ -156,7 +156,7 @@ impl RepeatedPart<Vhdl> for NextEntity {
 }
 
 /// All entities of a text, and nothing behind them.
-#[tactic(auto, unfolding(vhdl_text::specs::VhdlText::file))]
+#[tactic(auto, unfolding(crate::specs::File::file))]
 pub fn file(cursor: &mut Cursor, alloc: Global) -> Read<Vec<VEntity>>
     ensures { ReadsAs entities_of (read spec.file cursor.old) result cursor.new }
 {

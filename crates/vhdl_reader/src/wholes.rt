@@ -6,8 +6,10 @@ ghost use Rattle.vhdl_reader.specs.Joined as spec;
 use crate::driven::Driven;
 use sqlite_items::Items;
 use std::alloc::{AllocError, Global};
-use vhdl_text::Columns;
-use vital_models::{HPath, OutValue, TruthTable, VOutput, VState, VStateTable, VTruth};
+use vhdl_declarations::entities::{
+    HPath, OutValue, TruthTable, VOutput, VState, VStateTable, VTruth,
+};
+use vhdl_declarations::grammar::Columns;
 
 /// A whole of two parts.
 pub trait Whole: Drop {

@@ -7,3 +7,5 @@ pub mod VhdlOutputs
 pub mod VhdlText
 pub mod WellFormed
 pub mod Laws
+pub use Rattle.udp_tables.specs as udp_tables
+pub use Rattle.vital_models.specs as vital_models

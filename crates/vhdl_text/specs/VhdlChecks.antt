@@ -2,7 +2,6 @@
 -- VitalSetupHoldCheck, VitalRecoveryRemovalCheck, VitalPeriodPulseCheck and VitalStateTable.)
 use Rattle.std.specs.Prelude.{ℕ, zero, suc, ◌+◌, Bool, true, false, not, nat_eq, nat_lt, if◌then◌else◌, List, [], ◌∷◌, ◌++◌, length, slice_get, Option, Some, None, codes}
 use Rattle.std.specs.Option.{option_map_or}
-use Rattle.grammar_rules.specs.Rule.{Verdict, Fits, Foul, Misfit}
 use Rattle.grammar_rules.specs.Rule as r
 use Rattle.cell_machine.specs.declared.checks.CheckKind.{CheckKind}
 use Rattle.cell_machine.specs.declared.checks.CheckKind.TheVariants as check_kind
@@ -10,9 +9,9 @@ use Rattle.cell_machine.specs.declared.checks.Edge.{Edge}
 use Rattle.cell_machine.specs.declared.checks.Edge.TheVariants as edge
 use Rattle.cell_machine.specs.declared.checks.Event.{Event}
 use Rattle.udp_tables.specs.declared.timing_checks.TimingCheck.{TimingCheck}
-use Rattle.rule_readers.specs.declared.refusal.Refusal.{Refusal}
-use Rattle.rule_readers.specs.declared.refusal.Refusal.TheVariants.{Syntax, Unequal}
+use Rattle.rule_readers.specs.declared.refusal.Refusal.TheVariants.{Syntax}
 use Rattle.rule_readers.specs.Words.{Grammar, ◌>>=◌, go_on_where, begins_as, valued}
+pub use Rattle.rule_readers.specs.Words.{equal_to}
 use Rattle.vhdl_tokens.specs.Numbers.{number_of}
 use Rattle.vhdl_tokens.specs.Spelling.{is_same}
 use Rattle.vhdl_text.specs.declared.scope.Columns.{Columns}
@@ -107,10 +106,6 @@ setup_or_hold x =
 abbrev pub low_word : CheckKind → List ℕ
 low_word check_kind.Hold = codes "HoldLow"
 low_word _ = codes "SetupLow"
-
-abbrev pub equal_to : ℕ → Option ℕ → Verdict (Unit {0}) Refusal
-equal_to limit None = Misfit Syntax
-equal_to limit (Some n) = if nat_eq n limit then Fits tt else Foul Unequal tt
 
 -- the same number as before
 unfoldable pub same_number : ℕ → Grammar (Unit {0})

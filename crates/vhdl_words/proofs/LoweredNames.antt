@@ -1,5 +1,6 @@
 -- Names that are looked up in lower case.
-use Rattle.std.proofs.Common.{◌≡◌, ℕ, ◌+◌, Bool, true, false, not, ◌&&◌, ◌||◌, ◌==◌, if◌then◌else◌, List, [], ◌∷◌, ◌++◌, length, Option, Some, None, refl, sym, ap, subst, ◌∙◌, arith}
+use Rattle.std.proofs.Common.{◌≡◌, ℕ, ◌+◌, Bool, true, false, not, ◌&&◌, ◌||◌, ◌==◌, if◌then◌else◌, List, [], ◌∷◌, ◌++◌, length}
+use Rattle.std.proofs.Common.{Option, Some, None, refl, sym, ap, subst, ◌∙◌, arith}
 use Rattle.std.specs.Char.{is_ascii_alphabetic}
 use Rattle.std.specs.List.{list_any, position}
 use Rattle.std.specs.Option.{is_some}
@@ -11,9 +12,9 @@ use Rattle.std.proofs.lemmas.Slice.Eq.{bytes_eq-Decides}
 use Rattle.bool_functions.specs.NameList.{number_of, Adds}
 use Rattle.bool_functions.proofs.NameLists.{list_any-map, position-map, position-none, position-some}
 use Rattle.rule_readers.proofs.Tests.{there, not_there}
-use Rattle.udp_tables.specs.declared.models.VPort.{VPort}
-use Rattle.vital_models.specs.declared.model.VEntity.{VEntity}
-use Rattle.vital_models.specs.Sound.{output_ports_from}
+use Rattle.vhdl_text.specs.udp_tables.declared.models.VPort.{VPort}
+use Rattle.vhdl_text.specs.vital_models.declared.model.VEntity.{VEntity}
+use Rattle.vhdl_text.specs.vital_models.Sound.{output_ports_from}
 use Rattle.vhdl_names.specs.Words.{is_vhdl_word}
 use Rattle.vhdl_names.specs.Kept.{lowered}
 use Rattle.vhdl_tokens.specs.Tokens.{is_name}

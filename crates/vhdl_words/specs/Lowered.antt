@@ -2,8 +2,8 @@
 use Rattle.std.specs.Prelude.{◌≡◌, ℕ, List, map}
 use Rattle.std.specs.List.{list_any}
 use Rattle.std.specs.Str.{bytes_eq}
-use Rattle.udp_tables.specs.declared.models.VPort.{VPort}
-use Rattle.vital_models.specs.Sound.{output_ports_from}
+use Rattle.vhdl_text.specs.udp_tables.declared.models.VPort.{VPort}
+use Rattle.vhdl_text.specs.vital_models.Sound.{output_ports_from}
 use Rattle.vhdl_names.specs.Kept.{lowered}
 use Rattle.vhdl_text.specs.VhdlDeclarations.{port_names}
 

@@ -1,6 +1,7 @@
 //! The calls that look up conditions. (IEEE 1076.4-2000, VitalTruthTable.)
 
-ghost use Rattle.std.specs.Prelude.{◌≡◌, ℕ, ◌+◌, ◌-◌, ◌<◌, ◌^◌, if◌then◌else◌, min, length, drop, slice_get, Option, Some, None, IfOk, codes, decimal};
+ghost use Rattle.std.specs.Prelude.{◌≡◌, ℕ, ◌+◌, ◌-◌, ◌<◌, ◌^◌, if◌then◌else◌, min, length, drop, slice_get, Option, Some, None};
+ghost use Rattle.std.specs.Prelude.{IfOk, codes, decimal};
 ghost use Rattle.grammar_rules.specs.Rule.{Gives, Then};
 ghost use Rattle.rule_readers.specs.Reading.{read, Reads};
 ghost use Rattle.vhdl_tokens.specs.Spelling.{is_same};

@@ -20,6 +20,8 @@ pub use language::{Cursor, Vhdl};
 pub use listed::Listed;
 pub use names::{an_input, input_of, list_end};
 pub use ports::Ports;
+pub use vhdl_text as grammar;
+pub use vhdl_text::{entities, primitives};
 pub use widths::{truth_width, width_at};
 pub use words::{
     either_word, expect_all, is_number_token, is_numbered, numbered, this_number, time,

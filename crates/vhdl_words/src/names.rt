@@ -16,7 +16,7 @@ use part_readers::{RepeatedPart, with_read};
 use rule_readers::{Read, Refusal};
 use sqlite_items::Items;
 use std::alloc::{AllocError, Global};
-use udp_tables::is_input_port;
+use vhdl_text::primitives::is_input_port;
 
 /// The number of the input with this name, in the time of one look-up. What is found of a token that is no name means nothing. An
 /// `Err` comes only where memory is wanting.

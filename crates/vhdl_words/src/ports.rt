@@ -7,7 +7,7 @@ use rule_readers::Stop;
 use sqlite_items::Items;
 use std::alloc::{AllocError, Global};
 use std::marker::Model;
-use udp_tables::VPort;
+use vhdl_text::primitives::VPort;
 
 /// Ports in the order of their text. Contracts see the list of them. Beside them stand their names in lower case, since a name is
 /// the same whatever the case of its letters (IEEE 1076-1993, 13.3.1), and the numbers of the outputs.
@@ -21,7 +21,7 @@ pub struct Ports {
 
 impl Model for Ports {
     ghost use Rattle.std.specs.Prelude.{List};
-    ghost use Rattle.udp_tables.specs.declared.models.VPort.{VPort};
+    ghost use Rattle.vhdl_text.specs.udp_tables.declared.models.VPort.{VPort};
     ghost use Rattle.vhdl_words.specs.Lowered.{AreKeptOf};
 
     ghost Value = { List VPort };
@@ -47,8 +47,8 @@ fn outputs_with(
 
 impl Ports {
     ghost use Rattle.std.specs.Prelude.{◌≡◌, [], ◌∷◌, ◌++◌, true, false, IfOk, IfErr};
-    ghost use Rattle.udp_tables.specs.declared.models.VPort.{VPort};
-    ghost use Rattle.vital_models.specs.Sound.{output_ports_from};
+    ghost use Rattle.vhdl_text.specs.udp_tables.declared.models.VPort.{VPort};
+    ghost use Rattle.vhdl_text.specs.vital_models.Sound.{output_ports_from};
     ghost use Rattle.vhdl_tokens.specs.Tokens.{is_name};
     ghost use Rattle.vhdl_text.specs.VhdlRules.{is_among};
     ghost use Rattle.vhdl_text.specs.VhdlDeclarations.{port_names};

@@ -5,7 +5,7 @@ ghost use Rattle.vhdl_text.specs.VhdlTables as tables;
 ghost use Rattle.vhdl_text.specs.VhdlDeclarations as spec;
 
 use vhdl_text::Tables;
-use vital_models::{TruthRow, VStateRow};
+use vhdl_text::entities::{TruthRow, VStateRow};
 
 /// How many inputs the first row of a state's table has.
 fn state_width(rows: &[VStateRow]) -> usize

@@ -1,6 +1,6 @@
 use Rattle.std.proofs.Common.{ap, ◌∙◌}
-use Rattle.vhdl_text.specs.VhdlRules.{is_among}
-use Rattle.vhdl_text.specs.VhdlText.{entity_names}
+use Rattle.vhdl_declarations.specs.vhdl_text.VhdlRules.{is_among}
+use Rattle.vhdl_declarations.specs.vhdl_text.VhdlText.{entity_names}
 use Rattle.vhdl_reader.proofs.entity.entity_name.Goals as goal
 
 pub returns : goal.returns

@@ -1,11 +1,11 @@
 use Rattle.std.proofs.Common.{◌≡◌, List, ap, ◌∙◌}
 use Rattle.std.specs.Option.{is_some}
 use Rattle.bool_functions.specs.NameList.{number_of}
-use Rattle.vital_models.specs.declared.model.VEntity.{VEntity}
+use Rattle.vhdl_declarations.specs.vital_models.declared.model.VEntity.{VEntity}
 use Rattle.vhdl_names.specs.Kept.{lowered}
-use Rattle.vhdl_text.specs.VhdlRules.{is_among}
-use Rattle.vhdl_text.specs.VhdlText.{entity_names}
-use Rattle.vhdl_words.proofs.LoweredNames.{found_among}
+use Rattle.vhdl_declarations.specs.vhdl_text.VhdlRules.{is_among}
+use Rattle.vhdl_declarations.specs.vhdl_text.VhdlText.{entity_names}
+use Rattle.vhdl_declarations.proofs.vhdl_words.LoweredNames.{found_among}
 use Rattle.vhdl_reader.proofs.entities.Entities.has.Goals as goal
 
 pub returns : goal.returns

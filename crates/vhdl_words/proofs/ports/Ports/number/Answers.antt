@@ -1,6 +1,6 @@
 use Rattle.std.proofs.Common.{◌≡◌, List, ap, ◌∙◌}
 use Rattle.bool_functions.specs.NameList.{number_of}
-use Rattle.udp_tables.specs.declared.models.VPort.{VPort}
+use Rattle.vhdl_text.specs.udp_tables.declared.models.VPort.{VPort}
 use Rattle.vhdl_names.specs.Kept.{lowered}
 use Rattle.vhdl_text.specs.VhdlNames.{port_of}
 use Rattle.vhdl_words.proofs.LoweredNames.{port_number}

@@ -1,6 +1,6 @@
 use Rattle.std.proofs.Common.{◌≡◌, ℕ, List, [], ◌∷◌, ◌++◌, if◌then◌else◌, sym, ap, subst, ◌∙◌}
 use Rattle.bool_functions.specs.NameList.{Adds}
-use Rattle.udp_tables.specs.declared.models.VPort.{VPort}
+use Rattle.vhdl_text.specs.udp_tables.declared.models.VPort.{VPort}
 use Rattle.vhdl_names.specs.Kept.{lowered}
 use Rattle.vhdl_text.specs.VhdlRules.{is_among}
 use Rattle.vhdl_text.specs.VhdlDeclarations.{port_names}

@@ -1,6 +1,4 @@
-pub mod ModelTexts
 pub mod CellLemmas
-pub mod TestLineTexts
 pub mod ModelsLemmas
 pub mod TranslateLemmas
 pub mod LastLines

@@ -11,8 +11,8 @@ ghost use Rattle.library_items.specs.Progress.{no_progress};
 ghost use Rattle.library_translation.specs.Cells.{ModelsAreBound, cell_written};
 ghost use Rattle.library_translation.specs.Library.{Handles};
 
-use crate::cells::write_accepted;
 use cell_parts::groups::cell_name;
+use cell_translation::write_accepted;
 use liberty_groups::Group;
 use library_items::{Ending, ItemWriter, NextCell, NothingKept, Progress, fold_items};
 use library_report::{write_left_out_file, write_refused_cell};

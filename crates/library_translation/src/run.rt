@@ -9,6 +9,7 @@ ghost use Rattle.command_outcomes.specs.Status.{is_decided};
 ghost use Rattle.command_outcomes.specs.Binding.{Binds};
 ghost use Rattle.command_outcomes.specs.Runs.{StopsWithStatus};
 ghost use Rattle.library_items.specs.declared.ending.Ending.TheVariants as ending;
+ghost use Rattle.library_items.specs.Progress.{no_progress};
 ghost use Rattle.library_translation.specs.Cells.{ModelsAreBound};
 ghost use Rattle.library_translation.specs.Library.{status_at, Finishes, Translates};
 ghost use Rattle.library_translation.specs.Runs.{translate_files, RunsTranslation};
@@ -62,10 +63,27 @@ fn translate_bound<D: Desk>(alloc: Global, desk: &mut D) -> Result<Status, Stop>
     ensures usage { IfOk result (λ status. status ≡ Status.Usage → ⊥) }
     ensures decided { IfOk result (λ status. IsTrue (is_decided status)) }
 {
-    write_prelude(desk)?;
     let mut progress = Progress::new(alloc);
-    let ending = handle_items(alloc, desk, &mut progress)?;
-    Ok(finish(desk, &progress, ending)?)
+    translate_from(alloc, desk, &mut progress)
+}
+
+/// The same, where no item of the library was handled before.
+fn translate_from<D: Desk>(
+    alloc: Global,
+    desk: &mut D,
+    progress: &mut Progress,
+) -> Result<Status, Stop>
+    requires library { IsTrue (is_bound (D.state desk.old) (Input Library)) }
+    requires models { ModelsAreBound (D.state desk.old) }
+    requires fresh { progress.old ≡ no_progress }
+    ensures text { Translates (D.state desk.old) (D.state desk.new) result }
+    ensures cause { StopsWithCause (D.faults desk.old) (D.faults desk.new) result }
+    ensures usage { IfOk result (λ status. status ≡ Status.Usage → ⊥) }
+    ensures decided { IfOk result (λ status. IsTrue (is_decided status)) }
+{
+    write_prelude(desk)?;
+    let ending = handle_items(alloc, desk, progress)?;
+    Ok(finish(desk, progress, ending)?)
 }
 
 /// The status where the library was read to its end.

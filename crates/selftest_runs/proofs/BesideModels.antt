@@ -31,7 +31,7 @@ use Rattle.stimulus.specs.DriveSized.{drive_machine_sized}
 use Rattle.stimulus.proofs.DriveTraces.{drive_lines}
 use Rattle.section_runs.specs.Differences.{first_difference, NoDifferenceIsEqual}
 use Rattle.selftest_cells.specs.Damage.{alter_first, damaged_output, damaged_by, damaged_module, damaged_entity, DamagedModulesAreSound, DamagedEntitiesAreSound}
-use Rattle.selftest_runs.specs.Counts.{is_caught}
+use Rattle.caught_models.specs.Caught.{is_caught}
 
 -- these data keep the rules of cells
 abbrev pub KeepsRules : CellData → Type 0

@@ -1,5 +1,5 @@
 -- What is counted of the cells of a library, one cell after another.
-use Rattle.std.proofs.Common.{◌≡◌, ℕ, ◌+◌, List, [], ◌∷◌, ◌++◌, Some, None, Ok, sym, ap, ◌∙◌, arith}
+use Rattle.std.proofs.Common.{◌≡◌, ℕ, ◌+◌, List, [], ◌∷◌, ◌++◌, Some, None, Result, Ok, Err, OnOk, sym, ap, ◌∙◌, arith}
 use Rattle.text_io.specs.Desk.{DeskState}
 use Rattle.text_io.specs.declared.slots.InSlot.TheVariants.{Library}
 use Rattle.liberty_groups.specs.declared.tree.Group.{Group}
@@ -12,12 +12,14 @@ use Rattle.library_items.specs.declared.progress.Progress.{Progress}
 use Rattle.library_items.specs.Endings.{library_limit}
 use Rattle.library_items.specs.Folds.{FoldsCells}
 use Rattle.library_items.specs.KeptCells.{kept_by, next_entry}
-use Rattle.library_items.specs.NextCells.{IsAcceptedNext}
+use Rattle.library_items.specs.declared.next.NextCell.{NextCell}
+use Rattle.library_items.specs.declared.next.NextCell.TheVariants as next
+use Rattle.library_items.specs.NextCells.{IsAcceptedNext, IsNext}
 use Rattle.library_items.specs.Progress.{next_refusal}
 use Rattle.library_items.proofs.Claims.{IfSome-each}
 use Rattle.selftest_runs.specs.declared.counts.Counts.{Counts}
 use Rattle.selftest_runs.specs.Counts.{no_counts, plus}
-use Rattle.selftest_runs.specs.LibraryCounts.{driven_counts, counted, all_counts, library_counts, CountsCells}
+use Rattle.selftest_runs.specs.LibraryCounts.{driven_counts, counted_next, counted, all_counts, library_counts, CountsCells}
 
 -- Sums of counts.
 
@@ -50,7 +52,7 @@ all_counts-more (y ∷ cells) x = ap (plus (counted y)) (all_counts-more cells x
 -- The next cell.
 
 -- what is counted of it
-pub accepted_counted : (p : Progress) (group : Group) (cell : DrivenCell) (entity : List ℕ) (before more after : Counts) (cells : List CellEntry)
+accepted_counted : (p : Progress) (group : Group) (cell : DrivenCell) (entity : List ℕ) (before more after : Counts) (cells : List CellEntry)
     → IsAcceptedNext p group cell entity → before ≡ all_counts cells → more ≡ driven_counts (driven_data_of cell) entity → after ≡ plus before more
     → after ≡ all_counts (cells ++ next_entry p group ∷ [])
 accepted_counted p group cell entity before more after cells h so_far here sum =
@@ -59,11 +61,24 @@ accepted_counted p group cell entity before more after cells h so_far here sum =
     here ∙ (λ i. driven_counts (h.same_cell i) (h.same_entity i)) ∙ sym (ap counted entry) in
     sum ∙ (λ i. plus (so_far i) (this i)) ∙ sym (all_counts-more cells (next_entry p group))
 
-pub refused_counted : (p : Progress) (group : Group) (refusal : Refusal) (counts : Counts) (cells : List CellEntry)
+refused_counted : (p : Progress) (group : Group) (refusal : Refusal) (counts : Counts) (cells : List CellEntry)
     → next_refusal p group ≡ Some refusal → counts ≡ all_counts cells → counts ≡ all_counts (cells ++ next_entry p group ∷ [])
 refused_counted p group refusal counts cells h so_far =
     let none : counted (next_entry p group) ≡ no_counts = ap (λ why. counted (kept_by p group why)) h in
     so_far ∙ sym (plus-none (all_counts cells)) ∙ ap (plus (all_counts cells)) (sym none) ∙ sym (all_counts-more cells (next_entry p group))
+
+pub next_counted : (p : Progress) (group : Group) (this : NextCell) (before more after : Counts) (cells : List CellEntry)
+    → IsNext p group this → before ≡ all_counts cells → more ≡ counted_next this → after ≡ plus before more
+    → after ≡ all_counts (cells ++ next_entry p group ∷ [])
+next_counted p group (next.Accepted cell entity) before more after cells h so_far here sum =
+    accepted_counted p group cell entity before more after cells h so_far here sum
+next_counted p group (next.Refused refusal) before more after cells h so_far here sum =
+    refused_counted p group refusal after cells h (sum ∙ ap (plus before) here ∙ plus-none before ∙ so_far)
+
+-- What is known where a call ended well.
+pub on_ok : {T E P Q : Type 0} (r : Result T E) → (P → Q) → OnOk r P → OnOk r Q
+on_ok (Ok x) f h = f h
+on_ok (Err e) f h = h
 
 -- The library.
 

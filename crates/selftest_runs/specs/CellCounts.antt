@@ -10,7 +10,8 @@ use Rattle.model_traces.specs.EntityTrace.{entity_trace}
 use Rattle.selftest_cells.specs.Changes.{changes_of}
 use Rattle.selftest_cells.specs.Damage.{damaged_module, damaged_entity}
 use Rattle.selftest_runs.specs.declared.counts.Counts.{Counts}
-use Rattle.selftest_runs.specs.Counts.{known_in, is_caught, one_if}
+use Rattle.caught_models.specs.Caught.{is_caught}
+use Rattle.selftest_runs.specs.Counts.{known_in, one_if}
 
 -- the changes of the cell with this number, where it has so many inputs: one without inputs is run on none
 abbrev pub changes_by : ℕ → ℕ → List Change

@@ -1,9 +1,7 @@
 -- What a run on the test cells counts. This project's rules.
-use Rattle.std.specs.Prelude.{ℕ, ◌+◌, Bool, not, List, [], ◌∷◌, map, count_by, sum_by, is_some, if◌then◌else◌}
+use Rattle.std.specs.Prelude.{ℕ, ◌+◌, Bool, not, List, [], ◌∷◌, count_by, sum_by, if◌then◌else◌}
 use Rattle.trit_cubes.specs.Filling.{is_unknown}
 use Rattle.cell_machine.specs.Lines.{Line}
-use Rattle.stimulus.specs.DriveLines.{drive_line}
-use Rattle.section_runs.specs.Differences.{first_difference}
 use Rattle.selftest_runs.specs.declared.counts.Counts.{Counts}
 
 abbrev pub no_counts : Counts
@@ -21,10 +19,6 @@ known_values line = count_by (λ v. not (is_unknown v)) line.values
 abbrev pub known_in : List Line → ℕ
 known_in [] = 0
 known_in (start ∷ lines) = sum_by known_values lines
-
--- whether a model is caught: its trace is unlike that of the cell
-abbrev pub is_caught : List Line → List Line → Bool
-is_caught cell model = is_some (first_difference (map drive_line cell) (map drive_line model))
 
 abbrev pub one_if : Bool → ℕ
 one_if b = if b then 1 else 0

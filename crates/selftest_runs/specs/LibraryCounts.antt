@@ -3,7 +3,9 @@ use Rattle.std.specs.Prelude.{◌≡◌, ℕ, List, [], ◌∷◌, Result, IfOk,
 use Rattle.text_io.specs.declared.slots.InSlot.TheVariants.{Library}
 use Rattle.text_io.specs.Desk.{DeskState, took}
 use Rattle.text_io.specs.declared.stop.Stop.{Stop}
-use Rattle.three_state_cells.specs.DrivenCells.{DrivenData, may_float}
+use Rattle.three_state_cells.specs.DrivenCells.{DrivenData, driven_data_of, may_float}
+use Rattle.library_items.specs.declared.next.NextCell.{NextCell}
+use Rattle.library_items.specs.declared.next.NextCell.TheVariants as next
 use Rattle.library_items.specs.LibraryCells.{CellEntry, Accepted, Refused}
 use Rattle.cell_cursor.specs.Ends.{items_within}
 use Rattle.library_items.specs.Endings.{library_limit}
@@ -17,6 +19,11 @@ use Rattle.selftest_runs.specs.CellCounts.{cell_counts}
 -- which none is damaged.
 abbrev pub driven_counts : DrivenData → List ℕ → Counts
 driven_counts cell entity = if may_float cell then no_counts else cell_counts cell.core entity
+
+-- what is counted of the next cell as it was read
+abbrev pub counted_next : NextCell → Counts
+counted_next (next.Accepted cell entity) = driven_counts (driven_data_of cell) entity
+counted_next (next.Refused refusal) = no_counts
 
 -- of a cell that is refused nothing is counted
 abbrev pub counted : CellEntry → Counts

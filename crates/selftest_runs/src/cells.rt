@@ -1,7 +1,8 @@
 //! What is counted of one cell.
-ghost use Rattle.std.specs.Prelude.{◌≡◌, [], IfOk};
+ghost use Rattle.std.specs.Prelude.{◌≡◌, [], IfOk, count_by};
 ghost use Rattle.cell_machine.specs.CellData.{data_of};
 ghost use Rattle.cell_machine.specs.CellTrace.{inputs_of, cell_trace};
+ghost use Rattle.cell_machine.specs.Inputs.{is_input_at};
 ghost use Rattle.cell_machine.specs.History.{IsProperFrom};
 ghost use Rattle.three_state_cells.specs.DrivenCells.{driven_data_of};
 ghost use Rattle.selftest_runs.specs.EntityNames.{IsNameOfEntity, IsNameWherePlain};
@@ -9,9 +10,9 @@ ghost use Rattle.selftest_runs.specs.Counts.{known_in};
 ghost use Rattle.selftest_runs.specs.CellCounts.{changes_by, counts_on, cell_counts};
 ghost use Rattle.selftest_runs.specs.LibraryCounts.{driven_counts};
 
-use crate::counts::{Counts, known_values, one_if};
+use crate::counts::{Counts, known_from_start, one_if};
 use crate::models::{is_damaged_entity_caught, is_damaged_module_caught};
-use cell_machine::{Cell, CellSim, Change, LibertySim};
+use cell_machine::{Cell, Change, Direction, LibertySim, Pin};
 use selftest_cells::{cell_changes, changes_are_proper};
 use sqlite_items::Items;
 use std::alloc::{AllocError, Global};
@@ -27,6 +28,15 @@ fn drawn_changes(alloc: Global, number: usize, inputs: usize) -> Result<Items<Ch
         return Ok(Items::new(alloc));
     }
     Ok(cell_changes(alloc, number as u64, inputs)?)
+}
+
+/// How many of the pins are inputs.
+fn input_count(pins: &[Pin]) -> usize
+    ensures { result ≡ count_by is_input_at pins.now }
+{
+    pins.iter()
+        .filter(|pin| pin.direction == Direction::Input)
+        .count()
 }
 
 /// What is counted of a cell on these changes, after which so many of its output values are 0 or 1.
@@ -59,10 +69,9 @@ pub fn count_cell(alloc: Global, cell: &Cell, entity: &[u8]) -> Result<Counts, A
     requires { IsNameOfEntity (data_of cell.now) entity.now }
     ensures { IfOk result (λ counts. counts ≡ cell_counts (data_of cell.now) entity.now) }
 {
-    let mut liberty = LibertySim::start(alloc, cell)?;
-    let drawn = drawn_changes(alloc, cell.number, liberty.inputs())?;
+    let drawn = drawn_changes(alloc, cell.number, input_count(cell.pins.as_slice()))?;
     let changes = drawn.as_slice();
-    let known = known_values(&mut liberty, changes)?;
+    let known = known_from_start(LibertySim::start(alloc, cell), changes)?;
     counts_on(alloc, cell, entity, changes, known)
 }
 

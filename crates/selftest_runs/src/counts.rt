@@ -1,5 +1,5 @@
 //! What is counted.
-ghost use Rattle.std.specs.Prelude.{◌≡◌, ◌+◌, [], List, IfOk, not};
+ghost use Rattle.std.specs.Prelude.{◌≡◌, ◌+◌, [], List, Ok, IfOk, IfErr, OnOk, not};
 ghost use Rattle.trit_cubes.specs.Filling.{is_unknown as is_unknown_value};
 ghost use Rattle.cell_machine.specs.declared.changes.Change.{Change as ChangeOf};
 ghost use Rattle.cell_machine.specs.History.{IsProperFrom};
@@ -8,6 +8,7 @@ ghost use Rattle.selftest_runs.specs.Counts.{no_counts, plus, one_if, known_valu
 
 use cell_machine::{CellSim, Change};
 use std::alloc::AllocError;
+use text_io::Stop;
 use trit_cubes::Trit;
 
 /// What is counted of cells that are run beside their damaged models.
@@ -42,6 +43,15 @@ impl Counts {
             verilog: total(self.verilog, more.verilog)?,
             vital: total(self.vital, more.vital)?,
         })
+    }
+
+    /// Adds others, where they were counted. It stops only where memory was wanting or a count comes to 2 to the 64th.
+    pub(crate) fn add(&mut self, more: Result<Counts, AllocError>) -> Result<(), Stop>
+        ensures sum { OnOk result ((counts : Counts) × (more ≡ Ok counts) × (self.new ≡ plus self.old counts)) }
+        ensures memory { IfErr result (λ stop. stop ≡ Stop.Memory) }
+    {
+        *self = self.plus(more?)?;
+        Ok(())
     }
 }
 
@@ -93,4 +103,17 @@ pub fn known_values<S: CellSim>(sim: &mut S, changes: &[Change]) -> Result<u64, 
         known = total(known, known_shown(sim) as u64)?;
     }
     Ok(known)
+}
+
+/// The same of a simulator that was started. It is a function of any simulator, so that what it owns is let go at one place.
+pub(crate) fn known_from_start<S: CellSim + Drop>(
+    started: Result<S, AllocError>,
+    changes: &[Change],
+) -> Result<u64, AllocError>
+    requires start { IfOk started (λ sim. S.stands sim []) }
+    requires proper { IfOk started (λ sim. IsProperFrom (S.machine sim).inputs [] changes.now) }
+    ensures { IfOk result (λ known. (sim : S) × (started ≡ Ok sim) × (known ≡ known_in (trace (S.machine sim).line changes.now))) }
+{
+    let mut sim = started?;
+    known_values(&mut sim, changes)
 }

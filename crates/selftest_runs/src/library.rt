@@ -1,29 +1,41 @@
 //! What is counted of the cells of a library.
-ghost use Rattle.std.specs.Prelude.{◌≡◌, IsTrue};
+ghost use Rattle.std.specs.Prelude.{◌≡◌, IfOk, IsTrue};
 ghost use Rattle.text_io.specs.declared.slots.Slot.TheVariants.{Input};
 ghost use Rattle.text_io.specs.declared.slots.InSlot.TheVariants.{Library};
 ghost use Rattle.text_io.specs.Desk.{is_bound, StopsWithCause};
-ghost use Rattle.selftest_runs.specs.LibraryCounts.{all_counts, CountsCells};
+ghost use Rattle.library_items.specs.declared.progress.Progress.{Progress};
+ghost use Rattle.library_items.specs.Folds.{IsNumberedNext};
+ghost use Rattle.selftest_runs.specs.LibraryCounts.{counted_next, all_counts, CountsCells};
 
 use crate::cells::count_driven;
 use crate::counts::Counts;
 use crate::laws::next_cells_have_entity_names;
 use liberty_groups::Group;
 use library_items::{CellFold, NextCell, fold_cells};
-use std::alloc::Global;
+use std::alloc::{AllocError, Global};
 use text_io::{Desk, Stop};
 
-/// What is counted of the cells: nothing of one that is refused, and nothing of one whose outputs may float.
+/// What is counted of the next cell as it was read of its group: nothing of one that is refused, and nothing of one whose outputs may
+/// float.
+fn count_next(alloc: Global, group: &Group, next: &NextCell) -> Result<Counts, AllocError>
+    requires { (p : Progress) × IsNumberedNext p group.now next.now }
+    ensures { IfOk result (λ counts. counts ≡ counted_next next.now) }
+{
+    let _at = group.at;
+    next_cells_have_entity_names();
+    match next {
+        NextCell::Accepted { cell, entity } => count_driven(alloc, cell, entity.as_slice()),
+        NextCell::Refused(_) => Ok(Counts::none()),
+    }
+}
+
+/// What is counted of the cells.
 impl CellFold for Counts {
     ghost made = { λ counts cells. counts ≡ all_counts cells };
 
-    fn take(&mut self, alloc: Global, _group: &Group, next: NextCell) -> Result<(), Stop> {
-        next_cells_have_entity_names();
-        if let NextCell::Accepted { cell, entity } = next {
-            let more = count_driven(alloc, &cell, entity.as_slice())?;
-            *self = self.plus(more)?;
-        }
-        Ok(())
+    fn take(&mut self, alloc: Global, group: &Group, next: NextCell) -> Result<(), Stop> {
+        let more = count_next(alloc, group, &next);
+        self.add(more)
     }
 }
 

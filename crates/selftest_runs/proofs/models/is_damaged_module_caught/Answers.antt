@@ -2,7 +2,7 @@ use Rattle.std.proofs.Common.{◌≡◌, ◌∙◌, ap, subst, IfOk}
 use Rattle.cell_machine.specs.CellTrace.{cell_trace}
 use Rattle.model_traces.specs.ModuleTrace.{module_trace}
 use Rattle.selftest_cells.specs.Damage.{damaged_module}
-use Rattle.selftest_runs.specs.Counts.{is_caught}
+use Rattle.caught_models.specs.Caught.{is_caught}
 use Rattle.cell_machine.specs.CellData.{data_of}
 use Rattle.selftest_runs.proofs.BesideModels.{module_beside, damaged_module_beside, module_not_caught}
 use Rattle.selftest_runs.proofs.models.is_damaged_module_caught.Goals as goal

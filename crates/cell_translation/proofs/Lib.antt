@@ -1,0 +1,2 @@
+pub mod ModelTexts
+pub mod TestLineTexts

@@ -1,0 +1,45 @@
+-- The line on the test cell of a cell.
+use Rattle.std.proofs.Common.{◌≡◌, sym, ap, subst, ◌∙◌, Option, Some, None, Result, Ok, Err, IsErr}
+use Rattle.text_io.specs.declared.outside.Failed.{Failed}
+use Rattle.text_io.specs.declared.slots.OutSlot.TheVariants.{Report}
+use Rattle.text_io.specs.Desk.{DeskState, wrote, WritesText}
+use Rattle.liberty_groups.specs.declared.tree.Group.{Group}
+use Rattle.three_state_cells.specs.DrivenCells.{DrivenData}
+use Rattle.command_outcomes.specs.Written.{in_report, wrote_all, Writes}
+use Rattle.command_outcomes.proofs.WrittenLaws.{wrote_all-nothing, report_stops, report_whole}
+use Rattle.scan_cells.specs.declared.answers.Agreement.{Agreement}
+use Rattle.scan_cells.specs.TestGroup.{test_of}
+use Rattle.scan_cells.specs.TestLines.{test_line}
+use Rattle.cell_translation.specs.Cells.{found_of_test, lines_on_test, test_lines}
+
+-- a cell without a test cell has no line
+pub none_whole : {E : Type 0} (s : DeskState) (cell : DrivenData) (group : Group) → test_of group ≡ None
+    → Writes {T = Unit {0}} {E = E} s s (in_report (test_lines cell group)) (Ok (tt {0}))
+unfolding test_lines
+none_whole s cell group e = record {
+  whole = sym (wrote_all-nothing s) ∙ ap (λ o. wrote_all s (in_report (lines_on_test cell o))) (sym e);
+  part = tt;
+}
+
+-- the line on a test cell, by what was found of it
+line_as : (cell : DrivenData) (group test : Group) (found : Option Agreement) → test_of group ≡ Some test
+    → found ≡ found_of_test cell test → test_line cell.core.number found ≡ test_lines cell group
+unfolding test_lines
+line_as cell group test found e f = ap (test_line cell.core.number) f ∙ ap (lines_on_test cell) (sym e)
+
+-- a fault within it
+pub line_stops : {S T E : Type 0} (old new : DeskState) (cell : DrivenData) (group test : Group) (found : Option Agreement) (y : Failed) (r : Result T E)
+    → test_of group ≡ Some test → found ≡ found_of_test cell test
+    → WritesText {T = S} old new Report (test_line cell.core.number found) (Err y) → IsErr r → Writes old new (in_report (test_lines cell group)) r
+line_stops {S} old new cell group test found y r e f w h =
+    report_stops old new (test_lines cell group) y r (subst (λ t. WritesText {T = S} old new Report t (Err y)) (line_as cell group test found e f) w) h
+
+-- all of it
+pub line_whole : {E : Type 0} (old new : DeskState) (cell : DrivenData) (group test : Group) (found : Option Agreement)
+    → test_of group ≡ Some test → found ≡ found_of_test cell test
+    → new ≡ wrote old Report (test_line cell.core.number found)
+    → Writes {T = Unit {0}} {E = E} old new (in_report (test_lines cell group)) (Ok (tt {0}))
+line_whole old new cell group test found e f h = record {
+  whole = report_whole old new (test_lines cell group) (h ∙ ap (wrote old Report) (line_as cell group test found e f));
+  part = tt;
+}

@@ -1,0 +1,5 @@
+use Rattle.command_outcomes.proofs.WrittenLaws.{stopped_before}
+use Rattle.cell_translation.proofs.models.write_core_entity.Goals as goal
+
+pub returns-in_err-core-clause-text : goal.returns-in_err-core-clause-text
+returns-in_err-core-clause-text g c = stopped_before _ _ _ c.from_residual.ensures.0

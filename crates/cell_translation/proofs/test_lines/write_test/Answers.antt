@@ -1,0 +1,24 @@
+use Rattle.std.proofs.Common.{Err, refl, sym, ap, ◌∙◌}
+use Rattle.std.specs.Option.{option_copied}
+use Rattle.three_state_cells.specs.DrivenCells.{driven_data_of}
+use Rattle.text_io.specs.declared.stop.Stop.TheVariants.{Memory}
+use Rattle.command_outcomes.proofs.WrittenLaws.{stopped_before}
+use Rattle.cell_translation.proofs.TestLineTexts.{none_whole, line_stops, line_whole}
+use Rattle.cell_translation.proofs.test_lines.write_test.Goals as goal
+
+pub returns-in_default-clause-text : goal.returns-in_default-clause-text
+returns-in_default-clause-text g c =
+    none_whole _ (driven_data_of c.args.cell.now) c.args.group.now (sym c.test_of.ensures ∙ ap option_copied c.in_default.is)
+
+pub returns-in_err-write_agreement-in-Ok-clause-text : goal.returns-in_err-write_agreement-in-Ok-clause-text
+returns-in_err-write_agreement-in-Ok-clause-text g c =
+    line_stops _ _ (driven_data_of c.args.cell.now) c.args.group.now c.in-Some.test.now c.in-Ok.found _ _ (sym c.test_of.ensures ∙ ap option_copied c.in-Some.is)
+    c.in-Ok.ensures c.in_err-write_agreement-in-Ok.ensures.text c.from_residual.ensures.0
+
+pub returns-in_ok-write_agreement-in-Ok-clause-text : goal.returns-in_ok-write_agreement-in-Ok-clause-text
+returns-in_ok-write_agreement-in-Ok-clause-text g c =
+    line_whole _ _ (driven_data_of c.args.cell.now) c.args.group.now c.in-Some.test.now c.in-Ok.found (sym c.test_of.ensures ∙ ap option_copied c.in-Some.is)
+    c.in-Ok.ensures c.in_ok-write_agreement-in-Ok.ensures.text.whole
+
+pub returns-in-Err-clause-text : goal.returns-in-Err-clause-text
+returns-in-Err-clause-text g c = stopped_before {T = Unit {0}} _ _ (Err Memory) refl

@@ -7,4 +7,4 @@ mod primitives;
 mod stimuli;
 mod verilog_texts;
 mod vhdl_texts;
-mod vital_tables;
+mod vital_look_ups;

@@ -1,39 +1,40 @@
 -- The cells that translating a library accepts are accepted cells of one library, so that their modules, their entities and their
 -- drivers are well formed.
-use Rattle.std.proofs.Common.{◌≡◌, ℕ, ◌+◌, ◌^◌, ◌<◌, ◌≤◌, Bool, true, false, List, [], ◌∷◌, ◌++◌, length, map, take, length-take, refl, sym, ap, subst, ◌∙◌, arith, Contains, Option, Some, None, is_some, nat_eq, inl, inr, if◌then◌else◌}
+use Rattle.std.proofs.Common.{◌≡◌, ℕ, ◌+◌, ◌^◌, ◌<◌, ◌≤◌, Bool, true, false, List, [], ◌∷◌, ◌++◌, length, map, take, length-take}
+use Rattle.std.proofs.Common.{refl, sym, ap, subst, ◌∙◌, arith, Contains, Option, Some, None, is_some, nat_eq, inl, inr}
+use Rattle.std.proofs.Common.{if◌then◌else◌}
 use Rattle.std.specs.List.{IsDistinct, AllByRecursion, list_any}
 use Rattle.std.specs.Str.{bytes_eq}
 use Rattle.std.proofs.lemmas.List.Elements.{Contains-append_left, Contains-append_right, All-from_recursion}
 use Rattle.std.proofs.lemmas.Map.Views.{Contains-from_any}
 use Rattle.std.proofs.lemmas.Simd.{map-map}
 use Rattle.std.proofs.lemmas.Slice.Eq.{bytes_eq-Decides}
-use Rattle.bool_functions.specs.NameList.{number_of}
-use Rattle.bool_functions.proofs.Elements.{contains_here, contains_cases}
-use Rattle.bool_functions.proofs.NameLists.{position-none}
-use Rattle.liberty_groups.specs.declared.tree.Group.{Group}
-use Rattle.cell_machine.specs.CellData.{CellData}
+use Rattle.model_simulation.specs.file_models.bool_functions.NameList.{number_of}
+use Rattle.model_simulation.proofs.file_models.bool_functions.Elements.{contains_here, contains_cases}
+use Rattle.model_simulation.proofs.file_models.bool_functions.NameLists.{position-none}
+use Rattle.generated_driven_models.specs.liberty_groups.declared.tree.Group.{Group}
+use Rattle.model_simulation.specs.file_models.cell_machine.CellData.{CellData}
 use Rattle.cell_parts.specs.Groups.{cell_name}
 use Rattle.cell_reader.specs.declared.refusal.Refusal.{Refusal}
 use Rattle.cell_cursor.specs.declared.item.LibraryItem.{LibraryItem}
 use Rattle.cell_cursor.specs.declared.item.LibraryItem.TheVariants as item
 use Rattle.cell_cursor.specs.Ends.{items_within}
 use Rattle.cell_cursor.proofs.Ascending.{items_few}
-use Rattle.three_state_cells.specs.DrivenCells.{DrivenData}
-use Rattle.library_cells.specs.Cells.{kept_names}
-use Rattle.generated_modules.specs.Accepted.{IsAccepted, AreAccepted, described}
-use Rattle.generated_modules.proofs.AcceptedCells.{accepted-of-one-library}
-use Rattle.generated_driven_modules.specs.Library as modules
-use Rattle.generated_driven_modules.proofs.Cores.{core-modules-well-formed}
-use Rattle.generated_driven_modules.proofs.Drivers.{drivers-well-formed}
-use Rattle.generated_driven_entities.specs.Laws as entities
-use Rattle.generated_driven_entities.proofs.Together.{well_formed_together}
-use Rattle.library_items.specs.declared.progress.Progress.{Progress}
-use Rattle.library_items.specs.Progress.{no_progress, next_number, next_bits, names_with, next_refusal, next_data, next_entity, entity_by, after_cell}
-use Rattle.library_items.specs.Endings.{library_limit}
-use Rattle.library_items.proofs.CellLemmas.{next_name, bits_unrefused}
+use Rattle.generated_driven_models.specs.three_state_cells.DrivenCells.{DrivenData}
+use Rattle.generated_driven_models.specs.library_cells.Cells.{kept_names}
+use Rattle.generated_driven_models.specs.generated_modules.Accepted.{IsAccepted, AreAccepted, described}
+use Rattle.generated_driven_models.proofs.generated_modules.AcceptedCells.{accepted-of-one-library}
+use Rattle.generated_driven_models.specs.Library.{IsNumberedDriven, AreOfOneLibrary}
+use Rattle.generated_driven_models.proofs.ModuleDrivers.{well-formed-together}
+use Rattle.generated_driven_models.proofs.Together.{well_formed_together}
+use Rattle.model_simulation.specs.library_items.declared.progress.Progress.{Progress}
+use Rattle.model_simulation.specs.library_items.Progress.{no_progress, next_number, next_bits, names_with, next_refusal}
+use Rattle.model_simulation.specs.library_items.Progress.{next_data, next_entity, entity_by, after_cell}
+use Rattle.model_simulation.specs.library_items.Endings.{library_limit}
+use Rattle.model_simulation.proofs.library_items.CellLemmas.{next_name, bits_unrefused}
 use Rattle.translate_cmd.specs.TranslatedModels.{cells_by, accepted_cells, cells_in}
 use Rattle.translate_cmd.specs.TranslatedLaws.{ModulesAreWellFormed, EntitiesAreWellFormed}
-use Rattle.translate_cmd.proofs.ReadCells.{under_own_name, its_core, its_number, is_numbered, is_driven}
+use Rattle.translate_cmd.proofs.ReadCells.{under_own_name, its_core, its_number, is_numbered}
 
 -- each of these names is among others
 abbrev AreAmong : List (List ℕ) → List (List ℕ) → Type 0
@@ -67,11 +68,6 @@ one_more names known name h x m =
 
 -- the next cell
 
--- a cell with what its models in both languages ask for
-record IsLibraryCell (cell : DrivenData) : Type 0 where
-  numbered : modules.IsNumberedDriven cell
-  driven : entities.IsDrivenCell cell
-
 module _ (p : Progress) (group : Group) (e : next_refusal p group ≡ None) where
   its_next_number : (next_data p group).core.number ≡ next_number p
   unfolding next_data
@@ -90,17 +86,14 @@ module _ (p : Progress) (group : Group) (e : next_refusal p group ≡ None) wher
         data_is = core.is ∙ ap (λ (n : ℕ). described p.unit n core.group) (sym its_next_number);
       }
 
-  in_library : next_number p < 2 ^ 64 → IsLibraryCell (next_data p group)
+  in_library : next_number p < 2 ^ 64 → IsNumberedDriven (next_data p group)
   unfolding next_data
-  in_library few = record {
-    numbered = is_numbered p.unit p.names (next_number p) (next_bits p group) (bits_unrefused p group e) few;
-    driven = is_driven p.unit p.names (next_number p) (next_bits p group) (bits_unrefused p group e) few;
-  }
+  in_library few = is_numbered p.unit p.names (next_number p) (next_bits p group) (bits_unrefused p group e) few
 
 -- cells as they follow some with these names, from this number on
 record AreBehind (from : ℕ) (names : List (List ℕ)) (cells : List DrivenData) : Type 0 where
   accepted : AreAccepted from names (map under_own_name cells)
-  each : AllByRecursion IsLibraryCell cells
+  each : AllByRecursion IsNumberedDriven cells
 
 -- what holds of items behind any others
 abbrev Follow : List LibraryItem → Type 0
@@ -152,14 +145,6 @@ library_accepted bytes =
 
 -- Such cells are those of one library.
 
-each_numbered : (cells : List DrivenData) → AllByRecursion IsLibraryCell cells → AllByRecursion modules.IsNumberedDriven cells
-each_numbered [] h = tt
-each_numbered (cell ∷ cells) h = (h.0.numbered, each_numbered cells h.1)
-
-each_driven : (cells : List DrivenData) → AllByRecursion IsLibraryCell cells → AllByRecursion entities.IsDrivenCell cells
-each_driven [] h = tt
-each_driven (cell ∷ cells) h = (h.0.driven, each_driven cells h.1)
-
 module _ (bytes : List ℕ) where
   abbrev cells : List DrivenData
   cells = cells_in bytes
@@ -167,28 +152,26 @@ module _ (bytes : List ℕ) where
   behind : AreBehind 1 [] cells
   behind = library_accepted bytes
 
-  pub all_numbered : AllByRecursion modules.IsNumberedDriven cells
-  all_numbered = each_numbered cells behind.each
+  pub all_numbered : AllByRecursion IsNumberedDriven cells
+  all_numbered = behind.each
 
-  modules_of_one : modules.AreOfOneLibrary cells
-  modules_of_one =
+  of_one_library : AreOfOneLibrary cells
+  of_one_library =
       let apart = accepted-of-one-library (map under_own_name cells) behind.accepted in
       record {
-        numbered = All-from_recursion modules.IsNumberedDriven cells all_numbered;
+        apart = record {
+          numbered = All-from_recursion IsNumberedDriven cells all_numbered;
+          numbers = subst (IsDistinct nat_eq) (map-map (λ (c : CellData). c.number) under_own_name cells) apart.numbers;
+        };
         names = subst (λ names. IsDistinct bytes_eq (kept_names names)) (map-map (λ (c : CellData). c.name) under_own_name cells) apart.names;
-        numbers = subst (IsDistinct nat_eq) (map-map (λ (c : CellData). c.number) under_own_name cells) apart.numbers;
       }
 
-  entities_of_one : entities.AreOfOneLibrary cells
-  entities_of_one = record { each = each_driven cells behind.each; numbers = modules_of_one.numbers }
-
 pub modules-well-formed : ModulesAreWellFormed
-modules-well-formed bytes = record {
-  models = core-modules-well-formed (cells_in bytes) (modules_of_one bytes);
-  drivers = drivers-well-formed (cells_in bytes) (modules_of_one bytes);
-}
+modules-well-formed bytes =
+    let together = well-formed-together (cells_in bytes) (of_one_library bytes) in
+    record { models = together.models; drivers = together.drivers }
 
 pub entities-well-formed : EntitiesAreWellFormed
 entities-well-formed bytes =
-    let together = well_formed_together (cells_in bytes) (entities_of_one bytes) in
+    let together = well_formed_together (cells_in bytes) (of_one_library bytes).apart in
     record { models = together.models; drivers = together.drivers }

@@ -1,13 +1,14 @@
 -- In a file of models that differ in their names each is the one that its name tells.
-use Rattle.std.proofs.Common.{◌≡◌, ℕ, ◌+◌, Bool, true, false, ◌||◌, List, [], ◌∷◌, ◌++◌, length, map, refl, sym, ap, subst, ◌∙◌, arith, append_assoc, Some, slice_get}
+use Rattle.std.proofs.Common.{◌≡◌, ℕ, ◌+◌, Bool, true, false, ◌||◌, List, [], ◌∷◌, ◌++◌, length, map, refl, sym, ap, subst, ◌∙◌}
+use Rattle.std.proofs.Common.{arith, append_assoc, Some, slice_get}
 use Rattle.std.specs.List.{AllByRecursion, list_any}
 use Rattle.std.specs.Option.{option_and_then}
 use Rattle.std.proofs.lemmas.List.{map-append, length-map}
-use Rattle.driver_models.specs.Cores.{Core, core_number}
-use Rattle.grammar_phrases.proofs.Places.{get_at, found_behind}
-use Rattle.sectioned_texts.specs.DrivenModels.{SectionLanguage}
-use Rattle.file_models.specs.FileModels.{core_named}
-use Rattle.file_models.proofs.DistinctNames.{core_name_of}
+use Rattle.model_simulation.specs.file_models.driver_models.Cores.{Core, core_number}
+use Rattle.generated_driven_models.proofs.grammar_phrases.Places.{get_at, found_behind}
+use Rattle.model_simulation.specs.file_models.sectioned_texts.DrivenModels.{SectionLanguage}
+use Rattle.model_simulation.specs.file_models.FileModels.{core_named}
+use Rattle.model_simulation.proofs.file_models.DistinctNames.{core_name_of}
 
 module _ {M : Type 0} (l : SectionLanguage M) where
   abbrev pub own_names : List M → List (List ℕ)

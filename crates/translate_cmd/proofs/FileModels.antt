@@ -1,41 +1,43 @@
 -- The models of files with the models of a library's cells are those that are generated for these cells.
-use Rattle.std.proofs.Common.{◌≡◌, ℕ, Bool, true, false, List, [], ◌∷◌, ◌++◌, map, flat_map, codes, decimal, refl, sym, ap, subst, ◌∙◌, Some, None, Ok, if◌then◌else◌}
+use Rattle.std.proofs.Common.{◌≡◌, ℕ, Bool, true, false, List, [], ◌∷◌, ◌++◌, map, flat_map, codes, decimal, refl, sym, ap, subst}
+use Rattle.std.proofs.Common.{◌∙◌, Some, None, Ok, if◌then◌else◌}
 use Rattle.std.specs.List.{AllByRecursion, list_any}
 use Rattle.std.specs.Result.{result_map_both}
 use Rattle.std.proofs.lemmas.List.Elements.{recursion_from_All}
-use Rattle.specify_blocks.specs.declared.model.VModule.{VModule}
-use Rattle.specify_blocks.specs.Generated.{module_of}
-use Rattle.specify_blocks.specs.WellFormed as verilog_rules
-use Rattle.vhdl_names.specs.Kept.{lowered}
-use Rattle.vital_models.specs.declared.model.VEntity.{VEntity}
-use Rattle.vital_models.specs.Generated.{entity_of}
-use Rattle.vhdl_tokens.specs.Spelling.{is_same}
-use Rattle.vhdl_text.specs.WellFormed as vital_rules
-use Rattle.grammar_phrases.proofs.Places.{same_bytes, at_place}
-use Rattle.written_modules.proofs.NameReading as module_names
-use Rattle.written_entities.proofs.Names.{IsNamed, entity_named, same_self}
-use Rattle.written_entities.proofs.NameReading as entity_names
-use Rattle.driver_models.specs.declared.model.DriverModel.{DriverModel}
-use Rattle.three_state_cells.specs.DrivenCells.{DrivenData, may_float}
-use Rattle.generated_drivers.specs.Generated.{verilog_driver_of, vital_driver_of}
-use Rattle.sectioned_texts.specs.DrivenModels.{SectionLanguage}
-use Rattle.sectioned_texts.specs.declared.driven_models.DrivenModels.{DrivenModels}
-use Rattle.generated_driven_modules.specs.Sections.{verilog_sections}
-use Rattle.generated_driven_entities.specs.Sections.{vital_sections}
-use Rattle.generated_driven_modules.specs.WrittenTexts as modules
-use Rattle.generated_driven_entities.specs.WrittenTexts as entities
-use Rattle.generated_driven_modules.specs.Library.{driven_modules_of}
-use Rattle.generated_driven_entities.specs.Library.{model_name, driven_entity, driven_entities_behind}
+use Rattle.generated_driven_models.specs.specify_blocks.declared.model.VModule.{VModule}
+use Rattle.generated_driven_models.specs.specify_blocks.Generated.{module_of}
+use Rattle.generated_driven_models.specs.specify_blocks.WellFormed as verilog_rules
+use Rattle.generated_driven_models.specs.vhdl_names.Kept.{lowered}
+use Rattle.generated_driven_models.specs.vital_models.declared.model.VEntity.{VEntity}
+use Rattle.generated_driven_models.specs.vital_models.Generated.{entity_of}
+use Rattle.generated_driven_models.specs.vhdl_tokens.Spelling.{is_same}
+use Rattle.generated_driven_models.specs.vhdl_text.WellFormed as vital_rules
+use Rattle.generated_driven_models.proofs.grammar_phrases.Places.{same_bytes, at_place}
+use Rattle.generated_driven_models.proofs.written_modules.NameReading as module_names
+use Rattle.generated_driven_models.proofs.written_entities.Names.{IsNamed, entity_named, same_self}
+use Rattle.generated_driven_models.proofs.written_entities.NameReading as entity_names
+use Rattle.model_simulation.specs.file_models.driver_models.declared.model.DriverModel.{DriverModel}
+use Rattle.generated_driven_models.specs.three_state_cells.DrivenCells.{DrivenData, may_float}
+use Rattle.generated_driven_models.specs.generated_drivers.Generated.{verilog_driver_of, vital_driver_of}
+use Rattle.model_simulation.specs.file_models.sectioned_texts.DrivenModels.{SectionLanguage}
+use Rattle.model_simulation.specs.file_models.sectioned_texts.declared.driven_models.DrivenModels.{DrivenModels}
+use Rattle.generated_driven_models.specs.written_driven_models.driven_files.Verilog.{verilog_sections}
+use Rattle.generated_driven_models.specs.written_driven_models.driven_files.Vital.{vital_sections}
+use Rattle.generated_driven_models.specs.written_driven_models.Texts.{models_of, driver_in, drivers_of}
+use Rattle.generated_driven_models.specs.VerilogLibrary.{driven_modules_of}
+use Rattle.generated_driven_models.specs.VitalLibrary.{model_name, driven_entity, driven_entities_behind}
 use Rattle.model_simulation.proofs.VerilogModels.{modules_apart}
-use Rattle.file_models.specs.declared.file_model.FileModel.{FileModel}
-use Rattle.file_models.specs.FileModels.{over_core, driver_over, core_named, over_its_core, own_model, file_models}
-use Rattle.file_models.proofs.DistinctNames.{core_name_of}
+use Rattle.model_simulation.specs.file_models.declared.file_model.FileModel.{FileModel}
+use Rattle.model_simulation.specs.file_models.FileModels.{over_core, driver_over, core_named, over_its_core, own_model}
+use Rattle.model_simulation.specs.file_models.FileModels.{file_models}
+use Rattle.model_simulation.proofs.file_models.DistinctNames.{core_name_of}
 use Rattle.library_translation.specs.Library.{translate_outcome}
 use Rattle.model_simulation.specs.Verilog.{verilog}
 use Rattle.model_simulation.specs.Vital.{vital}
-use Rattle.library_items.specs.LibraryCells.{CellEntry, Accepted, Refused}
-use Rattle.simulation_catalog.specs.CellModels.{CellModels, cores, drivers}
-use Rattle.simulation_catalog.specs.Generated.{core_entity, in_verilog, in_vital, core_modules, modules_of, core_entities, entities_of}
+use Rattle.model_simulation.specs.library_items.LibraryCells.{CellEntry, Accepted, Refused}
+use Rattle.model_simulation.specs.simulation_catalog.CellModels.{CellModels, cores, drivers}
+use Rattle.model_simulation.specs.simulation_catalog.Generated.{core_entity, in_verilog, in_vital, core_modules, modules_of}
+use Rattle.model_simulation.specs.simulation_catalog.Generated.{core_entities, entities_of}
 use Rattle.translate_cmd.specs.TranslatedModels.{verilog_in, vital_in}
 use Rattle.translate_cmd.proofs.AcceptedCells.{modules-well-formed, entities-well-formed}
 use Rattle.translate_cmd.proofs.ReadBack.{libraries-read-back}
@@ -86,7 +88,7 @@ verilog_core cell entity floats = refl
 
 -- the modules of cells apart from their drivers
 abbrev verilog_of : List DrivenData → DrivenModels VModule
-verilog_of cells = record { models = modules.models_of (driven_modules_of cells); drivers = modules.drivers_of (driven_modules_of cells) }
+verilog_of cells = record { models = models_of (driven_modules_of cells); drivers = drivers_of (driven_modules_of cells) }
 
 same_modules : (cells : List CellEntry) → apart in_verilog cells ≡ verilog_of (accepted_of cells)
 same_modules [] = refl
@@ -94,7 +96,7 @@ same_modules (Accepted cell entity ∷ cells) = by (same_modules cells) (may_flo
   where
     by : apart in_verilog cells ≡ verilog_of (accepted_of cells) → (b : Bool)
         → with_cell (module_of cell.core) (if b then verilog_driver_of cell ∷ [] else []) (apart in_verilog cells)
-        ≡ with_cell (module_of cell.core) (modules.driver_in (if b then Some (verilog_driver_of cell) else None)) (verilog_of (accepted_of cells))
+        ≡ with_cell (module_of cell.core) (driver_in (if b then Some (verilog_driver_of cell) else None)) (verilog_of (accepted_of cells))
     by rest true = ap (with_cell (module_of cell.core) (verilog_driver_of cell ∷ [])) rest
     by rest false = ap (with_cell (module_of cell.core) []) rest
 same_modules (Refused name refusal ∷ cells) = same_modules cells
@@ -112,7 +114,7 @@ vital_core cell entity floats = sym (ap (λ (b : Bool). if b then codes "cell" +
 
 -- the entities of cells apart from their drivers, each named behind models with these names
 abbrev vital_behind : List (List ℕ) → List DrivenData → DrivenModels VEntity
-vital_behind given cells = record { models = entities.models_of (driven_entities_behind given cells); drivers = entities.drivers_of (driven_entities_behind given cells) }
+vital_behind given cells = record { models = models_of (driven_entities_behind given cells); drivers = drivers_of (driven_entities_behind given cells) }
 
 same_entities : (cells : List CellEntry) (given : List (List ℕ)) → AreNamedBehind given cells → apart in_vital cells ≡ vital_behind given (accepted_of cells)
 same_entities [] given named = refl
@@ -124,7 +126,7 @@ same_entities (Accepted cell entity ∷ cells) given named =
 
     by : apart in_vital cells ≡ others → (b : Bool) → entity ≡ model_name b given cell
         → with_cell (entity_of cell.core (if b then codes "cell" ++ decimal cell.core.number else entity)) (if b then vital_driver_of cell entity ∷ [] else []) (apart in_vital cells)
-        ≡ with_cell (driven_entity b given cell).model (entities.driver_in (driven_entity b given cell).driver) others
+        ≡ with_cell (driven_entity b given cell).model (driver_in (driven_entity b given cell).driver) others
     by rest true e = λ i. with_cell (entity_of cell.core (codes "cell" ++ decimal cell.core.number)) (vital_driver_of cell (e i) ∷ []) (rest i)
     by rest false e = λ i. with_cell (entity_of cell.core (e i)) [] (rest i)
 same_entities (Refused name refusal ∷ cells) given named = same_entities cells given named

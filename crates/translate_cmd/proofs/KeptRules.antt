@@ -3,10 +3,10 @@ use Rattle.std.proofs.Common.{ℕ, List, [], ◌∷◌, sym, subst}
 use Rattle.std.specs.Prelude.{All}
 use Rattle.std.specs.List.{AllByRecursion}
 use Rattle.std.proofs.lemmas.List.Elements.{All-from_recursion}
-use Rattle.three_state_cells.specs.DrivenCells.{DrivenData}
-use Rattle.generated_driven_modules.specs.Library.{IsNumberedDriven}
-use Rattle.library_items.specs.LibraryCells.{CellEntry, Accepted, Refused}
-use Rattle.simulation_catalog.specs.Generated.{KeepsRules}
+use Rattle.generated_driven_models.specs.three_state_cells.DrivenCells.{DrivenData}
+use Rattle.generated_driven_models.specs.Library.{IsNumberedDriven}
+use Rattle.model_simulation.specs.library_items.LibraryCells.{CellEntry, Accepted, Refused}
+use Rattle.model_simulation.specs.simulation_catalog.Generated.{KeepsRules}
 use Rattle.translate_cmd.proofs.AcceptedCells.{all_numbered}
 use Rattle.translate_cmd.proofs.KeptCells.{accepted_of, cells_of, are_accepted}
 

@@ -7,8 +7,8 @@ use Rattle.command_outcomes.specs.declared.status.Status.TheVariants as status
 use Rattle.command_outcomes.specs.Binding.{bytes_at}
 use Rattle.command_outcomes.specs.Outcome.{Outcome}
 use Rattle.library_translation.specs.Library.{translate_outcome}
-use Rattle.simulation_catalog.specs.Comparisons.{any_differs}
-use Rattle.simulation_catalog.specs.Generated.{modules_of, entities_of}
+use Rattle.model_simulation.specs.simulation_catalog.Comparisons.{any_differs}
+use Rattle.model_simulation.specs.simulation_catalog.Generated.{modules_of, entities_of}
 use Rattle.model_simulation.specs.Simulate.{simulate_outcome, simulate_of}
 use Rattle.translate_cmd.specs.Complete.{CanBeSimulated}
 use Rattle.translate_cmd.specs.Agreement.{own_simulation, IsWithoutFault}

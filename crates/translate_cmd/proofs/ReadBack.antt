@@ -1,14 +1,14 @@
 -- The Verilog and the VHDL of a library read back.
 use Rattle.std.proofs.Common.{◌≡◌, ℕ, List, [], Ok, sym, subst}
-use Rattle.sectioned_texts.specs.DrivenModels.{driven_models}
-use Rattle.generated_driven_modules.specs.Sections.{verilog_sections}
-use Rattle.generated_driven_entities.specs.Sections.{vital_sections}
-use Rattle.generated_driven_modules.specs.WrittenLaws as verilog
-use Rattle.generated_driven_modules.proofs.KeptApart as modules_apart
-use Rattle.generated_driven_modules.proofs.ReadBack as modules_read
-use Rattle.generated_driven_entities.specs.WrittenLaws as vital
-use Rattle.generated_driven_entities.proofs.KeptApart as entities_apart
-use Rattle.generated_driven_entities.proofs.ReadBack as entities_read
+use Rattle.model_simulation.specs.file_models.sectioned_texts.DrivenModels.{driven_models}
+use Rattle.generated_driven_models.specs.written_driven_models.driven_files.Verilog.{verilog_sections}
+use Rattle.generated_driven_models.specs.written_driven_models.driven_files.Vital.{vital_sections}
+use Rattle.generated_driven_models.specs.written_driven_models.Laws.{HoldsApart}
+use Rattle.generated_driven_models.specs.written_driven_models.Verilog.{written_verilog, well_formed_verilog}
+use Rattle.generated_driven_models.specs.written_driven_models.Vital.{written_vital, well_formed_vital}
+use Rattle.generated_driven_models.proofs.written_driven_models.KeptApart.{kept_apart, all_declared, read_back}
+use Rattle.generated_driven_models.proofs.written_driven_models.VerilogPieces as verilog
+use Rattle.generated_driven_models.proofs.written_driven_models.VitalPieces as vital
 use Rattle.translate_cmd.specs.TranslatedModels.{modules_in, entities_in, verilog_in, vital_in}
 use Rattle.translate_cmd.specs.TranslatedLaws.{VerilogReadsBack, VitalReadsBack, LibrariesReadBack}
 use Rattle.translate_cmd.proofs.AcceptedCells.{modules-well-formed, entities-well-formed}
@@ -19,9 +19,10 @@ verilog_back bytes =
     let h = modules-well-formed bytes in
     let written = sym (verilog-of-modules bytes) in
     record {
-      answer = subst (λ (text : List ℕ). driven_models verilog_sections text ≡ Ok (verilog_in bytes)) written (modules_read.read_back (modules_in bytes) h.models h.drivers);
-      apart = subst (λ (text : List ℕ). verilog.HoldsApart text (verilog_in bytes).models (verilog_in bytes).drivers) written
-          (modules_apart.kept_apart (modules_in bytes) h.models (modules_read.all_declared (verilog_in bytes).models [] (verilog_in bytes).drivers h.drivers));
+      answer = subst (λ (text : List ℕ). driven_models verilog_sections text ≡ Ok (verilog_in bytes)) written (read_back written_verilog well_formed_verilog verilog.pieces (modules_in bytes) h.models h.drivers);
+      apart = subst (λ (text : List ℕ). HoldsApart written_verilog text (verilog_in bytes).models (verilog_in bytes).drivers) written
+          (kept_apart written_verilog well_formed_verilog verilog.pieces (modules_in bytes) h.models
+          (all_declared written_verilog well_formed_verilog verilog.pieces (verilog_in bytes).models [] (verilog_in bytes).drivers h.drivers));
     }
 
 vital_back : (bytes : List ℕ) → VitalReadsBack bytes
@@ -29,9 +30,10 @@ vital_back bytes =
     let h = entities-well-formed bytes in
     let written = sym (vital-of-entities bytes) in
     record {
-      answer = subst (λ (text : List ℕ). driven_models vital_sections text ≡ Ok (vital_in bytes)) written (entities_read.read_back (entities_in bytes) h.models h.drivers);
-      apart = subst (λ (text : List ℕ). vital.HoldsApart text (vital_in bytes).models (vital_in bytes).drivers) written
-          (entities_apart.kept_apart (entities_in bytes) h.models (entities_read.all_written (vital_in bytes).models [] (vital_in bytes).drivers h.drivers));
+      answer = subst (λ (text : List ℕ). driven_models vital_sections text ≡ Ok (vital_in bytes)) written (read_back written_vital well_formed_vital vital.pieces (entities_in bytes) h.models h.drivers);
+      apart = subst (λ (text : List ℕ). HoldsApart written_vital text (vital_in bytes).models (vital_in bytes).drivers) written
+          (kept_apart written_vital well_formed_vital vital.pieces (entities_in bytes) h.models
+          (all_declared written_vital well_formed_vital vital.pieces (vital_in bytes).models [] (vital_in bytes).drivers h.drivers));
     }
 
 pub libraries-read-back : LibrariesReadBack

@@ -1,13 +1,13 @@
 -- What is read of a cell that nothing refuses: its core is a cell without Z that nothing refuses, under a name of its own.
-use Rattle.std.proofs.Common.{◌≡◌, ℕ, ◌^◌, ◌<◌, Bool, true, false, List, [], ◌∷◌, ◌++◌, map, length, refl, sym, ap, subst, ◌∙◌, arith, Option, Some, None, is_some, if◌then◌else◌}
-use Rattle.std.proofs.lemmas.Bool.{ltb-true}
-use Rattle.bool_functions.specs.NameList.{number_of}
-use Rattle.liberty_text.specs.declared.time.Unit.{Unit}
-use Rattle.liberty_groups.specs.declared.tree.Item.{Item}
-use Rattle.liberty_groups.specs.declared.tree.Item.TheOpen.{Group-F}
-use Rattle.liberty_groups.specs.declared.tree.Item.TheViews.{out-roll-Group}
-use Rattle.liberty_groups.specs.declared.tree.Group.{Group}
-use Rattle.cell_machine.specs.CellData.{CellData}
+use Rattle.std.proofs.Common.{◌≡◌, ℕ, ◌^◌, ◌<◌, Bool, true, false, List, [], ◌∷◌, ◌++◌, map, refl, sym, ap, subst, ◌∙◌, Option}
+use Rattle.std.proofs.Common.{Some, None, is_some, if◌then◌else◌}
+use Rattle.model_simulation.specs.file_models.bool_functions.NameList.{number_of}
+use Rattle.generated_driven_models.specs.liberty_text.declared.time.Unit.{Unit}
+use Rattle.generated_driven_models.specs.liberty_groups.declared.tree.Item.{Item}
+use Rattle.generated_driven_models.specs.liberty_groups.declared.tree.Item.TheOpen.{Group-F}
+use Rattle.generated_driven_models.specs.liberty_groups.declared.tree.Item.TheViews.{out-roll-Group}
+use Rattle.generated_driven_models.specs.liberty_groups.declared.tree.Group.{Group}
+use Rattle.model_simulation.specs.file_models.cell_machine.CellData.{CellData}
 use Rattle.cell_parts.specs.Groups.{first_argument, cell_name}
 use Rattle.cell_parts.specs.Declarations.{declared_of, known_cell, clashes_after}
 use Rattle.cell_parts.proofs.Distinct.{nil_parts}
@@ -15,17 +15,15 @@ use Rattle.cell_reader.specs.declared.refusal.Refusal.{Refusal}
 use Rattle.cell_reader.specs.CellTexts.{subject_of}
 use Rattle.cell_reader.specs.Refusals.{refusal_of}
 use Rattle.cell_reader.proofs.Accepted.{accepted_meets_none, accepted_cells_are_sound}
-use Rattle.three_state_cells.specs.Outputs.{ThreeStateOutput, three_state_outputs}
-use Rattle.three_state_cells.specs.CoreGroups.{core_statement, enable_pins, core_group}
-use Rattle.three_state_cells.specs.Refusals.{first_of_two, floating_refusal, refusal_by, driven_refusal}
-use Rattle.three_state_cells.specs.DrivenCells.{DrivenData, may_float, core_name, floating_of, data_by, driven_data}
-use Rattle.three_state_cells.proofs.CoreNames.{core_name_is_name, renamed_keeps_rules}
-use Rattle.library_cells.specs.Cells.{IsNumberedCell}
-use Rattle.generated_modules.specs.Accepted.{described}
-use Rattle.generated_driven_modules.specs.Library.{IsNumberedDriven}
-use Rattle.generated_driven_modules.proofs.ReadCells.{read-cells-numbered}
-use Rattle.generated_driven_entities.specs.Laws.{IsDrivenCell}
-use Rattle.generated_driven_entities.proofs.ReadCells.{read_cells_have_drivers}
+use Rattle.generated_driven_models.specs.three_state_cells.Outputs.{ThreeStateOutput, three_state_outputs}
+use Rattle.generated_driven_models.specs.three_state_cells.CoreGroups.{core_statement, enable_pins, core_group}
+use Rattle.generated_driven_models.specs.three_state_cells.Refusals.{first_of_two, floating_refusal, refusal_by, driven_refusal}
+use Rattle.generated_driven_models.specs.three_state_cells.DrivenCells.{DrivenData, core_name, floating_of, data_by, driven_data}
+use Rattle.generated_driven_models.proofs.three_state_cells.CoreNames.{core_name_is_name, renamed_keeps_rules}
+use Rattle.generated_driven_models.specs.library_cells.Cells.{IsNumberedCell}
+use Rattle.generated_driven_models.specs.generated_modules.Accepted.{described}
+use Rattle.generated_driven_models.specs.Library.{IsNumberedDriven}
+use Rattle.generated_driven_models.proofs.ReadCells.{read-cells-numbered}
 
 first_none : (one other : Option Refusal) → first_of_two one other ≡ None → one ≡ None
 first_none None other e = refl
@@ -110,11 +108,3 @@ module _ (unit : Option Unit) (earlier : List (List ℕ)) (number : ℕ) (cell :
 
       pub is_numbered : IsNumberedDriven read
       is_numbered = read-cells-numbered unit number cell its_rules
-
-      pub is_driven : IsDrivenCell read
-      is_driven = record {
-        core = its_rules;
-        drivers = λ (floats : may_float read ≡ true).
-            let some = ltb-true 0 (length read.driver.drives) floats in
-            read_cells_have_drivers unit number cell its_rules (omega (arith, some));
-      }

@@ -4,7 +4,7 @@ use Rattle.text_io.specs.declared.slots.InSlot.TheVariants.{Library}
 use Rattle.text_io.specs.declared.outside.Failed.{Failed}
 use Rattle.text_io.specs.declared.slots.OutSlot.TheVariants.{Report, Faults}
 use Rattle.text_io.specs.Desk.{DeskState, WritesText}
-use Rattle.udp_tables.specs.declared.table.Udp.{Udp}
+use Rattle.model_simulation.specs.file_models.udp_tables.declared.table.Udp.{Udp}
 use Rattle.verilog_writer.specs.Primitive.{primitive_text}
 use Rattle.selftest_runs.specs.declared.counts.Counts.{Counts}
 use Rattle.selftest_runs.specs.OwnCounts.{own_counts}

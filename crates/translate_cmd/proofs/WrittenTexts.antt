@@ -1,31 +1,35 @@
 -- The Verilog and the VHDL of a library are those of the models of its accepted cells.
-use Rattle.std.proofs.Common.{◌≡◌, ℕ, Bool, true, false, List, [], ◌∷◌, ◌++◌, codes, decimal, refl, ap, subst, ◌∙◌, Option, Some, None, if◌then◌else◌}
+use Rattle.std.proofs.Common.{◌≡◌, ℕ, Bool, true, false, List, [], ◌∷◌, ◌++◌, codes, decimal, refl, ap, subst, ◌∙◌, Option, Some}
+use Rattle.std.proofs.Common.{None, if◌then◌else◌}
 use Rattle.std.specs.List.{flat_map}
 use Rattle.std.proofs.lemmas.List.{append-nil}
-use Rattle.liberty_groups.specs.declared.tree.Group.{Group}
+use Rattle.generated_driven_models.specs.liberty_groups.declared.tree.Group.{Group}
 use Rattle.cell_parts.specs.Groups.{cell_name}
 use Rattle.cell_reader.specs.declared.refusal.Refusal.{Refusal}
 use Rattle.cell_cursor.specs.declared.item.LibraryItem.{LibraryItem}
 use Rattle.cell_cursor.specs.declared.item.LibraryItem.TheVariants as item
 use Rattle.cell_cursor.specs.Ends.{items_within}
-use Rattle.vhdl_names.specs.Kept.{lowered}
-use Rattle.specify_blocks.specs.Generated.{module_of}
+use Rattle.generated_driven_models.specs.vhdl_names.Kept.{lowered}
+use Rattle.generated_driven_models.specs.specify_blocks.Generated.{module_of}
 use Rattle.verilog_writer.specs.Model.{prelude_text, module_text}
-use Rattle.verilog_drivers.specs.DriverText as verilog
-use Rattle.vital_models.specs.Generated.{entity_of}
-use Rattle.vhdl_writer.specs.Entity.{entity_text}
-use Rattle.vhdl_drivers.specs.DriverText as vhdl
-use Rattle.three_state_cells.specs.DrivenCells.{DrivenData, may_float}
-use Rattle.generated_drivers.specs.Generated.{verilog_driver_of, vital_driver_of}
-use Rattle.generated_driven_modules.specs.WrittenTexts as modules
-use Rattle.generated_driven_entities.specs.WrittenTexts as entities
-use Rattle.generated_driven_modules.specs.Library.{driven_module_of, driven_modules_of}
-use Rattle.generated_driven_entities.specs.Library.{model_name, driven_entity, driven_entities_behind}
+use Rattle.generated_driven_models.specs.verilog_drivers.DriverText as verilog
+use Rattle.generated_driven_models.specs.vital_models.Generated.{entity_of}
+use Rattle.generated_driven_models.specs.vhdl_writer.Entity.{entity_text}
+use Rattle.generated_driven_models.specs.vhdl_drivers.DriverText as vhdl
+use Rattle.generated_driven_models.specs.three_state_cells.DrivenCells.{DrivenData, may_float}
+use Rattle.generated_driven_models.specs.generated_drivers.Generated.{verilog_driver_of, vital_driver_of}
+use Rattle.generated_driven_models.specs.written_driven_models.Texts.{text_behind, written_model_text, written_text}
+use Rattle.generated_driven_models.specs.written_driven_models.Verilog.{written_verilog}
+use Rattle.generated_driven_models.specs.written_driven_models.Vital.{written_vital}
+use Rattle.generated_driven_models.specs.VerilogLibrary.{driven_module_of, driven_modules_of}
+use Rattle.generated_driven_models.specs.VitalLibrary.{model_name, driven_entity, driven_entities_behind}
 use Rattle.command_outcomes.specs.Written.{Written, joined}
-use Rattle.library_items.specs.declared.progress.Progress.{Progress}
-use Rattle.library_items.specs.Progress.{no_progress, next_refusal, next_data, next_entity, entity_by, after_cell, after_item}
-use Rattle.library_items.specs.Endings.{library_limit}
-use Rattle.library_translation.specs.Cells.{verilog_drivers_text, model_text, vital_drivers_text, vital_text, models_written, accepted_written, written_by, items_written}
+use Rattle.model_simulation.specs.library_items.declared.progress.Progress.{Progress}
+use Rattle.model_simulation.specs.library_items.Progress.{no_progress, next_refusal, next_data, next_entity, entity_by}
+use Rattle.model_simulation.specs.library_items.Progress.{after_cell, after_item}
+use Rattle.model_simulation.specs.library_items.Endings.{library_limit}
+use Rattle.library_translation.specs.Cells.{verilog_drivers_text, model_text, vital_drivers_text, vital_text, models_written}
+use Rattle.library_translation.specs.Cells.{accepted_written, written_by, items_written}
 use Rattle.library_translation.specs.Library.{outcome_at}
 use Rattle.translate_cmd.specs.TranslatedModels.{cells_by, accepted_cells}
 use Rattle.translate_cmd.specs.TranslatedLaws.{VerilogIsOfModules, VitalIsOfEntities}
@@ -33,26 +37,26 @@ use Rattle.translate_cmd.proofs.EntityNames.{AreAlike, alike_with, its_entity}
 
 -- One cell.
 
-one_verilog : (cell : DrivenData) → model_text cell ≡ modules.driven_module_text (driven_module_of cell)
-unfolding model_text verilog_drivers_text modules.driven_module_text
+one_verilog : (cell : DrivenData) → model_text cell ≡ written_model_text written_verilog (driven_module_of cell)
+unfolding model_text verilog_drivers_text written_model_text
 one_verilog cell = by (may_float cell)
   where
     by : (b : Bool)
         → module_text (module_of cell.core) ++ (if b then verilog.driver_text (verilog_driver_of cell) else [])
-        ≡ module_text (module_of cell.core) ++ modules.text_behind (if b then Some (verilog_driver_of cell) else None)
+        ≡ module_text (module_of cell.core) ++ text_behind written_verilog (if b then Some (verilog_driver_of cell) else None)
     by true = refl
     by false = refl
 
 one_vital :
     (given : List (List ℕ)) (cell : DrivenData) (name : List ℕ) → name ≡ model_name (may_float cell) given cell
-    → vital_text name cell ≡ entities.driven_entity_text (driven_entity (may_float cell) given cell)
-unfolding vital_text vital_drivers_text entities.driven_entity_text
+    → vital_text name cell ≡ written_model_text written_vital (driven_entity (may_float cell) given cell)
+unfolding vital_text vital_drivers_text written_model_text
 one_vital given cell name e = by (may_float cell) e
   where
     by : (b : Bool) → name ≡ model_name b given cell
         → entity_text (entity_of cell.core (if b then codes "cell" ++ decimal cell.core.number else name))
         ++ (if b then vhdl.driver_text (vital_driver_of cell name) else [])
-        ≡ entity_text (driven_entity b given cell).model ++ entities.text_behind (driven_entity b given cell).driver
+        ≡ entity_text (driven_entity b given cell).model ++ text_behind written_vital (driven_entity b given cell).driver
     by true e =
         ap (λ (x : List ℕ). entity_text (entity_of cell.core (codes "cell" ++ decimal cell.core.number)) ++ vhdl.driver_text (vital_driver_of cell x)) e
     by false e = ap (λ (x : List ℕ). entity_text (entity_of cell.core x) ++ []) e
@@ -67,8 +71,8 @@ in_vital entity cell group = append-nil (vital_text entity cell)
 
 -- What is written are the texts of these cells, their VITAL models named behind models with these names.
 record IsOfCells (given : List (List ℕ)) (cells : List DrivenData) (written : Written) : Type 0 where
-  verilog : written.verilog ≡ flat_map modules.driven_module_text (driven_modules_of cells)
-  vital : written.vital ≡ flat_map entities.driven_entity_text (driven_entities_behind given cells)
+  verilog : written.verilog ≡ flat_map (written_model_text written_verilog) (driven_modules_of cells)
+  vital : written.vital ≡ flat_map (written_model_text written_vital) (driven_entities_behind given cells)
 
 -- what holds of items behind any others
 abbrev Follow : List LibraryItem → Type 0
@@ -114,11 +118,11 @@ library_written : (bytes : List ℕ) → IsOfCells [] (accepted_cells no_progres
 library_written bytes = all_written (items_within library_limit bytes) no_progress [] (λ name. refl)
 
 pub verilog-of-modules : VerilogIsOfModules
-unfolding outcome_at modules.driven_modules_text
+unfolding outcome_at written_text
 verilog-of-modules bytes =
     append-nil (prelude_text ++ (items_written no_progress (items_within library_limit bytes)).verilog)
     ∙ ap (λ l. prelude_text ++ l) (library_written bytes).verilog
 
 pub vital-of-entities : VitalIsOfEntities
-unfolding outcome_at entities.driven_entities_text
+unfolding outcome_at written_text
 vital-of-entities bytes = append-nil (items_written no_progress (items_within library_limit bytes)).vital ∙ (library_written bytes).vital

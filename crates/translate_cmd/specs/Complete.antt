@@ -1,7 +1,7 @@
 -- When a command does all that it was asked for. This project's promise.
 use Rattle.std.specs.Prelude.{◌≡◌, ◌≤◌, ◌⊎◌, ℕ, List, length, true, Ok}
-use Rattle.liberty_groups.specs.declared.read.End.TheVariants.{Whole}
-use Rattle.liberty_groups.specs.Answer.{end_of_bytes}
+use Rattle.generated_driven_models.specs.liberty_groups.declared.read.End.TheVariants.{Whole}
+use Rattle.generated_driven_models.specs.liberty_groups.Answer.{end_of_bytes}
 use Rattle.text_io.specs.declared.file_commands.FileCommand.{FileCommand}
 use Rattle.text_io.specs.declared.file_commands.FileCommand.TheVariants.{Translate, Simulate, ReplayVerilog, ReplayVital, Audit}
 use Rattle.text_io.specs.declared.slots.InSlot.{InSlot}
@@ -14,20 +14,20 @@ use Rattle.command_words.specs.Reading.{reading}
 use Rattle.command_outcomes.specs.Written.{wrote_all}
 use Rattle.command_outcomes.specs.Binding.{bound_state, AreNamed, took_all, Tells, bytes_at}
 use Rattle.model_replay.specs.Complete.{CanBeReplayed}
-use Rattle.model_files.specs.Limits.{model_limit, stimulus_limit}
+use Rattle.model_simulation.specs.model_files.Limits.{model_limit, stimulus_limit}
 use Rattle.cell_cursor.specs.Ends.{items_within}
-use Rattle.specify_blocks.specs.declared.model.VModule.{VModule}
-use Rattle.vital_models.specs.declared.model.VEntity.{VEntity}
-use Rattle.file_models.specs.declared.file_model.FileModel.{FileModel}
-use Rattle.stimulus.specs.declared.sections.Section.{Section}
-use Rattle.stimulus.specs.PortEntries.{listed}
-use Rattle.stimulus.specs.Stimulus.{stimulus_of}
-use Rattle.library_items.specs.KeptCells.{kept_cells}
-use Rattle.library_items.specs.Progress.{no_progress}
-use Rattle.simulation_catalog.specs.Catalog.{cells_named}
+use Rattle.generated_driven_models.specs.specify_blocks.declared.model.VModule.{VModule}
+use Rattle.generated_driven_models.specs.vital_models.declared.model.VEntity.{VEntity}
+use Rattle.model_simulation.specs.file_models.declared.file_model.FileModel.{FileModel}
+use Rattle.model_simulation.specs.file_models.stimulus.declared.sections.Section.{Section}
+use Rattle.model_simulation.specs.file_models.stimulus.PortEntries.{listed}
+use Rattle.model_simulation.specs.file_models.stimulus.Stimulus.{stimulus_of}
+use Rattle.model_simulation.specs.library_items.KeptCells.{kept_cells}
+use Rattle.model_simulation.specs.library_items.Progress.{no_progress}
+use Rattle.model_simulation.specs.simulation_catalog.Catalog.{cells_named}
 use Rattle.model_simulation.specs.Verilog.{verilog}
 use Rattle.model_simulation.specs.Vital.{vital}
-use Rattle.library_items.specs.Endings.{library_limit}
+use Rattle.model_simulation.specs.library_items.Endings.{library_limit}
 use Rattle.translate_cmd.specs.Outcome.{files_of, outcome}
 
 -- a library within its limit, whose text is whole; its cells may be refused or not

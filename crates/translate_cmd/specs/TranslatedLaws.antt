@@ -1,14 +1,14 @@
 -- Laws of what `translate` writes.
 use Rattle.std.specs.Prelude.{◌≡◌, ℕ, List, [], Ok}
-use Rattle.sectioned_texts.specs.DrivenModels.{driven_models}
-use Rattle.specify_blocks.specs.WellFormed as modules
-use Rattle.vhdl_text.specs.WellFormed as entities
-use Rattle.generated_driven_modules.specs.Sections.{verilog_sections}
-use Rattle.generated_driven_entities.specs.Sections.{vital_sections}
-use Rattle.generated_driven_modules.specs.WrittenTexts.{driven_modules_text}
-use Rattle.generated_driven_modules.specs.WrittenLaws as verilog
-use Rattle.generated_driven_entities.specs.WrittenTexts.{driven_entities_text}
-use Rattle.generated_driven_entities.specs.WrittenLaws as vital
+use Rattle.model_simulation.specs.file_models.sectioned_texts.DrivenModels.{driven_models}
+use Rattle.generated_driven_models.specs.specify_blocks.WellFormed as modules
+use Rattle.generated_driven_models.specs.vhdl_text.WellFormed as entities
+use Rattle.generated_driven_models.specs.written_driven_models.driven_files.Verilog.{verilog_sections}
+use Rattle.generated_driven_models.specs.written_driven_models.driven_files.Vital.{vital_sections}
+use Rattle.generated_driven_models.specs.written_driven_models.Texts.{written_text}
+use Rattle.generated_driven_models.specs.written_driven_models.Laws.{AreWellFormedDrivers, HoldsApart}
+use Rattle.generated_driven_models.specs.written_driven_models.Verilog.{written_verilog, well_formed_verilog}
+use Rattle.generated_driven_models.specs.written_driven_models.Vital.{written_vital, well_formed_vital}
 use Rattle.library_translation.specs.Library.{translate_outcome}
 use Rattle.translate_cmd.specs.TranslatedModels.{modules_in, entities_in, verilog_in, vital_in}
 
@@ -16,7 +16,7 @@ use Rattle.translate_cmd.specs.TranslatedModels.{modules_in, entities_in, verilo
 -- behind those before it.
 pub record HasWellFormedModules (bytes : List ℕ) : Type 0 where
   pub models : modules.AreWellFormed (verilog_in bytes).models
-  pub drivers : verilog.AreWellFormedDrivers (verilog_in bytes).models [] (verilog_in bytes).drivers
+  pub drivers : AreWellFormedDrivers written_verilog well_formed_verilog (verilog_in bytes).models [] (verilog_in bytes).drivers
 
 -- so it is for every library
 abbrev pub ModulesAreWellFormed : Type 0
@@ -25,29 +25,29 @@ ModulesAreWellFormed = (bytes : List ℕ) → HasWellFormedModules bytes
 -- So are the entities, and so can the drivers over them.
 pub record HasWellFormedEntities (bytes : List ℕ) : Type 0 where
   pub models : entities.AreWellFormed (vital_in bytes).models
-  pub drivers : vital.AreWellFormedDrivers (vital_in bytes).models [] (vital_in bytes).drivers
+  pub drivers : AreWellFormedDrivers written_vital well_formed_vital (vital_in bytes).models [] (vital_in bytes).drivers
 
 abbrev pub EntitiesAreWellFormed : Type 0
 EntitiesAreWellFormed = (bytes : List ℕ) → HasWellFormedEntities bytes
 
 -- the Verilog of a library is the first line and the texts of these modules, each with that of the drivers over it
 abbrev pub VerilogIsOfModules : Type 0
-VerilogIsOfModules = (bytes : List ℕ) → (translate_outcome bytes).text.verilog ≡ driven_modules_text (modules_in bytes)
+VerilogIsOfModules = (bytes : List ℕ) → (translate_outcome bytes).text.verilog ≡ written_text written_verilog (modules_in bytes)
 
 -- the VHDL of a library is the texts of these entities so
 abbrev pub VitalIsOfEntities : Type 0
-VitalIsOfEntities = (bytes : List ℕ) → (translate_outcome bytes).text.vital ≡ driven_entities_text (entities_in bytes)
+VitalIsOfEntities = (bytes : List ℕ) → (translate_outcome bytes).text.vital ≡ written_text written_vital (entities_in bytes)
 
 -- The Verilog of a library reads as the modules and the drivers of its accepted cells. Its sections are the texts of these drivers, and
 -- around them it is the text of these modules, and of no others.
 pub record VerilogReadsBack (bytes : List ℕ) : Type 0 where
   pub answer : driven_models verilog_sections (translate_outcome bytes).text.verilog ≡ Ok (verilog_in bytes)
-  pub apart : verilog.HoldsApart (translate_outcome bytes).text.verilog (verilog_in bytes).models (verilog_in bytes).drivers
+  pub apart : HoldsApart written_verilog (translate_outcome bytes).text.verilog (verilog_in bytes).models (verilog_in bytes).drivers
 
 -- the VHDL of a library reads so as the entities and the drivers
 pub record VitalReadsBack (bytes : List ℕ) : Type 0 where
   pub answer : driven_models vital_sections (translate_outcome bytes).text.vital ≡ Ok (vital_in bytes)
-  pub apart : vital.HoldsApart (translate_outcome bytes).text.vital (vital_in bytes).models (vital_in bytes).drivers
+  pub apart : HoldsApart written_vital (translate_outcome bytes).text.vital (vital_in bytes).models (vital_in bytes).drivers
 
 -- both texts of every library read so
 pub record ReadsBack (bytes : List ℕ) : Type 0 where

@@ -1,21 +1,20 @@
 -- The cells of a library that translating it accepts, and the models of their cores and of their drivers. This project's rules.
 use Rattle.std.specs.Prelude.{ℕ, List, [], ◌∷◌, ◌++◌, Option, Some, None}
-use Rattle.liberty_groups.specs.declared.tree.Group.{Group}
+use Rattle.generated_driven_models.specs.liberty_groups.declared.tree.Group.{Group}
 use Rattle.cell_reader.specs.declared.refusal.Refusal.{Refusal}
 use Rattle.cell_cursor.specs.declared.item.LibraryItem.{LibraryItem}
 use Rattle.cell_cursor.specs.declared.item.LibraryItem.TheVariants as item
 use Rattle.cell_cursor.specs.Ends.{items_within}
-use Rattle.three_state_cells.specs.DrivenCells.{DrivenData}
-use Rattle.specify_blocks.specs.declared.model.VModule.{VModule}
-use Rattle.vital_models.specs.declared.model.VEntity.{VEntity}
-use Rattle.sectioned_texts.specs.declared.driven_models.DrivenModels.{DrivenModels}
-use Rattle.generated_driven_modules.specs.WrittenTexts as verilog
-use Rattle.generated_driven_entities.specs.WrittenTexts as vital
-use Rattle.generated_driven_modules.specs.Library.{driven_modules_of}
-use Rattle.generated_driven_entities.specs.Library.{driven_entities_of}
-use Rattle.library_items.specs.declared.progress.Progress.{Progress}
-use Rattle.library_items.specs.Progress.{no_progress, next_refusal, next_data, after_item}
-use Rattle.library_items.specs.Endings.{library_limit}
+use Rattle.generated_driven_models.specs.three_state_cells.DrivenCells.{DrivenData}
+use Rattle.generated_driven_models.specs.specify_blocks.declared.model.VModule.{VModule}
+use Rattle.generated_driven_models.specs.vital_models.declared.model.VEntity.{VEntity}
+use Rattle.model_simulation.specs.file_models.sectioned_texts.declared.driven_models.DrivenModels.{DrivenModels}
+use Rattle.generated_driven_models.specs.written_driven_models.Texts.{WrittenModel, models_of, drivers_of}
+use Rattle.generated_driven_models.specs.VerilogLibrary.{driven_modules_of}
+use Rattle.generated_driven_models.specs.VitalLibrary.{driven_entities_of}
+use Rattle.model_simulation.specs.library_items.declared.progress.Progress.{Progress}
+use Rattle.model_simulation.specs.library_items.Progress.{no_progress, next_refusal, next_data, after_item}
+use Rattle.model_simulation.specs.library_items.Endings.{library_limit}
 
 -- the next cell, where nothing refuses it
 abbrev pub cells_by : Progress → Group → Option Refusal → List DrivenData
@@ -39,17 +38,17 @@ abbrev pub cells_in : List ℕ → List DrivenData
 cells_in bytes = accepted_cells no_progress (items_within library_limit bytes)
 
 -- The modules of their cores, and over each of these the drivers of the cell where some of its outputs may float.
-abbrev pub modules_in : List ℕ → List verilog.DrivenModule
+abbrev pub modules_in : List ℕ → List (WrittenModel VModule)
 modules_in bytes = driven_modules_of (cells_in bytes)
 
 -- the entities of their cores and drivers so, each named behind those before it
-abbrev pub entities_in : List ℕ → List vital.DrivenEntity
+abbrev pub entities_in : List ℕ → List (WrittenModel VEntity)
 entities_in bytes = driven_entities_of (cells_in bytes)
 
 -- the modules apart from the drivers
 abbrev pub verilog_in : List ℕ → DrivenModels VModule
-verilog_in bytes = record { models = verilog.models_of (modules_in bytes); drivers = verilog.drivers_of (modules_in bytes) }
+verilog_in bytes = record { models = models_of (modules_in bytes); drivers = drivers_of (modules_in bytes) }
 
 -- the entities apart from the drivers
 abbrev pub vital_in : List ℕ → DrivenModels VEntity
-vital_in bytes = record { models = vital.models_of (entities_in bytes); drivers = vital.drivers_of (entities_in bytes) }
+vital_in bytes = record { models = models_of (entities_in bytes); drivers = drivers_of (entities_in bytes) }

@@ -1,6 +1,7 @@
 //! Theorems on the definitions. The functions do nothing of their own.
 
-ghost use Rattle.translate_cmd.specs.TranslatedLaws.{ModulesAreWellFormed, EntitiesAreWellFormed, VerilogIsOfModules, VitalIsOfEntities, LibrariesReadBack};
+ghost use Rattle.translate_cmd.specs.TranslatedLaws.{ModulesAreWellFormed, EntitiesAreWellFormed, VerilogIsOfModules};
+ghost use Rattle.translate_cmd.specs.TranslatedLaws.{VitalIsOfEntities, LibrariesReadBack};
 ghost use Rattle.translate_cmd.specs.Agreement.{OwnModelsAgree};
 ghost use Rattle.translate_cmd.specs.Audits.{AuditedCellsAgree, OwnModulesAuditWell};
 

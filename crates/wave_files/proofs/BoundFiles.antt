@@ -1,0 +1,163 @@
+-- A report and a dump bound one after the other, and what stands on the desk whether they were or not.
+use Rattle.std.proofs.Common.{◌≡◌, ℕ, Bool, true, false, List, [], ◌∷◌, Option, Some, None, Result, Ok, Err, MatchResult, IsTrue, IsErr, IfSome, OnOk, OnErr, take, length, nat_lt, refl, sym, ap, subst, ◌∙◌}
+use Rattle.std.specs.Option.{option_map}
+use Rattle.text_io.specs.declared.file_commands.FileCommand.{FileCommand}
+use Rattle.text_io.specs.declared.file_commands.FileCommand.TheVariants.{Translate, Simulate, ReplayVerilog, ReplayVital, Audit}
+use Rattle.text_io.specs.declared.outside.Failed.{Failed}
+use Rattle.text_io.specs.declared.slots.InSlot.{InSlot}
+use Rattle.text_io.specs.declared.slots.InSlot.TheVariants.{Library}
+use Rattle.text_io.specs.declared.slots.OutSlot.TheVariants.{VerilogText, VitalText, Faults}
+use Rattle.text_io.specs.declared.slots.Slot.TheVariants.{Input, Output}
+use Rattle.text_io.specs.Desk.{DeskState, Folder, is_bound, opened, created, took, wrote, IsFileAt, WritesText}
+use Rattle.text_io.specs.Plan.{plan, asked_files, planned_files}
+use Rattle.text_io.proofs.Wrote.{wrote-nil}
+use Rattle.command_outcomes.specs.declared.status.Status.{Status}
+use Rattle.command_outcomes.specs.declared.status.Status.TheVariants.{Outside, Usage}
+use Rattle.command_outcomes.specs.Status.{is_decided}
+use Rattle.command_outcomes.specs.Written.{Written, nothing_written, wrote_all}
+use Rattle.command_outcomes.specs.Outcome.{Outcome, IsPartOf, IsAllOf}
+use Rattle.command_outcomes.specs.Binding.{bound_state, AreNamed, Binds, took_all, only, Tells, bytes_at}
+use Rattle.command_outcomes.specs.Runs.{RunsAs}
+use Rattle.command_outcomes.proofs.BindingLaws.{IsFront-all, took_all-nothing, took_all-only, left_told, named_bytes}
+use Rattle.command_outcomes.proofs.WrittenLaws.{wrote_all-nothing, IsPart-nothing}
+use Rattle.command_outcomes.proofs.RunsLaws.{nothing, faults_runs}
+use Rattle.wave_files.specs.Outcome.{report_limit, outcome_where, wave_files, report_outcome, names_both, files_where, run_where, files_of, run_of, usage_line}
+
+-- Binding.
+
+-- an answer that a fault gives owes nothing
+unowed : {T : Type 0} (r : Result T Failed) (P : Type 0) → IsErr r → OnOk r P
+unowed (Ok x) P e = absurd cc
+unowed (Err y) P e = tt
+
+-- the report could not be bound
+pub unbound : {T : Type 0} (old new : DeskState) (r : Result T Failed) → IsErr r → new ≡ old → Binds wave_files old new r
+unbound old new r e h = record { bound = []; bytes = λ _. []; state = h; planned = (wave_files, refl); named = tt; whole = unowed r _ e }
+
+-- the report was bound, and the dump or not
+pub bound_last : {T : Type 0} (old now new : DeskState) (bytes : List ℕ) (r : Result T Failed) → now ≡ opened old Library bytes → IsFileAt old 1 bytes
+    → OnOk r (new ≡ created now VerilogText) → OnErr r (new ≡ now) → Binds wave_files old new r
+bound_last old now new bytes (Ok x) h f ok err = record {
+  bound = wave_files;
+  bytes = λ _. bytes;
+  state = ok ∙ ap (λ s. created s VerilogText) h;
+  planned = ([], refl);
+  named = (f, (tt, tt));
+  whole = refl;
+}
+bound_last old now new bytes (Err y) h f ok err = record {
+  bound = (Input Library, 1) ∷ [];
+  bytes = λ _. bytes;
+  state = err ∙ h;
+  planned = ((Output VerilogText, 2) ∷ [], refl);
+  named = (f, tt);
+  whole = tt;
+}
+
+-- both were bound
+pub both_bound : {T : Type 0} (old new : DeskState) (x : T) (b : Binds {T = T} wave_files old new (Ok x)) → new ≡ bound_state old wave_files b.bytes
+both_bound old new x b = b.state ∙ ap (λ bound. bound_state old bound b.bytes) b.whole
+
+pub both_named : {T : Type 0} (old new : DeskState) (x : T) (b : Binds {T = T} wave_files old new (Ok x)) → AreNamed old wave_files b.bytes
+both_named old new x b = subst (λ bound. AreNamed old bound b.bytes) b.whole b.named
+
+pub report_bound : (old now : DeskState) (bytes : InSlot → List ℕ) → now ≡ bound_state old wave_files bytes → IsTrue (is_bound now (Input Library))
+unfolding opened created
+report_bound old now bytes e = rw e refl
+
+pub dump_bound : (old now : DeskState) (bytes : InSlot → List ℕ) → now ≡ bound_state old wave_files bytes → IsTrue (is_bound now (Output VerilogText))
+unfolding opened created
+dump_bound old now bytes e = rw e refl
+
+left_bound : (old : DeskState) (bytes : InSlot → List ℕ) → (bound_state old wave_files bytes).left Library ≡ option_map (λ _. bytes Library) (old.left Library)
+unfolding opened created
+left_bound old bytes = refl
+
+-- what holds of the bytes of the report that is bound holds of the file that the words name
+told : (P : List ℕ → Type 0) (old now : DeskState) (folder : Folder) (bytes : InSlot → List ℕ) → now ≡ bound_state old wave_files bytes
+    → AreNamed old wave_files bytes → Tells wave_files old folder → IfSome (now.left Library) P → P (bytes_at old.words folder 1)
+told P old now folder bytes e f tells h =
+    let known : now.left Library ≡ Some (bytes Library) = ap (λ s. s.left Library) e ∙ left_bound old bytes ∙ left_told (old.left Library) (bytes Library) tells.0.1 in
+    let same = named_bytes old folder 1 (bytes Library) tells.0.0 f.0 in
+    rw same (rw known at h)
+
+-- Exits of the whole.
+
+-- what the words of a report come to
+abbrev pub report_of : List (List ℕ) → Folder → Outcome
+report_of words folder = report_outcome (bytes_at words folder 1)
+
+-- nothing was read or written
+untouched : (s : DeskState) → s ≡ wrote (wrote_all (took_all s (λ _. 0)) nothing_written) Faults []
+untouched s =
+    sym (took_all-nothing s) ∙ sym (wrote_all-nothing (took_all s (λ _. 0))) ∙ sym (wrote-nil (wrote_all (took_all s (λ _. 0)) nothing_written) Faults)
+
+-- a file could not be bound
+pub unbound_runs : {T : Type 0} (old new : DeskState) (r : Result T Failed) → Binds wave_files old new r → RunsAs wave_files (report_of old.words) old new Outside
+unbound_runs old new r b = record {
+  bound = b.bound;
+  bytes = b.bytes;
+  taken = λ _. 0;
+  text = nothing_written;
+  faults = [];
+  state = b.state ∙ untouched (bound_state old b.bound b.bytes);
+  planned = b.planned;
+  named = b.named;
+  part = λ folder _. record { text_part = IsPart-nothing _; faults_part = nothing _ };
+  outputs = λ d. absurd cc;
+  all_bound = λ d. absurd cc;
+  whole = λ d. absurd cc;
+}
+
+-- every report binds both
+both_bound_by : (more : Bool) (bytes : List ℕ) → (outcome_where more bytes).binds ≡ 2
+both_bound_by true bytes = refl
+both_bound_by false bytes = refl
+
+-- both were bound, and the waves were drawn or not
+pub drawn_runs : (old now new : DeskState) (bytes : InSlot → List ℕ) (result : Status) (taken : ℕ) (text : Written) (faults : List ℕ)
+    → now ≡ bound_state old wave_files bytes → AreNamed old wave_files bytes
+    → new ≡ wrote (wrote_all (took now Library taken) text) Faults faults
+    → IfSome (now.left Library) (λ all. IsPartOf text faults (report_outcome all))
+    → (IsTrue (is_decided result) → IfSome (now.left Library) (λ all. IsAllOf result text faults (report_outcome all)))
+    → RunsAs wave_files (report_of old.words) old new result
+drawn_runs old now new bytes result taken text faults h f state part whole = record {
+  bound = wave_files;
+  bytes = bytes;
+  taken = only Library taken;
+  text = text;
+  faults = faults;
+  state = state ∙ ap (λ s. wrote (wrote_all s text) Faults faults) (ap (λ s. took s Library taken) h ∙ sym (took_all-only (bound_state old wave_files bytes) Library taken));
+  planned = IsFront-all wave_files;
+  named = f;
+  part = λ folder tells. told (λ all. IsPartOf text faults (report_outcome all)) old now folder bytes h f tells part;
+  outputs = λ d slot place has. has;
+  all_bound = λ d folder tells. ap (λ n. take n wave_files) (sym (both_bound_by (nat_lt report_limit (length (bytes_at old.words folder 1))) (bytes_at old.words folder 1)));
+  whole = λ d folder tells. told (λ all. IsAllOf result text faults (report_outcome all)) old now folder bytes h f tells (whole d);
+}
+
+-- The words.
+
+planned : (asked : Option FileCommand) → names_both asked ≡ true → planned_files asked ≡ (Input Library, 1) ∷ (Output VerilogText, 2) ∷ (Output VitalText, 3) ∷ []
+planned (Some Translate) e = refl
+planned (Some Simulate) e = absurd cc
+planned (Some ReplayVerilog) e = absurd cc
+planned (Some ReplayVital) e = absurd cc
+planned (Some Audit) e = absurd cc
+planned None e = absurd cc
+
+-- the plan of words that name the two
+pub both_planned : (words : List (List ℕ)) → names_both (asked_files words) ≡ true → plan words ≡ (Input Library, 1) ∷ (Output VerilogText, 2) ∷ (Output VitalText, 3) ∷ []
+both_planned words e = planned (asked_files words) e
+
+-- a run of such words
+pub named_runs : (old new : DeskState) (result : Status) → names_both (asked_files old.words) ≡ true → RunsAs wave_files (report_of old.words) old new result
+    → RunsAs (files_of old.words) (run_of old.words) old new result
+named_runs old new result e run = subst (λ b. RunsAs (files_where b) (run_where b old.words) old new result) (sym e) run
+
+-- a run of others
+pub usage_runs : {T : Type 0} (old new : DeskState) (written : Result T Failed) (result : Status) → names_both (asked_files old.words) ≡ false
+    → WritesText old new Faults usage_line written → MatchResult written (λ _. result ≡ Usage) (λ _. result ≡ Outside)
+    → RunsAs (files_of old.words) (run_of old.words) old new result
+usage_runs old new written result e w r =
+    (faults_runs (files_of old.words) (run_of old.words) old new usage_line Usage written result (ap files_where e) (λ folder. ap (λ b. run_where b old.words folder) e) w r).0

@@ -1,0 +1,2 @@
+pub mod BoundFiles
+pub mod DrawLemmas

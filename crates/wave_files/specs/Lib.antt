@@ -1,0 +1,4 @@
+pub mod Dump
+pub mod Outcome
+pub mod Draws
+pub mod Words

@@ -1,6 +1,6 @@
 #!/usr/bin/env python3
 """make.py KIND SIZE: prints a hostile Liberty text, or a hostile file of models, of this kind and size; make.py KIND SIZE changes
-prints the stimulus of a kind that is replayed; make.py alone lists the kinds, each with its command and its three sizes.
+prints the stimulus of a kind that is replayed or simulated; make.py alone lists the kinds, each with its command and its three sizes.
 
 Each kind is small to write and dear to read or to run carelessly: it repeats one thing that a library, or a model, repeats only a
 few times."""
@@ -120,16 +120,69 @@ def flip_flops(n):
     return library(cell(inputs(names), groups, 'pin (Y) { direction : output; function : "q0"; }\n'))
 
 
-def table_rows(n):
-    rows = ", ".join(["L L : - : L"] * (n - 1) + ["H H : - : H"])
+def state_table(columns, nodes, rows):
+    """a cell whose one output shows the first node of a table with these rows"""
     return library(
         cell(
-            inputs(["A", "B"]),
-            'statetable ("A B", "Q") { table : "%s"; }\n' % rows,
-            'pin (Q) { direction : internal; internal_node : "Q"; }\n',
-            'pin (Y) { direction : output; state_function : "Q"; }\n',
+            inputs(columns),
+            'statetable ("%s", "%s") { table : "%s"; }\n' % (" ".join(columns), " ".join(nodes), ", ".join(rows)),
+            *('pin (%s) { direction : internal; internal_node : "%s"; }\n' % (node, node) for node in nodes),
+            'pin (Y) { direction : output; state_function : "%s"; }\n' % nodes[0],
         )
     )
+
+
+def table_rows(n):
+    """rows of two inputs"""
+    return state_table(["A", "B"], ["Q"], ["L L : - : L"] * (n - 1) + ["H H : - : H"])
+
+
+EIGHT = ["D%d" % k for k in range(8)]
+
+
+def falling_rows(n):
+    """rows that fit no change of one input"""
+    return state_table(EIGHT, ["Q"], [" ".join(["F"] * 8) + " : - : L"] * n)
+
+
+def rows_of_nodes(n):
+    """such rows over sixteen nodes"""
+    nodes = ["Q%d" % k for k in range(16)]
+    return state_table(EIGHT, nodes, [" : ".join(" ".join(part) for part in (["F"] * 8, ["-"] * 16, ["L"] * 16))] * n)
+
+
+def halved_rows(n):
+    """rows that are two rows each"""
+    return state_table(EIGHT, ["Q"], [" ".join(["L/H"] * 8) + " : - : L"] * n)
+
+
+def never(names):
+    """a text over these names that is always 0"""
+    return "!%s*%s" % (names[0], "*".join(names))
+
+
+def scan_cell(pins, others, groups, names, behind):
+    """a cell and its test cell that agree: the groups and the outputs of the one name these pins, those of the other these others"""
+    enable = "pin (SE) { direction : input; %s}\n"
+
+    def part(pins, declared, signal):
+        flip_flops = "".join(
+            'ff (q%d, n%d) { next_state : "%s"; clocked_on : "%s"; }\n' % (k, k, never(pins), never(pins)) for k in range(groups)
+        )
+        outputs = "".join('pin (%s) { direction : output; function : "%s"; }\n' % (name, behind(pins)) for name in names)
+        return inputs(declared) + enable % signal + flip_flops + outputs
+
+    test = part(others, others, 'signal_type : "test_scan_enable"; ')
+    return library(cell(part(pins, pins + others, ""), "test_cell () {\n" + test + "}\n"))
+
+
+def test_groups(n):
+    return scan_cell(EIGHT, ["E%d" % k for k in range(7)], n, ["Y"], lambda pins: "q0")
+
+
+def test_outputs(n):
+    pins = [["%s%d" % (letter, k) for k in range(10)] for letter in "DE"]
+    return scan_cell(*pins, 0, ["y%d" % k for k in range(n)], never)
 
 
 def lines_without_semicolons(n):
@@ -150,6 +203,26 @@ def brackets(n):
 
 def cut_cell(n):
     return "library(L){cell(C){" + "a:1;" * n
+
+
+def deep_groups(n):
+    """groups thirty deep in a cell, as deep as groups may be"""
+    return "library(L){cell(C){" + ("a(){" * 30 + "}" * 30) * n + "}}"
+
+
+def short_attributes(n):
+    return "library(L){cell(C){" + "a:1;" * n + "}}"
+
+
+def short_arguments(n):
+    return "library(L){cell(C){a(" + "b " * n + ");}}"
+
+
+def long_timing_type(n):
+    """a timing group of a type that makes nothing, under a group of 63 pins"""
+    names = ", ".join("y%d" % k for k in range(63))
+    timing = 'timing () { related_pin : "A"; timing_type : "%s"; }' % ("t" * n)
+    return library(cell(inputs(["A"]), 'pin (%s) { direction : output; function : "A"; %s }\n' % (names, timing)))
 
 
 # Models to replay. Each kind is a pair of functions of its size: the models and the stimulus.
@@ -191,6 +264,21 @@ def bank_of_long_texts(n):
 
 def bundle_of_one_name(n):
     return library(cell("bundle (B) { members (%s); direction : input; }\n" % ", ".join(["A"] * n)))
+
+
+def timing_of_a_bundle(n):
+    """a bundle with this many members and as many timing groups, which each of them has"""
+    members = ", ".join("A%d" % k for k in range(n))
+    groups = 'timing () { related_pin : "R"; }\n' * n
+    return library(cell(inputs(["R"]), "bundle (B) { members (%s); direction : input; %s}\n" % (members, groups)))
+
+
+def related_words(n):
+    """as many buses as words of a related pin"""
+    buses = ('bus (B%d) { bus_type : T; direction : input; }\n' % k for k in range(n))
+    words = " ".join("A%d" % k for k in range(n))
+    pin = 'pin (Y) { direction : output; function : "R"; timing () { related_pin : "%s"; } }\n' % words
+    return library(bus_type("T", 1), cell(inputs(["R"]), *buses, pin))
 
 
 def module(header, *parts, tables=""):
@@ -345,6 +433,36 @@ def columns_of_a_table(n):
     return entity(ports, rows, ports, "Y <= z_1")
 
 
+def sections(n, cell="C"):
+    """so many sections without a change"""
+    return "cell %s\n" % cell * n
+
+
+def conditional_arcs(n):
+    """n conditions of one pair of pins, and a plain arc of it"""
+    names = ["S%d" % k for k in range(8)]
+    groups = "".join(arc("A", when) for when in conditions(n, names)) + arc("A")
+    return library(cell(inputs(["A"] + names), 'pin (Y) { direction : output; function : "A"; %s}\n' % groups))
+
+
+def turns_of_conditions(n):
+    """n changes of the one pin, while no condition is 1"""
+    still = "".join("%d S%d 0\n" % (k + 1, k) for k in range(8))
+    return "cell C\n" + still.replace("S0 0", "S0 1") + "".join("%d A %d\n" % (100 * (k + 1), k % 2) for k in range(n))
+
+
+def exclusive_ors(n):
+    """two outputs, each an exclusive or of ten names"""
+    names = ["A%d" % k for k in range(10)]
+    outputs = ('pin (Y%d) { direction : output; function : "%s"; }\n' % (k, "^".join(names)) for k in range(2))
+    return library(cell(inputs(names), *outputs))
+
+
+def products(n):
+    """two outputs, each a product of ten names"""
+    return exclusive_ors(n).replace("^", "*")
+
+
 TRANSLATED = {
     "one_pin_group_of_names": (one_pin_group_of_names, (7500, 15000, 30000)),
     "shared_condition": (shared_condition, (25000, 50000, 100000)),
@@ -354,15 +472,26 @@ TRANSLATED = {
     "unlike_ends": (unlike_ends, (250, 500, 1000)),
     "flip_flops": (flip_flops, (4, 8, 16)),
     "table_rows": (table_rows, (10000, 20000, 40000)),
+    "falling_rows": (falling_rows, (10000, 20000, 40000)),
+    "rows_of_nodes": (rows_of_nodes, (5000, 10000, 20000)),
+    "halved_rows": (halved_rows, (10000, 20000, 40000)),
+    "test_groups": (test_groups, (4, 8, 16)),
+    "test_outputs": (test_outputs, (10, 20, 40)),
     "timing_of_a_bus": (timing_of_a_bus, (250, 500, 1000)),
     "buses_of_a_cell": (buses_of_a_cell, (250, 500, 1000)),
     "types_and_buses": (types_and_buses, (1000, 2000, 4000)),
     "bank_of_long_texts": (bank_of_long_texts, (4, 8, 16)),
     "bundle_of_one_name": (bundle_of_one_name, (7500, 15000, 30000)),
+    "timing_of_a_bundle": (timing_of_a_bundle, (100, 200, 400)),
+    "related_words": (related_words, (2000, 4000, 8000)),
     "lines_without_semicolons": (lines_without_semicolons, (2500000, 5000000, 10000000)),
     "delay_file": (delay_file, (150000, 300000, 600000)),
     "brackets": (brackets, (4000000, 8000000, 16000000)),
     "cut_cell": (cut_cell, (1000000, 2000000, 4000000)),
+    "deep_groups": (deep_groups, (25000, 50000, 100000)),
+    "short_attributes": (short_attributes, (1000000, 2000000, 4000000)),
+    "short_arguments": (short_arguments, (1000000, 2000000, 4000000)),
+    "long_timing_type": (long_timing_type, (250000, 500000, 1000000)),
 }
 
 REPLAYED = {
@@ -379,18 +508,27 @@ REPLAYED = {
 }
 
 
+SIMULATED = {
+    "conditional_arcs": (conditional_arcs, lambda n: turns_of_conditions(4 * n), (255, 511, 1023)),
+    "sections_of_exclusive_ors": (exclusive_ors, sections, (6250, 12500, 25000)),
+    "sections_of_products": (products, sections, (6250, 12500, 25000)),
+}
+
+
 def main(words):
     if not words:
         for kind, (_, sizes) in TRANSLATED.items():
             print(kind, "translate", *sizes)
         for kind, (command, _, _, sizes) in REPLAYED.items():
             print(kind, command, *sizes)
+        for kind, (_, _, sizes) in SIMULATED.items():
+            print(kind, "simulate", *sizes)
         return
     kind, size = words[0], int(words[1])
     if kind in TRANSLATED:
         text = TRANSLATED[kind][0](size)
     else:
-        _, models, changes, _ = REPLAYED[kind]
+        models, changes = SIMULATED[kind][:2] if kind in SIMULATED else REPLAYED[kind][1:3]
         text = (changes if words[2:] == ["changes"] else models)(size)
     sys.stdout.write(text)
 

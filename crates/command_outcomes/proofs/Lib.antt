@@ -6,3 +6,4 @@ pub mod FileLaws
 pub mod FilesReadLaws
 pub mod FailureLaws
 pub mod FileStepLaws
+pub mod LibraryRunLaws

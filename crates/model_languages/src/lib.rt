@@ -11,9 +11,7 @@ pub use laws::{
     entities_have_own_names, modules_have_own_names, plain_entities_read_as_before,
     plain_modules_read_as_before, well_formed_entities_have_own_names,
 };
-pub use starts::{
-    known_entity, known_module, start_entity, start_known_entity, start_known_module, start_module,
-};
+pub use starts::{known_entity, known_module, start_entity, start_module};
 pub use table_interpreters::{EntityStart, ModuleStart};
 pub use verilog::Verilog;
 pub use vital::Vital;

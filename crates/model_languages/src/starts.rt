@@ -41,7 +41,7 @@ pub fn known_entity(
 
 /// A model of a Verilog file before any change, of which this is known: its core behind what drives its outputs. An `Err` comes only
 /// where memory is wanting.
-pub fn start_known_module<'a>(
+pub fn start_module<'a>(
     alloc: Global,
     model: &'a FileModel<VModule>,
     known: &Shared<ModuleStart>,
@@ -60,7 +60,7 @@ pub fn start_known_module<'a>(
 
 /// A model of a VHDL file before any change, of which this is known: its core behind what drives its outputs. An `Err` comes only
 /// where memory is wanting.
-pub fn start_known_entity<'a>(
+pub fn start_entity<'a>(
     alloc: Global,
     model: &'a FileModel<VEntity>,
     known: &Shared<EntityStart>,
@@ -75,30 +75,4 @@ pub fn start_known_entity<'a>(
         VitalSim::start_by(alloc, model.core.get(), known)?,
         &model.driver,
     )
-}
-
-/// A model of a Verilog file before any change: its core behind what drives its outputs. An `Err` comes only where memory is wanting.
-pub fn start_module<'a>(
-    alloc: Global,
-    model: &'a FileModel<VModule>,
-) -> Result<DrivenSim<'a, VerilogSim<'a>>, AllocError>
-    requires { IsRunnable modules_of.IsSound module_machine model.now }
-    ensures machine { IfOk result (λ sim. ⟦<DrivenSim<'a, VerilogSim<'a>> as TraceSim>⟧.machine sim ≡ machine_by module_machine model.now) }
-    ensures stands { IfOk result (λ sim. ⟦<DrivenSim<'a, VerilogSim<'a>> as TraceSim>⟧.stands sim []) }
-{
-    let known = known_module(alloc, model)?;
-    start_known_module(alloc, model, &known)
-}
-
-/// A model of a VHDL file before any change: its core behind what drives its outputs. An `Err` comes only where memory is wanting.
-pub fn start_entity<'a>(
-    alloc: Global,
-    model: &'a FileModel<VEntity>,
-) -> Result<DrivenSim<'a, VitalSim<'a>>, AllocError>
-    requires { IsRunnable entities_of.IsSound entity_machine model.now }
-    ensures machine { IfOk result (λ sim. ⟦<DrivenSim<'a, VitalSim<'a>> as TraceSim>⟧.machine sim ≡ machine_by entity_machine model.now) }
-    ensures stands { IfOk result (λ sim. ⟦<DrivenSim<'a, VitalSim<'a>> as TraceSim>⟧.stands sim []) }
-{
-    let known = known_entity(alloc, model)?;
-    start_known_entity(alloc, model, &known)
 }

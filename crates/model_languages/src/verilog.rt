@@ -1,6 +1,6 @@
 //! Verilog as a language of models.
 
-use crate::starts::{known_module, start_known_module};
+use crate::starts::{known_module, start_module};
 use cell_machine::{Change, Shared};
 use driven_files::{VerilogFiles, read_driven_models};
 use file_models::{FileModel, file_models};
@@ -57,7 +57,7 @@ impl ModelLanguage for Verilog {
         ports: &Ports,
         changes: &[Change],
     ) -> Result<(), Stop> {
-        match start_known_module(alloc, model, start) {
+        match start_module(alloc, model, start) {
             Ok(mut sim) => write_section(
                 alloc,
                 desk,

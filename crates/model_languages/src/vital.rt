@@ -1,6 +1,6 @@
 //! VHDL by VITAL as a language of models.
 
-use crate::starts::{known_entity, start_known_entity};
+use crate::starts::{known_entity, start_entity};
 use cell_machine::{Change, Shared};
 use driven_files::{VitalFiles, read_driven_entities};
 use file_models::{FileModel, file_models};
@@ -59,7 +59,7 @@ impl ModelLanguage for Vital {
         ports: &Ports,
         changes: &[Change],
     ) -> Result<(), Stop> {
-        match start_known_entity(alloc, model, start) {
+        match start_entity(alloc, model, start) {
             Ok(mut sim) => write_section(
                 alloc,
                 desk,

@@ -22,7 +22,7 @@ use driven_traces::DrivenSim;
 use file_models::FileModel;
 use library_items::LibraryCell;
 use model_files::nothing_known;
-use model_languages::{start_known_entity, start_known_module};
+use model_languages::{start_entity, start_module};
 use section_runs::{Three, write_comparison, write_heading, write_verdict};
 use simulation_catalog::described_are_cells;
 use specify_blocks::VModule;
@@ -138,8 +138,8 @@ fn write_compared<D: Desk>(
     let name = beside.cell.name.as_slice();
     let changes = section.changes.as_slice();
     let liberty = start_cell(alloc, beside.cell, &known.liberty);
-    let verilog = start_known_module(alloc, beside.module, &known.verilog);
-    let vital = start_known_entity(alloc, beside.entity, &known.vital);
+    let verilog = start_module(alloc, beside.module, &known.verilog);
+    let vital = start_entity(alloc, beside.entity, &known.vital);
     match all_started(liberty, verilog, vital) {
         Ok(three) => write_started(alloc, desk, name, beside.ports, three, changes),
         Err(_) => Err(Stop::Memory),

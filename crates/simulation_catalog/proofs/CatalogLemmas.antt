@@ -11,7 +11,7 @@ use Rattle.simulation_catalog.specs.declared.numbers.ModelNumbers.{ModelNumbers}
 use Rattle.simulation_catalog.specs.NamedModels.{NamedModels, named_models, module_names, lowered_names}
 use Rattle.simulation_catalog.specs.declared.catalog.Simulated.{Simulated}
 use Rattle.simulation_catalog.specs.Catalog.{ports_in, numbers_in, simulated_in, simulated_of, HaveOwnNames}
-use Rattle.simulation_catalog.proofs.NewNames.{new_name, one_more}
+use Rattle.file_models.proofs.NewNames.{new_name, one_more}
 
 -- these cells stand in a catalog, each with the numbers of its models
 pub record AreListed (models : NamedModels) (catalog : NamedCells) (kept : List (Option ModelNumbers)) (some : List CellEntry) : Type 0 where

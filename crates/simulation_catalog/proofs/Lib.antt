@@ -1,4 +1,3 @@
-mod NewNames
 mod PinLemmas
 mod PortLemmas
 mod CatalogLemmas

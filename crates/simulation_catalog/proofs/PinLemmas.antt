@@ -13,7 +13,7 @@ use Rattle.cell_machine.proofs.RuleLemmas.{cell_rules}
 use Rattle.three_state_cells.specs.declared.driven_cell.DrivenCell.{DrivenCell}
 use Rattle.three_state_cells.specs.Drivers.{own_pins}
 use Rattle.simulation_catalog.specs.PinNames.{same_direction, pin_names, AreNamedApart}
-use Rattle.simulation_catalog.proofs.NewNames.{others_before, added_name}
+use Rattle.file_models.proofs.NewNames.{others_before, added_name}
 
 abbrev pub name_of_pin : Pin → List ℕ
 name_of_pin pin = pin.name

@@ -1,6 +1,5 @@
 -- A report and a dump bound one after the other, and what stands on the desk whether they were or not.
 use Rattle.std.proofs.Common.{◌≡◌, ℕ, Bool, true, false, List, [], ◌∷◌, Option, Some, None, Result, Ok, Err, MatchResult, IsTrue, IsErr, IfSome, OnOk, OnErr, take, length, nat_lt, refl, sym, ap, subst, ◌∙◌}
-use Rattle.std.specs.Option.{option_map}
 use Rattle.text_io.specs.declared.file_commands.FileCommand.{FileCommand}
 use Rattle.text_io.specs.declared.file_commands.FileCommand.TheVariants.{Translate, Simulate, ReplayVerilog, ReplayVital, Audit}
 use Rattle.text_io.specs.declared.outside.Failed.{Failed}
@@ -10,17 +9,15 @@ use Rattle.text_io.specs.declared.slots.OutSlot.TheVariants.{VerilogText, VitalT
 use Rattle.text_io.specs.declared.slots.Slot.TheVariants.{Input, Output}
 use Rattle.text_io.specs.Desk.{DeskState, Folder, is_bound, opened, created, took, wrote, IsFileAt, WritesText}
 use Rattle.text_io.specs.Plan.{plan, asked_files, planned_files}
-use Rattle.text_io.proofs.Wrote.{wrote-nil}
 use Rattle.command_outcomes.specs.declared.status.Status.{Status}
 use Rattle.command_outcomes.specs.declared.status.Status.TheVariants.{Outside, Usage}
 use Rattle.command_outcomes.specs.Status.{is_decided}
-use Rattle.command_outcomes.specs.Written.{Written, nothing_written, wrote_all}
+use Rattle.command_outcomes.specs.Written.{Written, wrote_all}
 use Rattle.command_outcomes.specs.Outcome.{Outcome, IsPartOf, IsAllOf}
-use Rattle.command_outcomes.specs.Binding.{bound_state, AreNamed, Binds, took_all, only, Tells, bytes_at}
+use Rattle.command_outcomes.specs.Binding.{bound_state, AreNamed, Binds, bytes_at}
 use Rattle.command_outcomes.specs.Runs.{RunsAs}
-use Rattle.command_outcomes.proofs.BindingLaws.{IsFront-all, took_all-nothing, took_all-only, left_told, named_bytes}
-use Rattle.command_outcomes.proofs.WrittenLaws.{wrote_all-nothing, IsPart-nothing}
-use Rattle.command_outcomes.proofs.RunsLaws.{nothing, faults_runs}
+use Rattle.command_outcomes.proofs.RunsLaws.{faults_runs}
+use Rattle.command_outcomes.proofs.LibraryRunLaws.{ReadsLibrary, library_runs}
 use Rattle.wave_files.specs.Outcome.{report_limit, outcome_where, wave_files, report_outcome, names_both, files_where, run_where, files_of, run_of, usage_line}
 
 -- Binding.
@@ -54,13 +51,6 @@ bound_last old now new bytes (Err y) h f ok err = record {
   whole = tt;
 }
 
--- both were bound
-pub both_bound : {T : Type 0} (old new : DeskState) (x : T) (b : Binds {T = T} wave_files old new (Ok x)) → new ≡ bound_state old wave_files b.bytes
-both_bound old new x b = b.state ∙ ap (λ bound. bound_state old bound b.bytes) b.whole
-
-pub both_named : {T : Type 0} (old new : DeskState) (x : T) (b : Binds {T = T} wave_files old new (Ok x)) → AreNamed old wave_files b.bytes
-both_named old new x b = subst (λ bound. AreNamed old bound b.bytes) b.whole b.named
-
 pub report_bound : (old now : DeskState) (bytes : InSlot → List ℕ) → now ≡ bound_state old wave_files bytes → IsTrue (is_bound now (Input Library))
 unfolding opened created
 report_bound old now bytes e = rw e refl
@@ -69,50 +59,22 @@ pub dump_bound : (old now : DeskState) (bytes : InSlot → List ℕ) → now ≡
 unfolding opened created
 dump_bound old now bytes e = rw e refl
 
-left_bound : (old : DeskState) (bytes : InSlot → List ℕ) → (bound_state old wave_files bytes).left Library ≡ option_map (λ _. bytes Library) (old.left Library)
+-- the report is the file that is read
+reads_report : ReadsLibrary wave_files ((Output VerilogText, 2) ∷ [])
 unfolding opened created
-left_bound old bytes = refl
-
--- what holds of the bytes of the report that is bound holds of the file that the words name
-told : (P : List ℕ → Type 0) (old now : DeskState) (folder : Folder) (bytes : InSlot → List ℕ) → now ≡ bound_state old wave_files bytes
-    → AreNamed old wave_files bytes → Tells wave_files old folder → IfSome (now.left Library) P → P (bytes_at old.words folder 1)
-told P old now folder bytes e f tells h =
-    let known : now.left Library ≡ Some (bytes Library) = ap (λ s. s.left Library) e ∙ left_bound old bytes ∙ left_told (old.left Library) (bytes Library) tells.0.1 in
-    let same = named_bytes old folder 1 (bytes Library) tells.0.0 f.0 in
-    rw same (rw known at h)
-
--- Exits of the whole.
-
--- what the words of a report come to
-abbrev pub report_of : List (List ℕ) → Folder → Outcome
-report_of words folder = report_outcome (bytes_at words folder 1)
-
--- nothing was read or written
-untouched : (s : DeskState) → s ≡ wrote (wrote_all (took_all s (λ _. 0)) nothing_written) Faults []
-untouched s =
-    sym (took_all-nothing s) ∙ sym (wrote_all-nothing (took_all s (λ _. 0))) ∙ sym (wrote-nil (wrote_all (took_all s (λ _. 0)) nothing_written) Faults)
-
--- a file could not be bound
-pub unbound_runs : {T : Type 0} (old new : DeskState) (r : Result T Failed) → Binds wave_files old new r → RunsAs wave_files (report_of old.words) old new Outside
-unbound_runs old new r b = record {
-  bound = b.bound;
-  bytes = b.bytes;
-  taken = λ _. 0;
-  text = nothing_written;
-  faults = [];
-  state = b.state ∙ untouched (bound_state old b.bound b.bytes);
-  planned = b.planned;
-  named = b.named;
-  part = λ folder _. record { text_part = IsPart-nothing _; faults_part = nothing _ };
-  outputs = λ d. absurd cc;
-  all_bound = λ d. absurd cc;
-  whole = λ d. absurd cc;
-}
+reads_report = (refl, λ old bytes. refl)
 
 -- every report binds both
 both_bound_by : (more : Bool) (bytes : List ℕ) → (outcome_where more bytes).binds ≡ 2
 both_bound_by true bytes = refl
 both_bound_by false bytes = refl
+
+binds_both : (all : List ℕ) → wave_files ≡ take (report_outcome all).binds wave_files
+binds_both all = ap (λ n. take n wave_files) (sym (both_bound_by (nat_lt report_limit (length all)) all))
+
+-- what the words of a report come to
+abbrev pub report_of : List (List ℕ) → Folder → Outcome
+report_of words folder = report_outcome (bytes_at words folder 1)
 
 -- both were bound, and the waves were drawn or not
 pub drawn_runs : (old now new : DeskState) (bytes : InSlot → List ℕ) (result : Status) (taken : ℕ) (text : Written) (faults : List ℕ)
@@ -121,20 +83,8 @@ pub drawn_runs : (old now new : DeskState) (bytes : InSlot → List ℕ) (result
     → IfSome (now.left Library) (λ all. IsPartOf text faults (report_outcome all))
     → (IsTrue (is_decided result) → IfSome (now.left Library) (λ all. IsAllOf result text faults (report_outcome all)))
     → RunsAs wave_files (report_of old.words) old new result
-drawn_runs old now new bytes result taken text faults h f state part whole = record {
-  bound = wave_files;
-  bytes = bytes;
-  taken = only Library taken;
-  text = text;
-  faults = faults;
-  state = state ∙ ap (λ s. wrote (wrote_all s text) Faults faults) (ap (λ s. took s Library taken) h ∙ sym (took_all-only (bound_state old wave_files bytes) Library taken));
-  planned = IsFront-all wave_files;
-  named = f;
-  part = λ folder tells. told (λ all. IsPartOf text faults (report_outcome all)) old now folder bytes h f tells part;
-  outputs = λ d slot place has. has;
-  all_bound = λ d folder tells. ap (λ n. take n wave_files) (sym (both_bound_by (nat_lt report_limit (length (bytes_at old.words folder 1))) (bytes_at old.words folder 1)));
-  whole = λ d folder tells. told (λ all. IsAllOf result text faults (report_outcome all)) old now folder bytes h f tells (whole d);
-}
+drawn_runs old now new bytes result taken text faults h f state part whole =
+    library_runs wave_files _ report_outcome old now new bytes result taken text faults reads_report binds_both h f state part whole
 
 -- The words.
 

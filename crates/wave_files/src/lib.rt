@@ -7,5 +7,5 @@ mod dump;
 mod words;
 
 pub use command::run;
-pub use command_outcomes::Status;
+pub use command_outcomes::{Status, open_closed_streams, program_words};
 pub use words::desk_words;

@@ -3,7 +3,7 @@ use Rattle.bool_functions.specs.NameList.{Adds}
 use Rattle.vhdl_names.specs.Kept.{lowered}
 use Rattle.file_models.specs.declared.file_model.FileModel.{FileModel}
 use Rattle.vital_models.specs.declared.model.VEntity.{VEntity}
-use Rattle.simulation_catalog.proofs.NewNames.{names_more}
+use Rattle.file_models.proofs.NewNames.{names_more}
 use Rattle.simulation_catalog.proofs.named_models.lowered_names.Goals as goal
 
 pub loop-entity-preserved : goal.loop-entity-preserved

@@ -1,6 +1,6 @@
 use Rattle.file_models.specs.declared.file_model.FileModel.{FileModel}
 use Rattle.specify_blocks.specs.declared.model.VModule.{VModule}
-use Rattle.simulation_catalog.proofs.NewNames.{names_more}
+use Rattle.file_models.proofs.NewNames.{names_more}
 use Rattle.simulation_catalog.proofs.named_models.module_names.Goals as goal
 
 pub loop-model-preserved : goal.loop-model-preserved

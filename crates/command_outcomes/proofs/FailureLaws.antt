@@ -1,12 +1,12 @@
 -- How many calls failed in a run, by its status.
-use Rattle.std.proofs.Common.{◌≡◌, ℕ, ◌∙◌, true, false, Result, Ok, Err, MatchResult, IsTrue, if◌then◌else◌, refl, sym, subst, arith}
+use Rattle.std.proofs.Common.{◌≡◌, ℕ, ◌∙◌, Bool, true, false, Result, Ok, Err, MatchResult, IsTrue, if◌then◌else◌, refl, sym, subst, arith}
 use Rattle.text_io.specs.declared.outside.Failed.{Failed}
 use Rattle.text_io.specs.declared.stop.Stop.{Stop}
 use Rattle.text_io.specs.declared.stop.Stop.TheVariants as stops
 use Rattle.text_io.specs.Desk.{Rose, HasCause, StopsWithCause}
 use Rattle.command_outcomes.specs.declared.status.Status.{Status}
 use Rattle.command_outcomes.specs.declared.status.Status.TheVariants as status
-use Rattle.command_outcomes.specs.Status.{is_decided, is_unfailed, status_by}
+use Rattle.command_outcomes.specs.Status.{is_decided, is_unfailed, status_by, status_where, compared_status}
 use Rattle.command_outcomes.specs.Runs.{StopsWithStatus}
 
 -- where none had failed before, one failed in a run that ends so, or none
@@ -60,3 +60,12 @@ pub ends_by_call : {T : Type 0} (ends : T → Status) (before now after : ℕ) (
     → now ≡ before → StopsWithCause now after last → result ≡ status_by ends last → StopsWithStatus before after result
 ends_by_call ends before now after last result plain kept h is =
     subst (λ count. StopsWithStatus count after result) kept (subst (StopsWithStatus now after) (sym is) (by_call ends now after last plain h))
+
+where_plain : (some_differ : Bool) → IsPlain (status_where some_differ)
+where_plain true = record { no_failure = λ e. absurd cc; has_reading = λ e. absurd cc }
+where_plain false = record { no_failure = λ e. absurd cc; has_reading = λ e. absurd cc }
+
+-- so does a run that compares
+pub ends_by_comparing : (before now after : ℕ) (compared : Result Bool Stop) (result : Status) → now ≡ before
+    → StopsWithCause now after compared → result ≡ compared_status compared → StopsWithStatus before after result
+ends_by_comparing before now after compared result kept h is = ends_by_call status_where before now after compared result where_plain kept h is

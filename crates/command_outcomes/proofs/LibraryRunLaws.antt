@@ -28,12 +28,12 @@ pub named_all : {T : Type 0} (files : Files) (old new : DeskState) (x : T) (b : 
 named_all files old new x b = subst (λ bound. AreNamed old bound b.bytes) b.whole b.named
 
 -- nothing was read or written
-untouched : (s : DeskState) → s ≡ wrote (wrote_all (took_all s (λ _. 0)) nothing_written) Faults []
+pub untouched : (s : DeskState) → s ≡ wrote (wrote_all (took_all s (λ _. 0)) nothing_written) Faults []
 untouched s =
     sym (took_all-nothing s) ∙ sym (wrote_all-nothing (took_all s (λ _. 0))) ∙ sym (wrote-nil (wrote_all (took_all s (λ _. 0)) nothing_written) Faults)
 
 -- a file could not be bound
-pub unbound_runs : {T : Type 0} (files : Files) (outcome : Folder → Outcome) (old new : DeskState) (r : Result T Failed) → Binds files old new r
+unfoldable pub unbound_runs : {T : Type 0} (files : Files) (outcome : Folder → Outcome) (old new : DeskState) (r : Result T Failed) → Binds files old new r
     → RunsAs files outcome old new Outside
 unbound_runs files outcome old new r b = record {
   bound = b.bound;
@@ -67,7 +67,7 @@ told files others P old now folder bytes reads e f tells h =
     rw same (rw known at h)
 
 -- all were bound, and what the outcome of the bytes read appends was appended, or a part of it
-pub library_runs : (files others : Files) (outcome : List ℕ → Outcome) (old now new : DeskState) (bytes : InSlot → List ℕ) (result : Status) (taken : ℕ)
+unfoldable pub library_runs : (files others : Files) (outcome : List ℕ → Outcome) (old now new : DeskState) (bytes : InSlot → List ℕ) (result : Status) (taken : ℕ)
     (text : Written) (faults : List ℕ) → ReadsLibrary files others → ((all : List ℕ) → files ≡ take (outcome all).binds files)
     → now ≡ bound_state old files bytes → AreNamed old files bytes → new ≡ wrote (wrote_all (took now Library taken) text) Faults faults
     → IfSome (now.left Library) (λ all. IsPartOf text faults (outcome all))

@@ -1,5 +1,5 @@
 -- The statuses of a run, and the program's exit codes. This project's rule.
-use Rattle.std.specs.Prelude.{ℕ, Bool, true, false, Result, Ok, Err}
+use Rattle.std.specs.Prelude.{ℕ, Bool, true, false, Result, Ok, Err, if◌then◌else◌}
 use Rattle.text_io.specs.declared.stop.Stop.{Stop}
 use Rattle.text_io.specs.declared.stop.Stop.TheVariants as stops
 use Rattle.command_outcomes.specs.declared.status.Status.{Status}
@@ -38,3 +38,11 @@ stop_status stops.Memory = Memory
 abbrev pub status_by : {T : Type 0} → (T → Status) → Result T Stop → Status
 status_by ends (Ok value) = ends value
 status_by ends (Err stop) = stop_status stop
+
+-- the status of a run that compares, by whether something differs
+abbrev pub status_where : Bool → Status
+status_where some_differ = if some_differ then Differ else Done
+
+-- the status of a run that compares, and comes to its end or stops with its last call
+abbrev pub compared_status : Result Bool Stop → Status
+compared_status compared = status_by status_where compared

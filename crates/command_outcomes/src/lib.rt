@@ -9,4 +9,4 @@ mod status;
 
 pub use process::{open_closed_streams, program_words};
 pub use refusals::RefusalText;
-pub use status::{Status, ended};
+pub use status::{Status, compared_status, ended};

@@ -1,7 +1,7 @@
 //! The statuses of a run, and the program's exit codes.
 ghost use Rattle.std.specs.Prelude.{◌≡◌, MatchResult};
 ghost use Rattle.command_outcomes.specs.declared.status.Status.TheVariants as status;
-ghost use Rattle.command_outcomes.specs.Status.{code_of, stop_status};
+ghost use Rattle.command_outcomes.specs.Status.{code_of, stop_status, compared_status as compared_status_of};
 
 use std::alloc::AllocError;
 use text_io::{Failed, Stop};
@@ -86,5 +86,16 @@ pub fn ended(written: Result<(), Failed>, status: Status) -> Status
     match written {
         Ok(()) => status,
         Err(Failed) => Status::Outside,
+    }
+}
+
+/// The status of a run that compares: by whether something differs, `Differ` or `Done`, or that of the call with which it stopped.
+pub fn compared_status(compared: Result<bool, Stop>) -> Status
+    ensures { result ≡ compared_status_of compared }
+{
+    match compared {
+        Ok(true) => Status::Differ,
+        Ok(false) => Status::Done,
+        Err(stop) => Status::from(stop),
     }
 }

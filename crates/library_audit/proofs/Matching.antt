@@ -17,6 +17,7 @@ use Rattle.file_models.specs.declared.file_model.FileModel.{FileModel}
 use Rattle.udp_tables.specs.declared.models.ModelFault.{ModelFault}
 use Rattle.command_outcomes.specs.declared.status.Status.TheVariants as status
 use Rattle.command_outcomes.specs.Outcome.{Outcome}
+use Rattle.command_outcomes.specs.Status.{status_where}
 use Rattle.command_outcomes.specs.FileSteps.{answer_where, outcome_by}
 use Rattle.library_file.specs.LibraryAnswer.{answer_by}
 use Rattle.model_files.specs.Limits.{model_limit}
@@ -28,7 +29,7 @@ use Rattle.table_audit.specs.Verdict.{verdict_of}
 use Rattle.table_audit.specs.Laws.{SameIsMatching}
 use Rattle.library_audit.specs.Lines.{verdict_text, shape_text, difference_text, audit_line, left_out_line}
 use Rattle.library_audit.specs.Audits.{module_for, verdict_in, is_other, differs, any_differs}
-use Rattle.library_audit.specs.Outcome.{status_where, audits_outcome, behind_cells, audit_outcome}
+use Rattle.library_audit.specs.Outcome.{audits_outcome, behind_cells, audit_outcome}
 use Rattle.library_audit.specs.Laws.{HasMatch, HasMatchOrIsLeftOut, SameLineIsMatch, AllMatch, DoneIsMatch}
 use Rattle.library_audit.proofs.WholeAudits.{audited_whole}
 

@@ -7,7 +7,7 @@ use Rattle.text_io.specs.declared.slots.Slot.TheVariants.{Input}
 use Rattle.text_io.specs.declared.stop.Stop.{Stop}
 use Rattle.text_io.specs.declared.stop.Stop.TheVariants as stops
 use Rattle.text_io.specs.Plan.{plan}
-use Rattle.text_io.specs.Desk.{DeskState, Folder, StopsWithCause}
+use Rattle.text_io.specs.Desk.{DeskState, Folder}
 use Rattle.library_items.specs.LibraryCells.{CellEntry}
 use Rattle.specify_blocks.specs.declared.model.VModule.{VModule}
 use Rattle.file_models.specs.declared.file_model.FileModel.{FileModel}
@@ -15,20 +15,19 @@ use Rattle.specify_blocks.specs.Sound.{IsSound}
 use Rattle.section_runs.specs.Writes.{WritesTrace}
 use Rattle.command_outcomes.specs.declared.status.Status.{Status}
 use Rattle.command_outcomes.specs.declared.status.Status.TheVariants as status
-use Rattle.command_outcomes.specs.Status.{is_decided}
+use Rattle.command_outcomes.specs.Status.{is_decided, status_where, compared_status}
 use Rattle.command_outcomes.specs.Binding.{Files, bytes_at}
 use Rattle.command_outcomes.specs.Outcome.{Outcome}
-use Rattle.command_outcomes.specs.Runs.{RunsAs, StopsWithStatus}
+use Rattle.command_outcomes.specs.Runs.{RunsAs}
 use Rattle.command_outcomes.specs.FileSteps.{FileIsTaken, FileEndsRun}
 use Rattle.command_outcomes.specs.FilesRead.{HasRead}
 use Rattle.command_outcomes.proofs.FileLaws.{words_before}
 use Rattle.command_outcomes.proofs.FilesReadLaws.{nothing_read, one_more, ends_there, stops_between, reports_all}
-use Rattle.command_outcomes.proofs.FailureLaws.{IsPlain, ends_by_call}
 use Rattle.library_file.specs.LibraryAnswer.{library_answer}
 use Rattle.model_files.specs.ModelAnswer.{model_answer}
 use Rattle.model_languages.specs.Verilog.{verilog}
 use Rattle.library_audit.specs.Audits.{audits_text, any_differs}
-use Rattle.library_audit.specs.Outcome.{audit_files, status_where, printed_status, audits_outcome, behind_cells, audit_of}
+use Rattle.library_audit.specs.Outcome.{audit_files, audits_outcome, behind_cells, audit_of}
 
 -- the library alone
 abbrev one_file : Files
@@ -90,7 +89,7 @@ no_memory old now cells models result r is =
 -- The lines are printed.
 
 pub printed_runs : (old now new : DeskState) (cells : List CellEntry) (models : List (FileModel VModule)) (printed : Result Bool Stop) (result : Status) → HasModels old now cells models
-    → WritesTrace now new (audits_text models cells) printed → IfOk printed (λ differ. differ ≡ any_differs models cells) → result ≡ printed_status printed
+    → WritesTrace now new (audits_text models cells) printed → IfOk printed (λ differ. differ ≡ any_differs models cells) → result ≡ compared_status printed
     → RunsAs audit_files (audit_of old.words) old new result
 printed_runs old now new cells models (Ok differ) result r w d is =
     let text = audits_text models cells in
@@ -103,13 +102,3 @@ printed_runs old now new cells models (Err stops.Failed) result r w d is =
 printed_runs old now new cells models (Err stops.Memory) result r w d is =
     let ends = status_where (any_differs models cells) in
     reports_all audit_files (audit_of old.words) old now new ends result w.part.part (audits_text models cells) r refl w.part.state w.part.front (λ k. absurd (let h = rw is at k in cc))
-
--- A run whose lines were printed so counts its faults as its status tells.
-
-printed_plain : (differ : Bool) → IsPlain (status_where differ)
-printed_plain true = record { no_failure = λ e. absurd cc; has_reading = λ e. absurd cc }
-printed_plain false = record { no_failure = λ e. absurd cc; has_reading = λ e. absurd cc }
-
-pub printed_stops : (before now after : ℕ) (printed : Result Bool Stop) (result : Status) → now ≡ before → StopsWithCause now after printed → result ≡ printed_status printed
-    → StopsWithStatus before after result
-printed_stops before now after printed result kept h is = ends_by_call status_where before now after printed result printed_plain kept h is

@@ -1,16 +1,13 @@
 -- What comparing a library with a Verilog file comes to: both files are read one after another, the first of them that ends the run
 -- decides, and behind them the line of each accepted cell is printed. This project's rule.
-use Rattle.std.specs.Prelude.{ℕ, Bool, List, [], ◌∷◌, Result, if◌then◌else◌}
+use Rattle.std.specs.Prelude.{ℕ, List, [], ◌∷◌}
 use Rattle.text_io.specs.declared.slots.InSlot.TheVariants.{Library, Verilog}
 use Rattle.text_io.specs.declared.slots.Slot.TheVariants.{Input}
-use Rattle.text_io.specs.declared.stop.Stop.{Stop}
 use Rattle.text_io.specs.Desk.{Folder}
 use Rattle.library_items.specs.LibraryCells.{CellEntry}
 use Rattle.specify_blocks.specs.declared.model.VModule.{VModule}
 use Rattle.file_models.specs.declared.file_model.FileModel.{FileModel}
-use Rattle.command_outcomes.specs.declared.status.Status.{Status}
-use Rattle.command_outcomes.specs.declared.status.Status.TheVariants as status
-use Rattle.command_outcomes.specs.Status.{status_by}
+use Rattle.command_outcomes.specs.Status.{status_where}
 use Rattle.command_outcomes.specs.Written.{in_report}
 use Rattle.command_outcomes.specs.Binding.{Files, bytes_at}
 use Rattle.command_outcomes.specs.Outcome.{Outcome}
@@ -23,14 +20,6 @@ use Rattle.library_audit.specs.Audits.{audits_text, any_differs}
 -- the files of `audit`: the library and the Verilog file
 abbrev pub audit_files : Files
 audit_files = (Input Library, 1) ∷ (Input Verilog, 2) ∷ []
-
--- how a run ends whose lines were printed: by whether some cell has no module that is the same
-abbrev pub status_where : Bool → Status
-status_where some_differ = if some_differ then status.Differ else status.Done
-
--- the status of a run whose lines were printed so
-abbrev pub printed_status : Result Bool Stop → Status
-printed_status printed = status_by status_where printed
 
 -- what the cells come to beside these models; both files are bound then
 abbrev pub audits_outcome : List CellEntry → List (FileModel VModule) → Outcome

@@ -2,13 +2,13 @@
 ghost use Rattle.std.specs.Prelude.{◌≡◌};
 ghost use Rattle.text_io.specs.Plan.{plan};
 ghost use Rattle.command_outcomes.specs.Runs.{RunsAs, StopsWithStatus};
-ghost use Rattle.library_audit.specs.Outcome.{audit_files, audit_of, printed_status as printed_status_of};
+ghost use Rattle.library_audit.specs.Outcome.{audit_files, audit_of};
 
 use crate::audits::write_cells;
 use crate::files::read_files;
-use command_outcomes::Status;
+use command_outcomes::{Status, compared_status};
 use std::alloc::Global;
-use text_io::{Desk, Stop};
+use text_io::Desk;
 
 /// Compares the accepted cells of a library with the modules of a Verilog file, both of the files that the words name: of each cell it
 /// prints whether the module with the name that is written for the cell is there, has the cell's shape, and has the cell's value
@@ -23,18 +23,7 @@ pub fn audit_library<D: Desk>(alloc: Global, desk: &mut D) -> Status
     ensures cause { StopsWithStatus (D.faults desk.old) (D.faults desk.new) result }
 {
     match read_files(alloc, desk) {
-        Ok(files) => printed_status(write_cells(alloc, desk, &files)),
+        Ok(files) => compared_status(write_cells(alloc, desk, &files)),
         Err(status) => status,
-    }
-}
-
-/// The status of a run whose lines were printed so, and of which some cell has no module that is the same, or none.
-fn printed_status(printed: Result<bool, Stop>) -> Status
-    ensures { result ≡ printed_status_of printed }
-{
-    match printed {
-        Ok(true) => Status::Differ,
-        Ok(false) => Status::Done,
-        Err(stop) => Status::from(stop),
     }
 }

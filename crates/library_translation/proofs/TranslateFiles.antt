@@ -74,6 +74,7 @@ binds_all all = refl
 
 -- a file could not be bound
 pub unbound : (old new : DeskState) {T : Type 0} (r : Result T Failed) → Binds translate_files old new r → RunsTranslation old new Outside
+unfolding unbound_runs
 unbound old new r b =
     record { run = unbound_runs translate_files (translate_of old.words) old new r b; models = λ folder _. no_model_owed _ nothing_written }
 
@@ -85,6 +86,7 @@ pub translated_runs : (old now new : DeskState) (bytes : InSlot → List ℕ) (r
     → IfSome (now.left Library) (λ all. HoldsModels all taken text)
     → (IsTrue (is_decided result) → IfSome (now.left Library) (λ all. IsAllOf result text faults (translate_outcome all)))
     → RunsTranslation old new result
+unfolding library_runs
 translated_runs old now new bytes result taken text faults h f state part models whole =
     let run = library_runs translate_files _ translate_outcome old now new bytes result taken text faults reads_library binds_all h f state part whole in
     record { run = run; models = λ folder tells. told translate_files _ (λ all. HoldsModels all taken text) old now folder bytes reads_library h f tells models }

@@ -1,5 +1,5 @@
 -- Simulating: names of models in which none stands twice, models that can be run, and how a run ends whose sections were printed.
-use Rattle.std.proofs.Common.{◌≡◌, ◌≤◌, ℕ, Bool, true, false, if◌then◌else◌, List, length, Result, Ok, arith}
+use Rattle.std.proofs.Common.{◌≡◌, ◌≤◌, ℕ, List, length, Ok, arith}
 use Rattle.std.specs.Prelude.{All}
 use Rattle.bool_functions.specs.NameList.{AreDistinct}
 use Rattle.library_items.specs.LibraryCells.{CellEntry, cell_names}
@@ -11,21 +11,14 @@ use Rattle.file_models.specs.declared.file_model.FileModel.{FileModel}
 use Rattle.file_models.specs.FileModels.{IsRunnable}
 use Rattle.model_traces.specs.ModuleTrace.{module_machine}
 use Rattle.model_traces.specs.EntityTrace.{entity_machine}
-use Rattle.text_io.specs.declared.stop.Stop.{Stop}
-use Rattle.text_io.specs.Desk.{StopsWithCause}
 use Rattle.vhdl_text.specs.WellFormed.{IsCount}
 use Rattle.model_files.specs.Limits.{model_limit}
 use Rattle.model_files.specs.ModelNames as in_files
 use Rattle.model_languages.specs.Verilog.{verilog}
 use Rattle.model_languages.specs.Vital.{vital, vital_models}
 use Rattle.model_languages.specs.Laws.{EntitiesHaveOwnNames}
-use Rattle.command_outcomes.specs.declared.status.Status.{Status}
-use Rattle.command_outcomes.specs.declared.status.Status.TheVariants as status
-use Rattle.command_outcomes.specs.Runs.{StopsWithStatus}
-use Rattle.command_outcomes.proofs.FailureLaws.{IsPlain, ends_by_call}
 use Rattle.simulation_catalog.specs.Catalog.{HaveOwnNames}
 use Rattle.simulation_catalog.specs.Sections.{RunsByPorts}
-use Rattle.model_simulation.specs.Besides.{compared_status}
 use Rattle.model_simulation.proofs.OwnNames.{modules_apart, entities_apart}
 
 pub modules_run : (modules : List (FileModel VModule)) → All (IsRunnable modules_of.IsSound module_machine) modules → in_files.HaveOwnNames verilog modules
@@ -48,14 +41,3 @@ own_names cells modules entities vhdl texts own named short found = record {
   of_modules = modules_apart modules named;
   of_entities = entities_apart entities (texts vhdl entities (held (length vhdl) short) found).apart;
 }
-
--- A run whose sections were printed so counts its faults as its status tells.
-
-printed_plain : (some_differ : Bool) → IsPlain (if some_differ then status.Differ else status.Done)
-printed_plain true = record { no_failure = λ e. absurd cc; has_reading = λ e. absurd cc }
-printed_plain false = record { no_failure = λ e. absurd cc; has_reading = λ e. absurd cc }
-
-pub printed_stops : (before now after : ℕ) (printed : Result Bool Stop) (result : Status) → now ≡ before → StopsWithCause now after printed → result ≡ compared_status printed
-    → StopsWithStatus before after result
-printed_stops before now after printed result kept h is =
-    ends_by_call (λ some_differ. if some_differ then status.Differ else status.Done) before now after printed result printed_plain kept h is

@@ -40,7 +40,7 @@ use Rattle.library_file.specs.LibraryAnswer.{library_answer}
 use Rattle.model_files.specs.ModelAnswer.{model_answer}
 use Rattle.model_simulation.specs.Simulate.{simulate_files, model_files, simulate_of, behind_cells, behind_modules, behind_entities, behind_models}
 use Rattle.model_simulation.specs.Simulations.{ReadsModels, ReadsSimulation}
-use Rattle.model_simulation.specs.Besides.{compared_status}
+use Rattle.command_outcomes.specs.Status.{compared_status}
 
 -- the library, and the library with the Verilog file
 abbrev pub one_file : Files

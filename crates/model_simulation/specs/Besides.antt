@@ -1,5 +1,5 @@
--- A cell beside the models that stand for it, and how a simulation that was printed ends.
-use Rattle.std.specs.Prelude.{◌≡◌, ℕ, Bool, List, [], length, Some, Result, if◌then◌else◌}
+-- A cell beside the models that stand for it.
+use Rattle.std.specs.Prelude.{◌≡◌, ℕ, List, [], length, Some}
 use Rattle.three_state_cells.specs.declared.driven_cell.DrivenCell.{DrivenCell}
 use Rattle.three_state_cells.specs.DrivenCells.{driven_data_of}
 use Rattle.file_models.specs.declared.file_model.FileModel.{FileModel}
@@ -15,11 +15,7 @@ use Rattle.model_traces.specs.EntityTrace.{entity_machine}
 use Rattle.stimulus.specs.declared.ports.Ports.{Ports}
 use Rattle.stimulus.specs.declared.sections.Section.{Section}
 use Rattle.stimulus.specs.DriveLines.{DriveMachine}
-use Rattle.text_io.specs.declared.stop.Stop.{Stop}
 use Rattle.section_runs.specs.Comparison.{HavePorts}
-use Rattle.command_outcomes.specs.declared.status.Status.{Status}
-use Rattle.command_outcomes.specs.declared.status.Status.TheVariants as status
-use Rattle.command_outcomes.specs.Status.{status_by}
 use Rattle.simulation_catalog.specs.Comparisons.{Compared, cell_machine, compared_at}
 use Rattle.model_simulation.specs.declared.comparisons.Beside.{Beside}
 
@@ -50,7 +46,3 @@ pub record CanBeGiven (beside : Beside) (section : Section) : Type 0 where
 -- this is what the section is run on
 abbrev pub IsRunOn : List CellEntry → List (FileModel VModule) → List (FileModel VEntity) → Section → Beside → Type 0
 IsRunOn cells modules entities section beside = compared_at cells modules entities section.cell ≡ Some (compared_of beside)
-
--- the status of a run whose sections were printed so, and of which some differ or none
-abbrev pub compared_status : Result Bool Stop → Status
-compared_status printed = status_by (λ some_differ. if some_differ then status.Differ else status.Done) printed

@@ -3,13 +3,12 @@ ghost use Rattle.std.specs.Prelude.{◌≡◌};
 ghost use Rattle.text_io.specs.Plan.{plan};
 ghost use Rattle.command_outcomes.specs.Runs.{RunsAs, StopsWithStatus};
 ghost use Rattle.model_simulation.specs.Simulate.{simulate_files, simulate_of};
-ghost use Rattle.model_simulation.specs.Besides.{compared_status as compared_status_of};
 
 use crate::comparisons::write_compared_sections;
 use crate::simulation::read_simulation;
-use command_outcomes::Status;
+use command_outcomes::{Status, compared_status};
 use std::alloc::Global;
-use text_io::{Desk, Stop};
+use text_io::Desk;
 
 /// Prints the traces of the cells of a library, of their Verilog and of their VITAL models, section by section of a stimulus, all
 /// of the files that the words name, and whether the three of each section are equal. Nothing is printed before all four files
@@ -25,16 +24,5 @@ pub fn simulate_library<D: Desk>(alloc: Global, desk: &mut D) -> Status
     match read_simulation(alloc, desk) {
         Ok(simulation) => compared_status(write_compared_sections(alloc, desk, &simulation)),
         Err(status) => status,
-    }
-}
-
-/// The status of a run whose sections were printed so, and of which some differ or none.
-fn compared_status(printed: Result<bool, Stop>) -> Status
-    ensures { result ≡ compared_status_of printed }
-{
-    match printed {
-        Ok(true) => Status::Differ,
-        Ok(false) => Status::Done,
-        Err(stop) => Status::from(stop),
     }
 }

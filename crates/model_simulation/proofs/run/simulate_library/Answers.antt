@@ -1,6 +1,6 @@
 use Rattle.library_items.specs.LibraryCells.{all_described}
 use Rattle.model_simulation.proofs.SimulationFiles.{printed_runs}
-use Rattle.model_simulation.proofs.SimulateLemmas.{printed_stops}
+use Rattle.command_outcomes.proofs.FailureLaws.{ends_by_comparing}
 use Rattle.model_simulation.proofs.run.simulate_library.Goals as goal
 
 pub write_compared_sections-requires : goal.write_compared_sections-requires
@@ -16,4 +16,4 @@ returns-in-Ok-clause-writes g c =
     c.in-Ok.ensures.read.files c.write_compared_sections.ensures.text c.write_compared_sections.ensures.differs c.compared_status.ensures
 
 pub returns-in-Ok-clause-cause : goal.returns-in-Ok-clause-cause
-returns-in-Ok-clause-cause g c = printed_stops _ _ _ _ _ c.in-Ok.ensures.kept c.write_compared_sections.ensures.cause c.compared_status.ensures
+returns-in-Ok-clause-cause g c = ends_by_comparing _ _ _ _ _ c.in-Ok.ensures.kept c.write_compared_sections.ensures.cause c.compared_status.ensures

@@ -9,6 +9,7 @@ pub mod TimeLemmas
 pub mod TimingFacts
 pub mod RuleLemmas
 pub mod ArcDelays
+pub mod KeptValues
 pub mod EachLemmas
 pub mod Standing
 pub mod ForcedLemmas

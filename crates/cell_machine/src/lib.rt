@@ -16,6 +16,7 @@ mod few;
 mod fillings;
 mod group_steps;
 mod groups;
+mod kept_conditions;
 mod laws;
 mod liberty_sim;
 mod outputs;

@@ -4,6 +4,7 @@ ghost use Rattle.cell_machine.specs.declared.outputs.OutputPin.{OutputPin as Out
 ghost use Rattle.cell_machine.specs.Each.{each};
 ghost use Rattle.cell_machine.specs.CellData.{data_of};
 ghost use Rattle.cell_machine.specs.CellTrace.{arc_names};
+ghost use Rattle.cell_machine.specs.KeptConditions.{AreKept};
 ghost use Rattle.cell_machine.specs.ShownOutputs.{shown_first, shown_step};
 
 use crate::cells::Cell;
@@ -23,54 +24,65 @@ pub struct Shown {
     pub delay: Option<u64>,
 }
 
+/// A change of an input as the outputs see it.
+#[derive(Clone, Copy)]
+pub struct ShownChange<'a> {
+    /// For each arc the pins that its condition names.
+    pub names: &'a [Items<usize>],
+    /// The values of the inputs after it.
+    pub inputs: &'a [Trit],
+    /// The states after it.
+    pub states: &'a [Trit],
+    /// The change.
+    pub change: Change,
+}
+
 /// What one output shows after a change, where it showed the value `was` before.
 fn shown_step(
     cell: &Cell,
-    names: &[Items<usize>],
+    seen: &ShownChange,
     i: usize,
-    inputs: &[Trit],
-    states: &[Trit],
-    change: Change,
     was: Trit,
+    kept: &mut Items<Option<Trit>>,
 ) -> Shown
-    requires names { names.now ≡ arc_names (data_of cell.now) }
+    requires names { seen.now.names.now ≡ arc_names (data_of cell.now) }
     requires inside { i < length cell.now.outputs }
-    ensures { (output : OutputPinOf) → slice_get cell.now.outputs i ≡ Some output → result ≡ shown_step cell.now.pins cell.now.groups cell.now.arcs inputs.now states.now change output was }
+    requires kept { AreKept cell.now.pins seen.now.inputs.now cell.now.arcs kept.old }
+    ensures shown { (output : OutputPinOf) → slice_get cell.now.outputs i ≡ Some output → result ≡ shown_step cell.now.pins cell.now.groups cell.now.arcs seen.now.inputs.now seen.now.states.now seen.now.change output was }
+    ensures kept { AreKept cell.now.pins seen.now.inputs.now cell.now.arcs kept.new }
 {
     let output = cell.output_pin(i);
-    let value = output_value(cell, output, inputs, states);
-    let output_change = OutputChange {
-        input: change.pin,
+    let value = output_value(cell, output, seen.inputs, seen.states);
+    if was == value {
+        return Shown { value, delay: None };
+    }
+    let change = OutputChange {
+        input: seen.change.pin,
         pin: output.pin,
         from: was,
         to: value,
     };
-    let delay = if was == value {
-        None
-    } else {
-        Some(least_delay(cell, names, inputs, &output_change))
-    };
+    let delay = Some(least_delay(cell, seen.names, seen.inputs, kept, &change));
     Shown { value, delay }
 }
 
-/// Takes what the outputs show over a change. `names` are those of the arcs' conditions; `inputs` and `states` are those
-/// after the change.
+/// Takes what the outputs show over a change.
 pub fn show_all(
     cell: &Cell,
-    names: &[Items<usize>],
-    inputs: &[Trit],
-    states: &[Trit],
-    change: Change,
+    seen: &ShownChange,
+    kept: &mut Items<Option<Trit>>,
     shown: &mut Items<Shown>,
 )
-    requires names { names.now ≡ arc_names (data_of cell.now) }
+    requires names { seen.now.names.now ≡ arc_names (data_of cell.now) }
+    requires kept { AreKept cell.now.pins seen.now.inputs.now cell.now.arcs kept.old }
     requires one_each { length shown.old ≡ length cell.now.outputs }
-    ensures stepped { shown.new ≡ each (λ o s. shown_step cell.now.pins cell.now.groups cell.now.arcs inputs.now states.now change o s.value) cell.now.outputs shown.old }
+    ensures stepped { shown.new ≡ each (λ o s. shown_step cell.now.pins cell.now.groups cell.now.arcs seen.now.inputs.now seen.now.states.now seen.now.change o s.value) cell.now.outputs shown.old }
     ensures len { length shown.new ≡ length shown.old }
+    ensures kept { AreKept cell.now.pins seen.now.inputs.now cell.now.arcs kept.new }
 {
     for i in 0..shown.len() {
         let was = shown.as_slice()[i].value;
-        shown.set(i, shown_step(cell, names, i, inputs, states, change, was));
+        shown.set(i, shown_step(cell, seen, i, was, kept));
     }
 }
 

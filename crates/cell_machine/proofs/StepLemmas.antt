@@ -129,7 +129,7 @@ machine_step-parts step p a b others s =
     ∙ res-same _ _ others (λ q e. over-same _ _ s (λ v. λ i.
     step (insert p old (init-append q v i)) (insert p new (init-append q v i)) (last-append false q v i)))))
 
-length-without : {X : Type 0} (p : ℕ) (xs : List X) → p < length xs → length xs ≡ suc (length (without p xs))
+pub length-without : {X : Type 0} (p : ℕ) (xs : List X) → p < length xs → length xs ≡ suc (length (without p xs))
 length-without p [] h = absurd (omega arith)
 length-without zero (x ∷ xs) h = refl
 length-without (suc p) (x ∷ xs) h = ap suc (length-without p xs (omega arith))

@@ -8,6 +8,8 @@ ghost use Rattle.cell_machine.specs.CellStarts.{IsCellStart};
 
 use crate::cells::Cell;
 use crate::condition_names::{arc_inputs, arc_names, check_names};
+use crate::group_tables::step_tables;
+use crate::output_tables::output_tables;
 use crate::pin_values::input_number;
 use crate::shown::{Shown, show_start};
 use crate::times::Times;
@@ -24,6 +26,10 @@ pub struct CellStart {
     pub arc_names: Items<Items<usize>>,
     /// For each arc the inputs that its condition names, by their numbers.
     pub arc_inputs: Items<Items<usize>>,
+    /// For each output the values of its function at all points of its support.
+    pub outputs: Items<Items<Trit>>,
+    /// For each group and each place of its support the values of the group's step at all points.
+    pub steps: Items<Items<Items<Trit>>>,
     /// What the outputs show.
     pub shown: Items<Shown>,
 }
@@ -37,10 +43,13 @@ impl CellStart {
         let check_names = check_names(alloc, cell)?;
         let arc_names = arc_names(alloc, cell)?;
         let arc_inputs = arc_inputs(alloc, cell, arc_names.as_slice())?;
+        let outputs = output_tables(alloc, cell)?;
+        let steps = step_tables(alloc, cell)?;
         let values = StartValues::of(alloc, cell)?;
         let shown = show_start(
             alloc,
             cell,
+            &outputs,
             values.inputs.as_slice(),
             values.states.as_slice(),
         )?;
@@ -48,6 +57,8 @@ impl CellStart {
             check_names,
             arc_names,
             arc_inputs,
+            outputs,
+            steps,
             shown,
         })
     }

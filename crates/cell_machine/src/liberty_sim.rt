@@ -4,6 +4,8 @@ ghost use Rattle.cell_machine.specs.Report.{any_true};
 ghost use Rattle.cell_machine.specs.CellData.{data_of};
 ghost use Rattle.cell_machine.specs.CellTrace.{inputs_of, cell_machine_of};
 ghost use Rattle.cell_machine.specs.CellStarts.{IsCellStart};
+ghost use Rattle.cell_machine.specs.OutputTables.{AreOutputTables};
+ghost use Rattle.cell_machine.specs.StepTables.{AreStepTables};
 ghost use Rattle.cell_machine.specs.LibertyStands.{Stands, cell_machine_sized};
 
 use crate::cell_start::{CellStart, StartValues};
@@ -33,6 +35,8 @@ pub struct LibertySim<'a> {
     reports: Items<bool>,
     shown: Items<Shown>,
     kept: Items<Option<Trit>>,
+    ghost tabled_outputs: { AreOutputTables (data_of cell.now) known.outputs },
+    ghost tabled_steps: { AreStepTables (data_of cell.now) known.steps },
     ghost each_input: { length inputs ≡ inputs_of (data_of cell.now) },
     ghost each_time: { length times ≡ inputs_of (data_of cell.now) },
     ghost each_state: { length states ≡ length cell.now.groups },
@@ -112,13 +116,15 @@ impl<'a> CellSim for LibertySim<'a> {
             from,
             change,
         };
-        change_states(self.cell, &seen, &mut self.states);
+        let steps = &self.known.get().steps;
+        change_states(self.cell, steps, &seen, &mut self.states);
         self.times.set(pin, times);
         let named = self.known.get().arc_inputs.as_slice();
         forget(named, pin, &mut self.kept);
         let arcs = self.known.get().arc_names.as_slice();
         let states = self.states.as_slice();
         let seen = ShownChange {
+            outputs: &self.known.get().outputs,
             names: arcs,
             inputs,
             states,

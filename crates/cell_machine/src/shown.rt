@@ -5,12 +5,13 @@ ghost use Rattle.cell_machine.specs.Each.{each};
 ghost use Rattle.cell_machine.specs.CellData.{data_of};
 ghost use Rattle.cell_machine.specs.CellTrace.{arc_names};
 ghost use Rattle.cell_machine.specs.KeptConditions.{AreKept};
+ghost use Rattle.cell_machine.specs.OutputTables.{AreOutputTables};
 ghost use Rattle.cell_machine.specs.ShownOutputs.{shown_first, shown_step};
 
 use crate::cells::Cell;
 use crate::changes::Change;
 use crate::delays::{OutputChange, least_delay};
-use crate::evaluation::output_value;
+use crate::output_tables::output_value;
 use sqlite_items::Items;
 use std::alloc::{AllocError, Global};
 use trit_cubes::Trit;
@@ -27,6 +28,8 @@ pub struct Shown {
 /// A change of an input as the outputs see it.
 #[derive(Clone, Copy)]
 pub struct ShownChange<'a> {
+    /// For each output the values of its function at all points.
+    pub outputs: &'a Items<Items<Trit>>,
     /// For each arc the pins that its condition names.
     pub names: &'a [Items<usize>],
     /// The values of the inputs after it.
@@ -45,20 +48,20 @@ fn shown_step(
     was: Trit,
     kept: &mut Items<Option<Trit>>,
 ) -> Shown
+    requires outputs { AreOutputTables (data_of cell.now) seen.now.outputs.now }
     requires names { seen.now.names.now ≡ arc_names (data_of cell.now) }
     requires inside { i < length cell.now.outputs }
     requires kept { AreKept cell.now.pins seen.now.inputs.now cell.now.arcs kept.old }
     ensures shown { (output : OutputPinOf) → slice_get cell.now.outputs i ≡ Some output → result ≡ shown_step cell.now.pins cell.now.groups cell.now.arcs seen.now.inputs.now seen.now.states.now seen.now.change output was }
     ensures kept { AreKept cell.now.pins seen.now.inputs.now cell.now.arcs kept.new }
 {
-    let output = cell.output_pin(i);
-    let value = output_value(cell, output, seen.inputs, seen.states);
+    let value = output_value(cell, seen.outputs, i, seen.inputs, seen.states);
     if was == value {
         return Shown { value, delay: None };
     }
     let change = OutputChange {
         input: seen.change.pin,
-        pin: output.pin,
+        pin: cell.output_pin(i).pin,
         from: was,
         to: value,
     };
@@ -73,6 +76,7 @@ pub fn show_all(
     kept: &mut Items<Option<Trit>>,
     shown: &mut Items<Shown>,
 )
+    requires outputs { AreOutputTables (data_of cell.now) seen.now.outputs.now }
     requires names { seen.now.names.now ≡ arc_names (data_of cell.now) }
     requires kept { AreKept cell.now.pins seen.now.inputs.now cell.now.arcs kept.old }
     requires one_each { length shown.old ≡ length cell.now.outputs }
@@ -87,26 +91,36 @@ pub fn show_all(
 }
 
 /// What one output shows at the start.
-fn shown_first(cell: &Cell, i: usize, inputs: &[Trit], states: &[Trit]) -> Shown
-    requires { i < length cell.now.outputs }
+fn shown_first(
+    cell: &Cell,
+    outputs: &Items<Items<Trit>>,
+    i: usize,
+    inputs: &[Trit],
+    states: &[Trit],
+) -> Shown
+    requires outputs { AreOutputTables (data_of cell.now) outputs.now }
+    requires inside { i < length cell.now.outputs }
     ensures { (output : OutputPinOf) → slice_get cell.now.outputs i ≡ Some output → result ≡ shown_first cell.now.pins cell.now.groups inputs.now states.now output }
 {
-    let value = output_value(cell, cell.output_pin(i), inputs, states);
+    let value = output_value(cell, outputs, i, inputs, states);
     Shown { value, delay: None }
 }
 
-/// What the outputs show at the start, where the inputs and the states have these values: no delays.
+/// What the outputs show at the start, where the inputs and the states have these values: no delays. `outputs` are the values of
+/// their functions at all points.
 pub fn show_start(
     alloc: Global,
     cell: &Cell,
+    outputs: &Items<Items<Trit>>,
     inputs: &[Trit],
     states: &[Trit],
 ) -> Result<Items<Shown>, AllocError>
+    requires { AreOutputTables (data_of cell.now) outputs.now }
     ensures { IfOk result (λ shown. shown ≡ map (shown_first cell.now.pins cell.now.groups inputs.now states.now) cell.now.outputs) }
 {
     let mut shown = Items::new(alloc);
     for i in 0..cell.outputs.len() {
-        shown.push(shown_first(cell, i, inputs, states))?;
+        shown.push(shown_first(cell, outputs, i, inputs, states))?;
     }
     Ok(shown)
 }

@@ -17,6 +17,8 @@ returns c =
       arc_inputs_are =
           c.in_ok-arc_inputs.ensures
           ∙ (ap (map (map (input_number cell.pins))) (c.as_slice.ensures ∙ c.in_ok-arc_names.ensures) ∙ named_inputs cell.pins cell.arcs);
+      outputs_are = c.in_ok-outputs.ensures;
+      steps_are = c.in_ok-steps.ensures;
       shown_are =
           start-shown (data_of cell) (input_number cell.pins (length cell.pins)) values.inputs values.states c.in_ok-shown.shown refl made.inputs made.states
           shown;

@@ -59,6 +59,8 @@ pub invariant_of-self : goal.invariant_of-self
 invariant_of-self c =
     let sim = c.args.self.now in
     record {
+      tabled_outputs = sim.tabled_outputs;
+      tabled_steps = sim.tabled_steps;
       each_input = ap length c.set.ensures ∙ length-set sim.inputs c.args.pin c.args.to ∙ sim.each_input;
       each_time = ap length c.set-2.ensures ∙ length-set sim.times c.args.pin c.stamped-times.result ∙ sim.each_time;
       each_state = c.change_states.ensures.len ∙ sim.each_state;

@@ -22,7 +22,7 @@ use Rattle.cell_machine.specs.Report.{report, any_true}
 use Rattle.cell_machine.specs.Times.{no_times, stamped, times_after, report_by}
 use Rattle.cell_machine.specs.Inputs.{is_input_at, input_number}
 use Rattle.cell_machine.specs.Each.{each}
-use Rattle.cell_machine.specs.CellTrace.{inputs_of, check_names, arc_names, input_check, input_checks, reports_of, named_from, named_groups, NamedGroup, state_step, state_after, states_after}
+use Rattle.cell_machine.specs.CellTrace.{inputs_of, input_check, input_checks, reports_of, named_from, named_groups, NamedGroup, state_step, state_after, states_after}
 use Rattle.cell_machine.specs.ShownOutputs.{shown_first, shown_step}
 use Rattle.cell_machine.specs.KeptConditions.{AreKept}
 use Rattle.cell_machine.specs.LibertyStands.{shown_after, Stands}

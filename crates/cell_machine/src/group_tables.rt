@@ -54,7 +54,13 @@ fn edge_value(cell: &Cell, group: usize, place: usize, point: &[bool]) -> Trit
     let others = &point[2..last];
     let before = inserted(place, point[0], others);
     let after = inserted(place, point[1], others);
-    boolean_step(cell, group, before.as_slice(), after.as_slice(), point[last])
+    boolean_step(
+        cell,
+        group,
+        before.as_slice(),
+        after.as_slice(),
+        point[last],
+    )
 }
 
 /// The steps of a group at all points of the changes of a place of its support.

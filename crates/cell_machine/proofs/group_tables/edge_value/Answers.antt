@@ -1,5 +1,4 @@
-use Rattle.std.proofs.Common.{◌≡◌, ◌≤◌, ◌-◌, List, Bool, false, length, take, drop, get_or, ◌∙◌, ap, arith}
-use Rattle.cell_machine.specs.Machine.{insert}
+use Rattle.std.proofs.Common.{◌≤◌, ◌-◌, List, Bool, false, length, take, drop, get_or, ◌∙◌, ap, arith}
 use Rattle.cell_machine.specs.CellData.{data_of}
 use Rattle.cell_machine.specs.CellTrace.{step_at}
 use Rattle.cell_machine.proofs.Tables.{insert_long, edge_value_parts, others_long}

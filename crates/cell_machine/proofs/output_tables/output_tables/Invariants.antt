@@ -1,4 +1,4 @@
-use Rattle.std.proofs.Common.{◌≡◌, ℕ, suc, List, Some, length, slice_get}
+use Rattle.std.proofs.Common.{◌≡◌, ℕ, List, Some, length, slice_get}
 use Rattle.trit_cubes.specs.declared.trits.Trit.{Trit}
 use Rattle.cell_machine.specs.CellTrace.{sources_at, output_value_at}
 use Rattle.trit_cubes.specs.Sets.{AreValuesOf}

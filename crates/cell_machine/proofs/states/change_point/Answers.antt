@@ -1,4 +1,3 @@
-use Rattle.std.proofs.Common.{◌∙◌}
 use Rattle.cell_machine.specs.Inputs.{pin_values}
 use Rattle.cell_machine.proofs.Tables.{change_parts, tail_all}
 use Rattle.cell_machine.proofs.states.change_point.Goals as goal

@@ -1,5 +1,5 @@
 -- The steps of a cell's groups, by their numbers.
-use Rattle.std.proofs.Common.{nat_eq, zero, suc, ◌∷◌, arith, ◌≡◌, ℕ, ◌+◌, ◌*◌, List, length, get_or, ◌<◌, refl, sym, ap, ◌∙◌, subst, Some, slice_get, []}
+use Rattle.std.proofs.Common.{nat_eq, zero, suc, ◌∷◌, arith, ◌≡◌, ℕ, ◌+◌, ◌*◌, List, length, ◌<◌, refl, sym, ap, ◌∙◌, subst, Some, slice_get, []}
 use Rattle.std.specs.Option.{option_map_or}
 use Rattle.trit_cubes.specs.declared.trits.Trit.{Trit}
 use Rattle.trit_cubes.specs.declared.trits.Trit.TheVariants.{Unknown}
@@ -12,13 +12,13 @@ use Rattle.cell_machine.specs.declared.pins.Pin.{Pin}
 use Rattle.cell_machine.specs.declared.changes.Change.{Change}
 use Rattle.cell_machine.specs.Inputs.{input_number, pin_value, pin_values}
 use Rattle.cell_machine.specs.Names.{state_name}
-use Rattle.cell_machine.specs.Machine.{forced, without}
+use Rattle.cell_machine.specs.Machine.{forced}
 use Rattle.cell_machine.specs.Values.{no_values, written}
 use Rattle.cell_machine.specs.Step.{group_step}
-use Rattle.cell_machine.specs.Fillings.{change_filled, forced_after}
-use Rattle.cell_machine.specs.Supports.{Ascending, AllBelow, GroupFacts}
-use Rattle.cell_machine.specs.CellTrace.{step_at, support_at, place_in, named_from, moved_at, moved, violated}
-use Rattle.cell_machine.proofs.StepLemmas.{machine_step-filled, forced-filled}
+use Rattle.cell_machine.specs.Fillings.{forced_after}
+use Rattle.cell_machine.specs.Supports.{AllBelow, GroupFacts}
+use Rattle.cell_machine.specs.CellTrace.{step_at, support_at, place_in, named_from, violated}
+use Rattle.cell_machine.proofs.StepLemmas.{forced-filled}
 
 pub length-no_values : length no_values ≡ 96
 unfolding no_values
@@ -62,18 +62,6 @@ pub of-held :
     (groups : List StateGroup) (i : ℕ) (held group : StateGroup) (f : StateGroup → Trit) {t : Trit}
     → slice_get groups i ≡ Some held → slice_get groups i ≡ Some group → t ≡ f held → t ≡ f group
 of-held groups i held group f is e made = let same : held ≡ group = cc (is, e) in made ∙ ap f same
-
--- the machine step of a group, filling by filling
-pub moved-filled :
-    (pins : List Pin) (name : ℕ) (group : StateGroup) (v : List Trit) (a : Trit) (c : Change) (s : Trit) (place : ℕ)
-    → Ascending group.support → place_in pins group.support c ≡ Some place → place < length group.support
-    → moved pins (record { name = name; group = group }) v a c s
-    ≡ change_filled group.kind name (get_or group.support place 0) a c.to (without place group.support)
-    (without place (pin_values pins v group.support)) s
-moved-filled pins name group v a c s place ascends e inside =
-    ap (λ o. moved_at o (record { name = name; group = group }) (pin_values pins v group.support) a c.to s) e
-    ∙ machine_step-filled group name place a c.to (pin_values pins v group.support) s ascends inside
-    (length-map group.support (pin_value pins v))
 
 -- the forced value of a group, filling by filling
 pub violated-filled :

@@ -9,6 +9,8 @@ pub mod TimeLemmas
 pub mod TimingFacts
 pub mod RuleLemmas
 pub mod ArcDelays
+pub mod KeptValues
+pub mod Tables
 pub mod EachLemmas
 pub mod Standing
 pub mod ForcedLemmas

@@ -1,7 +1,7 @@
 -- A step over values of all names is the step over points of the support.
 use Rattle.std.proofs.Common.{◌≡◌, ◌≢◌, ℕ, zero, suc, ◌<◌, Bool, true, false, List, [], ◌∷◌, ◌++◌, length, get_or, set, refl, sym, ap, ◌∙◌, subst, arith, IsTrue}
 use Rattle.std.proofs.lemmas.Bool.{and_parts, ltb-true}
-use Rattle.std.proofs.lemmas.List.{set_comm, get_or-set_other, get_or-set_same}
+use Rattle.std.proofs.lemmas.List.{get_or-set_other, get_or-set_same}
 use Rattle.std.proofs.Math.ListN.{length-set}
 use Rattle.trit_cubes.specs.declared.trits.Trit.{Trit}
 use Rattle.trit_cubes.specs.declared.trits.Trit.TheVariants.{Zero, One, Unknown}
@@ -10,9 +10,9 @@ use Rattle.cell_machine.specs.declared.groups.StateGroup.{StateGroup}
 use Rattle.cell_machine.specs.CellRules.{is_ascending}
 use Rattle.cell_machine.specs.Machine.{Step, insert, without, init, last, edge_value, machine_step, around, forced, over}
 use Rattle.cell_machine.specs.Values.{no_values, written, picked}
-use Rattle.cell_machine.specs.Step.{kind_step, group_step}
+use Rattle.cell_machine.specs.Step.{group_step}
 use Rattle.cell_machine.specs.Supports.{AllAbove, Ascending, AllBelow}
-use Rattle.cell_machine.specs.Fillings.{change_filled, both_states, forced_after}
+use Rattle.cell_machine.specs.Fillings.{both_states, forced_after}
 
 above-less : (x y : ℕ) (ys : List ℕ) → x < y → AllAbove y ys → AllAbove x ys
 above-less x y [] h k = tt
@@ -26,28 +26,6 @@ ascending (x ∷ y ∷ ys) h =
     let lt : x < y = ltb-true x y parts.0 in
     let rest : Ascending (y ∷ ys) = ascending (y ∷ ys) parts.1 in
     ((lt, above-less x y ys lt rest.0), rest)
-
--- a number above which all are is none of them
-above-get : (x : ℕ) (ys : List ℕ) (p : ℕ) → AllAbove x ys → p < length ys → x < get_or ys p 0
-above-get x [] p h l = absurd (omega arith)
-above-get x (y ∷ ys) zero h l = h.0
-above-get x (y ∷ ys) (suc p) h l = above-get x ys p h.1 (omega arith)
-
--- Writing a point with a value at place p is writing that value first and then the others.
-pub written-insert :
-    (support : List ℕ) (p : ℕ) (b : Bool) (point : List Bool) (values : List Bool)
-    → Ascending support → p < length support → length support ≡ suc (length point)
-    → written values support (insert p b point)
-    ≡ written (set values (get_or support p 0) b) (without p support) point
-written-insert [] p b point values a h e = absurd (omega arith)
-written-insert (x ∷ xs) zero b point values a h e = refl
-written-insert (x ∷ xs) (suc p) b [] values a h e = absurd (omega arith)
-written-insert (x ∷ xs) (suc p) b (y ∷ ys) values a h e =
-    let l : p < length xs = omega arith in
-    let apart : x < get_or xs p 0 = above-get x xs p a.0 l in
-    let differ : x ≢ get_or xs p 0 = omega arith in
-    written-insert xs p b ys (set values x y) a.1 l (omega arith)
-    ∙ ap (λ v. written v (without p xs) ys) (set_comm values x (get_or xs p 0) y b differ)
 
 -- a place below all that are written keeps its value
 written-below :
@@ -129,24 +107,10 @@ machine_step-parts step p a b others s =
     ∙ res-same _ _ others (λ q e. over-same _ _ s (λ v. λ i.
     step (insert p old (init-append q v i)) (insert p new (init-append q v i)) (last-append false q v i)))))
 
-length-without : {X : Type 0} (p : ℕ) (xs : List X) → p < length xs → length xs ≡ suc (length (without p xs))
+pub length-without : {X : Type 0} (p : ℕ) (xs : List X) → p < length xs → length xs ≡ suc (length (without p xs))
 length-without p [] h = absurd (omega arith)
 length-without zero (x ∷ xs) h = refl
 length-without (suc p) (x ∷ xs) h = ap suc (length-without p xs (omega arith))
-
--- The machine step of a group is the step filling by filling.
-pub machine_step-filled :
-    (group : StateGroup) (name p : ℕ) (a b : Trit) (ts : List Trit) (s : Trit)
-    → Ascending group.support → p < length group.support → length ts ≡ length group.support
-    → machine_step (group_step name group) p a b (without p ts) s
-    ≡ change_filled group.kind name (get_or group.support p 0) a b (without p group.support) (without p ts) s
-machine_step-filled group name p a b ts s ascends inside equal =
-    machine_step-parts (group_step name group) p a b (without p ts) s
-    ∙ over-same _ _ a (λ old. over-same _ _ b (λ new. res-same _ _ (without p ts) (λ q e. over-same _ _ s (λ v.
-    let long : length group.support ≡ suc (length q) =
-    sym equal ∙ length-without p ts (subst (λ n. p < n) (sym equal) inside) ∙ ap suc (sym e) in
-    λ i. kind_step group.kind name (written-insert group.support p old q no_values ascends inside long i)
-    (written-insert group.support p new q no_values ascends inside long i) v))))
 
 -- The forced value of a group is the forced value filling by filling.
 pub forced-filled :

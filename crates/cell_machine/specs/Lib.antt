@@ -13,6 +13,9 @@ pub mod Delay
 pub mod Inputs
 pub mod CellData
 pub mod CellTrace
+pub mod KeptConditions
+pub mod OutputTables
+pub mod StepTables
 pub mod ArcDelay
 pub mod ShownOutputs
 pub mod LibertyStands

@@ -1,5 +1,5 @@
 //! A cell before any change.
-ghost use Rattle.std.specs.Prelude.{◌≡◌, false, length, replicate, IfOk};
+ghost use Rattle.std.specs.Prelude.{◌≡◌, false, length, replicate, IfOk, None};
 ghost use Rattle.trit_cubes.specs.declared.trits.Trit.TheVariants.{Unknown};
 ghost use Rattle.cell_machine.specs.Inputs.{input_number};
 ghost use Rattle.cell_machine.specs.Times.{no_times};
@@ -7,7 +7,9 @@ ghost use Rattle.cell_machine.specs.CellData.{data_of};
 ghost use Rattle.cell_machine.specs.CellStarts.{IsCellStart};
 
 use crate::cells::Cell;
-use crate::condition_names::{arc_names, check_names};
+use crate::condition_names::{arc_inputs, arc_names, check_names};
+use crate::group_tables::step_tables;
+use crate::output_tables::output_tables;
 use crate::pin_values::input_number;
 use crate::shown::{Shown, show_start};
 use crate::times::Times;
@@ -22,6 +24,12 @@ pub struct CellStart {
     pub check_names: Items<Items<usize>>,
     /// For each arc the pins that its condition names.
     pub arc_names: Items<Items<usize>>,
+    /// For each arc the inputs that its condition names, by their numbers.
+    pub arc_inputs: Items<Items<usize>>,
+    /// For each output the values of its function at all points of its support.
+    pub outputs: Items<Items<Trit>>,
+    /// For each group and each place of its support the values of the group's step at all points.
+    pub steps: Items<Items<Items<Trit>>>,
     /// What the outputs show.
     pub shown: Items<Shown>,
 }
@@ -34,16 +42,23 @@ impl CellStart {
     {
         let check_names = check_names(alloc, cell)?;
         let arc_names = arc_names(alloc, cell)?;
+        let arc_inputs = arc_inputs(alloc, cell, arc_names.as_slice())?;
+        let outputs = output_tables(alloc, cell)?;
+        let steps = step_tables(alloc, cell)?;
         let values = StartValues::of(alloc, cell)?;
         let shown = show_start(
             alloc,
             cell,
+            &outputs,
             values.inputs.as_slice(),
             values.states.as_slice(),
         )?;
         Ok(CellStart {
             check_names,
             arc_names,
+            arc_inputs,
+            outputs,
+            steps,
             shown,
         })
     }
@@ -56,26 +71,39 @@ pub(crate) struct StartValues {
     pub times: Items<Times>,
     pub states: Items<Trit>,
     pub reports: Items<bool>,
+    pub kept: Items<Option<Trit>>,
 }
 
 impl StartValues {
-    /// Those of a cell: all inputs and all states are unknown, there was no event, and no check reports.
+    /// Those of a cell: all inputs and all states are unknown, there was no event, no check reports, and no
+    /// condition's value is kept.
     pub(crate) fn of(alloc: Global, cell: &Cell) -> Result<StartValues, AllocError>
         ensures inputs { IfOk result (λ start. start.inputs ≡ replicate (input_number cell.now.pins (length cell.now.pins)) Unknown) }
         ensures times { IfOk result (λ start. start.times ≡ replicate (input_number cell.now.pins (length cell.now.pins)) no_times) }
         ensures states { IfOk result (λ start. start.states ≡ replicate (length cell.now.groups) Unknown) }
         ensures reports { IfOk result (λ start. start.reports ≡ replicate (length cell.now.checks) false) }
+        ensures kept { IfOk result (λ start. start.kept ≡ replicate (length cell.now.arcs) None) }
     {
         let count = input_number(cell.pins.as_slice(), cell.pins.len());
         let inputs = vec![in alloc; Trit::Unknown; count]?;
         let times = vec![in alloc; Times::none(); count]?;
         let states = vec![in alloc; Trit::Unknown; cell.groups.len()]?;
         let reports = vec![in alloc; false; cell.checks.len()]?;
+        let kept = nothing_kept(alloc, cell.arcs.len())?;
         Ok(StartValues {
             inputs: Items::from_vec(inputs),
             times: Items::from_vec(times),
             states: Items::from_vec(states),
             reports: Items::from_vec(reports),
+            kept,
         })
     }
+}
+
+/// Nothing of so many values.
+fn nothing_kept(alloc: Global, count: usize) -> Result<Items<Option<Trit>>, AllocError>
+    ensures { IfOk result (λ kept. kept ≡ replicate count None) }
+{
+    let kept = vec![in alloc; None; count]?;
+    Ok(Items::from_vec(kept))
 }

@@ -2,16 +2,17 @@
 ghost use Rattle.std.specs.Prelude.{◌≡◌, ◌<◌, length, slice_get, Some};
 ghost use Rattle.std.specs.List.{list_all};
 ghost use Rattle.cell_machine.specs.declared.arcs.Arc.{Arc as ArcOf};
-ghost use Rattle.cell_machine.specs.Values.{IsBounded};
 ghost use Rattle.cell_machine.specs.Delay.{lesser, least_delay};
 ghost use Rattle.cell_machine.specs.ArcDelay.{arc_delay};
 ghost use Rattle.cell_machine.specs.CellData.{data_of};
-ghost use Rattle.cell_machine.specs.CellTrace.{condition_names, arc_names, condition_value, is_active, is_between, paths_between, is_quiet};
+ghost use Rattle.cell_machine.specs.CellTrace.{arc_names, is_active, is_between, paths_between, is_quiet};
+ghost use Rattle.cell_machine.specs.Outputs.{is_zero};
+ghost use Rattle.cell_machine.specs.KeptConditions.{AreKept};
 
 use crate::arcs::Arc;
 use crate::cells::Cell;
 use crate::edges::is_rise;
-use crate::evaluation::{condition_value, is_or_free};
+use crate::kept_conditions::kept_condition;
 use crate::pin_values::input_number;
 use crate::pins::Pin;
 use sqlite_items::Items;
@@ -31,28 +32,49 @@ pub fn lesser(left: Option<u64>, right: Option<u64>) -> Option<u64>
 }
 
 /// Whether another arc leaves an arc without condition active: it has other pins, or its condition is 0.
-fn is_quiet(arc: &Arc, other: &Arc, names: &[usize], pins: &[Pin], inputs: &[Trit]) -> bool
-    requires bounded { IsBounded other.now.condition }
-    requires names { names.now ≡ condition_names other.now.condition }
-    ensures { result ≡ is_quiet pins.now inputs.now arc.now other.now }
+#[tactic(auto, using(crate::proofs::KeptValues::off_is_zero))]
+fn is_quiet(
+    cell: &Cell,
+    names: &[Items<usize>],
+    arc: &Arc,
+    i: usize,
+    inputs: &[Trit],
+    kept: &mut Items<Option<Trit>>,
+) -> bool
+    requires names { names.now ≡ arc_names (data_of cell.now) }
+    requires inside { i < length cell.now.arcs }
+    requires kept { AreKept cell.now.pins inputs.now cell.now.arcs kept.old }
+    ensures quiet { (other : ArcOf) → slice_get cell.now.arcs i ≡ Some other → result ≡ is_quiet cell.now.pins inputs.now arc.now other }
+    ensures kept { AreKept cell.now.pins inputs.now cell.now.arcs kept.new }
 {
-    !arc.same_pins(other) || is_or_free(&other.condition, Trit::Zero, names, pins, inputs)
+    if !arc.same_pins(cell.arc(i)) {
+        return true;
+    }
+    is_zero(kept_condition(cell, names, i, inputs, kept))
+}
+
+/// Whether a value is 0.
+fn is_zero(value: Trit) -> bool
+    ensures { result ≡ is_zero value }
+{
+    value == Trit::Zero
 }
 
 /// Whether all other arcs leave an arc without condition active.
-fn all_are_quiet(cell: &Cell, names: &[Items<usize>], arc: &Arc, inputs: &[Trit]) -> bool
-    requires { names.now ≡ arc_names (data_of cell.now) }
-    ensures { result ≡ list_all (is_quiet cell.now.pins inputs.now arc.now) cell.now.arcs }
+fn all_are_quiet(
+    cell: &Cell,
+    names: &[Items<usize>],
+    arc: &Arc,
+    inputs: &[Trit],
+    kept: &mut Items<Option<Trit>>,
+) -> bool
+    requires names { names.now ≡ arc_names (data_of cell.now) }
+    requires kept { AreKept cell.now.pins inputs.now cell.now.arcs kept.old }
+    ensures quiet { result ≡ list_all (is_quiet cell.now.pins inputs.now arc.now) cell.now.arcs }
+    ensures kept { AreKept cell.now.pins inputs.now cell.now.arcs kept.new }
 {
     for i in 0..cell.arcs.len() {
-        let other = cell.arc(i);
-        if !is_quiet(
-            arc,
-            other,
-            names[i].as_slice(),
-            cell.pins.as_slice(),
-            inputs,
-        ) {
+        if !is_quiet(cell, names, arc, i, inputs, kept) {
             return false;
         }
     }
@@ -60,20 +82,23 @@ fn all_are_quiet(cell: &Cell, names: &[Items<usize>], arc: &Arc, inputs: &[Trit]
 }
 
 /// Whether the arc with this number is active.
-fn is_active(cell: &Cell, names: &[Items<usize>], i: usize, inputs: &[Trit]) -> bool
+fn is_active(
+    cell: &Cell,
+    names: &[Items<usize>],
+    i: usize,
+    inputs: &[Trit],
+    kept: &mut Items<Option<Trit>>,
+) -> bool
     requires names { names.now ≡ arc_names (data_of cell.now) }
     requires inside { i < length cell.now.arcs }
-    ensures { (arc : ArcOf) → slice_get cell.now.arcs i ≡ Some arc → result ≡ is_active cell.now.pins cell.now.arcs inputs.now arc arc.condition }
+    requires kept { AreKept cell.now.pins inputs.now cell.now.arcs kept.old }
+    ensures active { (arc : ArcOf) → slice_get cell.now.arcs i ≡ Some arc → result ≡ is_active cell.now.pins cell.now.arcs inputs.now arc arc.condition }
+    ensures kept { AreKept cell.now.pins inputs.now cell.now.arcs kept.new }
 {
     let arc = cell.arc(i);
     match &arc.condition {
-        Some(condition) => condition_value(
-            condition,
-            names[i].as_slice(),
-            cell.pins.as_slice(),
-            inputs,
-        ) != Trit::Zero,
-        None => all_are_quiet(cell, names, arc, inputs),
+        Some(_) => !is_zero(kept_condition(cell, names, i, inputs, kept)),
+        None => all_are_quiet(cell, names, arc, inputs, kept),
     }
 }
 
@@ -97,40 +122,53 @@ fn arc_delay(
     names: &[Items<usize>],
     i: usize,
     inputs: &[Trit],
+    kept: &mut Items<Option<Trit>>,
     change: &OutputChange,
 ) -> Option<u64>
     requires names { names.now ≡ arc_names (data_of cell.now) }
     requires inside { i < length cell.now.arcs }
-    ensures { (arc : ArcOf) → slice_get cell.now.arcs i ≡ Some arc → result ≡ arc_delay cell.now.pins cell.now.arcs inputs.now change.now.input change.now.pin change.now.from change.now.to arc }
+    requires kept { AreKept cell.now.pins inputs.now cell.now.arcs kept.old }
+    ensures delay { (arc : ArcOf) → slice_get cell.now.arcs i ≡ Some arc → result ≡ arc_delay cell.now.pins cell.now.arcs inputs.now change.now.input change.now.pin change.now.from change.now.to arc }
+    ensures kept { AreKept cell.now.pins inputs.now cell.now.arcs kept.new }
 {
     let arc = cell.arc(i);
-    let leads = input_number(cell.pins.as_slice(), arc.from) == change.input
-        && arc.to == change.pin;
-    if leads && is_active(cell, names, i, inputs) {
-        Some(if is_rise(change.from, change.to) {
-            arc.rise
-        } else {
-            arc.fall
-        })
+    if !leads(arc, cell.pins.as_slice(), change) {
+        return None;
+    }
+    if !is_active(cell, names, i, inputs, kept) {
+        return None;
+    }
+    if is_rise(change.from, change.to) {
+        Some(arc.rise)
     } else {
-        None
+        Some(arc.fall)
     }
 }
 
+/// Whether an arc leads from the changed input to the output.
+fn leads(arc: &Arc, pins: &[Pin], change: &OutputChange) -> bool
+    ensures { result ≡ is_between pins.now change.now.input change.now.pin arc.now }
+{
+    input_number(pins, arc.from) == change.input && arc.to == change.pin
+}
+
 /// The delay of a change of an output: the least over the active arcs from the input to the output, 0 where none is
-/// active. `names` are those of the arcs' conditions.
+/// active. `names` are those of the arcs' conditions, and `kept` what is kept of their values.
 pub fn least_delay(
     cell: &Cell,
     names: &[Items<usize>],
     inputs: &[Trit],
+    kept: &mut Items<Option<Trit>>,
     change: &OutputChange,
 ) -> u64
-    requires { names.now ≡ arc_names (data_of cell.now) }
-    ensures { result ≡ least_delay change.now.from change.now.to (paths_between cell.now.pins cell.now.arcs inputs.now change.now.input change.now.pin) }
+    requires names { names.now ≡ arc_names (data_of cell.now) }
+    requires kept { AreKept cell.now.pins inputs.now cell.now.arcs kept.old }
+    ensures delay { result ≡ least_delay change.now.from change.now.to (paths_between cell.now.pins cell.now.arcs inputs.now change.now.input change.now.pin) }
+    ensures kept { AreKept cell.now.pins inputs.now cell.now.arcs kept.new }
 {
     let mut best = None;
     for i in 0..cell.arcs.len() {
-        best = lesser(best, arc_delay(cell, names, i, inputs, change));
+        best = lesser(best, arc_delay(cell, names, i, inputs, kept, change));
     }
     match best {
         Some(delay) => delay,

@@ -1,24 +1,23 @@
-//! The values of outputs and conditions: a function is tried on each filling of what it names.
-ghost use Rattle.std.specs.Prelude.{◌≡◌, ◌+◌, ◌<◌, ◌≤◌, Bool, true, false, List, [], ◌∷◌, length, map};
-ghost use Rattle.trit_cubes.specs.declared.trits.Trit.TheVariants.{Zero, One};
+//! The values of outputs at points, and of conditions: a function is tried on each filling of what it names.
+ghost use Rattle.std.specs.Prelude.{◌≡◌, ◌+◌, ◌<◌, ◌≤◌, [], ◌∷◌, length, map};
 ghost use Rattle.trit_cubes.specs.Filling.{trit_of};
-ghost use Rattle.trit_cubes.specs.Resolution.{agreed, res};
+ghost use Rattle.trit_cubes.specs.Resolution.{res};
 ghost use Rattle.bool_functions.specs.Tree.{value_of, name_bound};
 ghost use Rattle.bool_functions.specs.Support.{support_of};
 ghost use Rattle.cell_machine.specs.Names.{source_name};
 ghost use Rattle.cell_machine.specs.Values.{no_values, written, IsBounded};
 ghost use Rattle.cell_machine.specs.Step.{KindIsBounded};
-ghost use Rattle.cell_machine.specs.Outputs.{second_by, second_value, second_names, second_trits, chosen_value, condition_at, is_one, is_zero};
+ghost use Rattle.cell_machine.specs.Outputs.{second_by, second_value, second_names, second_trits, condition_at};
 ghost use Rattle.cell_machine.specs.Inputs.{pin_value, pin_values};
 ghost use Rattle.cell_machine.specs.CellData.{data_of};
-ghost use Rattle.cell_machine.specs.CellTrace.{source_value, sources_at, output_value_at, output_value, condition_names, condition_value, condition_holds, is_off};
-ghost use Rattle.cell_machine.specs.Supports.{StatesBelow, OutputFacts};
+ghost use Rattle.cell_machine.specs.CellTrace.{sources_at, output_value_at, condition_names, condition_value, condition_holds};
+ghost use Rattle.cell_machine.specs.Supports.{StatesBelow};
 
 use crate::cells::Cell;
 use crate::groups::{Both, GroupKind};
-use crate::outputs::{OutputPin, Source};
+use crate::outputs::Source;
 use crate::over::filled;
-use crate::pin_values::{numbered_value, pin_value};
+use crate::pin_values::pin_value;
 use crate::pins::Pin;
 use crate::steps::both_value;
 use crate::values::Values;
@@ -104,37 +103,6 @@ fn chosen_from(
     )
 }
 
-/// The value of an output for each filling of the sources in `rest`.
-fn output_from(
-    cell: &Cell,
-    output: &OutputPin,
-    inputs: &[Trit],
-    states: &[Trit],
-    rest: &[Source],
-    values: &mut Values,
-) -> Trit
-    requires facts { OutputFacts (length cell.now.groups) output.now }
-    requires states { StatesBelow (length cell.now.groups) rest.now }
-    ensures { result ≡ res (λ p. chosen_value (length cell.now.pins) cell.now.groups output.now (written values.old (map (source_name (length cell.now.pins)) rest.now) p)) (map (source_value cell.now.pins inputs.now states.now) rest.now) }
-{
-    let Some((first, rest)) = rest.split_first() else {
-        let mut filled = *values;
-        return chosen_from(
-            cell,
-            &output.function,
-            output.support.as_slice(),
-            values,
-            &mut filled,
-        );
-    };
-    let name = source_name(cell, *first);
-    filled!(
-        source_value(cell.pins.as_slice(), inputs, states, *first),
-        values,
-        name => output_from(cell, output, inputs, states, rest, values)
-    )
-}
-
 /// The name of a source.
 fn source_name(cell: &Cell, source: Source) -> usize
     requires { StatesBelow (length cell.now.groups) (source ∷ []) }
@@ -143,16 +111,6 @@ fn source_name(cell: &Cell, source: Source) -> usize
     match source {
         Source::Pin(pin) => pin,
         Source::State(g) => cell.state_name(g),
-    }
-}
-
-/// The value of a source.
-fn source_value(pins: &[Pin], inputs: &[Trit], states: &[Trit], source: Source) -> Trit
-    ensures { result ≡ source_value pins.now inputs.now states.now source }
-{
-    match source {
-        Source::Pin(pin) => pin_value(pins, inputs, pin),
-        Source::State(g) => numbered_value(states, g),
     }
 }
 
@@ -183,22 +141,6 @@ pub fn output_at(cell: &Cell, output: usize, point: &[bool]) -> Trit
     let values = values_at(cell, sources, point);
     let mut filled = values;
     chosen_from(cell, &output.function, sources, &values, &mut filled)
-}
-
-/// The value of an output where the inputs and the states have these values.
-pub fn output_value(cell: &Cell, output: &OutputPin, inputs: &[Trit], states: &[Trit]) -> Trit
-    requires { OutputFacts (length cell.now.groups) output.now }
-    ensures { result ≡ output_value cell.now.pins cell.now.groups inputs.now states.now output.now }
-{
-    let mut values = Values::new();
-    output_from(
-        cell,
-        output,
-        inputs,
-        states,
-        output.support.as_slice(),
-        &mut values,
-    )
 }
 
 /// The value of a condition, for each filling of the pins in `rest`.
@@ -233,21 +175,14 @@ pub fn condition_value(condition: &Function, names: &[usize], pins: &[Pin], inpu
     condition_from(condition, pins, inputs, names, &mut values)
 }
 
-/// Whether a condition has this value, or there is none.
-pub fn is_or_free(
-    condition: &Option<Function>,
-    value: Trit,
-    names: &[usize],
-    pins: &[Pin],
-    inputs: &[Trit],
-) -> bool
+/// Whether a condition is 1, or there is none.
+pub fn holds(condition: &Option<Function>, names: &[usize], pins: &[Pin], inputs: &[Trit]) -> bool
     requires bounded { IsBounded condition.now }
     requires names { names.now ≡ condition_names condition.now }
-    ensures one { value ≡ One → result ≡ condition_holds pins.now inputs.now condition.now }
-    ensures zero { value ≡ Zero → result ≡ is_off pins.now inputs.now condition.now }
+    ensures { result ≡ condition_holds pins.now inputs.now condition.now }
 {
     match condition {
-        Some(condition) => condition_value(condition, names, pins, inputs) == value,
+        Some(condition) => condition_value(condition, names, pins, inputs) == Trit::One,
         None => true,
     }
 }

@@ -1,5 +1,5 @@
 //! Short lists that take no memory.
-ghost use Rattle.std.specs.Prelude.{◌≡◌, ◌<◌, [], ◌∷◌, ◌++◌, length};
+ghost use Rattle.std.specs.Prelude.{◌≡◌, ◌+◌, ◌<◌, ◌≤◌, [], ◌∷◌, ◌++◌, length};
 
 use std::marker::Model;
 
@@ -41,6 +41,16 @@ impl<T: Copy, const N: usize> Few<T, N> {
     {
         self.entries[self.len] = entry;
         self.len += 1;
+    }
+
+    /// Adds these entries at the end.
+    pub fn append(&mut self, entries: &[T])
+        requires { length self.old + length entries.now ≤ N }
+        ensures { self.new ≡ self.old ++ entries.now }
+    {
+        for entry in entries {
+            self.push(*entry);
+        }
     }
 
     /// The entries in order.

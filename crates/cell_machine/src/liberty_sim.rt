@@ -4,14 +4,17 @@ ghost use Rattle.cell_machine.specs.Report.{any_true};
 ghost use Rattle.cell_machine.specs.CellData.{data_of};
 ghost use Rattle.cell_machine.specs.CellTrace.{inputs_of, cell_machine_of};
 ghost use Rattle.cell_machine.specs.CellStarts.{IsCellStart};
+ghost use Rattle.cell_machine.specs.OutputTables.{AreOutputTables};
+ghost use Rattle.cell_machine.specs.StepTables.{AreStepTables};
 ghost use Rattle.cell_machine.specs.LibertyStands.{Stands, cell_machine_sized};
 
 use crate::cell_start::{CellStart, StartValues};
 use crate::cells::Cell;
 use crate::changes::Change;
+use crate::kept_conditions::forget;
 use crate::reports::report_all;
 use crate::shared::Shared;
-use crate::shown::{Shown, show_all};
+use crate::shown::{Shown, ShownChange, show_all};
 use crate::simulators::{CellSim, Sizes};
 use crate::states::{SeenChange, change_states};
 use crate::times::Times;
@@ -20,7 +23,8 @@ use std::alloc::{AllocError, Global};
 use trit_cubes::Trit;
 
 /// A cell run by its own machine. It keeps the values of the inputs, the states and what the outputs show, and for each
-/// input the times of its last change, of its last possible rise and of its last possible fall.
+/// input the times of its last change, of its last possible rise and of its last possible fall. Of the conditions of the arcs
+/// it keeps the values until an input changes that they name.
 #[derive(Drop)]
 pub struct LibertySim<'a> {
     cell: &'a Cell,
@@ -30,6 +34,9 @@ pub struct LibertySim<'a> {
     states: Items<Trit>,
     reports: Items<bool>,
     shown: Items<Shown>,
+    kept: Items<Option<Trit>>,
+    ghost tabled_outputs: { AreOutputTables (data_of cell.now) known.outputs },
+    ghost tabled_steps: { AreStepTables (data_of cell.now) known.steps },
     ghost each_input: { length inputs ≡ inputs_of (data_of cell.now) },
     ghost each_time: { length times ≡ inputs_of (data_of cell.now) },
     ghost each_state: { length states ≡ length cell.now.groups },
@@ -67,6 +74,7 @@ impl<'a> LibertySim<'a> {
             states: values.states,
             reports: values.reports,
             shown,
+            kept: values.kept,
         })
     }
 }
@@ -74,7 +82,7 @@ impl<'a> LibertySim<'a> {
 impl<'a> CellSim for LibertySim<'a> {
     ghost machine = { λ s. cell_machine_of (data_of s.cell.now) };
 
-    ghost stands = { λ s h. Stands (data_of s.cell.now) s.known.check_names s.known.arc_names s.inputs s.times s.states s.reports s.shown h };
+    ghost stands = { λ s h. Stands (data_of s.cell.now) s.known.check_names s.known.arc_names s.known.arc_inputs s.inputs s.times s.states s.reports s.shown s.kept h };
 
     fn sizes(&self) -> Sizes {
         Sizes {
@@ -108,11 +116,21 @@ impl<'a> CellSim for LibertySim<'a> {
             from,
             change,
         };
-        change_states(self.cell, &seen, &mut self.states);
+        let steps = &self.known.get().steps;
+        change_states(self.cell, steps, &seen, &mut self.states);
         self.times.set(pin, times);
+        let named = self.known.get().arc_inputs.as_slice();
+        forget(named, pin, &mut self.kept);
         let arcs = self.known.get().arc_names.as_slice();
         let states = self.states.as_slice();
-        show_all(self.cell, arcs, inputs, states, change, &mut self.shown);
+        let seen = ShownChange {
+            outputs: &self.known.get().outputs,
+            names: arcs,
+            inputs,
+            states,
+            change,
+        };
+        show_all(self.cell, &seen, &mut self.kept, &mut self.shown);
     }
 
     fn shown(&self, place: usize) -> Shown {

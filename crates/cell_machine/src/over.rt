@@ -1,33 +1,8 @@
 //! A computation over what a trit may stand for.
 
-/// The value of an expression over the bit `$bit` where it has the value of a trit: of a known one its value; of an unknown
-/// one each, and unknown where they differ. Where the first is unknown the other is not looked for.
-macro_rules! over {
-    ($trit:expr, $bit:ident => $value:expr) => {
-        match $trit {
-            Trit::Zero => {
-                let $bit = false;
-                $value
-            }
-            Trit::One => {
-                let $bit = true;
-                $value
-            }
-            Trit::Unknown => {
-                let $bit = false;
-                let zero = $value;
-                if zero.is_unknown() {
-                    return zero;
-                }
-                let $bit = true;
-                zero.agreed($value)
-            }
-        }
-    };
-}
-
-/// The value of an expression over `$values` where the name `$name` has the value of a trit among them, as `over` has it. The
-/// values are copied only where the trit is unknown.
+/// The value of an expression over `$values` where the name `$name` has the value of a trit among them: of a known one its value;
+/// of an unknown one each, and unknown where they differ. Where the first is unknown the other is not looked for. The values are
+/// copied only where the trit is unknown.
 macro_rules! filled {
     ($trit:expr, $values:ident, $name:expr => $value:expr) => {
         match $trit {
@@ -56,4 +31,3 @@ macro_rules! filled {
 }
 
 pub(crate) use filled;
-pub(crate) use over;

@@ -10,7 +10,7 @@ use crate::cells::Cell;
 use crate::changes::Change;
 use crate::checks::{Check, CheckKind, Edge, Event};
 use crate::edges::{edge_of, moves};
-use crate::evaluation::is_or_free;
+use crate::evaluation::holds;
 use crate::pin_values::input_number;
 use crate::pins::Pin;
 use crate::times::{Times, is_within};
@@ -80,7 +80,7 @@ fn reports(
     ensures { result ≡ report_by (input_check pins.now check.now) from inputs.now times.now change }
 {
     happens(check.second, pins, from, change)
-        && is_or_free(&check.condition, Trit::One, names, pins, inputs)
+        && holds(&check.condition, names, pins, inputs)
         && is_within(
             change.at,
             check.limit,

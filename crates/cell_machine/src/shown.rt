@@ -4,12 +4,14 @@ ghost use Rattle.cell_machine.specs.declared.outputs.OutputPin.{OutputPin as Out
 ghost use Rattle.cell_machine.specs.Each.{each};
 ghost use Rattle.cell_machine.specs.CellData.{data_of};
 ghost use Rattle.cell_machine.specs.CellTrace.{arc_names};
+ghost use Rattle.cell_machine.specs.KeptConditions.{AreKept};
+ghost use Rattle.cell_machine.specs.OutputTables.{AreOutputTables};
 ghost use Rattle.cell_machine.specs.ShownOutputs.{shown_first, shown_step};
 
 use crate::cells::Cell;
 use crate::changes::Change;
 use crate::delays::{OutputChange, least_delay};
-use crate::evaluation::output_value;
+use crate::output_tables::output_value;
 use sqlite_items::Items;
 use std::alloc::{AllocError, Global};
 use trit_cubes::Trit;
@@ -23,78 +25,102 @@ pub struct Shown {
     pub delay: Option<u64>,
 }
 
+/// A change of an input as the outputs see it.
+#[derive(Clone, Copy)]
+pub struct ShownChange<'a> {
+    /// For each output the values of its function at all points.
+    pub outputs: &'a Items<Items<Trit>>,
+    /// For each arc the pins that its condition names.
+    pub names: &'a [Items<usize>],
+    /// The values of the inputs after it.
+    pub inputs: &'a [Trit],
+    /// The states after it.
+    pub states: &'a [Trit],
+    /// The change.
+    pub change: Change,
+}
+
 /// What one output shows after a change, where it showed the value `was` before.
 fn shown_step(
     cell: &Cell,
-    names: &[Items<usize>],
+    seen: &ShownChange,
     i: usize,
-    inputs: &[Trit],
-    states: &[Trit],
-    change: Change,
     was: Trit,
+    kept: &mut Items<Option<Trit>>,
 ) -> Shown
-    requires names { names.now ≡ arc_names (data_of cell.now) }
+    requires outputs { AreOutputTables (data_of cell.now) seen.now.outputs.now }
+    requires names { seen.now.names.now ≡ arc_names (data_of cell.now) }
     requires inside { i < length cell.now.outputs }
-    ensures { (output : OutputPinOf) → slice_get cell.now.outputs i ≡ Some output → result ≡ shown_step cell.now.pins cell.now.groups cell.now.arcs inputs.now states.now change output was }
+    requires kept { AreKept cell.now.pins seen.now.inputs.now cell.now.arcs kept.old }
+    ensures shown { (output : OutputPinOf) → slice_get cell.now.outputs i ≡ Some output → result ≡ shown_step cell.now.pins cell.now.groups cell.now.arcs seen.now.inputs.now seen.now.states.now seen.now.change output was }
+    ensures kept { AreKept cell.now.pins seen.now.inputs.now cell.now.arcs kept.new }
 {
-    let output = cell.output_pin(i);
-    let value = output_value(cell, output, inputs, states);
-    let output_change = OutputChange {
-        input: change.pin,
-        pin: output.pin,
+    let value = output_value(cell, seen.outputs, i, seen.inputs, seen.states);
+    if was == value {
+        return Shown { value, delay: None };
+    }
+    let change = OutputChange {
+        input: seen.change.pin,
+        pin: cell.output_pin(i).pin,
         from: was,
         to: value,
     };
-    let delay = if was == value {
-        None
-    } else {
-        Some(least_delay(cell, names, inputs, &output_change))
-    };
+    let delay = Some(least_delay(cell, seen.names, seen.inputs, kept, &change));
     Shown { value, delay }
 }
 
-/// Takes what the outputs show over a change. `names` are those of the arcs' conditions; `inputs` and `states` are those
-/// after the change.
+/// Takes what the outputs show over a change.
 pub fn show_all(
     cell: &Cell,
-    names: &[Items<usize>],
-    inputs: &[Trit],
-    states: &[Trit],
-    change: Change,
+    seen: &ShownChange,
+    kept: &mut Items<Option<Trit>>,
     shown: &mut Items<Shown>,
 )
-    requires names { names.now ≡ arc_names (data_of cell.now) }
+    requires outputs { AreOutputTables (data_of cell.now) seen.now.outputs.now }
+    requires names { seen.now.names.now ≡ arc_names (data_of cell.now) }
+    requires kept { AreKept cell.now.pins seen.now.inputs.now cell.now.arcs kept.old }
     requires one_each { length shown.old ≡ length cell.now.outputs }
-    ensures stepped { shown.new ≡ each (λ o s. shown_step cell.now.pins cell.now.groups cell.now.arcs inputs.now states.now change o s.value) cell.now.outputs shown.old }
+    ensures stepped { shown.new ≡ each (λ o s. shown_step cell.now.pins cell.now.groups cell.now.arcs seen.now.inputs.now seen.now.states.now seen.now.change o s.value) cell.now.outputs shown.old }
     ensures len { length shown.new ≡ length shown.old }
+    ensures kept { AreKept cell.now.pins seen.now.inputs.now cell.now.arcs kept.new }
 {
     for i in 0..shown.len() {
         let was = shown.as_slice()[i].value;
-        shown.set(i, shown_step(cell, names, i, inputs, states, change, was));
+        shown.set(i, shown_step(cell, seen, i, was, kept));
     }
 }
 
 /// What one output shows at the start.
-fn shown_first(cell: &Cell, i: usize, inputs: &[Trit], states: &[Trit]) -> Shown
-    requires { i < length cell.now.outputs }
+fn shown_first(
+    cell: &Cell,
+    outputs: &Items<Items<Trit>>,
+    i: usize,
+    inputs: &[Trit],
+    states: &[Trit],
+) -> Shown
+    requires outputs { AreOutputTables (data_of cell.now) outputs.now }
+    requires inside { i < length cell.now.outputs }
     ensures { (output : OutputPinOf) → slice_get cell.now.outputs i ≡ Some output → result ≡ shown_first cell.now.pins cell.now.groups inputs.now states.now output }
 {
-    let value = output_value(cell, cell.output_pin(i), inputs, states);
+    let value = output_value(cell, outputs, i, inputs, states);
     Shown { value, delay: None }
 }
 
-/// What the outputs show at the start, where the inputs and the states have these values: no delays.
+/// What the outputs show at the start, where the inputs and the states have these values: no delays. `outputs` are the values of
+/// their functions at all points.
 pub fn show_start(
     alloc: Global,
     cell: &Cell,
+    outputs: &Items<Items<Trit>>,
     inputs: &[Trit],
     states: &[Trit],
 ) -> Result<Items<Shown>, AllocError>
+    requires { AreOutputTables (data_of cell.now) outputs.now }
     ensures { IfOk result (λ shown. shown ≡ map (shown_first cell.now.pins cell.now.groups inputs.now states.now) cell.now.outputs) }
 {
     let mut shown = Items::new(alloc);
     for i in 0..cell.outputs.len() {
-        shown.push(shown_first(cell, i, inputs, states))?;
+        shown.push(shown_first(cell, outputs, i, inputs, states))?;
     }
     Ok(shown)
 }

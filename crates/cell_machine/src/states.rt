@@ -1,17 +1,23 @@
 //! The states of a cell at a change of an input.
-ghost use Rattle.std.specs.Prelude.{◌≡◌, ◌<◌, not, length, slice_get, Some, if◌then◌else◌};
+ghost use Rattle.std.specs.Prelude.{◌≡◌, ◌<◌, ◌≤◌, [], ◌∷◌, ◌++◌, not, length, slice_get, Some, if◌then◌else◌};
 ghost use Rattle.trit_cubes.specs.Filling.{same};
 ghost use Rattle.cell_machine.specs.declared.groups.StateGroup.{StateGroup as StateGroupOf};
 ghost use Rattle.cell_machine.specs.Names.{state_name};
 ghost use Rattle.cell_machine.specs.Each.{each};
 ghost use Rattle.cell_machine.specs.CellData.{data_of};
+ghost use Rattle.cell_machine.specs.Inputs.{pin_values};
+ghost use Rattle.cell_machine.specs.Machine.{without};
+ghost use Rattle.cell_machine.specs.StepTables.{AreStepTables};
 ghost use Rattle.cell_machine.specs.CellTrace.{place_in, moved, violated, state_step, named_groups};
 
 use crate::cells::Cell;
 use crate::changes::Change;
-use crate::fillings::{NamedKind, PinChange, change_filled, forced_filled};
+use crate::entries::entry;
+use crate::few::Few;
+use crate::fillings::forced_filled;
 use crate::pin_values::{input_number, support_values};
 use crate::pins::Pin;
+use crate::tabled::tabled;
 use sqlite_items::Items;
 use trit_cubes::Trit;
 
@@ -37,29 +43,49 @@ pub struct SeenChange<'a> {
     pub change: Change,
 }
 
+/// The point of a change of an input at this place of a support: its value before, its value after, those of the other inputs,
+/// and the state.
+fn change_point(
+    pins: &[Pin],
+    support: &[usize],
+    place: usize,
+    seen: &SeenChange,
+    state: Trit,
+) -> Few<Trit, 10>
+    requires few { length support.now ≤ 8 }
+    requires place { place < length support.now }
+    ensures { result ≡ seen.now.from ∷ seen.now.change.to ∷ (without place (pin_values pins.now seen.now.inputs.now support.now) ++ state ∷ []) }
+{
+    let values = support_values(pins, seen.inputs, support);
+    let (before, at) = values.as_slice().split_at(place);
+    let mut point = Few::new(Trit::Unknown);
+    point.push(seen.from);
+    point.push(seen.change.to);
+    point.append(before);
+    point.append(&at[1..]);
+    point.push(state);
+    point
+}
+
 /// The next state of a group where no check reports.
-fn moved(cell: &Cell, i: usize, seen: &SeenChange, state: Trit) -> Trit
-    requires { i < length cell.now.groups }
+fn moved(
+    cell: &Cell,
+    tables: &Items<Items<Items<Trit>>>,
+    i: usize,
+    seen: &SeenChange,
+    state: Trit,
+) -> Trit
+    requires tables { AreStepTables (data_of cell.now) tables.now }
+    requires inside { i < length cell.now.groups }
     ensures { (group : StateGroupOf) → slice_get cell.now.groups i ≡ Some group → result ≡ moved cell.now.pins (record { name = state_name (length cell.now.pins) i; group = group }) seen.now.inputs.now seen.now.from seen.now.change state }
 {
     let pins = cell.pins.as_slice();
-    let group = cell.group(i);
-    let support = group.support.as_slice();
+    let support = cell.group(i).support.as_slice();
     let Some(place) = place_in(pins, support, seen.change) else {
         return state;
     };
-    let values = support_values(pins, seen.inputs, support);
-    let change = PinChange {
-        place,
-        pin: support[place],
-        from: seen.from,
-        to: seen.change.to,
-    };
-    let named = NamedKind {
-        kind: &group.kind,
-        name: cell.state_name(i),
-    };
-    change_filled(named, change, support, values.as_slice(), state)
+    let point = change_point(pins, support, place, seen, state);
+    tabled(entry(entry(tables, i), place).as_slice(), point.as_slice())
 }
 
 /// The state of a group where some check reports.
@@ -74,36 +100,55 @@ fn violated(cell: &Cell, i: usize, inputs: &[Trit]) -> Trit
 }
 
 /// The next state of a group at a change of an input: forced where some check reports, else moved.
-fn state_step(cell: &Cell, i: usize, seen: &SeenChange, state: Trit) -> Trit
-    requires { i < length cell.now.groups }
+fn state_step(
+    cell: &Cell,
+    tables: &Items<Items<Items<Trit>>>,
+    i: usize,
+    seen: &SeenChange,
+    state: Trit,
+) -> Trit
+    requires tables { AreStepTables (data_of cell.now) tables.now }
+    requires inside { i < length cell.now.groups }
     ensures { (group : StateGroupOf) → slice_get cell.now.groups i ≡ Some group → result ≡ state_step seen.now.reported cell.now.pins (record { name = state_name (length cell.now.pins) i; group = group }) seen.now.inputs.now seen.now.from seen.now.change state }
 {
     if seen.reported {
         violated(cell, i, seen.inputs)
     } else {
-        moved(cell, i, seen, state)
+        moved(cell, tables, i, seen, state)
     }
 }
 
 /// Takes the states of all groups over a change: where it is no event they stay.
-pub fn change_states(cell: &Cell, seen: &SeenChange, states: &mut Items<Trit>)
-    requires { length states.old ≡ length cell.now.groups }
+pub fn change_states(
+    cell: &Cell,
+    tables: &Items<Items<Items<Trit>>>,
+    seen: &SeenChange,
+    states: &mut Items<Trit>,
+)
+    requires tables { AreStepTables (data_of cell.now) tables.now }
+    requires one_each { length states.old ≡ length cell.now.groups }
     ensures changed { states.new ≡ (if not (same seen.now.from seen.now.change.to) then each (λ g s. state_step seen.now.reported cell.now.pins g seen.now.inputs.now seen.now.from seen.now.change s) (named_groups (data_of cell.now)) states.old else states.old) }
     ensures len { length states.new ≡ length states.old }
 {
     if seen.from != seen.change.to {
-        step_states(cell, seen, states);
+        step_states(cell, tables, seen, states);
     }
 }
 
 /// Takes the states of all groups over an event.
-fn step_states(cell: &Cell, seen: &SeenChange, states: &mut Items<Trit>)
-    requires { length states.old ≡ length cell.now.groups }
+fn step_states(
+    cell: &Cell,
+    tables: &Items<Items<Items<Trit>>>,
+    seen: &SeenChange,
+    states: &mut Items<Trit>,
+)
+    requires tables { AreStepTables (data_of cell.now) tables.now }
+    requires one_each { length states.old ≡ length cell.now.groups }
     ensures stepped { states.new ≡ each (λ g s. state_step seen.now.reported cell.now.pins g seen.now.inputs.now seen.now.from seen.now.change s) (named_groups (data_of cell.now)) states.old }
     ensures len { length states.new ≡ length states.old }
 {
     for i in 0..states.len() {
         let state = states.as_slice()[i];
-        states.set(i, state_step(cell, i, seen, state));
+        states.set(i, state_step(cell, tables, i, seen, state));
     }
 }

@@ -1,12 +1,12 @@
 -- The lines of a run, put one behind another as the simulator takes the changes.
-use Rattle.std.proofs.Common.{◌≡◌, ℕ, ◌+◌, Bool, true, false, if◌then◌else◌, ◌<◌, ◌≤◌, List, [], ◌∷◌, ◌++◌, get_or, take, drop, length, All, Option, Some, None, Result, Ok, Err, IsErr, flat_map, refl, sym, ◌∙◌, ap, subst, append_assoc}
+use Rattle.std.proofs.Common.{◌≡◌, ℕ, ◌+◌, Bool, true, false, if◌then◌else◌, ◌<◌, ◌≤◌, List, [], ◌∷◌, ◌++◌, get_or, take, drop, length, All, Option, Some, None, Result, Ok, Err, IsErr, OnOk, flat_map, refl, sym, ◌∙◌, ap, subst, append_assoc}
 use Rattle.std.proofs.lemmas.List.{append-nil, drop_more, drop_all}
 use Rattle.std.proofs.lemmas.List.Elements.{All-get_or}
 use Rattle.text_io.specs.declared.outside.Failed.{Failed}
 use Rattle.text_io.specs.declared.slots.OutSlot.TheVariants.{Report}
 use Rattle.text_io.specs.declared.stop.Stop.{Stop}
 use Rattle.text_io.specs.Desk.{DeskState, wrote, WritesText}
-use Rattle.text_io.specs.Line.{Gathers, StopsWithin}
+use Rattle.text_io.specs.Line.{Gathers, StopsWithin, PutsText}
 use Rattle.text_io.proofs.Wrote.{wrote-nil, wrote_more, IsPrefix-append, IsPrefix-front, flat_map-split}
 use Rattle.text_io.proofs.LineLaws.{Gathers-Gathers, Gathers-stops, StopsWithin-more, flushes}
 use Rattle.cell_machine.specs.declared.changes.Change.{Change}
@@ -93,28 +93,36 @@ flushed stands shown n s now next held xs i whole r over g w =
     let joined : g.done ≡ whole = sym (append-nil g.done) ∙ (ap (λ ys. g.done ++ texts_from shown g.history ys) (sym (drop_all i xs over)) ∙ g.joined) in
     subst (λ t. WritesText s next Report t r) joined (flushes s now next Report held g.done r g.gathered w)
 
--- One text and then another.
+-- What waits, and what is written of it.
 
-pub puts_on : {S T : Type 0} (s t u : DeskState) (l m n a b : List ℕ) (x : S) (r : Result T Stop)
-    → PutsTrace {T = S} s t l a m (Ok x) → PutsTrace t u m b n r → PutsTrace s u l (a ++ b) n r
-puts_on s t u l m n a b x (Ok y) p q = record { whole = Gathers-Gathers s t u Report l m n a b p.whole q.whole; part = tt }
-puts_on s t u l m n a b x (Err y) p q = record { whole = tt; part = Gathers-stops s t u Report l m a b p.whole q.part }
+pub waits : (s : DeskState) (w : List ℕ) → Gathers s s Report [] w w
+waits s w = record { written = []; state = sym (wrote-nil s Report); joined = refl }
 
-pub puts_less : {S T : Type 0} (s t : DeskState) (l m n a b : List ℕ) (y : Stop) (r : Result T Stop)
-    → PutsTrace {T = S} s t l a m (Err y) → IsErr r → PutsTrace s t l (a ++ b) n r
-puts_less s t l m n a b y (Ok x) p e = absurd cc
-puts_less s t l m n a b y (Err z) p e = record { whole = tt; part = StopsWithin-more s t Report l a b p.part }
+pub stopped_in : {S T : Type 0} (s t : DeskState) (w n : List ℕ) (y : Failed) (r : Result T Failed)
+    → WritesText {T = S} s t Report w (Err y) → IsErr r → PutsText s t Report [] w n r
+stopped_in s t w n y (Ok x) p e = absurd cc
+stopped_in s t w n y (Err z) p e = record { whole = tt; part = record { part = p.part.0; front = p.part.1; state = p.part.2 } }
 
--- the same text, under another answer
+-- a text was appended to what waits, and then what is full was written
+pub put_full : {S T : Type 0} (s t : DeskState) (l m a n : List ℕ) (x : S) (y : T) → m ≡ l ++ a
+    → PutsText {T = S} s t Report [] m n (Ok x) → PutsTrace {T = T} s t l a n (Ok y)
+put_full s t l m a n x y e p =
+    record { whole = record { written = p.whole.written; state = p.whole.state; joined = sym e ∙ p.whole.joined }; part = tt }
 
-pub puts_same : {S T : Type 0} (s t : DeskState) (l n a b : List ℕ) (x : S) (y : T) → a ≡ b
-    → PutsTrace {T = S} s t l a n (Ok x) → PutsTrace {T = T} s t l b n (Ok y)
-puts_same s t l n a b x y e p = record { whole = subst (λ text. Gathers s t Report l text n) e p.whole; part = tt }
+pub full_stops : {S T : Type 0} (s t : DeskState) (l m a n k : List ℕ) (y : Failed) (r : Result T Stop) → m ≡ l ++ a
+    → PutsText {T = S} s t Report [] m n (Err y) → IsErr r → PutsTrace s t l a k r
+full_stops s t l m a n k y (Ok x) e p f = absurd cc
+full_stops s t l m a n k y (Err z) e p f = record { whole = tt; part = subst (StopsWithin s t Report) e p.part }
 
-pub stops_same : {S T : Type 0} (s t : DeskState) (l m n a b : List ℕ) (y : Stop) (r : Result T Stop) → a ≡ b
-    → PutsTrace {T = S} s t l a m (Err y) → IsErr r → PutsTrace s t l b n r
-stops_same s t l m n a b y (Ok x) e p f = absurd cc
-stops_same s t l m n a b y (Err z) e p f = record { whole = tt; part = subst (λ text. StopsWithin s t Report (l ++ text)) e p.part }
+-- three texts, appended one behind another
+pub three_behind : (l m n o a b c : List ℕ) → m ≡ l ++ a → n ≡ m ++ b → o ≡ n ++ c → o ≡ l ++ (a ++ (b ++ c))
+three_behind l m n o a b c e f g =
+    g ∙ (ap (λ w. w ++ c) f ∙ (ap (λ w. (w ++ b) ++ c) e ∙ (append_assoc (l ++ a) b c ∙ append_assoc l a (b ++ c))))
+
+-- what follows where all went well
+pub ok_gives : {T E P Q : Type 0} (r : Result T E) → (P → Q) → OnOk r P → OnOk r Q
+ok_gives (Ok x) f p = f p
+ok_gives (Err y) f p = tt
 
 -- The text of one simulator.
 

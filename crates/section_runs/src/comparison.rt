@@ -1,5 +1,5 @@
 //! A section of three simulators: the lines of each, printed side by side, and the first change at which two of them differ.
-ghost use Rattle.std.specs.Prelude.{◌≡◌, ◌<◌, [], ◌∷◌, List, length, IfSome, IfOk};
+ghost use Rattle.std.specs.Prelude.{◌≡◌, ◌<◌, [], ◌∷◌, ◌++◌, List, length, slice_set, IfSome, IfOk, OnOk};
 ghost use Rattle.std.specs.Option.{option_copied};
 ghost use Rattle.cell_machine.specs.declared.changes.Change.{Change as ChangeOf};
 ghost use Rattle.cell_machine.specs.History.{IsProperFrom, ComesAfter};
@@ -9,12 +9,12 @@ ghost use Rattle.section_runs.specs.Comparison.{three_lines, all_show, HavePorts
 ghost use Rattle.section_runs.specs.Writes.{WritesTrace, PutsTrace};
 
 use crate::differences::same_line;
-use crate::trace::{put_again, put_line};
+use crate::trace::write_full;
 use cell_machine::Change;
 use itoa::Buffer;
-use std::alloc::Global;
-use stimulus::{Ports, TraceSim};
-use text_io::{Desk, Failed, Line, OutSlot, Stop, write_pieces, write_whole};
+use std::alloc::{AllocError, Global};
+use stimulus::{Ports, TraceSim, append_trace_line};
+use text_io::{Desk, Failed, OutSlot, Stop, write_pieces, write_whole};
 
 /// Simulators of a cell, of its Verilog module and of its VITAL entity.
 #[derive(Drop)]
@@ -75,18 +75,18 @@ pub fn write_comparison<D: Desk, L: TraceSim, V: TraceSim, H: TraceSim>(
     ensures first { IfOk result (λ first. first ≡ first_unlike changes.now (three_lines (L.machine three.old.liberty) (V.machine three.old.verilog) (H.machine three.old.vital))) }
     ensures cause { StopsWithCause (D.faults desk.old) (D.faults desk.new) result }
 {
-    let mut line = Line::new();
+    let mut waiting = Vec::new(alloc);
     let mut text = Vec::new(alloc);
-    let alike = put_lines(desk, &mut line, &mut text, None, ports, three)?;
+    let alike = put_lines(desk, &mut waiting, &mut text, None, ports, three)?;
     let mut first = unlike(alike, None, 0);
     let mut number = 1;
     for change in changes {
         three.step(change);
-        let alike = put_lines(desk, &mut line, &mut text, Some(change), ports, three)?;
+        let alike = put_lines(desk, &mut waiting, &mut text, Some(change), ports, three)?;
         first = unlike(alike, first, number);
         number += 1;
     }
-    line.flush(desk, OutSlot::Report)?;
+    write_whole(desk, OutSlot::Report, waiting.as_slice())?;
     Ok(first)
 }
 
@@ -105,7 +105,7 @@ fn unlike(alike: bool, first: Option<usize>, number: usize) -> Option<usize>
 /// made in the text for all, since only their tags differ, and else each by itself.
 fn put_lines<D: Desk, L: TraceSim, V: TraceSim, H: TraceSim>(
     desk: &mut D,
-    line: &mut Line,
+    waiting: &mut Vec<u8>,
     text: &mut Vec<u8>,
     change: Option<&Change>,
     ports: &Ports,
@@ -113,57 +113,88 @@ fn put_lines<D: Desk, L: TraceSim, V: TraceSim, H: TraceSim>(
 ) -> Result<bool, Stop>
     requires ports { HavePorts ports.now (L.machine three.now.liberty) (V.machine three.now.verilog) (H.machine three.now.vital) }
     requires pin { IfSome change (λ change. change.now.pin < length ports.now.inputs) }
-    ensures text { (h : List ChangeOf) → L.stands three.now.liberty h → V.stands three.now.verilog h → H.stands three.now.vital h → PutsTrace (D.state desk.old) (D.state desk.new) line.old (lines_text (option_copied change.entry) ports.now (three_lines (L.machine three.now.liberty) (V.machine three.now.verilog) (H.machine three.now.vital) h)) line.new result }
+    ensures text { (h : List ChangeOf) → L.stands three.now.liberty h → V.stands three.now.verilog h → H.stands three.now.vital h → PutsTrace (D.state desk.old) (D.state desk.new) waiting.old.items (lines_text (option_copied change.entry) ports.now (three_lines (L.machine three.now.liberty) (V.machine three.now.verilog) (H.machine three.now.vital) h)) waiting.new.items result }
     ensures alike { IfOk result (λ alike. (h : List ChangeOf) → L.stands three.now.liberty h → V.stands three.now.verilog h → H.stands three.now.vital h → alike ≡ are_alike (three_lines (L.machine three.now.liberty) (V.machine three.now.verilog) (H.machine three.now.vital) h)) }
     ensures cause { StopsWithCause (D.faults desk.old) (D.faults desk.new) result }
 {
-    if three.are_alike() {
-        put_common_line(desk, line, text, change, ports, &three.liberty)?;
-        return Ok(true);
-    }
-    put_own_lines(desk, line, text, change, ports, three)?;
-    Ok(false)
+    let alike = three.are_alike();
+    append_lines(alike, waiting, text, change, ports, three)?;
+    write_full(desk, waiting)?;
+    Ok(alike)
 }
 
-/// Puts the lines of three that show what this one shows: one is made, and put again under the other tags.
-#[tactic(auto, unfolding(crate::specs::Comparison::lines_text))]
-fn put_common_line<D: Desk, S: TraceSim>(
-    desk: &mut D,
-    line: &mut Line,
-    text: &mut Vec<u8>,
-    change: Option<&Change>,
-    ports: &Ports,
-    sim: &S,
-) -> Result<(), Stop>
-    requires inputs { length ports.now.inputs ≡ (S.machine sim.now).inputs }
-    requires outputs { length ports.now.outputs ≡ (S.machine sim.now).outputs }
-    requires pin { IfSome change (λ change. change.now.pin < (S.machine sim.now).inputs) }
-    ensures text { (h : List ChangeOf) → S.stands sim.now h → PutsTrace (D.state desk.old) (D.state desk.new) line.old (lines_text (option_copied change.entry) ports.now (all_show ((S.machine sim.now).line h))) line.new result }
-    ensures cause { StopsWithCause (D.faults desk.old) (D.faults desk.new) result }
-{
-    put_line(desk, line, text, b'L', change, ports, sim)?;
-    put_again(desk, line, text, b'V')?;
-    put_again(desk, line, text, b'H')
-}
-
-/// Puts the lines that the three show, each made by itself in the text.
-#[tactic(auto, unfolding(crate::specs::Comparison::lines_text))]
-fn put_own_lines<D: Desk, L: TraceSim, V: TraceSim, H: TraceSim>(
-    desk: &mut D,
-    line: &mut Line,
+/// Appends the lines that the three show, which are alike where this is said.
+fn append_lines<L: TraceSim, V: TraceSim, H: TraceSim>(
+    alike: bool,
+    waiting: &mut Vec<u8>,
     text: &mut Vec<u8>,
     change: Option<&Change>,
     ports: &Ports,
     three: &Three<L, V, H>,
-) -> Result<(), Stop>
+) -> Result<(), AllocError>
     requires ports { HavePorts ports.now (L.machine three.now.liberty) (V.machine three.now.verilog) (H.machine three.now.vital) }
     requires pin { IfSome change (λ change. change.now.pin < length ports.now.inputs) }
-    ensures text { (h : List ChangeOf) → L.stands three.now.liberty h → V.stands three.now.verilog h → H.stands three.now.vital h → PutsTrace (D.state desk.old) (D.state desk.new) line.old (lines_text (option_copied change.entry) ports.now (three_lines (L.machine three.now.liberty) (V.machine three.now.verilog) (H.machine three.now.vital) h)) line.new result }
-    ensures cause { StopsWithCause (D.faults desk.old) (D.faults desk.new) result }
+    requires alike { (h : List ChangeOf) → L.stands three.now.liberty h → V.stands three.now.verilog h → H.stands three.now.vital h → alike ≡ are_alike (three_lines (L.machine three.now.liberty) (V.machine three.now.verilog) (H.machine three.now.vital) h) }
+    ensures { OnOk result ((h : List ChangeOf) → L.stands three.now.liberty h → V.stands three.now.verilog h → H.stands three.now.vital h → waiting.new.items ≡ waiting.old.items ++ lines_text (option_copied change.entry) ports.now (three_lines (L.machine three.now.liberty) (V.machine three.now.verilog) (H.machine three.now.vital) h)) }
 {
-    put_line(desk, line, text, b'L', change, ports, &three.liberty)?;
-    put_line(desk, line, text, b'V', change, ports, &three.verilog)?;
-    put_line(desk, line, text, b'H', change, ports, &three.vital)
+    if alike {
+        return append_common_line(waiting, text, change, ports, &three.liberty);
+    }
+    append_own_lines(waiting, change, ports, three)
+}
+
+/// Appends the lines of three that show what this one shows: one is made in the text, and appended again under the other tags.
+#[tactic(auto, unfolding(crate::specs::Comparison::lines_text))]
+fn append_common_line<S: TraceSim>(
+    waiting: &mut Vec<u8>,
+    text: &mut Vec<u8>,
+    change: Option<&Change>,
+    ports: &Ports,
+    sim: &S,
+) -> Result<(), AllocError>
+    requires inputs { length ports.now.inputs ≡ (S.machine sim.now).inputs }
+    requires outputs { length ports.now.outputs ≡ (S.machine sim.now).outputs }
+    requires pin { IfSome change (λ change. change.now.pin < (S.machine sim.now).inputs) }
+    ensures { OnOk result ((h : List ChangeOf) → S.stands sim.now h → waiting.new.items ≡ waiting.old.items ++ lines_text (option_copied change.entry) ports.now (all_show ((S.machine sim.now).line h))) }
+{
+    text.clear();
+    append_trace_line(text, b'L', change, &ports.inputs, &ports.outputs, sim)?;
+    waiting.extend_from_slice(text.as_slice())?;
+    append_again(waiting, text, b'V')?;
+    append_again(waiting, text, b'H')?;
+    Ok(())
+}
+
+/// Appends the line that was made in the text once more, with another tag: its first byte.
+fn append_again(waiting: &mut Vec<u8>, text: &mut Vec<u8>, tag: u8) -> Result<(), AllocError>
+    ensures made { text.new.items ≡ slice_set text.old.items 0 tag }
+    ensures appended { OnOk result (waiting.new.items ≡ waiting.old.items ++ text.new.items) }
+{
+    if let Some(first) = text.first_mut() {
+        *first = tag;
+    }
+    waiting.extend_from_slice(text.as_slice())?;
+    Ok(())
+}
+
+/// Appends the lines that the three show, each made by itself.
+#[tactic(auto, unfolding(crate::specs::Comparison::lines_text))]
+fn append_own_lines<L: TraceSim, V: TraceSim, H: TraceSim>(
+    waiting: &mut Vec<u8>,
+    change: Option<&Change>,
+    ports: &Ports,
+    three: &Three<L, V, H>,
+) -> Result<(), AllocError>
+    requires ports { HavePorts ports.now (L.machine three.now.liberty) (V.machine three.now.verilog) (H.machine three.now.vital) }
+    requires pin { IfSome change (λ change. change.now.pin < length ports.now.inputs) }
+    ensures { OnOk result ((h : List ChangeOf) → L.stands three.now.liberty h → V.stands three.now.verilog h → H.stands three.now.vital h → waiting.new.items ≡ waiting.old.items ++ lines_text (option_copied change.entry) ports.now (three_lines (L.machine three.now.liberty) (V.machine three.now.verilog) (H.machine three.now.vital) h)) }
+{
+    let inputs = &ports.inputs;
+    let outputs = &ports.outputs;
+    append_trace_line(waiting, b'L', change, inputs, outputs, &three.liberty)?;
+    append_trace_line(waiting, b'V', change, inputs, outputs, &three.verilog)?;
+    append_trace_line(waiting, b'H', change, inputs, outputs, &three.vital)?;
+    Ok(())
 }
 
 /// Appends to the report the line with which a section of three simulators ends: `equal`, or the number of the first change at

@@ -1,9 +1,11 @@
 //! The lines of a trace, printed one after another as the simulator takes the changes.
-ghost use Rattle.std.specs.Prelude.{◌≡◌, ◌<◌, List, length, slice_set, IfSome, OnOk};
+ghost use Rattle.std.specs.Prelude.{◌≡◌, ◌<◌, [], List, length, IfSome};
 ghost use Rattle.std.specs.Option.{option_copied};
 ghost use Rattle.cell_machine.specs.declared.changes.Change.{Change as ChangeOf};
 ghost use Rattle.stimulus.specs.DriveLines.{lines_along};
-ghost use Rattle.text_io.specs.Desk.{StopsWithCause};
+ghost use Rattle.text_io.specs.declared.slots.OutSlot.TheVariants.{Report};
+ghost use Rattle.text_io.specs.Desk.{HasCause, StopsWithCause};
+ghost use Rattle.text_io.specs.Line.{PutsText};
 ghost use Rattle.stimulus.specs.TraceLine.{drive_line_text};
 ghost use Rattle.section_runs.specs.TraceText.{trace_text};
 ghost use Rattle.section_runs.specs.Writes.{CanBegin, WritesTrace, PutsTrace};
@@ -11,7 +13,10 @@ ghost use Rattle.section_runs.specs.Writes.{CanBegin, WritesTrace, PutsTrace};
 use cell_machine::Change;
 use std::alloc::Global;
 use stimulus::{Ports, TraceSim, append_trace_line};
-use text_io::{Desk, Line, OutSlot, Stop};
+use text_io::{Desk, Failed, OutSlot, Stop, write_whole};
+
+/// How many bytes of the report wait before they are written.
+const ROOM: usize = 16_384;
 
 /// Gives the changes to a simulator that stands at its start, and appends the lines of its trace to the report, one for
 /// the start and one for each change, each with this tag and the names of these ports.
@@ -30,23 +35,20 @@ pub(crate) fn write_trace<D: Desk, S: TraceSim>(
     ensures text { WritesTrace (D.state desk.old) (D.state desk.new) (trace_text tag ports.now changes.now (lines_along (S.machine sim.old).line changes.now)) result }
     ensures cause { StopsWithCause (D.faults desk.old) (D.faults desk.new) result }
 {
-    let mut line = Line::new();
-    let mut text = Vec::new(alloc);
-    put_line(desk, &mut line, &mut text, tag, None, ports, sim)?;
+    let mut waiting = Vec::new(alloc);
+    put_line(desk, &mut waiting, tag, None, ports, sim)?;
     for change in changes {
         sim.step(change.at, change.pin, change.to);
-        put_line(desk, &mut line, &mut text, tag, Some(change), ports, sim)?;
+        put_line(desk, &mut waiting, tag, Some(change), ports, sim)?;
     }
-    line.flush(desk, OutSlot::Report)?;
+    write_whole(desk, OutSlot::Report, waiting.as_slice())?;
     Ok(())
 }
 
-/// Puts the line that the simulator shows behind the bytes that wait. It is made in the text, whose bytes before are lost and
-/// whose room is kept for the next line.
-pub(crate) fn put_line<D: Desk, S: TraceSim>(
+/// Puts the line that the simulator shows behind the bytes that wait.
+fn put_line<D: Desk, S: TraceSim>(
     desk: &mut D,
-    line: &mut Line,
-    text: &mut Vec<u8>,
+    waiting: &mut Vec<u8>,
     tag: u8,
     change: Option<&Change>,
     ports: &Ports,
@@ -55,30 +57,22 @@ pub(crate) fn put_line<D: Desk, S: TraceSim>(
     requires inputs { length ports.now.inputs ≡ (S.machine sim.now).inputs }
     requires outputs { length ports.now.outputs ≡ (S.machine sim.now).outputs }
     requires pin { IfSome change (λ change. change.now.pin < (S.machine sim.now).inputs) }
-    ensures text { (h : List ChangeOf) → S.stands sim.now h → PutsTrace (D.state desk.old) (D.state desk.new) line.old (drive_line_text tag (option_copied change.entry) ports.now.inputs ports.now.outputs ((S.machine sim.now).line h)) line.new result }
-    ensures made { OnOk result ((h : List ChangeOf) → S.stands sim.now h → text.new.items ≡ drive_line_text tag (option_copied change.entry) ports.now.inputs ports.now.outputs ((S.machine sim.now).line h)) }
+    ensures text { (h : List ChangeOf) → S.stands sim.now h → PutsTrace (D.state desk.old) (D.state desk.new) waiting.old.items (drive_line_text tag (option_copied change.entry) ports.now.inputs ports.now.outputs ((S.machine sim.now).line h)) waiting.new.items result }
     ensures cause { StopsWithCause (D.faults desk.old) (D.faults desk.new) result }
 {
-    text.clear();
-    append_trace_line(text, tag, change, &ports.inputs, &ports.outputs, sim)?;
-    line.put(desk, OutSlot::Report, text.as_slice())?;
+    append_trace_line(waiting, tag, change, &ports.inputs, &ports.outputs, sim)?;
+    write_full(desk, waiting)?;
     Ok(())
 }
 
-/// Puts the line that was made in the text once more, with another tag: its first byte. It takes no memory.
-pub(crate) fn put_again<D: Desk>(
-    desk: &mut D,
-    line: &mut Line,
-    text: &mut Vec<u8>,
-    tag: u8,
-) -> Result<(), Stop>
-    ensures made { text.new.items ≡ slice_set text.old.items 0 tag }
-    ensures text { PutsTrace (D.state desk.old) (D.state desk.new) line.old text.new.items line.new result }
-    ensures cause { StopsWithCause (D.faults desk.old) (D.faults desk.new) result }
+/// Writes the bytes that wait where they are as many as a write takes. It takes no memory.
+pub(crate) fn write_full<D: Desk>(desk: &mut D, waiting: &mut Vec<u8>) -> Result<(), Failed>
+    ensures text { PutsText (D.state desk.old) (D.state desk.new) Report [] waiting.old.items waiting.new.items result }
+    ensures cause { HasCause (D.faults desk.old) (D.faults desk.new) result }
 {
-    if let Some(first) = text.first_mut() {
-        *first = tag;
+    if waiting.len() >= ROOM {
+        write_whole(desk, OutSlot::Report, waiting.as_slice())?;
+        waiting.clear();
     }
-    line.put(desk, OutSlot::Report, text.as_slice())?;
     Ok(())
 }

@@ -1,8 +1,8 @@
 //! The lines of a trace, printed.
-ghost use Rattle.std.specs.Prelude.{◌≡◌, ◌+◌, ◌<◌, ◌≤◌, ◌^◌, ◌++◌, List, length, IfOk, IfSome, OnOk};
+ghost use Rattle.std.specs.Prelude.{◌≡◌, ◌+◌, ◌<◌, ◌≤◌, ◌^◌, ◌++◌, List, [], ◌∷◌, length, codes, IfOk, IfSome, OnOk};
 ghost use Rattle.std.specs.Option.{option_copied};
 ghost use Rattle.cell_machine.specs.declared.changes.Change.{Change as ChangeOf};
-ghost use Rattle.stimulus.specs.TraceLine.{value_text as value_text_of, head_text, change_text, output_text, outputs_text, delay_text, report_text, reports_text, drive_line_text};
+ghost use Rattle.stimulus.specs.TraceLine.{value_text, head_text, change_text, output_text, outputs_text, delay_text, report_text, reports_text, drive_line_text};
 
 use crate::drives::Drive;
 use crate::trace_sim::TraceSim;
@@ -80,25 +80,32 @@ fn push_change(text: &mut Vec<u8>, change: &Change, inputs: &Names) -> Result<()
     ensures { OnOk result (text.new.items ≡ text.old.items ++ change_text inputs.now change.now) }
 {
     let mut time = Buffer::new();
-    text.extend_from_slice(b" ")?;
-    text.extend_from_slice(time.format(change.at).as_bytes())?;
-    text.extend_from_slice(b" ")?;
-    text.extend_from_slice(inputs.name(change.pin))?;
-    text.extend_from_slice(b" ")?;
-    text.extend_from_slice(value_text(Drive::of(change.to)))?;
+    push_word(text, time.format(change.at).as_bytes())?;
+    push_word(text, inputs.name(change.pin))?;
+    text.push(b' ')?;
+    text.push(value_letter(Drive::of(change.to)))?;
     text.extend_from_slice(b" :")?;
     Ok(())
 }
 
-/// How a drive is printed.
-fn value_text(value: Drive) -> &'static [u8]
-    ensures { result.now ≡ value_text_of value }
+/// A word behind a space.
+fn push_word(text: &mut Vec<u8>, word: &[u8]) -> Result<(), AllocError>
+    ensures { OnOk result (text.new.items ≡ text.old.items ++ (codes " " ++ word.now)) }
+{
+    text.push(b' ')?;
+    text.extend_from_slice(word)?;
+    Ok(())
+}
+
+/// The letter that a drive is printed as.
+fn value_letter(value: Drive) -> u8
+    ensures { result ∷ [] ≡ value_text value }
 {
     match value {
-        Drive::Zero => b"0",
-        Drive::One => b"1",
-        Drive::Unknown => b"x",
-        Drive::Floating => b"z",
+        Drive::Zero => b'0',
+        Drive::One => b'1',
+        Drive::Unknown => b'x',
+        Drive::Floating => b'z',
     }
 }
 
@@ -123,10 +130,9 @@ fn push_output(
 ) -> Result<(), AllocError>
     ensures { OnOk result (text.new.items ≡ text.old.items ++ output_text name.now value delay) }
 {
-    text.extend_from_slice(b" ")?;
-    text.extend_from_slice(name)?;
-    text.extend_from_slice(b"=")?;
-    text.extend_from_slice(value_text(value))?;
+    push_word(text, name)?;
+    text.push(b'=')?;
+    text.push(value_letter(value))?;
     push_delay(text, delay)
 }
 
@@ -136,7 +142,7 @@ fn push_delay(text: &mut Vec<u8>, delay: Option<u64>) -> Result<(), AllocError>
 {
     if let Some(delay) = delay {
         let mut digits = Buffer::new();
-        text.extend_from_slice(b"@")?;
+        text.push(b'@')?;
         text.extend_from_slice(digits.format(delay).as_bytes())?;
     }
     Ok(())

@@ -7,7 +7,10 @@ loop-i-preserved c =
     let cell = c.args.cell.now in
     let change = c.args.change.now in
     let inside : c.loop-i.i < length cell.arcs = omega (arith, c.len-i-end.ensures) in
-    rw c.lesser-best.ensures
-    (least_of-step cell.pins cell.arcs c.args.inputs.now change.input change.pin change.from change.to cell.arcs c.loop-i.i
-    c.loop-i.best c.arc_delay.result inside c.arc_delay.ensures
-    ∙ c.loop-i.invariant)
+    record {
+      least = rw c.lesser-best.ensures
+          (least_of-step cell.pins cell.arcs c.args.inputs.now change.input change.pin change.from change.to cell.arcs c.loop-i.i
+          c.loop-i.best c.arc_delay.result inside c.arc_delay.ensures.delay
+          ∙ c.loop-i.invariant.least);
+      kept = c.arc_delay.ensures.kept;
+    }

@@ -14,8 +14,9 @@ loop-i-preserved c =
     let here = some_at cell.outputs c.loop-i.i inside in
     record {
       whole =
-          each-kept (λ o s. shown_step cell.pins cell.groups cell.arcs c.args.inputs.now c.args.states.now c.args.change o s.value) cell.outputs c.loop-i.shown
-          c.loop-i.i (record { value = Zero; delay = None }) here.1 many (rw c.as_slice.ensures at (c.shown_step.ensures here.0 here.1)) c.set.ensures
+          each-kept (λ o s. shown_step cell.pins cell.groups cell.arcs c.args.seen.now.inputs.now c.args.seen.now.states.now c.args.seen.now.change o s.value) cell.outputs c.loop-i.shown
+          c.loop-i.i (record { value = Zero; delay = None }) here.1 many (rw c.as_slice.ensures at (c.shown_step.ensures.shown here.0 here.1)) c.set.ensures
           c.loop-i.invariant.whole;
       len = ap length c.set.ensures ∙ length-set c.loop-i.shown c.loop-i.i c.shown_step.result ∙ c.loop-i.invariant.len;
+      kept = c.shown_step.ensures.kept;
     }

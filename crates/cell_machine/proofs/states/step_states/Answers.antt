@@ -13,7 +13,7 @@ loop-i-preserved c =
     let cell = data_of c.args.cell.now in
     let seen = c.args.seen.now in
     let many : c.loop-i.i < length c.loop-i.states = omega arith in
-    let inside : c.loop-i.i < length cell.groups = omega (arith, c.loop-i.invariant.len, c.requires) in
+    let inside : c.loop-i.i < length cell.groups = omega (arith, c.loop-i.invariant.len, c.requires.one_each) in
     let here = some_at cell.groups c.loop-i.i inside in
     record {
       whole =

@@ -1,4 +1,4 @@
-use Rattle.std.proofs.Common.{◌∙◌, ap, replicate, false}
+use Rattle.std.proofs.Common.{◌∙◌, ap, replicate, false, None}
 use Rattle.trit_cubes.specs.declared.trits.Trit.TheVariants.{Unknown}
 use Rattle.cell_machine.specs.Times.{no_times}
 use Rattle.cell_machine.proofs.cell_start.StartValues.of.Goals as goal
@@ -19,3 +19,6 @@ returns-clause-states c = c.from_vec-3.ensures ∙ c.in_ok-states.ensures.items_
 
 pub returns-clause-reports : goal.returns-clause-reports
 returns-clause-reports c = c.from_vec-4.ensures ∙ c.in_ok-reports.ensures.items_if_clones_equal (λ y e. e) ∙ ap (λ n. replicate n false) c.len-3.ensures
+
+pub returns-clause-kept : goal.returns-clause-kept
+returns-clause-kept c = c.in_ok-kept.ensures ∙ ap (λ n. replicate n None) c.len-4.ensures

@@ -15,4 +15,4 @@ returns-clause-stands c =
     let known = subst (λ (k : CellStart). IsCellStart (data_of cell) k) (sym same) c.requires in
     let shown = c.in_ok-shown.ensures ∙ c.as_slice.ensures ∙ ap (λ (k : CellStart). k.shown) (c.get.ensures ∙ sym same) in
     start-stands (data_of cell) c.in_ok-again.field-0 (input_number cell.pins (length cell.pins)) values.inputs values.times values.states
-    values.reports c.in_ok-shown.shown known refl made.inputs made.times made.states made.reports shown
+    values.reports c.in_ok-shown.shown values.kept known refl made.inputs made.times made.states made.reports shown made.kept

@@ -1,5 +1,0 @@
-use Rattle.std.proofs.Common.{length}
-use Rattle.cell_machine.proofs.fillings.+all_filled.Given as goal
-
-abbrev pub decreases-all_filled : goal.decreases-all_filled
-decreases-all_filled l = length l.names.now

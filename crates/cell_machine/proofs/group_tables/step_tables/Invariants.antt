@@ -1,0 +1,12 @@
+use Rattle.std.proofs.Common.{◌≡◌, ℕ, List, Some, length, slice_get}
+use Rattle.trit_cubes.specs.declared.trits.Trit.{Trit}
+use Rattle.cell_machine.specs.StepTables.{AreChangeTables}
+use Rattle.cell_machine.specs.CellData.{data_of}
+use Rattle.cell_machine.proofs.group_tables.step_tables.Given as goal
+
+-- the tables so far
+abbrev pub invariant-loop-group : goal.invariant-loop-group
+invariant-loop-group l = record {
+  one_each : length l.tables ≡ l.group;
+  are : (g : ℕ) (entry : List (List Trit)) → slice_get l.tables g ≡ Some entry → AreChangeTables (data_of l.cell) g entry;
+}

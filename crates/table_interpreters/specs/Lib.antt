@@ -1,20 +1,2 @@
-pub mod Wiring
-pub mod Keys
-pub mod InputNumbers
-pub mod NetDrivers
-pub mod NumberedLists
-pub mod OutputPaths
-pub mod FedInstances
-pub mod QuietPorts
-pub mod ModuleIndexed
-pub mod LeastPath
-pub mod ShownPorts
-pub mod ModuleStands
-pub mod ModuleStarts
-pub mod TableWords
-pub mod EntityIndexed
-pub mod EntityRooms
-pub mod EntitySteps
-pub mod EntityStarts
-pub mod EntitySized
-pub mod EntityProps
+pub use Rattle.module_runs.specs.ModuleStarts as ModuleStarts
+pub use Rattle.process_runs.specs.EntityStarts as EntityStarts

@@ -2,19 +2,16 @@
 ghost use Rattle.std.specs.Prelude.{◌≡◌, [], length, IfOk};
 ghost use Rattle.specify_blocks.specs.Sound.{IsSound};
 ghost use Rattle.model_traces.specs.PortNumbers.{output_ports};
-ghost use Rattle.table_interpreters.specs.ModuleIndexed.{IsModuleIndex};
-ghost use Rattle.table_interpreters.specs.ModuleStarts.{IsModuleStart};
-ghost use Rattle.table_interpreters.specs.ModuleStands.{IsReady, Stands, module_machine, module_sized};
+ghost use Rattle.module_runs.specs.ModuleIndexed.{IsModuleIndex};
+ghost use Rattle.module_runs.specs.ModuleStarts.{IsModuleStart};
+ghost use Rattle.module_runs.specs.ModuleStands.{IsReady, Stands, module_machine, module_sized};
 
-use crate::module_run::{change, start_run};
-use crate::module_start::ModuleStart;
-use crate::module_tables::ModuleTables;
-use crate::module_values::ModuleValues;
-use crate::shown::{Shown, show_all};
-use crate::starts::{no_reports, unknown_values};
-use crate::wiring::most_nets;
 use cell_machine::{CellSim, Change, Shared, Sizes};
 use model_traces::ModuleRun;
+use module_runs::{
+    ModuleStart, ModuleTables, ModuleValues, most_nets, show_all, start_run, step_run,
+};
+use run_parts::{ShownPort, no_reports, unknown_values};
 use specify_blocks::VModule;
 use sqlite_items::Items;
 use std::alloc::{AllocError, Global};
@@ -27,7 +24,7 @@ pub struct VerilogSim<'a> {
     known: Shared<ModuleStart>,
     run: ModuleRun,
     reports: Items<bool>,
-    shown: Items<Shown>,
+    shown: Items<ShownPort>,
     room: Items<Trit>,
     ghost indexed: { IsModuleIndex model.now known.index },
     ghost ready: { IsReady model.now run reports (length room) },
@@ -89,7 +86,7 @@ impl<'a> CellSim for VerilogSim<'a> {
             model: self.model,
             index: &self.known.get().index,
         };
-        change(
+        step_run(
             &mut self.run,
             &tables,
             Change { at, pin, to },

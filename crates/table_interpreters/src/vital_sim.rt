@@ -1,21 +1,18 @@
 //! The simulator of a VITAL entity.
 ghost use Rattle.std.specs.Prelude.{◌≡◌, [], length, IfOk};
 ghost use Rattle.std.proofs.Props.{props};
-ghost use Rattle.table_interpreters.specs.EntityProps.{value_prop};
-ghost use Rattle.table_interpreters.specs.EntityIndexed.{IsEntityIndex};
-ghost use Rattle.table_interpreters.specs.EntityStarts.{IsEntityStart};
-ghost use Rattle.table_interpreters.specs.EntityRooms.{IsSound};
-ghost use Rattle.table_interpreters.specs.EntitySteps.{IsReady, EntityStands, entity_machine, entity_sized};
+ghost use Rattle.process_runs.specs.EntityProps.{value_prop};
+ghost use Rattle.process_runs.specs.EntityIndexed.{IsEntityIndex};
+ghost use Rattle.process_runs.specs.EntityStarts.{IsEntityStart};
+ghost use Rattle.process_runs.specs.EntityRooms.{IsSound};
+ghost use Rattle.process_runs.specs.EntitySteps.{IsReady, EntityStands, entity_machine, entity_sized};
 
-use crate::entity_start::EntityStart;
-use crate::entity_tables::EntityTables;
-use crate::entity_values::EntityValues;
-use crate::process_rooms::most_columns;
-use crate::process_run::{ProcessState, start_state, take};
-use crate::process_shown::show_entity;
-use crate::shown::Shown;
-use crate::starts::{no_reports, unknown_values};
 use cell_machine::{CellSim, Change, Shared, Sizes};
+use process_runs::{
+    EntityStart, EntityTables, EntityValues, ProcessState, most_columns, show_entity, start_state,
+    step_run,
+};
+use run_parts::{ShownPort, no_reports, unknown_values};
 use sqlite_items::Items;
 use std::alloc::{AllocError, Global};
 use trit_cubes::Trit;
@@ -28,7 +25,7 @@ pub struct VitalSim<'a> {
     known: Shared<EntityStart>,
     run: ProcessState,
     reports: Items<bool>,
-    shown: Items<Shown>,
+    shown: Items<ShownPort>,
     earlier: Items<Trit>,
     room: Items<Trit>,
     ghost indexed: { IsEntityIndex model.now known.index },
@@ -95,7 +92,7 @@ impl<'a> CellSim for VitalSim<'a> {
             model: self.model,
             index: &self.known.get().index,
         };
-        take(
+        step_run(
             &mut self.run,
             &tables,
             Change { at, pin, to },

@@ -1,6 +1,6 @@
 use Rattle.std.proofs.Common.{◌∙◌, ap, replicate, false}
-use Rattle.table_interpreters.specs.declared.module_start.ModuleStart.{ModuleStart}
-use Rattle.table_interpreters.proofs.ModuleSteps.{start-stands}
+use Rattle.module_runs.specs.declared.module_start.ModuleStart.{ModuleStart}
+use Rattle.module_runs.proofs.ModuleSteps.{start-stands}
 use Rattle.table_interpreters.proofs.verilog_sim.VerilogSim.start_by.Goals as goal
 
 pub returns-clause-stands : goal.returns-clause-stands

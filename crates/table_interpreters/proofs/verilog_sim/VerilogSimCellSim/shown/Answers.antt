@@ -3,7 +3,7 @@ use Rattle.trit_cubes.specs.declared.trits.Trit.TheVariants.{Zero, Unknown}
 use Rattle.cell_machine.specs.declared.shown.Shown.{Shown as Alone}
 use Rattle.cell_machine.proofs.EachLemmas.{part-at}
 use Rattle.model_traces.specs.PortNumbers.{output_ports}
-use Rattle.table_interpreters.specs.ModuleStands.{shown_after}
+use Rattle.module_runs.specs.ModuleStands.{shown_after}
 use Rattle.table_interpreters.proofs.verilog_sim.VerilogSimCellSim.shown.Goals as goal
 
 pub returns-clause-value : goal.returns-clause-value

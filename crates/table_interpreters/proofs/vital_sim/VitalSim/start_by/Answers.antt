@@ -1,6 +1,6 @@
 use Rattle.std.proofs.Common.{◌∙◌, ap, replicate, false}
-use Rattle.table_interpreters.specs.declared.entity_start.EntityStart.{EntityStart}
-use Rattle.table_interpreters.proofs.EntityLemmas.{entity-starts}
+use Rattle.process_runs.specs.declared.entity_start.EntityStart.{EntityStart}
+use Rattle.process_runs.proofs.EntityLemmas.{entity-starts}
 use Rattle.table_interpreters.proofs.vital_sim.VitalSim.start_by.Goals as goal
 
 pub returns-clause-stands : goal.returns-clause-stands

@@ -2,7 +2,7 @@ use Rattle.std.proofs.Common.{◌∙◌, ap, None}
 use Rattle.trit_cubes.specs.declared.trits.Trit.TheVariants.{Zero, Unknown}
 use Rattle.cell_machine.specs.declared.shown.Shown.{Shown as Alone}
 use Rattle.cell_machine.proofs.EachLemmas.{part-at}
-use Rattle.table_interpreters.specs.EntitySteps.{output_shown}
+use Rattle.process_runs.specs.EntitySteps.{output_shown}
 use Rattle.table_interpreters.proofs.vital_sim.VitalSimCellSim.shown.Goals as goal
 
 pub returns-clause-value : goal.returns-clause-value

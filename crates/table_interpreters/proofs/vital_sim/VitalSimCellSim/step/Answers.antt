@@ -1,4 +1,4 @@
-use Rattle.table_interpreters.proofs.EntityLemmas.{entity-changes}
+use Rattle.process_runs.proofs.EntityLemmas.{entity-changes}
 use Rattle.table_interpreters.proofs.vital_sim.VitalSimCellSim.step.Goals as goal
 
 pub returns-clause-stands : goal.returns-clause-stands
@@ -6,5 +6,5 @@ returns-clause-stands c = λ h st.
     let sim = c.args.self.now in
     let shown = rw (c.as_slice.ensures, c.as_slice-2.ensures) at c.show_entity.ensures.stepped in
     entity-changes sim.model.now sim.ready.sound sim.run sim.reports sim.shown h st
-    (record { at = c.args.at; pin = c.args.pin; to = c.args.to }) c.take.new.run c.take.new.reports c.show_entity.new.shown
-    c.take.ensures.stepped c.take.ensures.reports shown
+    (record { at = c.args.at; pin = c.args.pin; to = c.args.to }) c.step_run.new.run c.step_run.new.reports c.show_entity.new.shown
+    c.step_run.ensures.stepped c.step_run.ensures.reports shown

@@ -1,0 +1,18 @@
+use Rattle.std.proofs.Common.{◌<◌, ◌∙◌, length, arith}
+use Rattle.std.proofs.lemmas.Option.{slice_get-get_or}
+use Rattle.module_runs.proofs.ModuleSteps.{shaken-step}
+use Rattle.module_runs.proofs.module_run.toggle_for_each.Goals as goal
+
+pub loop-i-preserved : goal.loop-i-preserved
+loop-i-preserved c =
+    let reports = c.args.reports.now in
+    let inside : c.loop-i.i < length reports = omega arith in
+    record {
+      stepped =
+          shaken-step c.args.tables.now.model.now reports c.loop-i.i _ c.loop-i.run c.toggle_where_reported.new.run
+          (slice_get-get_or reports c.loop-i.i _ inside) c.toggle_where_reported.ensures.stepped
+          ∙ c.loop-i.invariant.stepped;
+      one_each = c.toggle_where_reported.ensures.one_each;
+      inputs = c.toggle_where_reported.ensures.inputs ∙ c.loop-i.invariant.inputs;
+      len = c.toggle_where_reported.ensures.len ∙ c.loop-i.invariant.len;
+    }

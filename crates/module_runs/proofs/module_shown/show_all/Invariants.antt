@@ -1,0 +1,13 @@
+use Rattle.std.proofs.Common.{◌≡◌, ◌++◌, take, drop, length, map}
+use Rattle.module_runs.specs.ShownPorts.{shown_step}
+use Rattle.module_runs.proofs.module_shown.show_all.Given as goal
+
+-- what is shown so far and the steps of the rest give the steps of all
+abbrev pub invariant-loop-i : goal.invariant-loop-i
+invariant-loop-i l = record {
+  whole :
+      take l.i l.shown ++ map (shown_step l.values.tables.model.now l.values.inputs.now l.values.states.now l.input) (drop l.i l.shown)
+      ≡ map (shown_step l.values.tables.model.now l.values.inputs.now l.values.states.now l.input) l.initial.shown;
+  len : length l.shown ≡ length l.initial.shown;
+  room : length l.room ≡ length l.initial.room;
+}

@@ -1,0 +1,139 @@
+//! The values of a module's nets, of the values of its inputs and the states of its instances. `room` has place for the
+//! values of the nets that feed one instance.
+ghost use Rattle.std.specs.Prelude.{◌≡◌, ◌≤◌, ◌<◌, length, map, take, false, IsTrue, slice_index_or};
+ghost use Rattle.trit_cubes.specs.declared.trits.Trit.TheVariants.{Unknown};
+ghost use Rattle.trit_cubes.specs.Filling.{trit_of};
+ghost use Rattle.udp_tables.specs.Tables.{AreKept};
+ghost use Rattle.udp_tables.specs.Primitive.{IsCombinational};
+ghost use Rattle.udp_tables.specs.RowKeys.{row_key};
+ghost use Rattle.module_runs.specs.Wiring.{is_table, is_joined, is_wired};
+ghost use Rattle.model_traces.specs.NetValues.{kept_state, source_value, table_value, primitive_value, instance_value, net_value};
+
+use crate::module_values::ModuleValues;
+use crate::wiring::instance_at;
+use cell_machine::numbered_value;
+use run_parts::input_value;
+use specify_blocks::{Instance, VNet};
+use sqlite_items::Items;
+use trit_cubes::Trit;
+use udp_tables::{RowKey, Udp, keyed_level};
+
+/// The state of the instance at this place, unknown where there is none.
+fn kept_state(states: &[Trit], place: Option<usize>) -> Trit
+    ensures { result ≡ kept_state states.now place }
+{
+    match place {
+        Some(place) => numbered_value(states, place),
+        None => Trit::Unknown,
+    }
+}
+
+/// The value of a net that feeds a primitive without a state.
+fn source_value(values: &ModuleValues, net: VNet) -> Trit
+    ensures { result ≡ source_value values.now.tables.model.now values.now.inputs.now values.now.states.now net }
+{
+    match net {
+        VNet::Port(port) => input_value(&values.tables.ports(), values.inputs, port),
+        VNet::Wire(wire) => kept_state(values.states, values.tables.driver(VNet::Wire(wire))),
+        VNet::Notifier => Trit::Unknown,
+    }
+}
+
+/// Writes the values of the nets that feed a primitive without a state to the front of the room.
+fn feed(values: &ModuleValues, nets: &[VNet], room: &mut Items<Trit>)
+    requires { length nets.now ≤ length room.old }
+    ensures front { take (length nets.now) room.new ≡ map (source_value values.now.tables.model.now values.now.inputs.now values.now.states.now) nets.now }
+    ensures len { length room.new ≡ length room.old }
+{
+    for i in 0..nets.len() {
+        room.set(i, source_value(values, nets[i]));
+    }
+}
+
+/// What a primitive without a state gives for the nets that feed it.
+fn table_value(
+    values: &ModuleValues,
+    nets: &[VNet],
+    udp: &Udp,
+    keys: &[RowKey],
+    room: &mut Items<Trit>,
+) -> Trit
+    requires table { IsCombinational udp.now }
+    requires entries { length nets.now ≡ length udp.now.inputs }
+    requires keys { AreKept row_key keys.now udp.now.rows }
+    requires room { length nets.now ≤ length room.old }
+    ensures value { result ≡ table_value values.now.tables.model.now values.now.inputs.now values.now.states.now nets.now udp.now }
+    ensures len { length room.new ≡ length room.old }
+{
+    feed(values, nets, room);
+    keyed_level(udp, keys, &room.as_slice()[..nets.len()])
+}
+
+/// What a primitive drives whose instance has this state.
+fn primitive_value(
+    values: &ModuleValues,
+    state: Trit,
+    nets: &[VNet],
+    udp: &Udp,
+    keys: &[RowKey],
+    room: &mut Items<Trit>,
+) -> Trit
+    requires table { IsTrue (is_table udp.now) }
+    requires entries { length nets.now ≡ length udp.now.inputs }
+    requires keys { AreKept row_key keys.now udp.now.rows }
+    requires room { length nets.now ≤ length room.old }
+    ensures value { result ≡ primitive_value values.now.tables.model.now values.now.inputs.now values.now.states.now state nets.now udp.now }
+    ensures len { length room.new ≡ length room.old }
+{
+    if udp.sequential {
+        state
+    } else {
+        table_value(values, nets, udp, keys, room)
+    }
+}
+
+/// What an instance with this state drives.
+fn instance_value(
+    values: &ModuleValues,
+    state: Trit,
+    instance: &Instance,
+    room: &mut Items<Trit>,
+) -> Trit
+    requires wired { IsTrue (is_wired (length room.old) values.now.tables.model.now) }
+    requires joined { IsTrue (is_joined values.now.tables.model.now.udps (length room.old) instance.now) }
+    ensures value { result ≡ instance_value values.now.tables.model.now values.now.inputs.now values.now.states.now state instance.now }
+    ensures len { length room.new ≡ length room.old }
+{
+    match instance {
+        Instance::Primitive {
+            udp: number,
+            inputs: nets,
+            ..
+        } => match values.tables.model.udps.get(*number) {
+            Some(udp) => {
+                let keys = values.tables.keys_at(*number);
+                primitive_value(values, state, nets.as_slice(), udp, keys, room)
+            }
+            None => Trit::Unknown,
+        },
+        Instance::Constant { one, .. } => Trit::from(*one),
+    }
+}
+
+/// The value of a net that an instance drives: a wire or an output. Unknown where nothing drives it.
+pub(crate) fn net_value(values: &ModuleValues, net: VNet, room: &mut Items<Trit>) -> Trit
+    requires { IsTrue (is_wired (length room.old) values.now.tables.model.now) }
+    ensures value { result ≡ net_value values.now.tables.model.now values.now.inputs.now values.now.states.now net }
+    ensures len { length room.new ≡ length room.old }
+{
+    let place = values.tables.driver(net);
+    let state = kept_state(values.states, place);
+    let Some(place) = place else {
+        return Trit::Unknown;
+    };
+    if place >= values.tables.model.instances.len() {
+        return Trit::Unknown;
+    }
+    let instance = instance_at(values.tables.model, place);
+    instance_value(values, state, instance, room)
+}

@@ -1,0 +1,161 @@
+//! The next states of a module's primitives at a change of an input or of the register of the checks. `room` has place for the
+//! values of the nets that feed one instance.
+ghost use Rattle.std.specs.Prelude.{◌≡◌, ◌≤◌, ◌<◌, length, map, take, position, IsTrue};
+ghost use Rattle.udp_tables.specs.Tables.{AreKept};
+ghost use Rattle.udp_tables.specs.RowKeys.{row_key};
+ghost use Rattle.module_runs.specs.Wiring.{is_table, is_joined, is_wired};
+ghost use Rattle.model_traces.specs.Primitives.{is_turned, entry_value, primitive_next, next_state, next_states};
+
+use crate::module_tables::ModuleTables;
+use crate::wiring::instance_at;
+use model_traces::{Turn, Turned};
+use run_parts::{Ports, input_number, input_value};
+use specify_blocks::{Instance, VNet};
+use sqlite_items::Items;
+use trit_cubes::Trit;
+use udp_tables::{RowKey, Udp, is_input_port, keyed_next};
+
+/// Whether this net is what changes.
+pub(crate) fn is_turned(ports: &Ports, what: Turned, net: VNet) -> bool
+    ensures { result ≡ is_turned ports.now.list.now what net }
+{
+    match what {
+        Turned::Input(input) => match net {
+            VNet::Port(port) => is_input_port(ports.list, port)
+                && input_number(ports, port) == input,
+            VNet::Wire(_) => false,
+            VNet::Notifier => false,
+        },
+        Turned::Notifier => match net {
+            VNet::Port(_) => false,
+            VNet::Wire(_) => false,
+            VNet::Notifier => true,
+        },
+    }
+}
+
+/// The place of what changes among the nets that feed a primitive, where it is there.
+fn place_of(ports: &Ports, what: Turned, nets: &[VNet]) -> Option<usize>
+    ensures { result ≡ position (is_turned ports.now.list.now what) nets.now }
+{
+    nets.iter().position(|net| is_turned(ports, what, *net))
+}
+
+/// The value of a net that feeds a primitive with a state.
+fn entry_value(ports: &Ports, inputs: &[Trit], notifier: Trit, net: VNet) -> Trit
+    ensures { result ≡ entry_value ports.now.list.now inputs.now notifier net }
+{
+    match net {
+        VNet::Port(port) => input_value(ports, inputs, port),
+        VNet::Wire(_) => Trit::Unknown,
+        VNet::Notifier => notifier,
+    }
+}
+
+/// Writes the values of the nets that feed a primitive with a state to the front of the room.
+fn feed(ports: &Ports, inputs: &[Trit], notifier: Trit, nets: &[VNet], room: &mut Items<Trit>)
+    requires { length nets.now ≤ length room.old }
+    ensures front { take (length nets.now) room.new ≡ map (entry_value ports.now.list.now inputs.now notifier) nets.now }
+    ensures len { length room.new ≡ length room.old }
+{
+    for i in 0..nets.len() {
+        room.set(i, entry_value(ports, inputs, notifier, nets[i]));
+    }
+}
+
+/// The next state of an instance of a primitive that these nets feed.
+fn primitive_next(
+    ports: &Ports,
+    inputs: &[Trit],
+    notifier: Trit,
+    turn: Turn,
+    nets: &[VNet],
+    state: Trit,
+    udp: &Udp,
+    keys: &[RowKey],
+    room: &mut Items<Trit>,
+) -> Trit
+    requires table { IsTrue (is_table udp.now) }
+    requires entries { length nets.now ≡ length udp.now.inputs }
+    requires keys { AreKept row_key keys.now udp.now.rows }
+    requires room { length nets.now ≤ length room.old }
+    ensures next { result ≡ primitive_next ports.now.list.now inputs.now notifier turn nets.now state udp.now }
+    ensures len { length room.new ≡ length room.old }
+{
+    if !udp.sequential {
+        return state;
+    }
+    let Some(place) = place_of(ports, turn.what, nets) else {
+        return state;
+    };
+    feed(ports, inputs, notifier, nets, room);
+    let values = &room.as_slice()[..nets.len()];
+    keyed_next(udp, keys, state, values, place, turn.from)
+}
+
+/// The next state of an instance.
+fn next_state(
+    tables: &ModuleTables,
+    inputs: &[Trit],
+    notifier: Trit,
+    turn: Turn,
+    instance: &Instance,
+    state: Trit,
+    room: &mut Items<Trit>,
+) -> Trit
+    requires wired { IsTrue (is_wired (length room.old) tables.now.model.now) }
+    requires joined { IsTrue (is_joined tables.now.model.now.udps (length room.old) instance.now) }
+    ensures next { result ≡ next_state tables.now.model.now inputs.now notifier turn instance.now state }
+    ensures len { length room.new ≡ length room.old }
+{
+    match instance {
+        Instance::Primitive {
+            udp: number,
+            inputs: nets,
+            ..
+        } => match tables.model.udps.get(*number) {
+            Some(udp) => {
+                let keys = tables.keys_at(*number);
+                primitive_next(
+                    &tables.ports(),
+                    inputs,
+                    notifier,
+                    turn,
+                    nets.as_slice(),
+                    state,
+                    udp,
+                    keys,
+                    room,
+                )
+            }
+            None => state,
+        },
+        Instance::Constant { .. } => state,
+    }
+}
+
+/// Takes the states of all instances over a change: those that it feeds may take others. `inputs` and `notifier` are the values
+/// after it.
+pub(crate) fn step_states(
+    tables: &ModuleTables,
+    inputs: &[Trit],
+    notifier: Trit,
+    turn: Turn,
+    states: &mut Items<Trit>,
+    room: &mut Items<Trit>,
+)
+    requires wired { IsTrue (is_wired (length room.old) tables.now.model.now) }
+    requires one_each { length states.old ≡ length tables.now.model.now.instances }
+    ensures stepped { states.new ≡ next_states tables.now.model.now inputs.now notifier turn states.old }
+    ensures len { length states.new ≡ length states.old }
+    ensures room { length room.new ≡ length room.old }
+{
+    let places = tables.fed_by(turn.what);
+    for j in 0..places.len() {
+        let i = places[j];
+        let instance = instance_at(tables.model, i);
+        let state = states.as_slice()[i];
+        let next = next_state(tables, inputs, notifier, turn, instance, state, room);
+        states.set(i, next);
+    }
+}

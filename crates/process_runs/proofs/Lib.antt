@@ -1,0 +1,3 @@
+pub mod EntityLemmas
+pub mod TableWordLemmas
+pub mod ColumnLemmas

@@ -1,0 +1,11 @@
+-- What a simulator of an entity knows of it.
+use Rattle.std.specs.Prelude.{◌≡◌}
+use Rattle.vital_models.specs.declared.model.VEntity.{VEntity}
+use Rattle.process_runs.specs.declared.entity_index.EntityIndex.{EntityIndex}
+use Rattle.run_parts.specs.InputNumbers.{input_numbers}
+use Rattle.process_runs.specs.TableWords.{entity_words}
+
+-- these are the words of its tables and the numbers of its ports among the inputs
+pub record IsEntityIndex (e : VEntity) (index : EntityIndex) : Type 0 where
+  pub keyed : index.words ≡ entity_words e
+  pub numbered : index.numbers ≡ input_numbers e.ports

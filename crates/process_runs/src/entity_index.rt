@@ -1,0 +1,29 @@
+//! What a simulator knows of its entity before any change.
+use crate::entity_words::EntityWords;
+use run_parts::input_numbers;
+use sqlite_items::Items;
+use std::alloc::{AllocError, Global};
+use vital_models::VEntity;
+
+/// What a simulator knows of its entity before any change, so that a change looks for nothing along the entity.
+#[derive(Drop)]
+pub struct EntityIndex {
+    /// The words of the rows of its tables.
+    pub words: EntityWords,
+    /// For each port how many inputs stand before it.
+    pub numbers: Items<usize>,
+}
+
+impl EntityIndex {
+    ghost use Rattle.std.specs.Prelude.{IfOk};
+    ghost use Rattle.process_runs.specs.EntityIndexed.{IsEntityIndex};
+
+    /// What is known of an entity. `AllocError` comes only where memory is wanted and not there.
+    pub(crate) fn of(alloc: Global, model: &VEntity) -> Result<EntityIndex, AllocError>
+        ensures { IfOk result (λ index. IsEntityIndex model.now index) }
+    {
+        let words = EntityWords::of(alloc, model)?;
+        let numbers = input_numbers(alloc, model.ports.as_slice())?;
+        Ok(EntityIndex { words, numbers })
+    }
+}

@@ -1,0 +1,48 @@
+//! An entity before any change.
+use crate::entity_index::EntityIndex;
+use crate::entity_tables::EntityTables;
+use crate::process_rooms::most_columns;
+use crate::process_run::start_state;
+use crate::process_shown::show_first;
+use run_parts::{ShownPort, unknown_values};
+use sqlite_items::Items;
+use std::alloc::{AllocError, Global};
+use vital_models::VEntity;
+
+/// What is known of an entity before any change, which all its simulators begin with.
+#[derive(Drop)]
+pub struct EntityStart {
+    /// Where its parts are found.
+    pub index: EntityIndex,
+    /// What its outputs show.
+    pub shown: Items<ShownPort>,
+}
+
+impl EntityStart {
+    ghost use Rattle.std.specs.Prelude.{IfOk};
+    ghost use Rattle.process_runs.specs.EntityRooms.{IsSound};
+    ghost use Rattle.process_runs.specs.EntityStarts.{IsEntityStart};
+
+    /// What is known of a sound entity before any change: all inputs and states are unknown. `AllocError` comes only where memory
+    /// is wanted and not there.
+    pub fn of(alloc: Global, model: &VEntity) -> Result<EntityStart, AllocError>
+        requires { IsSound model.now }
+        ensures { IfOk result (λ start. IsEntityStart model.now start) }
+    {
+        let mut room = unknown_values(alloc, most_columns(model))?;
+        let run = start_state(alloc, model)?;
+        let index = EntityIndex::of(alloc, model)?;
+        let tables = EntityTables {
+            model,
+            index: &index,
+        };
+        let shown = show_first(
+            alloc,
+            &tables,
+            run.inputs.as_slice(),
+            run.states.as_slice(),
+            &mut room,
+        )?;
+        Ok(EntityStart { index, shown })
+    }
+}

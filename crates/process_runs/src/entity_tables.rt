@@ -1,0 +1,71 @@
+//! An entity with what is known of it.
+ghost use Rattle.std.specs.Prelude.{◌≡◌};
+ghost use Rattle.process_runs.specs.EntityIndexed.{IsEntityIndex};
+ghost use Rattle.process_runs.specs.TableWords.{words_at};
+
+use crate::entity_index::EntityIndex;
+use run_parts::Ports;
+use sqlite_items::{Items, at};
+use udp_tables::RowWords;
+use vital_models::VEntity;
+
+/// An entity with what is known of it: the words of its tables and the numbers of its ports.
+#[derive(Clone, Copy)]
+pub struct EntityTables<'a> {
+    /// The entity.
+    pub model: &'a VEntity,
+    /// What is known of it.
+    pub index: &'a EntityIndex,
+    ghost indexed: { IsEntityIndex model.now index.now },
+}
+
+impl<'a> EntityTables<'a> {
+    ghost use Rattle.std.specs.Prelude.{slice_get, Some};
+    ghost use Rattle.udp_tables.specs.Tables.{AreKept};
+    ghost use Rattle.vital_models.specs.declared.model.VState.{VState};
+    ghost use Rattle.vital_models.specs.declared.model.VTruth.{VTruth};
+    ghost use Rattle.vital_models.specs.declared.model.VOutput.{VOutput};
+    ghost use Rattle.vital_models.specs.RowWords.{truth_words, state_words};
+    ghost use Rattle.process_runs.specs.TableWords.{value_rows};
+
+    /// The ports of the entity.
+    pub(crate) fn ports(&self) -> Ports
+        ensures { result.list.now ≡ self.now.model.now.ports }
+    {
+        Ports {
+            list: self.model.ports.as_slice(),
+            numbers: self.index.numbers.as_slice(),
+        }
+    }
+
+    /// The words of the rows of the table of the state with this number.
+    pub(crate) fn state_words(&self, i: usize) -> &[RowWords]
+        ensures { (state : VState) → slice_get self.now.model.now.states i ≡ Some state → AreKept state_words result.now state.table.rows }
+    {
+        words_at(self.index.words.states.as_slice(), i)
+    }
+
+    /// The words of the rows of the table of the condition with this number.
+    pub(crate) fn condition_words(&self, i: usize) -> &[RowWords]
+        ensures { (truth : VTruth) → slice_get self.now.model.now.conditions i ≡ Some truth → AreKept truth_words result.now truth.table.rows }
+    {
+        words_at(self.index.words.conditions.as_slice(), i)
+    }
+
+    /// The words of the rows of the table of the output with this number.
+    pub(crate) fn output_words(&self, i: usize) -> &[RowWords]
+        ensures { (output : VOutput) → slice_get self.now.model.now.outputs i ≡ Some output → AreKept truth_words result.now (value_rows output.value) }
+    {
+        words_at(self.index.words.outputs.as_slice(), i)
+    }
+}
+
+/// The words of the rows of the table with this number, none where there is no table.
+fn words_at(all: &[Items<RowWords>], i: usize) -> &[RowWords]
+    ensures { result.now ≡ words_at all.now i }
+{
+    match at(all, i) {
+        Some(words) => words.as_slice(),
+        None => &[],
+    }
+}

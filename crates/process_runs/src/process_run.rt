@@ -1,0 +1,139 @@
+//! How a change of an input takes the run of a process on.
+ghost use Rattle.std.specs.Prelude.{◌≡◌, ◌<◌, length, IfOk};
+ghost use Rattle.cell_machine.specs.History.{value_before};
+ghost use Rattle.cell_machine.specs.Report.{any_true};
+ghost use Rattle.model_traces.specs.PortNumbers.{input_count};
+ghost use Rattle.process_runs.specs.EntitySteps.{HasParts, start_state, violation_by, event_reports, event_step, state_step, change_reports, IsReady, CanTake};
+
+use crate::entity_tables::EntityTables;
+use crate::entity_values::EntityValues;
+use crate::process_states::step_entity;
+use cell_machine::{Change, Times};
+use run_parts::{
+    InputChange, clear, compare_all, input_count, no_times, stamp_all, unknown_values,
+};
+use sqlite_items::Items;
+use std::alloc::{AllocError, Global};
+use trit_cubes::Trit;
+use vital_models::VEntity;
+
+/// What a run of a process holds.
+#[derive(Drop)]
+pub struct ProcessState {
+    /// The value of each input.
+    pub inputs: Items<Trit>,
+    /// The value that each input had at the last event, with which the tables were looked up.
+    pub before: Items<Trit>,
+    /// Each state.
+    pub states: Items<Trit>,
+    /// The violation at the last event.
+    pub violation: Trit,
+    /// For each check the times that it keeps.
+    pub stamps: Items<Times>,
+}
+
+/// The run of a process before any change.
+pub fn start_state(alloc: Global, model: &VEntity) -> Result<ProcessState, AllocError>
+    ensures run { IfOk result (λ run. run ≡ start_state model.now) }
+    ensures each_input { IfOk result (λ run. length run.inputs ≡ input_count model.now.ports) }
+    ensures one_each { IfOk result (λ run. HasParts model.now run) }
+{
+    let count = input_count(model.ports.as_slice());
+    let inputs = unknown_values(alloc, count)?;
+    let before = unknown_values(alloc, count)?;
+    let states = unknown_values(alloc, model.states.len())?;
+    let stamps = no_times(alloc, model.checks.len())?;
+    Ok(ProcessState {
+        inputs,
+        before,
+        states,
+        violation: Trit::Unknown,
+        stamps,
+    })
+}
+
+/// Whether some check reported.
+fn any_true(reports: &[bool]) -> bool
+    ensures { result ≡ any_true reports.now }
+{
+    reports.iter().any(|reported| *reported)
+}
+
+/// The violation: X where some check reported, else 0.
+fn violation_of(reports: &[bool]) -> Trit
+    ensures { result ≡ violation_by (any_true reports.now) }
+{
+    if any_true(reports) {
+        Trit::Unknown
+    } else {
+        Trit::Zero
+    }
+}
+
+/// Takes the run over an event, and writes which checks report.
+fn step_event(
+    run: &mut ProcessState,
+    tables: &EntityTables,
+    change: Change,
+    from: Trit,
+    reports: &mut Items<bool>,
+    earlier: &mut Items<Trit>,
+    room: &mut Items<Trit>,
+)
+    requires able { CanTake tables.now.model.now run.old reports.old (length earlier.old) (length room.old) change.pin }
+    requires from { from ≡ value_before run.old.inputs change }
+    ensures stepped { run.new ≡ event_step tables.now.model.now run.old change (violation_by (any_true (event_reports tables.now.model.now run.old change))) }
+    ensures reports { reports.new ≡ event_reports tables.now.model.now run.old change }
+    ensures ready { IsReady tables.now.model.now run.new reports.new (length earlier.new) (length room.new) }
+{
+    run.inputs.set(change.pin, change.to);
+    let values = EntityValues {
+        tables: *tables,
+        inputs: run.inputs.as_slice(),
+        states: run.states.as_slice(),
+    };
+    let ports = tables.ports();
+    let seen = InputChange {
+        ports,
+        from,
+        change,
+    };
+    let checks = tables.model.checks.as_slice();
+    compare_all(&values, &seen, checks, run.stamps.as_slice(), reports, room);
+    let violation = violation_of(reports.as_slice());
+    step_entity(
+        tables,
+        run.violation,
+        run.before.as_slice(),
+        violation,
+        run.inputs.as_slice(),
+        &mut run.states,
+        earlier,
+        room,
+    );
+    run.before.set(change.pin, change.to);
+    run.violation = violation;
+    stamp_all(&seen, checks, &mut run.stamps);
+}
+
+/// Takes the run over a change of an input, and writes which checks report.
+pub fn step_run(
+    run: &mut ProcessState,
+    tables: &EntityTables,
+    change: Change,
+    reports: &mut Items<bool>,
+    earlier: &mut Items<Trit>,
+    room: &mut Items<Trit>,
+)
+    requires { CanTake tables.now.model.now run.old reports.old (length earlier.old) (length room.old) change.pin }
+    ensures stepped { run.new ≡ state_step tables.now.model.now run.old change }
+    ensures reports { reports.new ≡ change_reports tables.now.model.now run.old change }
+    ensures ready { IsReady tables.now.model.now run.new reports.new (length earlier.new) (length room.new) }
+{
+    let from = run.inputs.as_slice()[change.pin];
+    if from == change.to {
+        clear(reports);
+    } else {
+        step_event(run, tables, change, from, reports, earlier, room);
+    }
+}

@@ -1,0 +1,112 @@
+//! What the outputs of an entity show after a change of an input.
+ghost use Rattle.std.specs.Prelude.{◌≡◌, ◌≤◌, length, map, IfOk};
+ghost use Rattle.cell_machine.specs.Each.{each};
+ghost use Rattle.udp_tables.specs.Tables.{AreKept};
+ghost use Rattle.vital_models.specs.Sound.{IsOutput, IsSound};
+ghost use Rattle.vital_models.specs.RowWords.{truth_words};
+ghost use Rattle.process_runs.specs.EntityRooms.{source_count, HasRoom};
+ghost use Rattle.process_runs.specs.EntitySteps.{output_first, output_step};
+ghost use Rattle.process_runs.specs.TableWords.{value_rows};
+
+use crate::entity_tables::EntityTables;
+use crate::entity_values::EntityValues;
+use crate::process_delays::least_delay;
+use crate::process_values::output_value;
+use cell_machine::entry;
+use run_parts::{OutputChange, ShownPort};
+use sqlite_items::Items;
+use std::alloc::{AllocError, Global};
+use trit_cubes::Trit;
+use udp_tables::RowWords;
+use vital_models::VOutput;
+
+/// What one output shows after a change of an input. The rows of its table have these words where they are kept.
+fn output_step(
+    values: &EntityValues,
+    input: usize,
+    output: &VOutput,
+    words: &[RowWords],
+    was: ShownPort,
+    room: &mut Items<Trit>,
+) -> ShownPort
+    requires sound { IsSound values.now.tables.model.now }
+    requires output { IsOutput values.now.tables.model.now output.now }
+    requires words { AreKept truth_words words.now (value_rows output.now.value) }
+    requires room { HasRoom (length room.old) values.now.tables.model.now }
+    requires columns { source_count output.now.value ≤ length room.old }
+    ensures shown { result ≡ output_step values.now.tables.model.now values.now.inputs.now values.now.states.now input output.now was }
+    ensures len { length room.new ≡ length room.old }
+{
+    let value = output_value(values, &output.value, words, room);
+    let change = OutputChange {
+        input,
+        port: output.port,
+        from: was.value,
+        to: value,
+    };
+    let delay = if was.value == value {
+        None
+    } else {
+        Some(least_delay(values, change, output, room))
+    };
+    ShownPort {
+        port: output.port,
+        value,
+        delay,
+    }
+}
+
+/// Takes what the outputs show over a change of an input. `inputs` and `states` are those after it.
+pub fn show_entity(
+    values: &EntityValues,
+    input: usize,
+    shown: &mut Items<ShownPort>,
+    room: &mut Items<Trit>,
+)
+    requires sound { IsSound values.now.tables.model.now }
+    requires room { HasRoom (length room.old) values.now.tables.model.now }
+    requires one_each { length shown.old ≡ length values.now.tables.model.now.outputs }
+    ensures stepped { shown.new ≡ each (output_step values.now.tables.model.now values.now.inputs.now values.now.states.now input) values.now.tables.model.now.outputs shown.old }
+    ensures len { length shown.new ≡ length shown.old }
+    ensures room { length room.new ≡ length room.old }
+{
+    for i in 0..shown.len() {
+        let output = entry(&values.tables.model.outputs, i);
+        let words = values.tables.output_words(i);
+        let was = shown.as_slice()[i];
+        let now = output_step(values, input, output, words, was, room);
+        shown.set(i, now);
+    }
+}
+
+/// What the outputs show at the start, where the inputs and the states have these values: no delays.
+pub(crate) fn show_first(
+    alloc: Global,
+    tables: &EntityTables,
+    inputs: &[Trit],
+    states: &[Trit],
+    room: &mut Items<Trit>,
+) -> Result<Items<ShownPort>, AllocError>
+    requires sound { IsSound tables.now.model.now }
+    requires room { HasRoom (length room.old) tables.now.model.now }
+    ensures shown { IfOk result (λ shown. shown ≡ map (output_first tables.now.model.now inputs.now states.now) tables.now.model.now.outputs) }
+    ensures len { length room.new ≡ length room.old }
+{
+    let values = EntityValues {
+        tables: *tables,
+        inputs,
+        states,
+    };
+    let mut shown = Items::new(alloc);
+    for i in 0..tables.model.outputs.len() {
+        let output = entry(&tables.model.outputs, i);
+        let words = tables.output_words(i);
+        let value = output_value(&values, &output.value, words, room);
+        shown.push(ShownPort {
+            port: output.port,
+            value,
+            delay: None,
+        })?;
+    }
+    Ok(shown)
+}

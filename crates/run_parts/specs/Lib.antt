@@ -1,0 +1,2 @@
+pub mod InputNumbers
+pub mod LeastPath

@@ -1,0 +1,126 @@
+//! Whether the timing checks of a model report, by the times that they keep, in both languages.
+ghost use Rattle.std.specs.Prelude.{◌≡◌, ◌<◌, length, replicate, false};
+ghost use Rattle.cell_machine.specs.Each.{each};
+ghost use Rattle.cell_machine.specs.Report.{happens};
+ghost use Rattle.model_traces.specs.PortNumbers.{input_event};
+ghost use Rattle.model_traces.specs.CheckTimes.{stamped, opened, reports_where};
+
+use crate::conditions::Conditions;
+use crate::ports::{Ports, input_number};
+use cell_machine::{Change, Edge, Event, Times, is_rise, is_within, moves, renewed};
+use sqlite_items::Items;
+use trit_cubes::Trit;
+use udp_tables::TimingCheck;
+
+/// A change of an input, as the timing checks of a model see it.
+#[derive(Clone, Copy)]
+pub struct InputChange<'a> {
+    /// The ports of the model.
+    pub ports: Ports<'a>,
+    /// The value that the input had.
+    pub from: Trit,
+    /// The change.
+    pub change: Change,
+}
+
+/// Whether a change is this event of a port.
+fn happens(seen: &InputChange, event: Event) -> bool
+    ensures { result ≡ happens (input_event seen.now.ports.list.now event) seen.now.from seen.now.change }
+{
+    seen.change.pin == input_number(&seen.ports, event.pin)
+        && moves(event.edge, seen.from, seen.change.to)
+}
+
+/// The times that a check keeps after a change.
+fn stamped(seen: &InputChange, check: &TimingCheck, stamps: Times) -> Times
+    ensures { result ≡ stamped seen.now.ports.list.now seen.now.from seen.now.change check.now stamps }
+{
+    let at = seen.change.at;
+    let pin = check.second.pin;
+    let edge = Edge::Rise;
+    let rises = happens(seen, Event { pin, edge });
+    let edge = Edge::Fall;
+    let falls = happens(seen, Event { pin, edge });
+    Times {
+        event: renewed(happens(seen, check.first), at, stamps.event),
+        rise: renewed(rises, at, stamps.rise),
+        fall: renewed(falls, at, stamps.fall),
+    }
+}
+
+/// The time from which a check measures at a change.
+fn opened(seen: &InputChange, check: &TimingCheck, stamps: Times) -> Option<u64>
+    ensures { result ≡ opened check.now seen.now.from seen.now.change stamps }
+{
+    if check.kind.is_period() {
+        if is_rise(seen.from, seen.change.to) {
+            stamps.rise
+        } else {
+            stamps.fall
+        }
+    } else {
+        stamps.event
+    }
+}
+
+/// Whether a check reports. `values` are those after the change.
+fn check_reports<V: Conditions>(
+    values: &V,
+    seen: &InputChange,
+    check: &TimingCheck,
+    stamps: Times,
+    room: &mut Items<Trit>,
+) -> bool
+    requires { V.fits values.now (length room.old) }
+    ensures reports { result ≡ reports_where seen.now.ports.list.now (V.counts values.now) seen.now.from seen.now.change check.now stamps }
+    ensures len { length room.new ≡ length room.old }
+{
+    if !happens(seen, check.second) {
+        return false;
+    }
+    let enabled = values.is_enabled(check.condition, room);
+    enabled && is_within(seen.change.at, check.limit, opened(seen, check, stamps))
+}
+
+/// Writes for each check whether it reports. `values` are those after the change.
+pub fn compare_all<V: Conditions>(
+    values: &V,
+    seen: &InputChange,
+    checks: &[TimingCheck],
+    stamps: &[Times],
+    reports: &mut Items<bool>,
+    room: &mut Items<Trit>,
+)
+    requires fits { V.fits values.now (length room.old) }
+    requires one_each { length stamps.now ≡ length checks.now }
+    requires one_report { length reports.old ≡ length checks.now }
+    ensures reports { reports.new ≡ each (reports_where seen.now.ports.list.now (V.counts values.now) seen.now.from seen.now.change) checks.now stamps.now }
+    ensures len { length reports.new ≡ length reports.old }
+    ensures room { length room.new ≡ length room.old }
+{
+    for i in 0..reports.len() {
+        let reported = check_reports(values, seen, &checks[i], stamps[i], room);
+        reports.set(i, reported);
+    }
+}
+
+/// Takes the kept times of all checks over a change.
+pub fn stamp_all(seen: &InputChange, checks: &[TimingCheck], stamps: &mut Items<Times>)
+    requires { length stamps.old ≡ length checks.now }
+    ensures stamped { stamps.new ≡ each (stamped seen.now.ports.list.now seen.now.from seen.now.change) checks.now stamps.old }
+    ensures len { length stamps.new ≡ length stamps.old }
+{
+    for i in 0..stamps.len() {
+        let kept = stamps.as_slice()[i];
+        stamps.set(i, stamped(seen, &checks[i], kept));
+    }
+}
+
+/// No check reports.
+pub fn clear(reports: &mut Items<bool>)
+    ensures { reports.new ≡ replicate (length reports.old) false }
+{
+    for i in 0..reports.len() {
+        reports.set(i, false);
+    }
+}

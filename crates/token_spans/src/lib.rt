@@ -16,4 +16,4 @@ pub use lexicon::{Lexicon, TokenState};
 pub use numbers::{is_number, number_after, number_of};
 pub use place::place_of;
 pub use scanner::scan;
-pub use span::{Scan, Span};
+pub use span::{KeptSpan, Scan, Span};

@@ -3,12 +3,12 @@ ghost use Rattle.std.specs.Prelude.{◌≡◌, ◌-◌, length, drop};
 ghost use Rattle.token_spans.specs.Spans.{LieInside, spelled};
 
 use rule_readers::{Cursor, Language};
-use token_spans::Span;
+use token_spans::KeptSpan;
 
 /// A cursor before the last tokens of a text, so many.
 pub fn cursor_before<'a, L: Language>(
     text: &'a [u8],
-    tokens: &'a [Span],
+    tokens: &'a [KeptSpan],
     left: usize,
 ) -> Cursor<'a, L>
     requires { LieInside text.now tokens.now }

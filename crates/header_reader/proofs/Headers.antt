@@ -1,8 +1,7 @@
 -- Names of ports, at the next token.
-use Rattle.std.proofs.Common.{◌≡◌, ℕ, ◌+◌, true, false, slice_set, List, [], ◌∷◌, ◌++◌, Option, Some, None, Result, Ok, Err, IfOk, refl, sym, ap, subst, ◌∙◌}
+use Rattle.std.proofs.Common.{◌≡◌, ℕ, ◌+◌, true, false, slice_set, List, [], ◌∷◌, ◌++◌, Option, Some, None, Result, Ok, Err, OnOk, refl, sym, ap, subst, ◌∙◌}
 use Rattle.std.proofs.lemmas.List.{map-append}
 use Rattle.rule_readers.specs.declared.refusal.Stop.{Stop}
-use Rattle.udp_reader.specs.declared.named_items.NamedItems.{NamedItems}
 use Rattle.grammar_rules.specs.Reading.{Outcome, choose, read}
 use Rattle.rule_readers.specs.declared.refusal.Refusal.{Refusal}
 use Rattle.rule_readers.specs.declared.refusal.Refusal.TheVariants.{Undefined}
@@ -42,8 +41,8 @@ pub input_found : (x name : List ℕ) (ports more : List VPort) (p : ℕ) (left 
 input_found x name ports more p left behind e f g = cc
 
 -- the names of ports with one more
-pub ports_named : (names : List (List ℕ)) (ports : List VPort) (port : VPort) (x : List ℕ) (r : Result (NamedItems VPort) Stop) → names ≡ port_names ports → port.name ≡ x
-    → IfOk r (λ more. more.items ≡ ports ++ port ∷ []) → IfOk r (λ more. more.names ≡ names ++ x ∷ []) → IfOk r (λ more. more.names ≡ port_names more.items)
-ports_named names ports port x (Ok more) e f em en =
+pub ports_named : (names new : List (List ℕ)) (ports more : List VPort) (port : VPort) (x : List ℕ) (r : Result (Unit {0}) Stop) → names ≡ port_names ports → port.name ≡ x
+    → OnOk r (more ≡ ports ++ port ∷ []) → OnOk r (new ≡ names ++ x ∷ []) → OnOk r (new ≡ port_names more)
+ports_named names new ports more port x (Ok done) e f em en =
     en ∙ ap (λ (ns : List (List ℕ)). ns ++ x ∷ []) e ∙ ap (λ (n : List ℕ). port_names ports ++ n ∷ []) (sym f) ∙ sym (map-append _ ports (port ∷ [])) ∙ sym (ap port_names em)
-ports_named names ports port x (Err stop) e f em en = tt
+ports_named names new ports more port x (Err stop) e f em en = tt

@@ -1,5 +1,5 @@
 -- Names that are added to a list with the same names as another.
-use Rattle.std.proofs.Common.{◌≡◌, ◌<◌, ℕ, ◌+◌, Bool, true, false, ◌||◌, List, [], ◌∷◌, ◌++◌, take, get_or, length, Result, Ok, Err, IfOk, refl, sym, ap, subst, ◌∙◌, append_assoc}
+use Rattle.std.proofs.Common.{◌≡◌, ◌<◌, ℕ, ◌+◌, Bool, true, false, ◌||◌, List, [], ◌∷◌, ◌++◌, take, get_or, length, Result, Ok, Err, IfOk, OnOk, refl, sym, ap, subst, ◌∙◌, append_assoc}
 use Rattle.std.specs.Str.{bytes_eq}
 use Rattle.std.proofs.lemmas.List.{append-nil, take_more, map-append}
 use Rattle.std.proofs.lemmas.List.Folds.{list_any-append}
@@ -11,7 +11,6 @@ use Rattle.rule_readers.specs.Next.{next_bytes}
 use Rattle.rule_readers.specs.Reading.{Reads}
 use Rattle.udp_tables.specs.declared.models.VPort.{VPort}
 use Rattle.udp_tables.specs.VerilogRules.{is_among, new_name}
-use Rattle.udp_reader.specs.declared.named_items.NamedItems.{NamedItems}
 use Rattle.udp_reader.proofs.NewNames.{name_read}
 use Rattle.specify_blocks.specs.VerilogModules.{port_names}
 use Rattle.header_reader.specs.SameNames.{HaveSame}
@@ -60,7 +59,7 @@ wire_added names new ports wires more token name h en em et =
     append_assoc ports wires (token ∷ []) ∙ ap (λ n. ports ++ (wires ++ n ∷ [])) (sym et) ∙ ap (λ ws. ports ++ ws) (sym em) in
     subst (λ ns. HaveSame ns (ports ++ more)) (sym en) (subst (HaveSame (names ++ token ∷ [])) longer all)
 
-pub wire_added_where : (names ports wires : List (List ℕ)) (token name : List ℕ) (r : Result (NamedItems (List ℕ)) Stop) → HaveSame names (ports ++ wires) → name ≡ token
-    → IfOk r (λ more. more.items ≡ wires ++ name ∷ []) → IfOk r (λ more. more.names ≡ names ++ token ∷ []) → IfOk r (λ more. HaveSame more.names (ports ++ more.items))
-wire_added_where names ports wires token name (Ok more) h et em en = wire_added names more.names ports wires more.items token name h en em et
-wire_added_where names ports wires token name (Err stop) h et em en = tt
+pub wire_added_where : (names new ports wires more : List (List ℕ)) (token name : List ℕ) (r : Result (Unit {0}) Stop) → HaveSame names (ports ++ wires) → name ≡ token
+    → OnOk r (more ≡ wires ++ name ∷ []) → OnOk r (new ≡ names ++ token ∷ []) → OnOk r (HaveSame new (ports ++ more))
+wire_added_where names new ports wires more token name (Ok done) h et em en = wire_added names new ports wires more token name h en em et
+wire_added_where names new ports wires more token name (Err stop) h et em en = tt

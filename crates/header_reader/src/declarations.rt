@@ -1,10 +1,10 @@
 //! The declarations of a module, by recursive descent. (IEEE 1364-2005, 12.1 and 12.3, and A.1 to A.3.)
 
-ghost use Rattle.std.specs.Prelude.{◌≡◌, IfOk};
+ghost use Rattle.std.specs.Prelude.{◌≡◌, IfOk, OnOk};
 ghost use Rattle.udp_tables.specs.VerilogRules.{known};
 ghost use Rattle.specify_blocks.specs.VerilogModules as spec;
 ghost use Rattle.rule_readers.specs.Reading.{read, Reads, ReadsAs};
-ghost use Rattle.header_reader.specs.Headers.{inputs_of, ports_of};
+ghost use Rattle.header_reader.specs.Headers.{inputs_of};
 
 use crate::ports::{output_place, port_place};
 use crate::wires::{module_notifier, module_wires};
@@ -27,41 +27,32 @@ pub struct Inputs {
 /// The ports of a header so far, with their names.
 type HeaderPorts<'a> = NamedItems<'a, VPort>;
 
-/// One more port of a header.
+/// Adds one more port of a header.
 #[tactic(auto, unfolding(specify_blocks::specs::VerilogModules::next_port))]
-fn next_port<'a>(
-    cursor: &mut Cursor<'a>,
-    alloc: Global,
-    before: HeaderPorts<'a>,
-) -> Read<HeaderPorts<'a>>
-    requires { before.names ≡ spec.port_names before.items }
-    ensures reads { ReadsAs ports_of (read (spec.next_port before.entry.items) cursor.old) result cursor.new }
-    ensures named { IfOk result (λ more. more.names ≡ spec.port_names more.items) }
+fn next_port<'a>(cursor: &mut Cursor<'a>, alloc: Global, found: &mut HeaderPorts<'a>) -> Read<()>
+    requires { found.old.names ≡ spec.port_names found.old.items }
+    ensures reads { ReadsAs (λ _. found.new.items) (read (spec.next_port found.old.items) cursor.old) result cursor.new }
+    ensures named { OnOk result (found.new.names ≡ spec.port_names found.new.items) }
 {
     let token = cursor.bytes();
-    let name = new_name(cursor, alloc, &before.names)?;
-    before.with(VPort { name, input: false }, token)
+    let name = new_name(cursor, alloc, &found.names)?;
+    found.add(VPort { name, input: false }, token)
 }
 
-/// The ports of a header behind these.
+/// Adds the ports of a header behind these.
 #[tactic(auto, unfolding(specify_blocks::specs::VerilogModules::more_ports), using(rule_readers::proofs::Repeats::turns))]
-fn more_ports<'a>(
-    cursor: &mut Cursor<'a>,
-    alloc: Global,
-    mut found: HeaderPorts<'a>,
-) -> Read<Items<VPort>>
-    requires { found.names ≡ spec.port_names found.items }
-    ensures { Reads (read (spec.more_ports found.entry.items) cursor.old) result cursor.new }
+fn more_ports<'a>(cursor: &mut Cursor<'a>, alloc: Global, found: &mut HeaderPorts<'a>) -> Read<()>
+    requires { found.old.names ≡ spec.port_names found.old.items }
+    ensures { ReadsAs (λ _. found.new.items) (read (spec.more_ports found.old.items) cursor.old) result cursor.new }
 {
     for _turn in 0..cursor.left() {
         if !cursor.is_next(b",") {
             break;
         }
         cursor.skip();
-        found = next_port(cursor, alloc, found)?;
+        next_port(cursor, alloc, found)?;
     }
-    let NamedItems { items: ports, .. } = found;
-    Ok(ports)
+    Ok(())
 }
 
 /// The ports of a header.
@@ -78,16 +69,16 @@ pub fn some_ports(cursor: &mut Cursor, alloc: Global) -> Read<Items<VPort>>
         name: Items::from_slice(alloc, token)?,
         input: false,
     })?;
-    let names = TextNames::new(alloc).with(token)?;
+    let mut names = TextNames::new(alloc);
+    names.add(token)?;
     cursor.skip();
-    more_ports(
-        cursor,
-        alloc,
-        NamedItems {
-            items: ports,
-            names,
-        },
-    )
+    let mut found = NamedItems {
+        items: ports,
+        names,
+    };
+    more_ports(cursor, alloc, &mut found)?;
+    let NamedItems { items: ports, .. } = found;
+    Ok(ports)
 }
 
 /// The header of a module, behind its name.

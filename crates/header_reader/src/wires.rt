@@ -1,12 +1,11 @@
 //! The wires of a module and the register of its checks, by recursive descent. (IEEE 1364-2005, A.2.1.3.)
 
-ghost use Rattle.std.specs.Prelude.{◌≡◌, ◌++◌, ◌∷◌, [], false, IfOk, IfErr};
+ghost use Rattle.std.specs.Prelude.{◌≡◌, ◌++◌, ◌∷◌, [], false, IfOk, IfErr, OnOk};
 ghost use Rattle.udp_tables.specs.VerilogRules.{is_among, new_name};
 ghost use Rattle.specify_blocks.specs.VerilogModules as spec;
 ghost use Rattle.rule_readers.specs.Next.{next_bytes};
 ghost use Rattle.rule_readers.specs.Reading.{read, Reads, ReadsAs};
 ghost use Rattle.header_reader.specs.SameNames.{HaveSame};
-ghost use Rattle.header_reader.specs.Headers.{wires_of};
 
 use crate::ports::is_declared;
 use rule_readers::{Read, Stop};
@@ -31,16 +30,16 @@ fn new_net_name(
 /// The wires so far, and the names of the ports and of these.
 type DeclaredWires<'a> = NamedItems<'a, Items<u8>>;
 
-/// These names, and another behind them where it is none of them.
+/// Adds a name behind these, where it is none of them.
 #[tactic(auto, using(crate::proofs::SameNames::same_kept))]
-fn with_name<'a>(names: TextNames<'a>, name: &'a [u8]) -> Read<TextNames<'a>>
-    ensures same { IfOk result (λ more. HaveSame more (names.entry ++ name.now ∷ [])) }
+fn add_name<'a>(names: &mut TextNames<'a>, name: &'a [u8]) -> Read<()>
+    ensures same { OnOk result (HaveSame names.new (names.old ++ name.now ∷ [])) }
     ensures memory { IfErr result (λ stop. stop ≡ Stop.Memory) }
 {
     if names.has(name) {
-        return Ok(names);
+        return Ok(());
     }
-    names.with(name)
+    names.add(name)
 }
 
 /// The names of these ports.
@@ -50,7 +49,7 @@ fn names_of_ports<'a>(alloc: Global, ports: &'a [VPort]) -> Read<TextNames<'a>>
 {
     let mut names = TextNames::new(alloc);
     for port in ports {
-        names = with_name(names, port.name.as_slice())?;
+        add_name(&mut names, port.name.as_slice())?;
     }
     Ok(names)
 }
@@ -91,21 +90,21 @@ fn wire_line(
     Ok(name)
 }
 
-/// One more declared wire, behind its word, of which this is the next token.
+/// Adds one more declared wire, behind its word, of which this is the next token.
 fn module_wire<'a>(
     cursor: &mut Cursor,
     alloc: Global,
     ports: &[VPort],
     token: &'a [u8],
-    before: DeclaredWires<'a>,
-) -> Read<DeclaredWires<'a>>
+    found: &mut DeclaredWires<'a>,
+) -> Read<()>
     requires next { token.now ≡ next_bytes cursor.old }
-    requires same { HaveSame before.names (spec.port_names ports.now ++ before.items) }
-    ensures reads { ReadsAs wires_of (read (spec.declared_wire ports.now before.entry.items) cursor.old) result cursor.new }
-    ensures named { IfOk result (λ more. HaveSame more.names (spec.port_names ports.now ++ more.items)) }
+    requires same { HaveSame found.old.names (spec.port_names ports.now ++ found.old.items) }
+    ensures reads { ReadsAs (λ _. found.new.items) (read (spec.declared_wire ports.now found.old.items) cursor.old) result cursor.new }
+    ensures named { OnOk result (HaveSame found.new.names (spec.port_names ports.now ++ found.new.items)) }
 {
-    let name = wire_line(cursor, alloc, ports, before.items.as_slice(), &before.names)?;
-    before.with(name, token)
+    let name = wire_line(cursor, alloc, ports, found.items.as_slice(), &found.names)?;
+    found.add(name, token)
 }
 
 /// The declared wires, of which there are some as a rule.
@@ -123,7 +122,7 @@ fn some_wires(cursor: &mut Cursor, alloc: Global, ports: &[VPort]) -> Read<Items
         }
         cursor.skip();
         let token = cursor.bytes();
-        found = module_wire(cursor, alloc, ports, token, found)?;
+        module_wire(cursor, alloc, ports, token, &mut found)?;
     }
     let NamedItems { items: wires, .. } = found;
     Ok(wires)

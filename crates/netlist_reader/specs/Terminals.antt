@@ -3,12 +3,7 @@ use Rattle.std.specs.Prelude.{◌≡◌, ℕ, List, map, Some}
 use Rattle.specify_blocks.specs.declared.model.VNet.{VNet}
 use Rattle.specify_blocks.specs.declared.model.VModule.{VModule}
 use Rattle.specify_blocks.specs.VerilogModules.{net_of}
-use Rattle.udp_reader.specs.declared.named_items.NamedItems.{NamedItems}
 
 -- these are the nets of these names
 abbrev pub AreNamed : VModule → List (List ℕ) → List VNet → Type 0
 AreNamed m names nets = map (net_of m) names ≡ map Some nets
-
--- the nets that feed an instance, as the grammar names them
-abbrev pub inputs_of : NamedItems VNet → List VNet
-inputs_of found = found.items

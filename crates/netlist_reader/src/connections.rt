@@ -1,11 +1,11 @@
 //! The nets that an instance is connected to, by recursive descent. (IEEE 1364-2005, 8.6.)
 
-ghost use Rattle.std.specs.Prelude.{◌≡◌, ◌∷◌, [], false, Some, IfOk};
+ghost use Rattle.std.specs.Prelude.{◌≡◌, ◌∷◌, [], false, Some, IfOk, OnOk};
 ghost use Rattle.udp_tables.specs.VerilogRules.{is_among};
 ghost use Rattle.specify_blocks.specs.VerilogModules as spec;
 ghost use Rattle.rule_readers.specs.Next.{next_bytes};
 ghost use Rattle.rule_readers.specs.Reading.{read, Reads, ReadsAs};
-ghost use Rattle.netlist_reader.specs.Terminals.{AreNamed, inputs_of};
+ghost use Rattle.netlist_reader.specs.Terminals.{AreNamed};
 
 use crate::netlist::Netlist;
 use crate::terminals::{may_drive, may_feed, net_of};
@@ -72,22 +72,22 @@ fn feeding_terminal(
     Ok(net)
 }
 
-/// One more net that feeds an instance.
+/// Adds one more net that feeds an instance.
 #[tactic(auto, unfolding(specify_blocks::specs::VerilogModules::next_input), using(crate::proofs::SameTerminals::named_more))]
 fn next_terminal<'a>(
     cursor: &mut Cursor<'a>,
     model: &Netlist,
     sequential: bool,
     output: VNet,
-    before: Terminals<'a>,
-) -> Read<Terminals<'a>>
-    requires { AreNamed model.now before.names (output ∷ before.items) }
-    ensures reads { ReadsAs inputs_of (read (spec.next_input model.now sequential output before.entry.items) cursor.old) result cursor.new }
-    ensures named { IfOk result (λ more. AreNamed model.now more.names (output ∷ more.items)) }
+    found: &mut Terminals<'a>,
+) -> Read<()>
+    requires { AreNamed model.now found.old.names (output ∷ found.old.items) }
+    ensures reads { ReadsAs (λ _. found.new.items) (read (spec.next_input model.now sequential output found.old.items) cursor.old) result cursor.new }
+    ensures named { OnOk result (AreNamed model.now found.new.names (output ∷ found.new.items)) }
 {
     let token = cursor.bytes();
-    let net = feeding_terminal(cursor, model, sequential, output, &before)?;
-    before.with(net, token)
+    let net = feeding_terminal(cursor, model, sequential, output, found)?;
+    found.add(net, token)
 }
 
 /// The first net that feeds an instance, behind the name of its output.
@@ -100,39 +100,35 @@ pub fn first_terminal<'a>(
     name: &'a [u8],
 ) -> Read<Terminals<'a>>
     requires { spec.net_of model.now name.now ≡ Some output }
-    ensures reads { ReadsAs inputs_of (read (spec.next_input model.now sequential output []) cursor.old) result cursor.new }
+    ensures reads { ReadsAs (λ more. more.items) (read (spec.next_input model.now sequential output []) cursor.old) result cursor.new }
     ensures named { IfOk result (λ more. AreNamed model.now more.names (output ∷ more.items)) }
 {
-    let names = TextNames::new(alloc).with(name)?;
+    let mut names = TextNames::new(alloc);
+    names.add(name)?;
     let items = Items::new(alloc);
-    next_terminal(
-        cursor,
-        model,
-        sequential,
-        output,
-        NamedItems { items, names },
-    )
+    let mut found = NamedItems { items, names };
+    next_terminal(cursor, model, sequential, output, &mut found)?;
+    Ok(found)
 }
 
-/// The nets that feed an instance behind these.
+/// Adds the nets that feed an instance behind these.
 #[tactic(auto, unfolding(specify_blocks::specs::VerilogModules::more_inputs), using(rule_readers::proofs::Repeats::turns))]
 pub fn more_terminals<'a>(
     cursor: &mut Cursor<'a>,
     model: &Netlist,
     sequential: bool,
     output: VNet,
-    mut found: Terminals<'a>,
-) -> Read<Items<VNet>>
-    requires { AreNamed model.now found.names (output ∷ found.items) }
-    ensures { Reads (read (spec.more_inputs model.now sequential output found.entry.items) cursor.old) result cursor.new }
+    found: &mut Terminals<'a>,
+) -> Read<()>
+    requires { AreNamed model.now found.old.names (output ∷ found.old.items) }
+    ensures { ReadsAs (λ _. found.new.items) (read (spec.more_inputs model.now sequential output found.old.items) cursor.old) result cursor.new }
 {
     for _turn in 0..cursor.left() {
         if !cursor.is_next(b",") {
             break;
         }
         cursor.skip();
-        found = next_terminal(cursor, model, sequential, output, found)?;
+        next_terminal(cursor, model, sequential, output, found)?;
     }
-    let NamedItems { items: inputs, .. } = found;
-    Ok(inputs)
+    Ok(())
 }

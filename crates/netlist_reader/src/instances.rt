@@ -18,7 +18,7 @@ use part_readers::where_read;
 use rule_readers::{Language, Read, Refusal, Stop, value_of};
 use specify_blocks::{Instance, VModule};
 use std::alloc::Global;
-use udp_reader::{Cursor, Verilog};
+use udp_reader::{Cursor, NamedItems, Verilog};
 use verilog_tokens::is_name;
 
 /// The bit that a token stands for.
@@ -63,8 +63,9 @@ fn call(cursor: &mut Cursor, alloc: Global, model: &Netlist, udp: usize) -> Read
     let name = cursor.bytes();
     let output = driven_terminal(cursor, model, sequential)?;
     cursor.expect(b",")?;
-    let first = first_terminal(cursor, alloc, model, sequential, output, name)?;
-    let inputs = more_terminals(cursor, model, sequential, output, first)?;
+    let mut found = first_terminal(cursor, alloc, model, sequential, output, name)?;
+    more_terminals(cursor, model, sequential, output, &mut found)?;
+    let NamedItems { items: inputs, .. } = found;
     let whole = has_all_inputs(model.module().udps.as_slice(), udp, inputs.as_slice());
     cursor.expect_where(whole, Refusal::Width, b")")?;
     cursor.expect(b";")?;

@@ -6,13 +6,13 @@ ghost use Rattle.rule_readers.specs.Next.{is_next, is_next_name, next_bytes, res
 
 use crate::language::Language;
 use std::marker::{Model, PhantomData};
-use token_spans::Span;
+use token_spans::KeptSpan;
 
 /// The tokens of a text that are not read yet, each seen as its bytes, in a language `L`.
 #[derive(Drop)]
 pub struct Cursor<'a, L> {
     text: &'a [u8],
-    left: &'a [Span],
+    left: &'a [KeptSpan],
     language: PhantomData<L>,
 }
 
@@ -30,7 +30,7 @@ impl<'a, L> Model for Cursor<'a, L> {
 
 impl<'a, L: Language> Cursor<'a, L> {
     /// A cursor before the tokens that stand at these places of a text.
-    pub fn new(text: &'a [u8], tokens: &'a [Span]) -> Cursor<'a, L>
+    pub fn new(text: &'a [u8], tokens: &'a [KeptSpan]) -> Cursor<'a, L>
         requires { LieInside text.now tokens.now }
         ensures { result ≡ spelled text.now tokens.now }
     {
@@ -55,7 +55,10 @@ impl<'a, L: Language> Cursor<'a, L> {
         ensures { result.now ≡ next_bytes self.now }
     {
         match self.left {
-            [first, ..] => &self.text[first.at..first.end],
+            [first, ..] => {
+                let span = first.span();
+                &self.text[span.at..span.end]
+            }
             [] => &[],
         }
     }

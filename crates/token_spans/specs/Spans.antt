@@ -1,7 +1,11 @@
 -- Tokens as places of a text, and the tokens that they are.
-use Rattle.std.specs.Prelude.{ℕ, ◌-◌, ◌≤◌, Bool, List, [], ◌∷◌, ◌++◌, Option, length, map, drop, slice_range}
+use Rattle.std.specs.Prelude.{ℕ, ◌+◌, ◌-◌, ◌≤◌, Bool, List, [], ◌∷◌, ◌++◌, Option, length, map, drop, slice_range}
 use Rattle.token_spans.specs.Tokens.{Token, Lexis, scan}
 use Rattle.token_spans.specs.declared.span.Span.{Span}
+
+-- the place of a token that begins at an offset and has so many bytes
+abbrev pub span : ℕ → ℕ → Span
+span at count = record { at = at; end = at + count }
 
 -- each place lies inside the text
 abbrev pub LieInside : List ℕ → List Span → Type 0

@@ -9,6 +9,7 @@ mod place;
 mod scanner;
 mod span;
 mod tables;
+mod word_groups;
 
 pub use classes::{ByteClass, Digit, NameByte, are_all, run_length};
 pub use fronts::{decimal_length, identifier_length, line_separator_length};
@@ -16,4 +17,5 @@ pub use lexicon::{Lexicon, TokenState};
 pub use numbers::{is_number, number_after, number_of};
 pub use place::place_of;
 pub use scanner::scan;
-pub use span::{Scan, Span};
+pub use span::{KeptSpan, Scan, Span};
+pub use word_groups::group_of;

@@ -7,13 +7,9 @@ use Rattle.udp_tables.specs.VerilogRules.{expect, expect_where}
 use Rattle.udp_tables.specs.VerilogPrimitives.{most_inputs, next_input, more_inputs}
 use Rattle.udp_tables.specs.VerilogPrimitives as primitive
 use Rattle.udp_reader.specs.declared.primitives.Header.{Header}
-use Rattle.udp_reader.specs.declared.named_items.NamedItems.{NamedItems}
 
 abbrev pub header_of : Header → primitive.Header
 header_of h = record { output = h.output; inputs = h.inputs }
-
-abbrev pub inputs_of : NamedItems (List ℕ) → List (List ℕ)
-inputs_of found = found.items
 
 -- the header of these
 abbrev pub header_with : List ℕ → List (List ℕ) → primitive.Header

@@ -1,6 +1,6 @@
 //! Things of a text, with the names that are declared.
 
-ghost use Rattle.std.specs.Prelude.{◌≡◌, ◌∷◌, ◌++◌, [], false, IfOk, IfErr};
+ghost use Rattle.std.specs.Prelude.{◌≡◌, ◌∷◌, ◌++◌, [], false, IfErr, OnOk};
 ghost use Rattle.udp_tables.specs.VerilogRules.{is_among};
 
 use crate::text_names::TextNames;
@@ -17,16 +17,14 @@ pub struct NamedItems<'a, T> {
 }
 
 impl<'a, T: Drop> NamedItems<'a, T> {
-    /// These, and one more thing behind them, of which this is the name, which is none of theirs.
-    pub fn with(self, item: T, name: &'a [u8]) -> Read<NamedItems<'a, T>>
-        requires { is_among self.names name.now ≡ false }
-        ensures items { IfOk result (λ more. more.items ≡ self.entry.items ++ item ∷ []) }
-        ensures names { IfOk result (λ more. more.names ≡ self.entry.names ++ name.now ∷ []) }
+    /// Puts one more thing behind these, of which this is the name, which is none of theirs.
+    pub fn add(&mut self, item: T, name: &'a [u8]) -> Read<()>
+        requires { is_among self.old.names name.now ≡ false }
+        ensures items { OnOk result (self.new.items ≡ self.old.items ++ item ∷ []) }
+        ensures names { OnOk result (self.new.names ≡ self.old.names ++ name.now ∷ []) }
         ensures memory { IfErr result (λ stop. stop ≡ Stop.Memory) }
     {
-        let NamedItems { mut items, names } = self;
-        items.push(item)?;
-        let names = names.with(name)?;
-        Ok(NamedItems { items, names })
+        self.items.push(item)?;
+        self.names.add(name)
     }
 }

@@ -1,12 +1,12 @@
 //! Primitives, by recursive descent. (IEEE 1364-2005, clause 8.)
 
-ghost use Rattle.std.specs.Prelude.{◌≡◌, [], ◌∷◌, ◌++◌, IfOk};
+ghost use Rattle.std.specs.Prelude.{◌≡◌, [], ◌∷◌, ◌++◌, IfOk, OnOk};
 ghost use Rattle.rule_readers.specs.declared.refusal.Refusal.TheVariants.{Syntax};
 ghost use Rattle.udp_tables.specs.VerilogPrimitives as spec;
 ghost use Rattle.rule_readers.specs.Reading.{read, Token, Many, Reads, ReadsAs};
 ghost use Rattle.rule_readers.specs.Next.{next_bytes};
 ghost use Rattle.udp_tables.specs.VerilogRules.{any_name};
-ghost use Rattle.udp_reader.specs.Headers.{header_of, header_rest, header_with, inputs_of};
+ghost use Rattle.udp_reader.specs.Headers.{header_of, header_rest, header_with};
 
 use crate::declared::declare;
 use crate::language::{Cursor, Verilog};
@@ -51,48 +51,48 @@ fn first_name<'a>(cursor: &mut Cursor<'a>, alloc: Global) -> Read<(Items<u8>, Te
         return Err(Stop::Refused(Refusal::Syntax));
     }
     let name = Items::from_slice(alloc, token)?;
-    let names = TextNames::new(alloc).with(token)?;
+    let mut names = TextNames::new(alloc);
+    names.add(token)?;
     cursor.skip();
     Ok((name, names))
 }
 
-/// One more input of a header with this output.
+/// Adds one more input of a header with this output.
 #[tactic(auto, unfolding(udp_tables::specs::VerilogPrimitives::next_input))]
 fn next_input<'a>(
     cursor: &mut Cursor<'a>,
     alloc: Global,
     output: &[u8],
-    before: HeaderInputs<'a>,
-) -> Read<HeaderInputs<'a>>
-    requires { before.names ≡ output.now ∷ before.items }
-    ensures reads { ReadsAs inputs_of (read (spec.next_input output.now before.entry.items) cursor.old) result cursor.new }
-    ensures named { IfOk result (λ more. more.names ≡ output.now ∷ more.items) }
+    found: &mut HeaderInputs<'a>,
+) -> Read<()>
+    requires { found.old.names ≡ output.now ∷ found.old.items }
+    ensures reads { ReadsAs (λ _. found.new.items) (read (spec.next_input output.now found.old.items) cursor.old) result cursor.new }
+    ensures named { OnOk result (found.new.names ≡ output.now ∷ found.new.items) }
 {
     let token = cursor.bytes();
-    let input = new_name(cursor, alloc, &before.names);
-    let (before, input) = with_read(before, input)?;
-    before.with(input, token)
+    let input = new_name(cursor, alloc, &found.names)?;
+    found.add(input, token)
 }
 
-/// The inputs of a header with this output behind these.
+/// Adds the inputs of a header with this output behind these.
 #[tactic(auto, unfolding(udp_tables::specs::VerilogPrimitives::more_inputs), using(rule_readers::proofs::Repeats::turns))]
 fn more_inputs<'a>(
     cursor: &mut Cursor<'a>,
     alloc: Global,
     output: &[u8],
-    mut found: HeaderInputs<'a>,
-) -> Read<HeaderInputs<'a>>
-    requires { found.names ≡ output.now ∷ found.items }
-    ensures { ReadsAs inputs_of (read (spec.more_inputs output.now found.entry.items) cursor.old) result cursor.new }
+    found: &mut HeaderInputs<'a>,
+) -> Read<()>
+    requires { found.old.names ≡ output.now ∷ found.old.items }
+    ensures { ReadsAs (λ _. found.new.items) (read (spec.more_inputs output.now found.old.items) cursor.old) result cursor.new }
 {
     for _turn in 0..cursor.left() {
         if !cursor.is_next(b",") {
             break;
         }
         cursor.skip();
-        found = next_input(cursor, alloc, output, found)?;
+        next_input(cursor, alloc, output, found)?;
     }
-    Ok(found)
+    Ok(())
 }
 
 /// The inputs of a header with this output, of which these are the names, and its end.
@@ -106,12 +106,13 @@ fn header_rest<'a>(
     requires { names ≡ output.now ∷ [] }
     ensures { ReadsAs (header_with output.now) (read (header_rest output.now) cursor.old) result cursor.new }
 {
-    let none = NamedItems {
+    let mut found = NamedItems {
         items: Items::new(alloc),
         names,
     };
-    let first = next_input(cursor, alloc, output, none)?;
-    let NamedItems { items: inputs, .. } = more_inputs(cursor, alloc, output, first)?;
+    next_input(cursor, alloc, output, &mut found)?;
+    more_inputs(cursor, alloc, output, &mut found)?;
+    let NamedItems { items: inputs, .. } = found;
     cursor.expect_where(inputs.len() <= MOST_INPUTS, Refusal::Width, b")")?;
     cursor.expect(b";")?;
     Ok(inputs)

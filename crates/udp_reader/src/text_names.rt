@@ -1,6 +1,6 @@
 //! Names that are declared, as they stand in a text.
 
-ghost use Rattle.std.specs.Prelude.{◌≡◌, [], ◌∷◌, ◌++◌, false, map, take, drop, IfOk, IfErr};
+ghost use Rattle.std.specs.Prelude.{◌≡◌, ◌<◌, [], ◌∷◌, ◌++◌, false, map, take, drop, IfOk, IfErr, OnOk, OnErr};
 ghost use Rattle.std.specs.List.{list_any};
 ghost use Rattle.std.specs.Str.{bytes_eq};
 ghost use Rattle.rule_readers.specs.Next.{next_bytes};
@@ -17,6 +17,9 @@ use verilog_tokens::is_name;
 
 /// How many names of a list are compared one by one.
 const NEAR: usize = 16;
+
+/// For how many names there is room at first.
+const SOME_NAMES: usize = 8;
 
 /// Names that are declared, as they stand in a text, in order. Contracts see the list of them. The first of them are compared one by
 /// one, which takes no memory; those behind them stand in a list that finds a name at once too.
@@ -68,25 +71,33 @@ fn is_found(names: &Names, name: &[u8]) -> bool
     names.number(name).is_some()
 }
 
-/// The list beside declared names, where one more is declared behind them, which is none of them.
+/// Adds a name to the list beside declared names, where it is declared behind them and is none of them.
 #[tactic(auto, using(rule_readers::proofs::Places::none_behind, crate::proofs::NearNames::drop_near, crate::proofs::NearNames::drop_far, crate::proofs::NearNames::added))]
-fn far_with(mut far: Names, names: &[&[u8]], name: &[u8]) -> Result<Names, Stop>
-    requires kept { far ≡ drop 16 (map (λ other. other.now) names.now) }
+fn add_far(far: &mut Names, names: &[&[u8]], name: &[u8]) -> Result<(), Stop>
+    requires kept { far.old ≡ drop 16 (map (λ other. other.now) names.now) }
     requires fresh { list_any (bytes_eq name.now) (map (λ other. other.now) names.now) ≡ false }
-    ensures more { IfOk result (λ more. more ≡ drop 16 (map (λ other. other.now) names.now ++ name.now ∷ [])) }
+    ensures more { OnOk result (far.new ≡ drop 16 (map (λ other. other.now) names.now ++ name.now ∷ [])) }
+    ensures err { OnErr result (far.new ≡ far.old) }
     ensures memory { IfErr result (λ stop. stop ≡ Stop.Memory) }
 {
     if names.len() < NEAR {
-        return Ok(far);
+        return Ok(());
     }
     match far.add(name) {
-        Ok(_) => Ok(far),
+        Ok(_) => Ok(()),
         Err(_) => Err(Stop::Memory),
     }
 }
 
+/// For how many more names a list of so many gets room.
+fn room_behind(count: usize) -> usize
+    ensures { 0 < result }
+{
+    if count == 0 { SOME_NAMES } else { 1 }
+}
+
 impl<'a> TextNames<'a> {
-    ghost use Rattle.std.specs.Prelude.{◌≡◌, [], ◌∷◌, ◌++◌, false, IfOk, IfErr};
+    ghost use Rattle.std.specs.Prelude.{◌≡◌, [], ◌∷◌, ◌++◌, false, IfErr, OnOk};
     ghost use Rattle.udp_tables.specs.VerilogRules.{is_among};
 
     /// No names. Takes no memory.
@@ -107,17 +118,17 @@ impl<'a> TextNames<'a> {
         is_one(near(self.names.as_slice()), name) || is_found(&self.far, name)
     }
 
-    /// These names, and one more behind them, which is none of them.
+    /// Puts one more name behind these, which is none of them.
     #[tactic(auto, using(crate::proofs::NearNames::shown_push))]
-    pub fn with(self, name: &'a [u8]) -> Result<TextNames<'a>, Stop>
-        requires { is_among self name.now ≡ false }
-        ensures added { IfOk result (λ more. more ≡ self.entry ++ name.now ∷ []) }
+    pub fn add(&mut self, name: &'a [u8]) -> Result<(), Stop>
+        requires { is_among self.old name.now ≡ false }
+        ensures added { OnOk result (self.new ≡ self.old ++ name.now ∷ []) }
         ensures memory { IfErr result (λ stop. stop ≡ Stop.Memory) }
     {
-        let TextNames { mut names, far } = self;
-        let far = far_with(far, names.as_slice(), name)?;
-        names.push(name)?;
-        Ok(TextNames { names, far })
+        self.names.reserve(room_behind(self.names.len()))?;
+        add_far(&mut self.far, self.names.as_slice(), name)?;
+        self.names.push_reserved(name);
+        Ok(())
     }
 }
 

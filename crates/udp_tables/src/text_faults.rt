@@ -7,7 +7,7 @@ ghost use Rattle.udp_tables.specs.ModelFaults.{fault_at, model_faults};
 
 use crate::models::ModelFault;
 use rule_readers::{Cursor, Language, Refusal};
-use token_spans::{Span, place_of};
+use token_spans::{KeptSpan, place_of};
 
 /// The fault of a refusal at an offset.
 fn fault_at(refusal: Refusal, at: usize) -> ModelFault
@@ -28,7 +28,7 @@ fn fault_at(refusal: Refusal, at: usize) -> ModelFault
 /// that are left. Where none is left, the lexical fault counts, if there is one.
 pub fn refusal_fault<L: Language>(
     text: &[u8],
-    tokens: &[Span],
+    tokens: &[KeptSpan],
     lexical: Option<usize>,
     refusal: Refusal,
     left: &Cursor<'_, L>,

@@ -13,7 +13,7 @@ use driver_models::{Cores, DriverModel, KnownNames};
 use driver_texts::cursor_before;
 use rule_readers::{Read, Stop};
 use std::alloc::Global;
-use token_spans::{Scan, Span};
+use token_spans::{KeptSpan, Scan};
 use udp_tables::{ModelFault, refusal_fault};
 use verilog_tokens::scan;
 
@@ -29,7 +29,7 @@ struct SectionRead<'a> {
 fn section<'a>(
     alloc: Global,
     text: &'a [u8],
-    tokens: &'a [Span],
+    tokens: &'a [KeptSpan],
     names: &KnownNames<VerilogDrivers>,
     cores: &Cores<'_, VerilogDrivers>,
 ) -> SectionRead<'a>

@@ -14,6 +14,7 @@ use specify_reader::nets::{Netlist, are_all_driven, module_instances};
 use specify_reader::specify;
 use sqlite_items::Items;
 use std::alloc::Global;
+use std::mem::replace;
 use udp_reader::{Cursor, Verilog, declare, primitive};
 use udp_tables::Udp;
 
@@ -44,38 +45,29 @@ fn prelude(cursor: &mut Cursor) -> Read<()>
     cursor.expect(b"1ps")
 }
 
-/// One more primitive, behind its word.
+/// Adds one more primitive, behind its word.
 #[tactic(auto, unfolding(specify_blocks::specs::VerilogText::next_primitive))]
-fn next_primitive(cursor: &mut Cursor, alloc: Global, before: Before) -> Read<Before>
-    ensures { ReadsAs before_of (read (spec.next_primitive (before_of before)) cursor.old) result cursor.new }
+fn next_primitive(cursor: &mut Cursor, alloc: Global, before: &mut Before) -> Read<()>
+    ensures { ReadsAs (λ _. before_of before.new) (read (spec.next_primitive (before_of before.old)) cursor.old) result cursor.new }
 {
-    let Before {
-        modules,
-        mut names,
-        mut udps,
-    } = before;
-    let udp = primitive(cursor, alloc, &mut names)?;
-    udps.push(udp)?;
-    Ok(Before {
-        modules,
-        names,
-        udps,
-    })
+    let udp = primitive(cursor, alloc, &mut before.names)?;
+    before.udps.push(udp)?;
+    Ok(())
 }
 
-/// The primitives behind these.
+/// Adds the primitives behind these.
 #[tactic(auto, unfolding(specify_blocks::specs::VerilogText::more_primitives), using(rule_readers::proofs::Repeats::turns))]
-fn more_primitives(cursor: &mut Cursor, alloc: Global, mut before: Before) -> Read<Before>
-    ensures { ReadsAs before_of (read (spec.more_primitives (before_of before)) cursor.old) result cursor.new }
+fn more_primitives(cursor: &mut Cursor, alloc: Global, before: &mut Before) -> Read<()>
+    ensures { ReadsAs (λ _. before_of before.new) (read (spec.more_primitives (before_of before.old)) cursor.old) result cursor.new }
 {
     for _turn in 0..cursor.left() {
         if !cursor.is_next(b"primitive") {
             break;
         }
         cursor.skip();
-        before = next_primitive(cursor, alloc, before)?;
+        next_primitive(cursor, alloc, before)?;
     }
-    Ok(before)
+    Ok(())
 }
 
 /// The end of this module, all of whose outputs and wires are driven: the module alone.
@@ -106,39 +98,31 @@ fn one_module(
     module_end(cursor, whole)
 }
 
-/// One more module, behind its word.
+/// Adds one more module, which has the primitives behind the last one, behind its word.
 #[tactic(auto, unfolding(specify_blocks::specs::VerilogText::next_module))]
-fn next_module(cursor: &mut Cursor, alloc: Global, before: Before) -> Read<Before>
-    ensures { ReadsAs before_of (read (spec.next_module (before_of before)) cursor.old) result cursor.new }
+fn next_module(cursor: &mut Cursor, alloc: Global, before: &mut Before) -> Read<()>
+    ensures { ReadsAs (λ _. before_of before.new) (read (spec.next_module (before_of before.old)) cursor.old) result cursor.new }
 {
-    let Before {
-        mut modules,
-        mut names,
-        udps,
-    } = before;
-    let whole = one_module(cursor, alloc, &mut names, udps)?;
-    modules.push(whole)?;
-    Ok(Before {
-        modules,
-        names,
-        udps: Items::new(alloc),
-    })
+    let udps = replace(&mut before.udps, Items::new(alloc));
+    let whole = one_module(cursor, alloc, &mut before.names, udps)?;
+    before.modules.push(whole)?;
+    Ok(())
 }
 
-/// Primitives and their module, behind the word `primitive`.
+/// Adds primitives and their module, behind the word `primitive`.
 #[tactic(auto, unfolding(specify_blocks::specs::VerilogText::primitives_and_module))]
-fn primitives_and_module(cursor: &mut Cursor, alloc: Global, before: Before) -> Read<Before>
-    ensures { ReadsAs before_of (read (spec.primitives_and_module (before_of before)) cursor.old) result cursor.new }
+fn primitives_and_module(cursor: &mut Cursor, alloc: Global, before: &mut Before) -> Read<()>
+    ensures { ReadsAs (λ _. before_of before.new) (read (spec.primitives_and_module (before_of before.old)) cursor.old) result cursor.new }
 {
-    let first = next_primitive(cursor, alloc, before)?;
-    let more = more_primitives(cursor, alloc, first)?;
+    next_primitive(cursor, alloc, before)?;
+    more_primitives(cursor, alloc, before)?;
     cursor.expect(b"module")?;
-    next_module(cursor, alloc, more)
+    next_module(cursor, alloc, before)
 }
 
-/// Primitives and their module, behind their first token.
-fn design(cursor: &mut Cursor, alloc: Global, before: Before, first: &[u8]) -> Read<Before>
-    ensures { ReadsAs before_of (read (spec.design (before_of before) first.now) cursor.old) result cursor.new }
+/// Adds primitives and their module, behind their first token.
+fn design(cursor: &mut Cursor, alloc: Global, before: &mut Before, first: &[u8]) -> Read<()>
+    ensures { ReadsAs (λ _. before_of before.new) (read (spec.design (before_of before.old) first.now) cursor.old) result cursor.new }
 {
     if Verilog::is_same(first, b"primitive") {
         primitives_and_module(cursor, alloc, before)
@@ -163,7 +147,7 @@ fn designs(cursor: &mut Cursor, alloc: Global) -> Read<Before>
             break;
         }
         cursor.skip();
-        before = design(cursor, alloc, before, token)?;
+        design(cursor, alloc, &mut before, token)?;
     }
     Ok(before)
 }

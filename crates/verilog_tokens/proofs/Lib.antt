@@ -3,6 +3,5 @@ pub mod Padding
 pub mod Longest
 pub mod Covered
 mod NoWord
-mod WordGroups
 mod TokenFirst
 pub mod LawfulTexts

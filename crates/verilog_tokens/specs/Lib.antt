@@ -1,5 +1,4 @@
 pub mod Words
-pub mod WordGroups
 pub mod Kept
 pub mod Tokens
 pub mod Separators

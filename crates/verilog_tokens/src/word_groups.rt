@@ -1,10 +1,11 @@
 //! The words of Verilog, by their first letters. (IEEE 1364-2005, annex B.)
 
-ghost use Rattle.std.specs.Prelude.{◌≡◌, ◌≤◌, ◌<◌, ◌+◌, ◌∷◌, List, ℕ, length, true};
+ghost use Rattle.std.specs.Prelude.{◌≡◌, ◌∷◌, List, ℕ};
 ghost use Rattle.std.specs.List.{list_any};
 ghost use Rattle.std.specs.Str.{bytes_eq};
-ghost use Rattle.verilog_tokens.specs.WordGroups.{begin_from, joined};
 ghost use Rattle.verilog_tokens.specs.Words.{is_verilog_word};
+
+use token_spans::group_of;
 
 /// The words of Verilog by their first letters: those with `a` first, then those with `b`, and so on.
 static GROUPS: [&[&[u8]]; 26] = [
@@ -107,15 +108,6 @@ static GROUPS: [&[&[u8]]; 26] = [
     &[],
     &[],
 ];
-
-/// The words with this first letter, of groups with one letter after another, from `a` on.
-fn group_of<'a>(groups: &[&'a [&'a [u8]]], first: u8) -> &'a [&'a [u8]]
-    requires least { 97 ≤ first }
-    requires most { first < 97 + length groups.now }
-    ensures { (rest : List ℕ) → begin_from groups.now (λ group. group.now) (λ word. word.now) 97 ≡ true → list_any (λ word. bytes_eq (first ∷ rest) word.now) result.now ≡ list_any (bytes_eq (first ∷ rest)) (joined groups.now (λ group. group.now) (λ word. word.now)) }
-{
-    groups[usize::from(first - b'a')]
-}
 
 /// Words of Verilog among which each stands that begins with this byte.
 #[tactic(auto, unfolding(crate::specs::Words::is_verilog_word, crate::specs::Words::verilog_words))]

@@ -15,7 +15,7 @@ use driver_models::{Cores, DriverModel, KnownNames};
 use driver_texts::cursor_before;
 use rule_readers::{Read, Stop};
 use std::alloc::Global;
-use token_spans::{Scan, Span};
+use token_spans::{KeptSpan, Scan};
 use udp_tables::{ModelFault, VPort, refusal_fault};
 use vhdl_tokens::scan;
 use vhdl_words::{Cursor, Vhdl};
@@ -32,7 +32,7 @@ struct CoreRead<'a> {
 fn core_before<'a>(
     alloc: Global,
     text: &'a [u8],
-    tokens: &'a [Span],
+    tokens: &'a [KeptSpan],
     left: usize,
     cores: &Cores<'_, VitalDrivers>,
     ports: &[VPort],
@@ -58,7 +58,7 @@ struct SectionRead<'a> {
 fn rest_before<'a>(
     alloc: Global,
     text: &'a [u8],
-    tokens: &'a [Span],
+    tokens: &'a [KeptSpan],
     left: usize,
     cores: &Cores<'_, VitalDrivers>,
     front: SectionFront,
@@ -86,7 +86,7 @@ fn rest_before<'a>(
 fn section<'a>(
     alloc: Global,
     text: &'a [u8],
-    tokens: &'a [Span],
+    tokens: &'a [KeptSpan],
     names: &KnownNames<VitalDrivers>,
     cores: &Cores<'_, VitalDrivers>,
 ) -> SectionRead<'a>

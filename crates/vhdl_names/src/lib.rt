@@ -3,6 +3,7 @@
 
 mod kept;
 mod numbered;
+mod word_groups;
 mod words;
 
 pub use kept::{is_free, is_identifier, is_numbered, is_plain};

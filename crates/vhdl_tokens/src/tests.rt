@@ -10,7 +10,8 @@ type Case = (&'static [u8], &'static [u8], Option<usize>);
 fn has_tokens(rt: &HostRuntime, (text, spelled, fault): Case) -> Result<bool, Fail> {
     let found = scan(rt.alloc(), text)?;
     let mut joined = Vec::new(rt.alloc());
-    for span in &found.tokens {
+    for token in &found.tokens {
+        let span = token.span();
         if let Some(bytes) = text.get(span.at..span.end) {
             joined.extend_from_slice(bytes)?;
         }

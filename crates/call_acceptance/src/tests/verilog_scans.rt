@@ -3,13 +3,14 @@
 use std::alloc::{AllocError, Global};
 use std::test::Fail;
 use table_tests::{Row, all_hold};
-use token_spans::Span;
+use token_spans::KeptSpan;
 use verilog_tokens::scan;
 
 /// The tokens of a text, with a blank behind each.
-fn spelled(alloc: Global, text: &[u8], spans: &[Span]) -> Result<Vec<u8>, AllocError> {
+fn spelled(alloc: Global, text: &[u8], tokens: &[KeptSpan]) -> Result<Vec<u8>, AllocError> {
     let mut joined = Vec::new(alloc);
-    for span in spans {
+    for token in tokens {
+        let span = token.span();
         if let Some(bytes) = text.get(span.at..span.end) {
             joined.extend_from_slice(bytes)?;
         }

@@ -1,6 +1,6 @@
-use Rattle.vhdl_names.specs.Words.{is_reserved, vhdl_words}
+use Rattle.std.proofs.Common.{arith}
+use Rattle.vhdl_names.proofs.NoWord.{nothing_is_not_reserved}
 use Rattle.vhdl_names.proofs.words.is_reserved.Goals as goal
 
-pub returns : goal.returns
-unfolding is_reserved vhdl_words
-returns c = c.is_among.ensures
+pub returns-in-empty : goal.returns-in-empty
+returns-in-empty c = nothing_is_not_reserved c.args.name.now (omega arith)

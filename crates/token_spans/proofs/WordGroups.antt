@@ -6,7 +6,7 @@ use Rattle.std.proofs.lemmas.Bool.Decides.{nat_tests}
 use Rattle.std.proofs.lemmas.List.Folds.{list_any-append}
 use Rattle.std.specs.List.{list_all, list_any}
 use Rattle.std.specs.Str.{bytes_eq}
-use Rattle.verilog_tokens.specs.WordGroups.{begins, begin_from, joined}
+use Rattle.token_spans.specs.WordGroups.{begins, begin_from, joined}
 
 -- words that begin with another letter
 none_of : (letter first : ℕ) (rest : List ℕ) → nat_eq first letter ≡ false → (words : List (List ℕ)) → list_all (begins letter) words ≡ true →

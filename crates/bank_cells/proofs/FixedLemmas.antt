@@ -68,7 +68,7 @@ module _ (vectors : List Vector) (at : ℕ) where
       ap (λ b. b || list_any (word_fails vectors (Some at)) words) (word_there (pins_named vectors word) both.0) ∙ words_there words both.1
 
   -- a statement of a timing group
-  values_same : (is_text : Bool) (values : List Value)
+  pub values_same : (is_text : Bool) (values : List Value)
       → names_none vectors (if is_text then Some (record { text = text_of values; at = 0 }) else None) ≡ true
       → values_if vectors (Some 0) is_text values ≡ values_if vectors (Some at) is_text values
   values_same false values e = refl
@@ -111,7 +111,7 @@ module _ (vectors : List Vector) (at : ℕ) where
       (statement_by item (simple_named (codes "related_pin") (out-Item item)) (simple_named (codes "related_bus_pins") (out-Item item)) parts.0 parts.1)
       ∙ ap (λ rest. timing_item vectors (Some at) item ∷ rest) (statements_same items both.1)
 
-  timing_same : (group : Group) → list_all (is_fixed vectors) group.items ≡ true → timing_at vectors (Some 0) group ≡ timing_at vectors (Some at) group
+  pub timing_same : (group : Group) → list_all (is_fixed vectors) group.items ≡ true → timing_at vectors (Some 0) group ≡ timing_at vectors (Some at) group
   timing_same group e =
       ap (λ items. roll-Group (record { name = group.name; arguments = group.arguments; items = items; at = group.at })) (statements_same group.items e)
 

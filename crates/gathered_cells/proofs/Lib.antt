@@ -1,0 +1,5 @@
+pub mod Single
+pub mod Lists
+pub mod Cells
+pub mod Refused
+pub mod Members

@@ -145,7 +145,7 @@ module _ (vectors : List Vector) (at : ℕ) where
       by next None None is also n = rw (is, also) (next found f)
       by next None (Some buses) is also n = rw (is, also) (next (Some (record { text = []; at = buses.at })) refl)
 
-  condition_there : (o : Option Attribute) → names_none vectors o ≡ true → fault_of vectors (Some at) o ≡ []
+  pub condition_there : (o : Option Attribute) → names_none vectors o ≡ true → fault_of vectors (Some at) o ≡ []
   condition_there None e = refl
   condition_there (Some text) e = ap (λ b. if b then text.at ∷ [] else []) (parts_there (parts_of text.text) (from_not (names_vector vectors text.text) e))
 
@@ -154,7 +154,7 @@ module _ (vectors : List Vector) (at : ℕ) where
   related_there (Some text) e =
       ap (λ b. if b then text.at ∷ [] else []) (words_there (related_words text.text) (from_not (list_any (is_vector_word vectors) (related_words text.text)) e))
 
-  timing_there : (items : List Item) → list_all (is_fixed vectors) items ≡ true → timing_faults vectors (Some at) items ≡ []
+  pub timing_there : (items : List Item) → list_all (is_fixed vectors) items ≡ true → timing_faults vectors (Some at) items ≡ []
   timing_there items e =
       ap (λ faults. (faults ++ []) ++ related_fault vectors (Some at) (related_text items)) (condition_there (last_or None (attributes_named (codes "when") items)) (condition_counts None items refl e))
       ∙ related_there (related_text items) (related_counts None items refl e)

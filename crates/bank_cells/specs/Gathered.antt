@@ -1,7 +1,7 @@
 -- The expanded group of a cell in which the pins of a bus or bundle are one pin group with all their names, where they have the
 -- same statements (Liberty Reference Manual, `pin` group: one with several names makes a pin for each).
-use Rattle.std.specs.Prelude.{◌≡◌, ℕ, Bool, true, not, ◌&&◌, ◌||◌, List, [], ◌∷◌, map, filter, flat_map, codes}
-use Rattle.std.specs.Prelude.{Option, Some, None, Result, Ok, Err, if◌then◌else◌}
+use Rattle.std.specs.Prelude.{ℕ, Bool, true, not, ◌&&◌, ◌||◌, List, [], ◌∷◌, map, filter, flat_map, codes}
+use Rattle.std.specs.Prelude.{Some, Result, if◌then◌else◌}
 use Rattle.std.specs.List.{list_all}
 use Rattle.liberty_groups.specs.declared.tree.Value.{Value}
 use Rattle.liberty_groups.specs.declared.tree.Item.{Item, out-Item}
@@ -14,10 +14,9 @@ use Rattle.bus_texts.specs.declared.bus_types.BusType.{BusType}
 use Rattle.bus_texts.specs.declared.vectors.Vector.{Vector}
 use Rattle.bus_texts.specs.Vectors.{is_called, pin_vectors, cell_vectors}
 use Rattle.bank_cells.specs.declared.expansion.BankFault.{BankFault}
-use Rattle.bank_cells.specs.declared.expansion.BankFault.TheVariants.{Refused, Memory}
 use Rattle.bank_cells.specs.Members.{is_shared}
-use Rattle.bank_cells.specs.Refusals.{is_pins, has_many, bank_refusal}
-use Rattle.bank_cells.specs.Expanded.{pin_item, expanded_group}
+use Rattle.bank_cells.specs.Refusals.{is_pins, has_many}
+use Rattle.bank_cells.specs.Expanded.{pin_item, expanded_group, AnswersWith}
 use Rattle.bank_cells.specs.Fixed.{names_none, is_fixed}
 
 -- A text of a pin names no bus, bundle or variable of a bank.
@@ -87,8 +86,6 @@ gathered_cell types cell =
 unfoldable pub gathered : List BusType → Group → Group
 gathered types cell = if has_many cell then gathered_cell types cell else cell
 
--- What gathering answers: the group where nothing refuses to expand it, why it is refused, or that memory was wanting.
+-- What gathering answers.
 abbrev pub Gathers : List BusType → Group → Result Group BankFault → Type 0
-Gathers types cell (Ok group) = (bank_refusal types cell ≡ None) × (group ≡ gathered types cell)
-Gathers types cell (Err (Refused refusal)) = bank_refusal types cell ≡ Some refusal
-Gathers types cell (Err Memory) = Unit {0}
+Gathers types cell result = AnswersWith types cell (gathered types cell) result

@@ -68,7 +68,7 @@ fn add_single(
 }
 
 /// Adds what stands in the place of a group of a cell.
-fn add_group(
+pub(crate) fn add_group(
     alloc: Global,
     found: &mut Items<Item>,
     types: &BusTypes,
@@ -88,7 +88,7 @@ fn add_group(
 }
 
 /// Adds what stands in the place of a statement of a cell.
-fn add_item(
+pub(crate) fn add_item(
     alloc: Global,
     found: &mut Items<Item>,
     types: &BusTypes,

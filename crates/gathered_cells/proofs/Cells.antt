@@ -60,9 +60,11 @@ owners_alone groups =
   where
     joined : (xs ys : List Group) → map alone (of_pins names_in (xs ++ ys)) ≡ map alone (of_pins names_in xs) ++ map alone (of_pins names_in ys)
     joined xs ys = ap (map alone) (of_pins_join names_in xs ys) ∙ map-append alone (of_pins names_in xs) (of_pins names_in ys)
+
     by : (group : Group) (b : Bool) → (if b then map (single group) group.arguments else []) ≡ map alone (if b then names_in group else [])
     by group true = alone_names group group.arguments
     by group false = refl
+
     each : (group : Group) → of_pins owners_in (apart group) ≡ map alone (of_pins names_in (group ∷ []))
     each group =
         several_of owners_in group

@@ -3,3 +3,4 @@ pub mod Lists
 pub mod Cells
 pub mod Refused
 pub mod Members
+pub mod ReadLemmas

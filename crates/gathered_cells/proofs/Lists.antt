@@ -134,6 +134,7 @@ least_same x same groups =
   where
     joined : (xs ys : List Group) → least (of_pins x (xs ++ ys)) ≡ lesser (least (of_pins x xs)) (least (of_pins x ys))
     joined xs ys = ap least (of_pins_join x xs ys) ∙ least_join (of_pins x xs) (of_pins x ys)
+
     by : (group : Group) (b : Bool)
         → least (if b && not (length group.arguments == 0) then flat_map x (map (single group) group.arguments) else [])
         ≡ least (if b && not (length group.arguments == 0) then x group else [])

@@ -25,86 +25,11 @@ use Rattle.bank_cells.specs.Fixed.{names_none, is_fixed}
 use Rattle.bank_cells.specs.Refusals.{is_pins, has_many, along}
 use Rattle.bank_cells.specs.Expanded.{values_if, text_as, text_at, timing_at, pin_item_as, pin_item, member_pin, member_pins, vector_pins, bank_states, single_group, expanded_group, expanded_as, expanded_item, expanded_cell, expanded}
 use Rattle.bank_cells.specs.Gathered.{text_stays, group_stays, stays, are_alike, name_value, members_of, gathered_pin, gathered_pins, gathered_group, gathered_as, gathered_item, gathered_cell, gathered}
-use Rattle.bank_cells.proofs.FixedLemmas.{values_same, timing_same}
+use Rattle.bank_cells.proofs.AlikeLemmas.{statements_same, no_own}
 use Rattle.gathered_cells.specs.Laws.{IsReadAs}
 use Rattle.gathered_cells.proofs.Single.{single, same_items, same_at, its_name, is_called_pin}
 use Rattle.gathered_cells.proofs.Lists.{apart}
 use Rattle.gathered_cells.proofs.Refused.{read_alike}
-
--- A statement that stays becomes the same at each position.
-abbrev none_by : List Vector → List Value → ℕ → Bool → Bool
-none_by vectors value offset b = names_none vectors (if b then Some (record { text = text_of value; at = offset }) else None)
-
-module _ (vectors : List Vector) (at : ℕ) where
-  text_same : (y : Item-F Item Group) → text_stays vectors y ≡ true → text_as vectors (Some 0) pin_texts y ≡ text_as vectors (Some at) pin_texts y
-  text_same (layer.Simple name value offset) e =
-      let both = and_parts (none_by vectors value offset (bytes_eq name (codes "function"))) (none_by vectors value offset (bytes_eq name (codes "state_function")) && none_by vectors value offset (bytes_eq name (codes "three_state"))) e in
-      let others = and_parts (none_by vectors value offset (bytes_eq name (codes "state_function"))) (none_by vectors value offset (bytes_eq name (codes "three_state"))) both.1 in
-      ap (λ values. made.Simple name values offset)
-      (by (bytes_eq name (codes "function")) (bytes_eq name (codes "state_function")) (bytes_eq name (codes "three_state")) both.0 others.0 others.1)
-    where
-      by : (a b c : Bool) → none_by vectors value offset a ≡ true → none_by vectors value offset b ≡ true → none_by vectors value offset c ≡ true
-          → values_if vectors (Some 0) (a || (b || (c || false))) value ≡ values_if vectors (Some at) (a || (b || (c || false))) value
-      by true b c f g h = values_same vectors at true value f
-      by false true c f g h = values_same vectors at true value g
-      by false false true f g h = values_same vectors at true value h
-      by false false false f g h = refl
-  text_same (layer.Complex name arguments offset) e = refl
-  text_same (layer.Inner group) e = refl
-
-  statement_by : (y : Item-F Item Group) (item : Item) → text_at vectors (Some 0) pin_texts item ≡ text_at vectors (Some at) pin_texts item → group_stays vectors y ≡ true
-      → pin_item_as vectors (Some 0) y item ≡ pin_item_as vectors (Some at) y item
-  statement_by (layer.Simple name value offset) item same e = same
-  statement_by (layer.Complex name arguments offset) item same e = refl
-  statement_by (layer.Inner group) item same e =
-      by (is_called (codes "timing") group)
-      (and_parts (not (is_called (codes "pin") group)) (not (is_called (codes "timing") group) || list_all (is_fixed vectors) group.items) e).1
-    where
-      by : (b : Bool) → (not b || list_all (is_fixed vectors) group.items) ≡ true
-          → (if b then made.Inner (timing_at vectors (Some 0) group) else item) ≡ (if b then made.Inner (timing_at vectors (Some at) group) else item)
-      by true f = ap made.Inner (timing_same vectors at group f)
-      by false f = refl
-
-  statement_same : (item : Item) → stays vectors item ≡ true → pin_item vectors (Some 0) item ≡ pin_item vectors (Some at) item
-  statement_same item e =
-      let both = and_parts (text_stays vectors (out-Item item)) (group_stays vectors (out-Item item)) e in
-      statement_by (out-Item item) item (text_same (out-Item item) both.0) both.1
-
-  statements_same : (items : List Item) → list_all (stays vectors) items ≡ true
-      → map (pin_item vectors (Some at)) (filter is_shared items) ≡ map (pin_item vectors (Some 0)) (filter is_shared items)
-  statements_same [] e = refl
-  statements_same (item ∷ items) e =
-      let both = and_parts (stays vectors item) (list_all (stays vectors) items) e in
-      by (is_shared item) (statement_same item both.0) (statements_same items both.1)
-    where
-      by : (b : Bool) → pin_item vectors (Some 0) item ≡ pin_item vectors (Some at) item
-          → map (pin_item vectors (Some at)) (filter is_shared items) ≡ map (pin_item vectors (Some 0)) (filter is_shared items)
-          → map (pin_item vectors (Some at)) (if b then item ∷ filter is_shared items else filter is_shared items)
-          ≡ map (pin_item vectors (Some 0)) (if b then item ∷ filter is_shared items else filter is_shared items)
-      by true here rest =
-          ap (λ (one : Item). one ∷ map (pin_item vectors (Some at)) (filter is_shared items)) (sym here)
-          ∙ ap (λ l. pin_item vectors (Some 0) item ∷ l) rest
-      by false here rest = rest
-
--- Members that are alike have no statements of their own.
-module _ (vectors : List Vector) (vector : Vector) (at : ℕ) (member : List ℕ) where
-  own_by : (y : Item-F Item Group) → group_stays vectors y ≡ true → own_items_as vector at member y ≡ []
-  own_by (layer.Simple name value offset) e = refl
-  own_by (layer.Complex name arguments offset) e = refl
-  own_by (layer.Inner group) e =
-      by (is_called (codes "pin") group)
-      (and_parts (not (is_called (codes "pin") group)) (not (is_called (codes "timing") group) || list_all (is_fixed vectors) group.items) e).0
-    where
-      by : (b : Bool) → not b ≡ true → (if b && list_any (names_member vector at member) group.arguments then group.items else []) ≡ []
-      by true f = absurd cc
-      by false f = refl
-
-  no_own : (items : List Item) → list_all (stays vectors) items ≡ true → flat_map (own_items vector at member) items ≡ []
-  no_own [] e = refl
-  no_own (item ∷ items) e =
-      let both = and_parts (stays vectors item) (list_all (stays vectors) items) e in
-      let here = and_parts (text_stays vectors (out-Item item)) (group_stays vectors (out-Item item)) both.0 in
-      ap (λ l. l ++ flat_map (own_items vector at member) items) (own_by (out-Item item) here.1) ∙ no_own items both.1
 
 -- So a member's pin is one of the gathered ones.
 abbrev pin_with : Value → List Item → ℕ → Group

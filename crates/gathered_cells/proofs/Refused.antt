@@ -199,10 +199,12 @@ module _
       left_out =
           join_same (flat_map left_out_in (pin_groups one)) (flat_map left_out_in (state_groups one)) (flat_map left_out_in (pin_groups other)) (flat_map left_out_in (state_groups other))
           (same_least left_out_in same_left_out) (ap (λ states. least (flat_map left_out_in states)) same_states)
+
       malformed_alike : least (malformed s one) ≡ least (malformed s other)
       malformed_alike =
           same_wrong malformed_in malformed_at (timing_places malformed_timing s one) (timing_places malformed_timing s other)
           (same_places malformed_timing (λ s group value. same_malformed group value s) s)
+
       unknown_alike : least (unknown_names s one) ≡ least (unknown_names s other)
       unknown_alike =
           same_wrong unknown_in unknown_at (timing_places unknown_timing s one) (timing_places unknown_timing s other)

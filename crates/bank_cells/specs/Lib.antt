@@ -5,3 +5,4 @@ pub mod Refusals
 pub mod Expanded
 pub mod Fixed
 pub mod Gathered
+pub mod Copies

@@ -6,12 +6,13 @@ ghost use Rattle.bank_cells.specs.Expanded.{pin_item};
 ghost use Rattle.bank_cells.specs.Gathered as spec;
 
 use crate::alike::are_alike;
+use crate::copies::with_items;
 use crate::expansion::{BankFault, add_group, add_item};
 use crate::refusals::{bank_refusal, has_many, is_pins};
 use crate::room::with_room;
 use crate::shared::{add_shared_at, shared_items};
 use bus_texts::{BusTypes, Vector, Vectors, cell_vectors, pin_vectors};
-use liberty_groups::{Group, Item, Value, copy_bytes, copy_group, copy_values};
+use liberty_groups::{Group, Item, Value, copy_bytes, copy_group};
 use sqlite_items::Items;
 use std::alloc::{AllocError, Global};
 
@@ -125,12 +126,8 @@ fn gathered_cell(alloc: Global, types: &BusTypes, cell: &Group) -> Result<Group,
     ensures { IfOk result (λ group. group ≡ spec.gathered_cell types.now cell.now) }
 {
     let vectors = cell_vectors(alloc, types, cell)?;
-    Ok(Group {
-        name: copy_bytes(alloc, cell.name.as_slice())?,
-        arguments: copy_values(alloc, cell.arguments.as_slice())?,
-        items: gathered_items(alloc, types, &vectors, cell.items.as_slice())?,
-        at: cell.at,
-    })
+    let items = gathered_items(alloc, types, &vectors, cell.items.as_slice())?;
+    with_items(alloc, cell, items)
 }
 
 /// The gathered group of a cell.

@@ -2,6 +2,7 @@
 #![tactic(auto)]
 
 mod alike;
+mod copies;
 mod expansion;
 mod faults;
 mod fixed;

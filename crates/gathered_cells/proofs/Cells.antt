@@ -1,8 +1,8 @@
 -- The pins of groups one by one: what is read of each, whether its group has one name or several.
-use Rattle.std.proofs.Common.{◌≡◌, ℕ, ◌+◌, Bool, true, false, not, ◌&&◌, List, [], ◌∷◌, ◌++◌, length, map, filter, Option, Some, None, if◌then◌else◌, refl, sym, ap, ◌∙◌}
+use Rattle.std.proofs.Common.{◌≡◌, ℕ, ◌+◌, Bool, true, false, List, [], ◌∷◌, ◌++◌, map, filter, if◌then◌else◌, refl, sym, ap, ◌∙◌}
 use Rattle.std.specs.Prelude.{flat_map}
 use Rattle.std.specs.List.{list_all}
-use Rattle.std.proofs.lemmas.Bool.{and_parts, and_from, and_right}
+use Rattle.std.proofs.lemmas.Bool.{and_parts, and_from}
 use Rattle.std.proofs.lemmas.List.{map-append}
 use Rattle.std.proofs.lemmas.List.Folds.{list_all-append}
 use Rattle.liberty_groups.specs.declared.tree.Value.{Value}
@@ -16,7 +16,7 @@ use Rattle.cell_parts.specs.Pins.{owner_as, owners_in}
 use Rattle.cell_parts.specs.Vocabulary.{Vocabulary}
 use Rattle.cell_parts.specs.Building.{output_in, outputs_from}
 use Rattle.cell_parts.specs.Limits.{place_of_group}
-use Rattle.core_groups.specs.Outputs.{ThreeStateOutput, is_three_state, outputs_from as floating_from}
+use Rattle.core_groups.specs.Outputs.{is_three_state, outputs_from as floating_from}
 use Rattle.gathered_cells.proofs.Single.{single, same_at, same_answer, same_output, same_left_out_timing, same_floating, its_owner}
 use Rattle.gathered_cells.proofs.Lists.{apart, told, of_pins, of_pins_join, one_of, several_of, each_name}
 

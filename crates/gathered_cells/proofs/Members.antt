@@ -1,8 +1,7 @@
 -- The pins of a bus or bundle that are alike, one by one and gathered.
-use Rattle.std.proofs.Common.{◌≡◌, ℕ, ◌+◌, Bool, true, false, not, ◌&&◌, ◌||◌, List, [], ◌∷◌, ◌++◌, map, filter, Option, Some, None, if◌then◌else◌, refl, sym, ap, ◌∙◌, codes, append-nil}
+use Rattle.std.proofs.Common.{◌≡◌, ℕ, ◌+◌, Bool, true, false, ◌&&◌, List, [], ◌∷◌, ◌++◌, map, filter, Some, if◌then◌else◌, refl, sym, ap, ◌∙◌, codes, append-nil}
 use Rattle.std.specs.Prelude.{flat_map, bytes_eq}
-use Rattle.std.specs.List.{cons_option, list_any, list_all}
-use Rattle.std.proofs.lemmas.Bool.{and_parts}
+use Rattle.std.specs.List.{cons_option}
 use Rattle.std.proofs.lemmas.Grind.{flat_map-append}
 use Rattle.std.proofs.lemmas.List.{map-append}
 use Rattle.std.proofs.lemmas.List.Elements.{filter_map-append}
@@ -13,18 +12,15 @@ use Rattle.liberty_groups.specs.declared.tree.Item.TheOpen as layer
 use Rattle.liberty_groups.specs.declared.tree.Item.TheVariants as made
 use Rattle.liberty_groups.specs.declared.tree.Item.TheViews.{outs-Inner, out-roll-Group}
 use Rattle.liberty_groups.specs.declared.tree.Group.{Group, roll-Group, out-Group}
-use Rattle.liberty_groups.specs.Attributes.{text_of}
 use Rattle.cell_parts.specs.Groups.{is_called, inner_of, inner_groups}
 use Rattle.core_groups.specs.Outputs.{three_state_outputs}
 use Rattle.bus_texts.specs.declared.bus_types.BusType.{BusType}
 use Rattle.bus_texts.specs.declared.vectors.Vector.{Vector}
 use Rattle.bus_texts.specs.Vectors.{is_bank, pin_vectors, cell_vectors}
-use Rattle.bank_cells.specs.Members.{is_shared, names_member, inner_pin_items, own_items_as, own_items, member_items}
-use Rattle.bank_cells.specs.Faults.{pin_texts}
-use Rattle.bank_cells.specs.Fixed.{names_none, is_fixed}
+use Rattle.bank_cells.specs.Members.{is_shared}
 use Rattle.bank_cells.specs.Refusals.{is_pins, has_many, along}
-use Rattle.bank_cells.specs.Expanded.{values_if, text_as, text_at, timing_at, pin_item_as, pin_item, member_pin, member_pins, vector_pins, bank_states, single_group, expanded_group, expanded_as, expanded_item, expanded_cell, expanded}
-use Rattle.bank_cells.specs.Gathered.{text_stays, group_stays, stays, are_alike, name_value, members_of, gathered_pin, gathered_pins, gathered_group, gathered_as, gathered_item, gathered_cell, gathered}
+use Rattle.bank_cells.specs.Expanded.{pin_item, member_pin, member_pins, vector_pins, bank_states, single_group, expanded_group, expanded_as, expanded_item, expanded_cell, expanded}
+use Rattle.bank_cells.specs.Gathered.{are_alike, name_value, members_of, gathered_pin, gathered_pins, gathered_group, gathered_as, gathered_item, gathered_cell, gathered}
 use Rattle.bank_cells.proofs.AlikeLemmas.{statements_same, no_own}
 use Rattle.gathered_cells.specs.Laws.{IsReadAs}
 use Rattle.gathered_cells.proofs.Single.{single, same_items, same_at, its_name, is_called_pin}

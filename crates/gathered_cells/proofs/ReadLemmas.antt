@@ -1,5 +1,5 @@
 -- A gathered group whose outputs never float is read as the expanded one.
-use Rattle.std.proofs.Common.{◌≡◌, ℕ, ◌==◌, true, List, [], ◌∷◌, length, Option, None, Result, IfOk, IfErr, refl, sym, ◌∙◌, subst, arith}
+use Rattle.std.proofs.Common.{◌≡◌, ℕ, ◌==◌, true, List, [], ◌∷◌, length, Option, None, Result, IfOk, IfErr, refl, sym, subst, arith}
 use Rattle.std.proofs.lemmas.Bool.{eqb-true}
 use Rattle.liberty_text.specs.declared.time.Unit.{Unit}
 use Rattle.liberty_groups.specs.declared.tree.Group.{Group}

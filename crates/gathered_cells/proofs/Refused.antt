@@ -1,6 +1,6 @@
 -- Two cells that are alike but for the names of their pin groups, which one has together where the other has them apart, are read
 -- alike.
-use Rattle.std.proofs.Common.{◌≡◌, ℕ, List, [], ◌∷◌, ◌++◌, length, map, filter, Option, Some, None, if◌then◌else◌, refl, sym, ap, ◌∙◌}
+use Rattle.std.proofs.Common.{◌≡◌, ℕ, List, [], ◌∷◌, ◌++◌, length, map, filter, Option, None, if◌then◌else◌, refl, sym, ap, ◌∙◌}
 use Rattle.std.specs.Prelude.{flat_map, is_some}
 use Rattle.std.proofs.lemmas.List.Folds.{flat_map-map}
 use Rattle.liberty_text.specs.declared.time.Unit.{Unit}
@@ -27,7 +27,7 @@ use Rattle.cell_parts.specs.TextFaults.{malformed_in, unknown_in}
 use Rattle.cell_parts.specs.StateReadings.{state_reading}
 use Rattle.cell_parts.specs.Outputs.{pin_text}
 use Rattle.cell_parts.specs.Building.{cell_numbers, groups_from, outputs_from}
-use Rattle.cell_parts.specs.CellLaws.{texts_of, groups_of, outputs_of}
+use Rattle.cell_parts.specs.CellLaws.{texts_of, outputs_of}
 use Rattle.cell_parts.specs.Limits.{first_past, place_of_group, state_at, wide_output}
 use Rattle.cell_reader.specs.declared.refusal.Reason.{Reason}
 use Rattle.cell_reader.specs.declared.refusal.Reason.TheVariants as reason

@@ -1,6 +1,6 @@
 -- A pin group with one name, which is like another group in its statements and its offset: all that is read of it is the same.
-use Rattle.std.proofs.Common.{◌≡◌, ℕ, Bool, true, false, not, ◌&&◌, ◌||◌, ◌==◌, List, [], ◌∷◌, ◌++◌, length, map, Option, Some, None, if◌then◌else◌, refl, sym, ap, ◌∙◌, codes}
-use Rattle.std.specs.Prelude.{flat_map, bytes_eq, is_some, is_none, unwrap_or, Result, Ok, Err}
+use Rattle.std.proofs.Common.{◌≡◌, ℕ, true, false, not, ◌&&◌, ◌||◌, ◌==◌, List, [], ◌∷◌, ◌++◌, length, map, Option, Some, None, if◌then◌else◌, refl, sym, ap, ◌∙◌, codes}
+use Rattle.std.specs.Prelude.{flat_map, bytes_eq, is_some, is_none, unwrap_or, Ok, Err}
 use Rattle.std.specs.Option.{option_map_or}
 use Rattle.liberty_groups.specs.declared.tree.Value.{Value}
 use Rattle.liberty_groups.specs.declared.tree.Item.{Item}
@@ -22,10 +22,8 @@ use Rattle.timing_arcs.specs.declared.subject.PinTiming.{PinTiming}
 use Rattle.timing_arcs.specs.Making.{checks_in}
 use Rattle.timing_arcs.specs.Merging.{merged, merged_at}
 use Rattle.timing_arcs.specs.Timing as timing
-use Rattle.cell_reader.specs.declared.left_out.LeftOut.{LeftOut}
 use Rattle.cell_reader.specs.PinTimings.{Answer, arc_at_of, type_at, left_out_in}
 use Rattle.cell_reader.specs.Written as written
-use Rattle.cell_parts.specs.declared.texts.Text.{Text}
 use Rattle.cell_parts.specs.Vocabulary.{Entry, Vocabulary, is_bound, class_as, entry_with, pin_entry, pin_entries}
 use Rattle.cell_parts.specs.States.{StateName}
 use Rattle.cell_parts.specs.declared.vocabulary.Class.{Class}

@@ -68,7 +68,7 @@ module _ (vectors : List Vector) (at : ℕ) where
       ap (λ b. b || list_any (word_fails vectors (Some at)) words) (word_there (pins_named vectors word) both.0) ∙ words_there words both.1
 
   -- a statement of a timing group
-  values_same : (is_text : Bool) (values : List Value)
+  pub values_same : (is_text : Bool) (values : List Value)
       → names_none vectors (if is_text then Some (record { text = text_of values; at = 0 }) else None) ≡ true
       → values_if vectors (Some 0) is_text values ≡ values_if vectors (Some at) is_text values
   values_same false values e = refl
@@ -111,7 +111,7 @@ module _ (vectors : List Vector) (at : ℕ) where
       (statement_by item (simple_named (codes "related_pin") (out-Item item)) (simple_named (codes "related_bus_pins") (out-Item item)) parts.0 parts.1)
       ∙ ap (λ rest. timing_item vectors (Some at) item ∷ rest) (statements_same items both.1)
 
-  timing_same : (group : Group) → list_all (is_fixed vectors) group.items ≡ true → timing_at vectors (Some 0) group ≡ timing_at vectors (Some at) group
+  pub timing_same : (group : Group) → list_all (is_fixed vectors) group.items ≡ true → timing_at vectors (Some 0) group ≡ timing_at vectors (Some at) group
   timing_same group e =
       ap (λ items. roll-Group (record { name = group.name; arguments = group.arguments; items = items; at = group.at })) (statements_same group.items e)
 
@@ -145,7 +145,7 @@ module _ (vectors : List Vector) (at : ℕ) where
       by next None None is also n = rw (is, also) (next found f)
       by next None (Some buses) is also n = rw (is, also) (next (Some (record { text = []; at = buses.at })) refl)
 
-  condition_there : (o : Option Attribute) → names_none vectors o ≡ true → fault_of vectors (Some at) o ≡ []
+  pub condition_there : (o : Option Attribute) → names_none vectors o ≡ true → fault_of vectors (Some at) o ≡ []
   condition_there None e = refl
   condition_there (Some text) e = ap (λ b. if b then text.at ∷ [] else []) (parts_there (parts_of text.text) (from_not (names_vector vectors text.text) e))
 
@@ -154,7 +154,7 @@ module _ (vectors : List Vector) (at : ℕ) where
   related_there (Some text) e =
       ap (λ b. if b then text.at ∷ [] else []) (words_there (related_words text.text) (from_not (list_any (is_vector_word vectors) (related_words text.text)) e))
 
-  timing_there : (items : List Item) → list_all (is_fixed vectors) items ≡ true → timing_faults vectors (Some at) items ≡ []
+  pub timing_there : (items : List Item) → list_all (is_fixed vectors) items ≡ true → timing_faults vectors (Some at) items ≡ []
   timing_there items e =
       ap (λ faults. (faults ++ []) ++ related_fault vectors (Some at) (related_text items)) (condition_there (last_or None (attributes_named (codes "when") items)) (condition_counts None items refl e))
       ∙ related_there (related_text items) (related_counts None items refl e)

@@ -4,3 +4,5 @@ pub mod Faults
 pub mod Refusals
 pub mod Expanded
 pub mod Fixed
+pub mod Gathered
+pub mod Copies

@@ -2,12 +2,13 @@
 ghost use Rattle.std.specs.Prelude.{◌≡◌, ◌++◌, IfOk, OnOk, flat_map};
 ghost use Rattle.bank_cells.specs.Expanded as spec;
 
+use crate::copies::with_items;
 use crate::pins::{add_pins, single_pin};
 use crate::refusal::BankRefusal;
 use crate::refusals::{bank_refusal, has_many, is_pins};
 use crate::states::add_bank;
 use bus_texts::{BusTypes, Vectors, bank_of, cell_vectors, is_bank, is_called, pin_vectors};
-use liberty_groups::{Group, Item, copy_bytes, copy_group, copy_item, copy_values};
+use liberty_groups::{Group, Item, copy_group, copy_item};
 use sqlite_items::Items;
 use std::alloc::{AllocError, Global};
 use thiserror::Error;
@@ -68,7 +69,7 @@ fn add_single(
 }
 
 /// Adds what stands in the place of a group of a cell.
-fn add_group(
+pub(crate) fn add_group(
     alloc: Global,
     found: &mut Items<Item>,
     types: &BusTypes,
@@ -88,7 +89,7 @@ fn add_group(
 }
 
 /// Adds what stands in the place of a statement of a cell.
-fn add_item(
+pub(crate) fn add_item(
     alloc: Global,
     found: &mut Items<Item>,
     types: &BusTypes,
@@ -127,12 +128,8 @@ fn expanded_cell(alloc: Global, types: &BusTypes, cell: &Group) -> Result<Group,
     ensures { IfOk result (λ group. group ≡ spec.expanded_cell types.now cell.now) }
 {
     let vectors = cell_vectors(alloc, types, cell)?;
-    Ok(Group {
-        name: copy_bytes(alloc, cell.name.as_slice())?,
-        arguments: copy_values(alloc, cell.arguments.as_slice())?,
-        items: expanded_items(alloc, types, &vectors, cell.items.as_slice())?,
-        at: cell.at,
-    })
+    let items = expanded_items(alloc, types, &vectors, cell.items.as_slice())?;
+    with_items(alloc, cell, items)
 }
 
 /// The expanded group of a cell.

@@ -1,5 +1,5 @@
 //! The texts that name a bus, a bundle or a variable of a bank where it has no bit.
-ghost use Rattle.std.specs.Prelude.{◌≡◌, ◌++◌, OnOk, map, option_map};
+ghost use Rattle.std.specs.Prelude.{◌≡◌, ◌++◌, ◌∷◌, [], if◌then◌else◌, codes, OnOk, map, option_map};
 ghost use Rattle.liberty_groups.specs.Attributes.{shown, attributes_named, last_or};
 ghost use Rattle.bank_cells.specs.Faults as spec;
 
@@ -27,6 +27,16 @@ fn last_named<'a>(items: &[&'a Item], name: &[u8]) -> Option<Attribute<'a>>
     found
 }
 
+/// Adds an offset, if something fails there.
+pub(crate) fn add_at_if(found: &mut Vec<usize>, fails: bool, at: usize) -> Result<(), AllocError>
+    ensures { OnOk result (found.new.items ≡ found.old.items ++ (if fails then at ∷ [] else [])) }
+{
+    if fails {
+        found.push(at)?;
+    }
+    Ok(())
+}
+
 /// Adds the offset of a text that cannot become what it has to.
 fn add_fault(
     alloc: Global,
@@ -38,10 +48,8 @@ fn add_fault(
         (found.new.items
         ≡ found.old.items ++ spec.fault_of place.entry.vectors.now place.entry.position (Some (shown text.entry))) }
 {
-    if text_fails(alloc, place.vectors, place.position, text.text)? {
-        found.push(text.at)?;
-    }
-    Ok(())
+    let fails = text_fails(alloc, place.vectors, place.position, text.text)?;
+    add_at_if(found, fails, text.at)
 }
 
 /// Adds the offset of the text of this name, if it cannot become what it has to.
@@ -95,6 +103,27 @@ pub(crate) fn add_timing_texts(
     add_named(alloc, found, place, items, b"when")
 }
 
+/// Adds the offsets of the texts of a state that cannot become what they have to, where the first two have these names.
+fn add_state_texts(
+    alloc: Global,
+    found: &mut Vec<usize>,
+    place: Place<'_>,
+    items: &[&Item],
+    first: &[u8],
+    second: &[u8],
+) -> Result<(), AllocError>
+    ensures { OnOk result
+        (found.new.items
+        ≡ found.old.items
+        ++ spec.text_faults place.entry.vectors.now place.entry.position
+        (first.now ∷ second.now ∷ codes "clear" ∷ codes "preset" ∷ []) (map (λ item. item.now) items.now)) }
+{
+    add_named(alloc, found, place, items, first)?;
+    add_named(alloc, found, place, items, second)?;
+    add_named(alloc, found, place, items, b"clear")?;
+    add_named(alloc, found, place, items, b"preset")
+}
+
 /// Adds the offsets of the texts of a flip-flop that cannot become what they have to.
 pub(crate) fn add_ff_texts(
     alloc: Global,
@@ -107,10 +136,7 @@ pub(crate) fn add_ff_texts(
         ≡ found.old.items
         ++ spec.text_faults place.entry.vectors.now place.entry.position spec.ff_texts (map (λ item. item.now) items.now)) }
 {
-    add_named(alloc, found, place, items, b"next_state")?;
-    add_named(alloc, found, place, items, b"clocked_on")?;
-    add_named(alloc, found, place, items, b"clear")?;
-    add_named(alloc, found, place, items, b"preset")
+    add_state_texts(alloc, found, place, items, b"next_state", b"clocked_on")
 }
 
 /// Adds the offsets of the texts of a latch that cannot become what they have to.
@@ -125,8 +151,5 @@ pub(crate) fn add_latch_texts(
         ≡ found.old.items
         ++ spec.text_faults place.entry.vectors.now place.entry.position spec.latch_texts (map (λ item. item.now) items.now)) }
 {
-    add_named(alloc, found, place, items, b"data_in")?;
-    add_named(alloc, found, place, items, b"enable")?;
-    add_named(alloc, found, place, items, b"clear")?;
-    add_named(alloc, found, place, items, b"preset")
+    add_state_texts(alloc, found, place, items, b"data_in", b"enable")
 }

@@ -1,6 +1,8 @@
 //! Timing groups that become the same at each position.
 ghost use Rattle.std.specs.Prelude.{◌≡◌, not, IfOk, map};
 ghost use Rattle.std.specs.List.{list_any, list_all};
+ghost use Rattle.liberty_groups.specs.declared.tree.Item.{out-Item};
+ghost use Rattle.liberty_groups.specs.Attributes.{simple_named};
 ghost use Rattle.bank_cells.specs.Faults.{related_words as words_of};
 ghost use Rattle.bank_cells.specs.Fixed as spec;
 
@@ -11,11 +13,16 @@ use bus_texts::{Vectors, is_called, text_fails};
 use liberty_groups::{Group, Item, simple_attribute};
 use std::alloc::{AllocError, Global};
 
-/// Whether the condition that a statement is, if it is one, names no bus, bundle or variable of a bank.
-fn names_none(alloc: Global, vectors: &Vectors, item: &Item) -> Result<bool, AllocError>
-    ensures { IfOk result (λ none. none ≡ spec.names_none vectors.now (spec.condition_in item.now)) }
+/// Whether the text of this name that a statement is, if it is one, names no bus, bundle or variable of a bank.
+pub(crate) fn names_none(
+    alloc: Global,
+    vectors: &Vectors,
+    item: &Item,
+    name: &[u8],
+) -> Result<bool, AllocError>
+    ensures { IfOk result (λ none. none ≡ spec.names_none vectors.now (simple_named name.now (out-Item item.now))) }
 {
-    match simple_attribute(item, b"when") {
+    match simple_attribute(item, name) {
         None => Ok(true),
         Some(text) => Ok(!text_fails(alloc, vectors, None, text.text)?),
     }
@@ -55,13 +62,17 @@ fn relates_none(alloc: Global, vectors: &Vectors, item: &Item) -> Result<bool, A
 fn is_fixed(alloc: Global, vectors: &Vectors, item: &Item) -> Result<bool, AllocError>
     ensures { IfOk result (λ fixed. fixed ≡ spec.is_fixed vectors.now item.now) }
 {
-    let names_none = names_none(alloc, vectors, item)?;
+    let names_none = names_none(alloc, vectors, item, b"when")?;
     let relates_none = relates_none(alloc, vectors, item)?;
     Ok(names_none && relates_none)
 }
 
 /// Whether all statements of a timing group do.
-fn are_fixed(alloc: Global, vectors: &Vectors, items: &[Item]) -> Result<bool, AllocError>
+pub(crate) fn are_fixed(
+    alloc: Global,
+    vectors: &Vectors,
+    items: &[Item],
+) -> Result<bool, AllocError>
     ensures { IfOk result (λ fixed. fixed ≡ list_all (spec.is_fixed vectors.now) items.now) }
 {
     for item in items {

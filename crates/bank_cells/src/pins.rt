@@ -4,6 +4,7 @@ ghost use Rattle.bank_cells.specs.Members.{member_items};
 ghost use Rattle.bank_cells.specs.Fixed.{shown_shared, shared_items};
 ghost use Rattle.bank_cells.specs.Expanded as spec;
 
+use crate::copies::with_items;
 use crate::faults::Place;
 use crate::members::{Member, all_items, own_items};
 use crate::rewritten::{one_value, pin_text};
@@ -11,7 +12,7 @@ use crate::room::with_room;
 use crate::shared::{Shared, add_shared_at, shared_items};
 use crate::timings::timing_at;
 use bus_texts::{Vector, Vectors, is_called};
-use liberty_groups::{Group, Item, copy_bytes, copy_item, copy_values};
+use liberty_groups::{Group, Item, copy_bytes, copy_item};
 use sqlite_items::Items;
 use std::alloc::{AllocError, Global};
 
@@ -156,10 +157,5 @@ pub(crate) fn single_pin(
     let mut items = with_room(alloc, group.items.len())?;
     let written = all_items(alloc, group.items.as_slice())?;
     add_pin_items(alloc, &mut items, Place { vectors, position }, &written)?;
-    Ok(Group {
-        name: copy_bytes(alloc, group.name.as_slice())?,
-        arguments: copy_values(alloc, group.arguments.as_slice())?,
-        items,
-        at: group.at,
-    })
+    with_items(alloc, group, items)
 }

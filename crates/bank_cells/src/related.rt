@@ -6,7 +6,7 @@ ghost use Rattle.liberty_groups.specs.declared.tree.Item.{out-Item};
 ghost use Rattle.liberty_groups.specs.Attributes.{shown};
 ghost use Rattle.bank_cells.specs.Faults as spec;
 
-use crate::faults::{Place, add_timing_texts};
+use crate::faults::{Place, add_at_if, add_timing_texts};
 use crate::members::all_items;
 use crate::ranges::stem;
 use bus_texts::{Vector, VectorKind, Vectors, is_called, member_at, vector_named};
@@ -121,10 +121,7 @@ fn add_related(
         ≡ found.old.items ++ spec.related_fault place.entry.vectors.now place.entry.position (Some (shown text.entry))) }
 {
     let words = related_words(alloc, text.text)?;
-    if any_fails(place, &words) {
-        found.push(text.at)?;
-    }
-    Ok(())
+    add_at_if(found, any_fails(place, &words), text.at)
 }
 
 /// Adds the offset of the text that tells the related pins, if it has a name that cannot become a pin.

@@ -2,14 +2,13 @@
 ghost use Rattle.std.specs.Prelude.{◌≡◌, ◌++◌, IfOk, OnOk, map, flat_map};
 ghost use Rattle.bank_cells.specs.Expanded as spec;
 
+use crate::copies::with_items;
 use crate::faults::Place;
 use crate::related::{pins_named, related_words};
 use crate::rewritten::{one_value, timing_text};
 use crate::room::with_room;
 use bus_texts::{VectorKind, Vectors, member_at, vector_named};
-use liberty_groups::{
-    Attribute, Group, Item, copy_bytes, copy_item, copy_values, simple_attribute,
-};
+use liberty_groups::{Attribute, Group, Item, copy_bytes, copy_item, simple_attribute};
 use sqlite_items::Items;
 use std::alloc::{AllocError, Global};
 
@@ -152,10 +151,6 @@ fn timing_items(alloc: Global, place: Place<'_>, items: &[Item]) -> Result<Items
 pub(crate) fn timing_at(alloc: Global, place: Place<'_>, group: &Group) -> Result<Group, AllocError>
     ensures { IfOk result (λ timing. timing ≡ spec.timing_at place.entry.vectors.now place.entry.position group.now) }
 {
-    Ok(Group {
-        name: copy_bytes(alloc, group.name.as_slice())?,
-        arguments: copy_values(alloc, group.arguments.as_slice())?,
-        items: timing_items(alloc, place, group.items.as_slice())?,
-        at: group.at,
-    })
+    let items = timing_items(alloc, place, group.items.as_slice())?;
+    with_items(alloc, group, items)
 }

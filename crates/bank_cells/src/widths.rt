@@ -5,6 +5,7 @@ ghost use Rattle.bank_cells.specs.Faults.{pin_faults, text_faults};
 ghost use Rattle.bank_cells.specs.Fixed.{shown_shared, shared_items};
 ghost use Rattle.bank_cells.specs.Refusals as spec;
 
+use crate::alike::are_alike;
 use crate::faults::{Place, add_ff_texts, add_latch_texts, add_pin_texts};
 use crate::members::{Member, all_items, own_items};
 use crate::refusals::is_pins;
@@ -95,7 +96,8 @@ fn add_all_pins_faults(
     Ok(())
 }
 
-/// Adds the faults of all pins that a bus or bundle makes.
+/// Adds the faults of all pins that a bus or bundle makes. Pins with the same statements have none.
+#[tactic(auto, using(crate::proofs::AlikeLemmas::none_fail))]
 fn add_pins_faults(
     alloc: Global,
     found: &mut Vec<usize>,
@@ -105,6 +107,9 @@ fn add_pins_faults(
 ) -> Result<(), AllocError>
     ensures { OnOk result (found.new.items ≡ found.old.items ++ flat_map (spec.vector_faults vectors.now group.now) made.now) }
 {
+    if are_alike(alloc, vectors, group)? {
+        return Ok(());
+    }
     let shared = shared_items(alloc, vectors, group.items.as_slice())?;
     add_all_pins_faults(alloc, found, vectors, group, &shared, made)
 }

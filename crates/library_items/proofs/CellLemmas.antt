@@ -10,7 +10,8 @@ use Rattle.bank_cells.specs.declared.refusal.BankRefusal.{BankRefusal}
 use Rattle.bank_cells.specs.declared.expansion.BankFault.{BankFault}
 use Rattle.bank_cells.specs.declared.expansion.BankFault.TheVariants as bank_fault
 use Rattle.bank_cells.specs.Refusals.{has_many, first_refusal, bank_refusal}
-use Rattle.bank_cells.specs.Expanded.{Expands, expanded_cell, expanded}
+use Rattle.bank_cells.specs.Expanded.{expanded_cell, expanded}
+use Rattle.bank_cells.specs.Gathered.{Gathers}
 use Rattle.three_state_cells.specs.declared.driven_cell.DrivenCell.{DrivenCell}
 use Rattle.three_state_cells.specs.CoreGroups.{core_group}
 use Rattle.three_state_cells.specs.Outputs.{ThreeStateOutput, three_state_outputs}
@@ -86,7 +87,7 @@ unfolding bank_refusal
 plain_unrefused types group e = ap (λ (many : Bool). if many then first_refusal types group else None) e
 
 -- without an expanded group it is refused for that
-pub unexpanded : (p : Progress) (group : Group) (fault : BankFault) → Expands p.types group (Err fault) → Tells (next_refusal p group) (cell_fault fault)
+pub unexpanded : (p : Progress) (group : Group) (fault : BankFault) → Gathers p.types group (Err fault) → Tells (next_refusal p group) (cell_fault fault)
 unfolding next_refusal
 unexpanded p group (bank_fault.Refused refusal) h = ap (λ b. refusal_by b (driven_refusal p.unit p.names (next_bits p group))) h
 unexpanded p group bank_fault.Memory h = tt

@@ -7,8 +7,9 @@ ghost use Rattle.library_items.specs.BankRefusals.{cell_reason, cell_fault};
 ghost use Rattle.library_items.specs.Progress.{next_refusal, next_data};
 
 use crate::progress::Progress;
-use bank_cells::{BankFault, BankReason, expand, has_many};
+use bank_cells::{BankFault, BankReason, gather, has_many};
 use cell_reader::{CellFault, Reason, Refusal};
+use gathered_cells::read_gathered;
 use liberty_groups::Group;
 use std::alloc::Global;
 use three_state_cells::{DrivenCell, read_driven};
@@ -45,8 +46,16 @@ fn read_bits(alloc: Global, progress: &Progress, group: &Group) -> Result<Driven
     ensures refused { IfErr result (Tells (next_refusal progress.now group.now)) }
 {
     let number = progress.next_number();
-    match expand(alloc, group, &progress.types) {
-        Ok(single) => read_driven(alloc, &single, number, progress.unit, &progress.names),
+    match gather(alloc, group, &progress.types) {
+        Ok(gathered) => read_gathered(
+            alloc,
+            group,
+            &gathered,
+            &progress.types,
+            number,
+            progress.unit,
+            &progress.names,
+        ),
         Err(fault) => Err(cell_fault(fault)),
     }
 }

@@ -1,20 +1,26 @@
-use Rattle.std.proofs.Common.{sym, subst}
+use Rattle.std.proofs.Common.{refl, sym, subst}
 use Rattle.cell_reader.specs.CellTexts.{Tells}
-use Rattle.library_items.specs.Progress.{next_refusal}
+use Rattle.library_items.specs.Progress.{next_bits, next_refusal}
 use Rattle.library_items.proofs.CellLemmas.{bits_read, bits_accepted, bits_refused, unexpanded}
 use Rattle.library_items.proofs.expanded_cell.read_bits.Goals as goal
 
 pub returns-in-Ok-clause-cell : goal.returns-in-Ok-clause-cell
 returns-in-Ok-clause-cell c =
-    bits_read c.args.progress.now c.args.group.now c.in-Ok.single _ c.read_driven.result c.next_number-number.ensures c.in-Ok.ensures.1 c.read_driven.ensures.cell
+    let p = c.args.progress.now in
+    let group = c.args.group.now in
+    bits_read p group (next_bits p group) _ c.read_gathered.result c.next_number-number.ensures refl c.read_gathered.ensures.cell
 
 pub returns-in-Ok-clause-accepted : goal.returns-in-Ok-clause-accepted
 returns-in-Ok-clause-accepted c =
-    bits_accepted c.args.progress.now c.args.group.now c.in-Ok.single c.read_driven.result c.in-Ok.ensures.0 c.in-Ok.ensures.1 c.read_driven.ensures.accepted
+    let p = c.args.progress.now in
+    let group = c.args.group.now in
+    bits_accepted p group (next_bits p group) c.read_gathered.result c.in-Ok.ensures.0 refl c.read_gathered.ensures.accepted
 
 pub returns-in-Ok-clause-refused : goal.returns-in-Ok-clause-refused
 returns-in-Ok-clause-refused c =
-    bits_refused c.args.progress.now c.args.group.now c.in-Ok.single c.read_driven.result c.in-Ok.ensures.0 c.in-Ok.ensures.1 c.read_driven.ensures.refused
+    let p = c.args.progress.now in
+    let group = c.args.group.now in
+    bits_refused p group (next_bits p group) c.read_gathered.result c.in-Ok.ensures.0 refl c.read_gathered.ensures.refused
 
 pub returns-in-Err-clause-refused : goal.returns-in-Err-clause-refused
 returns-in-Err-clause-refused c =

@@ -1,0 +1,23 @@
+//! Groups with other statements.
+ghost use Rattle.std.specs.Prelude.{◌≡◌, IfOk};
+ghost use Rattle.bank_cells.specs.Copies.{with_items as with_items_of};
+
+use liberty_groups::{Group, Item, copy_bytes, copy_values};
+use sqlite_items::Items;
+use std::alloc::{AllocError, Global};
+
+/// A group with these statements, which is like another one in all else.
+pub(crate) fn with_items(
+    alloc: Global,
+    like: &Group,
+    items: Items<Item>,
+) -> Result<Group, AllocError>
+    ensures { IfOk result (λ group. group ≡ with_items_of like.now items) }
+{
+    Ok(Group {
+        name: copy_bytes(alloc, like.name.as_slice())?,
+        arguments: copy_values(alloc, like.arguments.as_slice())?,
+        items,
+        at: like.at,
+    })
+}

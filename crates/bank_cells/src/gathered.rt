@@ -1,0 +1,154 @@
+//! The expanded group of a cell in which the pins of a bus or bundle are one pin group, where they have the same statements.
+ghost use Rattle.std.specs.Prelude.{◌≡◌, ◌++◌, IfOk, OnOk, Some, map, filter, flat_map};
+ghost use Rattle.liberty_groups.specs.declared.tree.Item.{out-Item};
+ghost use Rattle.bank_cells.specs.Members.{is_shared};
+ghost use Rattle.bank_cells.specs.Expanded.{pin_item};
+ghost use Rattle.bank_cells.specs.Gathered as spec;
+
+use crate::alike::are_alike;
+use crate::copies::with_items;
+use crate::expansion::{BankFault, add_group, add_item};
+use crate::refusals::{bank_refusal, has_many, is_pins};
+use crate::room::with_room;
+use crate::shared::{add_shared_at, shared_items};
+use bus_texts::{BusTypes, Vector, Vectors, cell_vectors, pin_vectors};
+use liberty_groups::{Group, Item, Value, copy_bytes, copy_group};
+use sqlite_items::Items;
+use std::alloc::{AllocError, Global};
+
+/// Adds names as arguments of a pin group.
+fn add_names(alloc: Global, found: &mut Items<Value>, names: &[Items<u8>]) -> Result<(), AllocError>
+    ensures { OnOk result (found.new ≡ found.old ++ map spec.name_value names.now) }
+{
+    for name in names {
+        let bytes = copy_bytes(alloc, name.as_slice())?;
+        let quoted = true;
+        found.push(Value { bytes, quoted })?;
+    }
+    Ok(())
+}
+
+/// The names of all members as arguments of a pin group.
+fn all_names(alloc: Global, several: &[Vector]) -> Result<Items<Value>, AllocError>
+    ensures { IfOk result (λ found. found ≡ map spec.name_value (spec.members_of several.now)) }
+{
+    let mut found = Items::new(alloc);
+    for vector in several {
+        add_names(alloc, &mut found, vector.members.as_slice())?;
+    }
+    Ok(found)
+}
+
+/// What the statements of a bus or bundle become at its first position.
+#[tactic(auto, using(crate::proofs::SharedLemmas::all_of))]
+fn first_items(alloc: Global, vectors: &Vectors, items: &[Item]) -> Result<Items<Item>, AllocError>
+    ensures { IfOk result (λ made. made ≡ map (pin_item vectors.now (Some 0)) (filter is_shared items.now)) }
+{
+    let shared = shared_items(alloc, vectors, items)?;
+    let mut made = with_room(alloc, shared.len())?;
+    add_shared_at(alloc, &mut made, vectors, 0, &shared)?;
+    Ok(made)
+}
+
+/// The pin group of all members of these buses or bundles.
+fn gathered_pin(
+    alloc: Global,
+    vectors: &Vectors,
+    group: &Group,
+    several: &[Vector],
+) -> Result<Group, AllocError>
+    ensures { IfOk result (λ pin. pin ≡ spec.gathered_pin vectors.now group.now (spec.members_of several.now)) }
+{
+    let items = first_items(alloc, vectors, group.items.as_slice())?;
+    Ok(Group {
+        name: copy_bytes(alloc, b"pin")?,
+        arguments: all_names(alloc, several)?,
+        items,
+        at: group.at,
+    })
+}
+
+/// Adds what stands in the place of a group of a cell.
+fn add_gathered_group(
+    alloc: Global,
+    found: &mut Items<Item>,
+    types: &BusTypes,
+    vectors: &Vectors,
+    group: &Group,
+) -> Result<(), AllocError>
+    ensures { OnOk result (found.new ≡ found.old ++ spec.gathered_group types.now vectors.now group.now) }
+{
+    if !is_pins(group) || !are_alike(alloc, vectors, group)? {
+        return add_group(alloc, found, types, vectors, group);
+    }
+    let several = pin_vectors(alloc, types, group)?;
+    let pin = gathered_pin(alloc, vectors, group, several.as_slice())?;
+    found.push(Item::Inner(pin))?;
+    Ok(())
+}
+
+/// Adds what stands in the place of a statement of a cell.
+fn add_gathered(
+    alloc: Global,
+    found: &mut Items<Item>,
+    types: &BusTypes,
+    vectors: &Vectors,
+    item: &Item,
+) -> Result<(), AllocError>
+    ensures { OnOk result (found.new ≡ found.old ++ spec.gathered_item types.now vectors.now item.now) }
+{
+    match item {
+        Item::Inner(group) => add_gathered_group(alloc, found, types, vectors, group),
+        Item::Simple { .. } | Item::Complex { .. } => {
+            add_item(alloc, found, types, vectors, item)
+        }
+    }
+}
+
+/// What stands in the place of the statements of a cell.
+fn gathered_items(
+    alloc: Global,
+    types: &BusTypes,
+    vectors: &Vectors,
+    items: &[Item],
+) -> Result<Items<Item>, AllocError>
+    ensures { IfOk result (λ found. found ≡ flat_map (spec.gathered_item types.now vectors.now) items.now) }
+{
+    let mut found = Items::new(alloc);
+    for item in items {
+        add_gathered(alloc, &mut found, types, vectors, item)?;
+    }
+    Ok(found)
+}
+
+/// The group of a cell with buses, bundles or banks, gathered.
+fn gathered_cell(alloc: Global, types: &BusTypes, cell: &Group) -> Result<Group, AllocError>
+    ensures { IfOk result (λ group. group ≡ spec.gathered_cell types.now cell.now) }
+{
+    let vectors = cell_vectors(alloc, types, cell)?;
+    let items = gathered_items(alloc, types, &vectors, cell.items.as_slice())?;
+    with_items(alloc, cell, items)
+}
+
+/// The gathered group of a cell.
+#[tactic(auto, unfolding(crate::specs::Gathered::gathered))]
+fn gathered(alloc: Global, types: &BusTypes, cell: &Group) -> Result<Group, AllocError>
+    ensures { IfOk result (λ group. group ≡ spec.gathered types.now cell.now) }
+{
+    if has_many(cell) {
+        gathered_cell(alloc, types, cell)
+    } else {
+        copy_group(alloc, cell)
+    }
+}
+
+/// The group of a cell expanded to single bits as `expand` does, but for the members of a bus or bundle which have the same
+/// statements: they are the names of one pin group, which is held once however many they are. The faults are those of `expand`.
+pub fn gather(alloc: Global, cell: &Group, types: &BusTypes) -> Result<Group, BankFault>
+    ensures { spec.Gathers types.now cell.now result }
+{
+    if let Some(refusal) = bank_refusal(alloc, types, cell)? {
+        return Err(BankFault::Refused(refusal));
+    }
+    Ok(gathered(alloc, types, cell)?)
+}

@@ -7,3 +7,4 @@ pub mod ViewEnables
 pub mod ViewReading
 pub mod MaskLemmas
 pub mod MixedPoints
+pub mod WeightLemmas

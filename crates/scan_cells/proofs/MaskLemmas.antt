@@ -1,5 +1,5 @@
 -- Points restricted to places.
-use Rattle.std.proofs.Common.{◌≡◌, ◌≢◌, ◌⊎◌, ℕ, zero, suc, ◌+◌, ◌^◌, ◌%◌, ◌<◌, ◌≤◌, min, max, Bool, true, false, not, ◌&&◌, ◌||◌, cond, nat_eq, bit_and, List, [], ◌∷◌, length, map, Option, Some, None, refl, sym, ap, subst, ◌∙◌, inl, inr, eqb-true, arith}
+use Rattle.std.proofs.Common.{◌≡◌, ◌≢◌, ◌⊎◌, ℕ, ◌^◌, ◌<◌, min, max, Bool, true, false, not, cond, nat_eq, bit_and, List, [], ◌∷◌, Option, Some, None, refl, sym, ap, subst, ◌∙◌, inl, inr, eqb-true, arith}
 use Rattle.std.specs.Prelude.{bit_or, bit_xor, unwrap_or, position}
 use Rattle.std.specs.List.{list_all}
 use Rattle.std.specs.Option.{option_map_or}
@@ -60,7 +60,7 @@ unfolding is_inactive
 inactive_kept view places point mask h = idle_kept view point mask (position (same_source (source.Pin view.enable)) places) h
 
 -- a changed place that the mask has, and one that it has not
-changed_in : (point k mask : ℕ) → is_set k mask ≡ true → bit_and (changed_at point k) mask ≡ changed_at (bit_and point mask) k
+pub changed_in : (point k mask : ℕ) → is_set k mask ≡ true → bit_and (changed_at point k) mask ≡ changed_at (bit_and point mask) k
 unfolding changed_at
 changed_in point k mask e = same_from_bits (bit_and (bit_xor point (2 ^ k)) mask) (bit_xor (bit_and point mask) (2 ^ k)) (λ i.
     let left = bit_at_and (bit_xor point (2 ^ k)) mask i in
@@ -79,7 +79,7 @@ changed_in point k mask e = same_from_bits (bit_and (bit_xor point (2 ^ k)) mask
           omega (arith, left, turned, right, kept, small, few, weight)
     ])
 
-changed_out : (point k mask : ℕ) → is_set k mask ≡ false → bit_and (changed_at point k) mask ≡ bit_and point mask
+pub changed_out : (point k mask : ℕ) → is_set k mask ≡ false → bit_and (changed_at point k) mask ≡ bit_and point mask
 unfolding changed_at
 changed_out point k mask e = same_from_bits (bit_and (bit_xor point (2 ^ k)) mask) (bit_and point mask) (λ i.
     let left = bit_at_and (bit_xor point (2 ^ k)) mask i in
@@ -100,7 +100,7 @@ changed_out point k mask e = same_from_bits (bit_and (bit_xor point (2 ^ k)) mas
 abbrev pub Near : ℕ → ℕ → ℕ → Type 0
 Near n after before = (before ≡ after) ⊎ ((k : ℕ) × (k < n) × (before ≡ changed_at after k))
 
-near_changed : (n after k mask : ℕ) → k < n → (b : Bool) → is_set k mask ≡ b → Near n (bit_and after mask) (bit_and (changed_at after k) mask)
+pub near_changed : (n after k mask : ℕ) → k < n → (b : Bool) → is_set k mask ≡ b → Near n (bit_and after mask) (bit_and (changed_at after k) mask)
 near_changed n after k mask l true e = inr (k, l, changed_in after k mask e)
 near_changed n after k mask l false e = inl (changed_out after k mask e)
 

@@ -1,15 +1,16 @@
 -- Where a cell and its view do not differ at points with 0 at the places of the one or of the other, they do not differ at a point.
-use Rattle.std.proofs.Common.{◌≡◌, ◌≢◌, ◌⊎◌, ℕ, ◌+◌, ◌^◌, ◌<◌, Bool, true, false, bit_and, List, length, Option, None, refl, sym, ap, subst, ◌∙◌, inl, inr, arith}
+use Rattle.std.proofs.Common.{◌≡◌, ◌≢◌, ◌⊎◌, ℕ, ◌+◌, ◌<◌, Bool, true, false, bit_and, length, None, refl, sym, ap, subst, ◌∙◌, inl, inr, arith}
 use Rattle.std.specs.List.{range_with_len}
-use Rattle.cell_machine.specs.declared.outputs.Source.{Source}
+use Rattle.std.proofs.lemmas.Bool.{cases_eq}
+use Rattle.std.proofs.lemmas.Nat.{and_assoc, and_le_l}
 use Rattle.cell_machine.specs.CellData.{CellData}
 use Rattle.cell_machine.specs.CellTrace.{step_at, sources_at, output_value_at}
 use Rattle.scan_cells.specs.Views.{ViewData}
-use Rattle.scan_cells.specs.Places.{values_at, changed_at, is_inactive}
+use Rattle.scan_cells.specs.Places.{is_set, changed_at, is_inactive}
 use Rattle.scan_cells.specs.Masks.{IsMask}
 use Rattle.scan_cells.specs.Comparison.{first_some, cell_support, view_support, step_places, cell_step, view_step, state_difference, change_difference, after_difference, output_support, output_places, cell_output, view_output, point_difference}
 use Rattle.scan_cells.proofs.Sides.{or_none, none_or, first_none, none_first, guarded, guard, no_difference, difference_none, states_none, none_states}
-use Rattle.scan_cells.proofs.MaskLemmas.{values_kept, inactive_kept, Near, near_kept, masks_swap, less_masked, less_twice}
+use Rattle.scan_cells.proofs.MaskLemmas.{values_kept, inactive_kept, changed_in, changed_out, Near, near_changed, near_kept, masks_swap, less_masked, less_twice}
 
 -- what no difference at a point says of the steps that lead to it
 after_agrees :
@@ -97,6 +98,75 @@ mixed_steps cell view g point a b of_cell of_view first second none =
     ∙ after_agrees cell view g (bit_and point b) (none (bit_and point b) (less_masked point b second)) (idle point b here (inr of_view))
     (bit_and before b) to_view (idle before b there (inr of_view)) s
     ∙ view_kept cell view g before point b s of_view)
+
+-- the steps of groups at a change of a place, restricted to some places, where nothing differs before the point nor at it unchanged
+module _ (cell : CellData) (view : ViewData) (g after k : ℕ)
+    (none : (p : ℕ) → p < after → after_difference cell view g p ≡ None)
+    (same : change_difference cell view g after after ≡ None)
+    (place : k < length (step_places cell view g)) where
+  masked_at_point :
+      (mask : ℕ) (b : Bool) → is_set k mask ≡ b → bit_and after mask ≡ after → bit_and (changed_at after k) mask ≢ changed_at after k
+      → is_inactive view (step_places cell view g) (bit_and after mask) ≡ true
+      → (s : Bool) → cell_step cell view g (bit_and (changed_at after k) mask) (bit_and after mask) s ≡ view_step cell view g (bit_and (changed_at after k) mask) (bit_and after mask) s
+  masked_at_point mask true in_mask within other idle s =
+      absurd (other (changed_in after k mask in_mask ∙ ap (λ p. changed_at p k) within))
+  masked_at_point mask false in_mask within other idle s =
+      let back : bit_and (changed_at after k) mask ≡ after = changed_out after k mask in_mask ∙ within in
+      let here : is_inactive view (step_places cell view g) after ≡ true = ap (is_inactive view (step_places cell view g)) (sym within) ∙ idle in
+      (λ i. cell_step cell view g (back i) (within i) s)
+      ∙ states_none cell view g after after
+      (guarded (is_inactive view (step_places cell view g) after) (state_difference cell view g after after) same here) s
+      ∙ sym (λ i. view_step cell view g (back i) (within i) s)
+
+  masked_agrees :
+      (mask : ℕ) → bit_and (changed_at after k) mask ≢ changed_at after k
+      → is_inactive view (step_places cell view g) (bit_and after mask) ≡ true
+      → is_inactive view (step_places cell view g) (bit_and (changed_at after k) mask) ≡ true
+      → (s : Bool) → cell_step cell view g (bit_and (changed_at after k) mask) (bit_and after mask) s ≡ view_step cell view g (bit_and (changed_at after k) mask) (bit_and after mask) s
+  masked_agrees mask other idle idle' s =
+      elim (cases_eq (bit_and after mask) after) [
+        | inl within ↦ masked_at_point mask (is_set k mask) refl within other idle s
+        | inr less ↦
+            after_agrees cell view g (bit_and after mask) (none (bit_and after mask) (less_masked after mask less)) idle
+            (bit_and (changed_at after k) mask)
+            (near_changed (length (step_places cell view g)) after k mask place (is_set k mask) refl) idle' s
+      ]
+
+-- the steps of groups at a change from a mixed point
+pub mixed_change :
+    (cell : CellData) (view : ViewData) (g after k a b : ℕ)
+    → IsMask view (step_places cell view g) (cell_support cell g) a → IsMask view (step_places cell view g) (view_support view g) b
+    → bit_and (changed_at after k) a ≢ changed_at after k → bit_and (changed_at after k) b ≢ changed_at after k
+    → k < length (step_places cell view g)
+    → ((p : ℕ) → p < after → after_difference cell view g p ≡ None) → change_difference cell view g after after ≡ None
+    → is_inactive view (step_places cell view g) after ≡ true
+    → change_difference cell view g after (changed_at after k) ≡ None
+mixed_change cell view g after k a b of_cell of_view first second place none same here =
+    let places = step_places cell view g in
+    let before = changed_at after k in
+    let idle_cell : (p : ℕ) → is_inactive view places p ≡ true → is_inactive view places (bit_and p a) ≡ true
+    = λ p e. inactive_kept view places p a of_cell.of_enable ∙ e in
+    let idle_view : (p : ℕ) → is_inactive view places p ≡ true → is_inactive view places (bit_and p b) ≡ true
+    = λ p e. inactive_kept view places p b of_view.of_enable ∙ e in
+    guard (is_inactive view places before) (state_difference cell view g before after) (λ there.
+    none_states cell view g before after (λ s.
+    let both : bit_and before (bit_and a b) ≢ before = λ e.
+    let most = and_le_l (bit_and before a) b in
+    let least = and_le_l before a in
+    let whole = and_assoc b before a ∙ e in
+    first (omega (arith, most, least, whole)) in
+    let idle_both : (p : ℕ) → is_inactive view places p ≡ true → is_inactive view places (bit_and p (bit_and a b)) ≡ true
+    = λ p e. ap (is_inactive view places) (sym (and_assoc b p a)) ∙ idle_view (bit_and p a) (idle_cell p e) in
+    sym (cell_kept cell view g before after a s of_cell)
+    ∙ masked_agrees cell view g after k none same place a first (idle_cell after here) (idle_cell before there) s
+    ∙ sym (view_kept cell view g (bit_and before a) (bit_and after a) b s of_view)
+    ∙ (λ i. view_step cell view g (and_assoc b before a i) (and_assoc b after a i) s)
+    ∙ sym (masked_agrees cell view g after k none same place (bit_and a b) both (idle_both after here) (idle_both before there) s)
+    ∙ sym (λ i. cell_step cell view g (and_assoc b before a i) (and_assoc b after a i) s)
+    ∙ (λ i. cell_step cell view g (masks_swap before a b i) (masks_swap after a b i) s)
+    ∙ cell_kept cell view g (bit_and before b) (bit_and after b) a s of_cell
+    ∙ masked_agrees cell view g after k none same place b second (idle_view after here) (idle_view before there) s
+    ∙ view_kept cell view g before after b s of_view))
 
 -- the values of outputs
 point_agrees :

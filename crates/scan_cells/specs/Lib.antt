@@ -7,3 +7,4 @@ pub mod Masks
 pub mod Comparison
 pub mod Laws
 pub mod TestLines
+pub mod Weights

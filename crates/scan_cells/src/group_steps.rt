@@ -1,20 +1,22 @@
 //! The steps of a state group of a cell beside those of its view's.
-ghost use Rattle.std.specs.Prelude.{◌≡◌, ℕ, ◌<◌, ◌≤◌, None, length};
+ghost use Rattle.std.specs.Prelude.{◌≡◌, ℕ, ◌+◌, ◌<◌, ◌≤◌, false, true, None, length, map, position, unwrap_or};
 ghost use Rattle.cell_machine.specs.CellData.{data_of};
 ghost use Rattle.scan_cells.specs.Views.{view_data, StandsBeside};
 ghost use Rattle.std.specs.List.{range_with_len};
-ghost use Rattle.cell_machine.specs.CellTrace.{support_at, step_at};
-ghost use Rattle.scan_cells.specs.Places.{values_at, changed_at as changed_at_place};
+ghost use Rattle.scan_cells.specs.Places.{same_source, is_inactive, changed_at as changed_at_place};
+ghost use Rattle.cell_machine.specs.declared.outputs.Source.TheVariants as source;
 ghost use Rattle.scan_cells.specs.Masks.{IsMask};
-ghost use Rattle.scan_cells.specs.Comparison.{first_some, cell_support, view_support, step_places, cell_step, view_step, step_difference, state_difference, change_difference, after_difference, group_difference as group_difference_of};
+ghost use Rattle.scan_cells.specs.Weights.{weight_of};
+ghost use Rattle.scan_cells.specs.Comparison.{first_some, cell_support, view_support, step_places, cell_step, view_step, difference, state_difference, change_difference, after_difference, group_difference as group_difference_of};
 
 use crate::answers::Difference;
 use crate::masks::{is_mixed, mask_of};
 use crate::places::places_of;
-use crate::points::{SupportPoint, changed_at, is_inactive, point_count};
+use crate::point_steps::{PointSteps, StateSteps};
+use crate::points::{changed_at, enable_place, is_inactive_by, point_count};
 use crate::sources::{Sources, in_cell, pin_sources};
 use crate::views::View;
-use cell_machine::{Cell, Source, boolean_step};
+use cell_machine::Cell;
 use trit_cubes::Trit;
 
 /// A state group of a cell and that of its view with the same number, over the places of both supports.
@@ -23,20 +25,26 @@ pub struct GroupPair<'a> {
     cell: &'a Cell,
     view: &'a View,
     group: usize,
-    of_cell: Sources,
-    of_view: Sources,
+    of_cell: PointSteps<'a>,
+    of_view: PointSteps<'a>,
     places: Sources,
+    /// The place of the scan enable.
+    enable: Option<usize>,
     cell_mask: u32,
     view_mask: u32,
-    ghost inside: { (group < length cell.now.groups) × (group < length view.now.cell.groups) },
-    ghost is_of_cell: { of_cell ≡ cell_support (data_of cell.now) group },
-    ghost is_of_view: { of_view ≡ view_support (view_data view.now) group },
     ghost are_places: { places ≡ step_places (data_of cell.now) (view_data view.now) group },
-    ghost few_of_cell: { length of_cell ≤ 8 },
-    ghost few_of_view: { length of_view ≤ 8 },
     ghost few_places: { length places ≤ 20 },
-    ghost is_cell_mask: { IsMask (view_data view.now) places of_cell cell_mask },
-    ghost is_view_mask: { IsMask (view_data view.now) places of_view view_mask },
+    ghost is_enable: { enable ≡ position (same_source (source.Pin view.now.enable)) places },
+    ghost few_enable: { unwrap_or enable 0 < 20 },
+    ghost inside: { group < length cell.now.groups },
+    ghost is_cell: { of_cell.kept.cell.now ≡ cell.now },
+    ghost is_view: { of_view.kept.cell.now ≡ view.now.cell },
+    ghost is_of_cell: { of_cell.kept.group ≡ group },
+    ghost is_of_view: { of_view.kept.group ≡ group },
+    ghost weigh_cell: { of_cell.weights ≡ map (weight_of places) (cell_support (data_of cell.now) group) },
+    ghost weigh_view: { of_view.weights ≡ map (weight_of places) (view_support (view_data view.now) group) },
+    ghost is_cell_mask: { IsMask (view_data view.now) places (cell_support (data_of cell.now) group) cell_mask },
+    ghost is_view_mask: { IsMask (view_data view.now) places (view_support (view_data view.now) group) view_mask },
 }
 
 impl<'a> GroupPair<'a> {
@@ -55,57 +63,62 @@ impl<'a> GroupPair<'a> {
         let cell_mask = mask_of(view, places.as_slice(), of_cell.as_slice());
         let view_mask = mask_of(view, places.as_slice(), of_view.as_slice());
         GroupPair {
+            of_cell: PointSteps::of(cell, group, places.as_slice(), of_cell.as_slice()),
+            of_view: PointSteps::of(&view.cell, group, places.as_slice(), of_view.as_slice()),
             cell,
             view,
             group,
-            of_cell,
-            of_view,
+            enable: enable_place(view, places.as_slice()),
             places,
             cell_mask,
             view_mask,
         }
     }
 
-    /// The step of the group in one of the two cells, where it has this support.
-    fn stepped(&self, cell: &Cell, support: &[Source], before: u32, after: u32, s: bool) -> Trit
-        requires group { self.now.group < length cell.now.groups }
-        requires support { length support.now ≡ length (support_at (data_of cell.now) self.now.group) }
-        requires few { length support.now ≤ 10 }
-        ensures { result ≡ step_at (data_of cell.now) self.now.group (values_at self.now.places support.now before) (values_at self.now.places support.now after) s }
+    /// Whether the scan enable is inactive at a point.
+    #[tactic(auto, unfolding(crate::specs::Places::is_inactive))]
+    fn is_inactive(&self, point: u32) -> bool
+        ensures { result ≡ is_inactive (view_data self.now.view.now) self.now.places point }
     {
-        let places = self.places.as_slice();
-        let before = SupportPoint::of(places, support, before);
-        let after = SupportPoint::of(places, support, after);
-        boolean_step(cell, self.group, before.as_slice(), after.as_slice(), s)
+        is_inactive_by(self.view, self.enable, point)
     }
 
-    /// The step of the cell's group.
+    /// The steps of the cell's group.
     #[tactic(auto, unfolding(crate::specs::Comparison::cell_step))]
-    fn cell_step(&self, before: u32, after: u32, s: bool) -> Trit
-        ensures { result ≡ cell_step (data_of self.now.cell.now) (view_data self.now.view.now) self.now.group before after s }
+    fn cell_steps(&self, before: u32, after: u32) -> StateSteps
+        ensures zero { result.«zero» ≡ cell_step (data_of self.now.cell.now) (view_data self.now.view.now) self.now.group before after false }
+        ensures one { result.one ≡ cell_step (data_of self.now.cell.now) (view_data self.now.view.now) self.now.group before after true }
     {
-        self.stepped(self.cell, self.of_cell.as_slice(), before, after, s)
+        self.of_cell.steps(before, after)
     }
 
-    /// The step of the view's group.
+    /// The steps of the view's group.
     #[tactic(auto, unfolding(crate::specs::Comparison::view_step))]
-    fn view_step(&self, before: u32, after: u32, s: bool) -> Trit
-        ensures { result ≡ view_step (data_of self.now.cell.now) (view_data self.now.view.now) self.now.group before after s }
+    fn view_steps(&self, before: u32, after: u32) -> StateSteps
+        ensures zero { result.«zero» ≡ view_step (data_of self.now.cell.now) (view_data self.now.view.now) self.now.group before after false }
+        ensures one { result.one ≡ view_step (data_of self.now.cell.now) (view_data self.now.view.now) self.now.group before after true }
     {
-        self.stepped(&self.view.cell, self.of_view.as_slice(), before, after, s)
+        self.of_view.steps(before, after)
     }
 
-    /// The difference of the steps at a change, from one state.
-    fn step_difference(&self, before: u32, after: u32, state: bool) -> Option<Difference>
-        ensures { result ≡ step_difference (data_of self.now.cell.now) (view_data self.now.view.now) self.now.group before after state }
+    /// The difference at a change from one state, where the steps give these values.
+    fn step_difference(
+        &self,
+        before: u32,
+        after: u32,
+        state: bool,
+        of_cell: Trit,
+        of_view: Trit,
+    ) -> Option<Difference>
+        ensures { result ≡ difference (self.now.group + 1) before after state of_cell of_view }
     {
         let difference = Difference {
             part: self.group + 1,
             before,
             after,
             state,
-            of_cell: self.cell_step(before, after, state),
-            of_view: self.view_step(before, after, state),
+            of_cell,
+            of_view,
         };
         difference.found()
     }
@@ -114,9 +127,11 @@ impl<'a> GroupPair<'a> {
     fn state_difference(&self, before: u32, after: u32) -> Option<Difference>
         ensures { result ≡ state_difference (data_of self.now.cell.now) (view_data self.now.view.now) self.now.group before after }
     {
-        match self.step_difference(before, after, false) {
+        let of_cell = self.cell_steps(before, after);
+        let of_view = self.view_steps(before, after);
+        match self.step_difference(before, after, false, of_cell.zero, of_view.zero) {
             Some(difference) => Some(difference),
-            None => self.step_difference(before, after, true),
+            None => self.step_difference(before, after, true, of_cell.one, of_view.one),
         }
     }
 
@@ -124,31 +139,54 @@ impl<'a> GroupPair<'a> {
     fn change_difference(&self, after: u32, before: u32) -> Option<Difference>
         ensures { result ≡ change_difference (data_of self.now.cell.now) (view_data self.now.view.now) self.now.group after before }
     {
-        if is_inactive(self.view, self.places.as_slice(), before) {
+        if self.is_inactive(before) {
             self.state_difference(before, after)
         } else {
             None
         }
     }
 
-    /// The first difference at a change of one place that leads to a point.
+    /// The difference at a change of one place that leads to a point, where there is none at the points before it and none where
+    /// nothing changes. Then there is none at a change from a point with 1 at a place that the cell's group does not depend on and
+    /// at one that the view's does not, since the two differ there only where they do without these places.
+    fn next_change(&self, after: u32, k: usize) -> Option<Difference>
+        requires place { k < length self.now.places }
+        requires before { (p : ℕ) → p < after → after_difference (data_of self.now.cell.now) (view_data self.now.view.now) self.now.group p ≡ None }
+        requires unchanged { change_difference (data_of self.now.cell.now) (view_data self.now.view.now) self.now.group after after ≡ None }
+        requires idle { is_inactive (view_data self.now.view.now) self.now.places after ≡ true }
+        ensures { result ≡ change_difference (data_of self.now.cell.now) (view_data self.now.view.now) self.now.group after (changed_at_place after k) }
+    {
+        let before = changed_at(after, k);
+        if is_mixed(before, self.cell_mask, self.view_mask) {
+            return None;
+        }
+        self.change_difference(after, before)
+    }
+
+    /// The first difference at a change of one place that leads to a point, where there is none at the points before it and none
+    /// where nothing changes.
     #[tactic(auto, using(crate::proofs::Ranges::first_turn, crate::proofs::Ranges::first_end))]
     fn changed_difference(&self, after: u32) -> Option<Difference>
+        requires before { (p : ℕ) → p < after → after_difference (data_of self.now.cell.now) (view_data self.now.view.now) self.now.group p ≡ None }
+        requires unchanged { change_difference (data_of self.now.cell.now) (view_data self.now.view.now) self.now.group after after ≡ None }
+        requires idle { is_inactive (view_data self.now.view.now) self.now.places after ≡ true }
         ensures { result ≡ first_some (λ k. change_difference (data_of self.now.cell.now) (view_data self.now.view.now) self.now.group after (changed_at_place after k)) (range_with_len 0 (length self.now.places)) }
     {
         for k in 0..self.places.as_slice().len() {
-            if let Some(difference) = self.change_difference(after, changed_at(after, k)) {
+            if let Some(difference) = self.next_change(after, k) {
                 return Some(difference);
             }
         }
         None
     }
 
-    /// The first difference at a point, unchanged or after a change of one place; none where the scan enable is active.
+    /// The first difference at a point, unchanged or after a change of one place, where there is none at the points before it; none
+    /// where the scan enable is active.
     fn after_difference(&self, after: u32) -> Option<Difference>
+        requires before { (p : ℕ) → p < after → after_difference (data_of self.now.cell.now) (view_data self.now.view.now) self.now.group p ≡ None }
         ensures { result ≡ after_difference (data_of self.now.cell.now) (view_data self.now.view.now) self.now.group after }
     {
-        if !is_inactive(self.view, self.places.as_slice(), after) {
+        if !self.is_inactive(after) {
             return None;
         }
         match self.change_difference(after, after) {
@@ -158,10 +196,10 @@ impl<'a> GroupPair<'a> {
     }
 
     /// The first difference at a point, where there is none at the points before it. Then there is none at a point with 1 at a
-    /// place that the cell's group does not depend on and at one that the view's does not, since the two differ at such a
-    /// point only where they do without these places.
+    /// place that the cell's group does not depend on and at one that the view's does not.
     fn next_difference(&self, after: u32) -> Option<Difference>
-        ensures { ((p : ℕ) → p < after → after_difference (data_of self.now.cell.now) (view_data self.now.view.now) self.now.group p ≡ None) → result ≡ after_difference (data_of self.now.cell.now) (view_data self.now.view.now) self.now.group after }
+        requires before { (p : ℕ) → p < after → after_difference (data_of self.now.cell.now) (view_data self.now.view.now) self.now.group p ≡ None }
+        ensures { result ≡ after_difference (data_of self.now.cell.now) (view_data self.now.view.now) self.now.group after }
     {
         if is_mixed(after, self.cell_mask, self.view_mask) {
             return None;

@@ -11,6 +11,7 @@ mod laws;
 mod masks;
 mod output_values;
 mod places;
+mod point_steps;
 mod points;
 mod readings;
 mod sources;

@@ -4,8 +4,7 @@ ghost use Rattle.std.specs.List.{list_all};
 ghost use Rattle.scan_cells.specs.Views.{view_data};
 ghost use Rattle.scan_cells.specs.Masks.{is_in, IsMask};
 
-use crate::places::place_of;
-use crate::points::weight;
+use crate::points::source_weight;
 use crate::views::View;
 use cell_machine::Source;
 
@@ -14,10 +13,7 @@ fn source_mask(places: &[Source], source: Source) -> u32
     requires { length places.now ≤ 20 }
     ensures { is_in places.now result source ≡ true }
 {
-    match place_of(places, source) {
-        Some(k) => weight(k),
-        None => weight(0),
-    }
+    source_weight(places, source)
 }
 
 /// The mask of the places of a support.

@@ -1,15 +1,16 @@
 //! The values of an output of a cell beside those of its view's.
-ghost use Rattle.std.specs.Prelude.{◌≡◌, ℕ, ◌<◌, ◌≤◌, None, length, IfSome};
+ghost use Rattle.std.specs.Prelude.{◌≡◌, ℕ, ◌<◌, ◌≤◌, None, length, map, IfSome};
 ghost use Rattle.cell_machine.specs.CellData.{data_of};
 ghost use Rattle.cell_machine.specs.CellTrace.{sources_at};
 ghost use Rattle.scan_cells.specs.Views.{view_data};
 ghost use Rattle.scan_cells.specs.Masks.{IsMask};
+ghost use Rattle.scan_cells.specs.Weights.{weight_of};
 ghost use Rattle.scan_cells.specs.Comparison.{is_on_pin as is_on_pin_of, output_in_view as output_in_view_of, output_support, output_places, cell_output, view_output, point_difference, pair_difference, output_difference as output_difference_of};
 
 use crate::answers::Difference;
 use crate::masks::{is_mixed, mask_of};
 use crate::places::places_of;
-use crate::points::{SupportPoint, is_inactive, point_count};
+use crate::points::{Weights, is_inactive, point_count, values_over, weights_of};
 use crate::sources::{Sources, in_cell, pin_in_cell};
 use crate::views::View;
 use cell_machine::{Cell, OutputPin, output_at};
@@ -22,18 +23,21 @@ pub struct OutputPair<'a> {
     view: &'a View,
     output: usize,
     view_output: usize,
-    of_view: Sources,
+    cell_weights: Weights,
+    view_weights: Weights,
     places: Sources,
     cell_mask: u32,
     view_mask: u32,
     ghost in_cell: { output < length cell.now.outputs },
     ghost in_view: { view_output < length view.now.cell.outputs },
-    ghost is_of_view: { of_view ≡ output_support (view_data view.now) view_output },
     ghost are_places: { places ≡ output_places (data_of cell.now) (view_data view.now) output view_output },
-    ghost few_of_view: { length of_view ≤ 10 },
+    ghost few_of_cell: { length cell_weights ≤ 10 },
+    ghost few_of_view: { length view_weights ≤ 10 },
+    ghost weigh_cell: { cell_weights ≡ map (weight_of places) (sources_at (data_of cell.now) output) },
+    ghost weigh_view: { view_weights ≡ map (weight_of places) (output_support (view_data view.now) view_output) },
     ghost few_places: { length places ≤ 20 },
     ghost is_cell_mask: { IsMask (view_data view.now) places (sources_at (data_of cell.now) output) cell_mask },
-    ghost is_view_mask: { IsMask (view_data view.now) places of_view view_mask },
+    ghost is_view_mask: { IsMask (view_data view.now) places (output_support (view_data view.now) view_output) view_mask },
 }
 
 impl<'a> OutputPair<'a> {
@@ -56,7 +60,8 @@ impl<'a> OutputPair<'a> {
             view,
             output,
             view_output,
-            of_view,
+            cell_weights: weights_of(places.as_slice(), of_cell),
+            view_weights: weights_of(places.as_slice(), of_view.as_slice()),
             places,
             cell_mask,
             view_mask,
@@ -68,8 +73,7 @@ impl<'a> OutputPair<'a> {
     fn cell_output(&self, point: u32) -> Trit
         ensures { result ≡ cell_output (data_of self.now.cell.now) (view_data self.now.view.now) self.now.output self.now.view_output point }
     {
-        let support = self.cell.output_pin(self.output).support.as_slice();
-        let point = SupportPoint::of(self.places.as_slice(), support, point);
+        let point = values_over(self.cell_weights.as_slice(), point);
         output_at(self.cell, self.output, point.as_slice())
     }
 
@@ -78,8 +82,7 @@ impl<'a> OutputPair<'a> {
     fn view_output(&self, point: u32) -> Trit
         ensures { result ≡ view_output (data_of self.now.cell.now) (view_data self.now.view.now) self.now.output self.now.view_output point }
     {
-        let support = self.of_view.as_slice();
-        let point = SupportPoint::of(self.places.as_slice(), support, point);
+        let point = values_over(self.view_weights.as_slice(), point);
         output_at(&self.view.cell, self.view_output, point.as_slice())
     }
 

@@ -4,7 +4,7 @@ ghost use Rattle.std.specs.List.{list_any, range_with_len};
 ghost use Rattle.cell_machine.specs.CellData.{data_of};
 ghost use Rattle.scan_cells.specs.Places.{same_source as same_source_of, pin_sources, state_sources, in_either as in_either_of, places_of as places_of_cell};
 
-use crate::sources::{Sources, same_source};
+use crate::sources::{Sources, no_sources, same_source};
 use cell_machine::{Cell, Source};
 
 /// Whether a source is in a support.
@@ -36,7 +36,7 @@ fn pin_places(cell: &Cell, first: &[Source], second: &[Source]) -> Sources
     requires { length first.now + length second.now ≤ 20 }
     ensures { result ≡ filter (in_either_of first.now second.now) (pin_sources (range_with_len 0 (length cell.now.pins))) }
 {
-    let mut places = Sources::new();
+    let mut places = no_sources();
     for pin in 0..cell.pins.len() {
         add_place(&mut places, first, second, Source::Pin(pin));
     }

@@ -1,13 +1,15 @@
 //! The points at which a cell and its view are compared, as numbers.
-ghost use Rattle.std.specs.Prelude.{◌≡◌, ◌<◌, ◌≤◌, ◌^◌, length};
+ghost use Rattle.std.specs.Prelude.{◌≡◌, ◌<◌, ◌≤◌, ◌^◌, true, length, map, position, unwrap_or};
+ghost use Rattle.std.specs.Option.{option_map_or};
+ghost use Rattle.cell_machine.specs.declared.outputs.Source.TheVariants as source;
 ghost use Rattle.scan_cells.specs.Views.{view_data};
-ghost use Rattle.scan_cells.specs.Places.{is_set as is_set_at, value_at as value_at_point, values_at, changed_at as changed_at_place, is_idle as is_idle_at, is_inactive as is_inactive_at};
+ghost use Rattle.scan_cells.specs.Places.{same_source, is_set as is_set_at, changed_at as changed_at_place, is_idle as is_idle_at, is_inactive as is_inactive_at};
+ghost use Rattle.scan_cells.specs.Weights.{weight_of as weight_of_source, weighed};
 
 use crate::places::place_of;
 use crate::views::View;
-use cell_machine::Source;
+use cell_machine::{Few, Source};
 use cell_parts::limits::MOST_OUTPUT_SOURCES;
-use std::marker::Model;
 
 /// The number that place k weighs.
 pub fn weight(k: usize) -> u32
@@ -15,6 +17,17 @@ pub fn weight(k: usize) -> u32
     ensures { result ≡ 2 ^ k }
 {
     1 << k
+}
+
+/// What the place of a source weighs in a point over these places.
+pub fn source_weight(places: &[Source], source: Source) -> u32
+    requires { length places.now ≤ 20 }
+    ensures { result ≡ weight_of_source places.now source }
+{
+    match place_of(places, source) {
+        Some(k) => weight(k),
+        None => weight(0),
+    }
 }
 
 /// How many points there are over so many places.
@@ -43,18 +56,6 @@ pub fn changed_at(point: u32, k: usize) -> u32
     point ^ weight(k)
 }
 
-/// The value of a source at a point over these places.
-#[tactic(auto, unfolding(crate::specs::Places::value_at))]
-fn value_at(places: &[Source], point: u32, source: Source) -> bool
-    requires { length places.now ≤ 20 }
-    ensures { result ≡ value_at_point places.now point source }
-{
-    match place_of(places, source) {
-        Some(k) => is_set(k, point),
-        None => is_set(0, point),
-    }
-}
-
 /// Whether the scan enable, which has this place, is inactive at a point.
 fn is_idle(view: &View, point: u32, k: usize) -> bool
     requires { k < 20 }
@@ -67,56 +68,60 @@ fn is_idle(view: &View, point: u32, k: usize) -> bool
     }
 }
 
+/// The place of the scan enable of a view, where it has one.
+pub fn enable_place(view: &View, places: &[Source]) -> Option<usize>
+    requires { length places.now ≤ 20 }
+    ensures is { result ≡ position (same_source (source.Pin view.now.enable)) places.now }
+    ensures few { unwrap_or result 0 < 20 }
+{
+    place_of(places, Source::Pin(view.enable))
+}
+
+/// Whether the scan enable of a view, which has this place if any, is inactive at a point.
+pub fn is_inactive_by(view: &View, enable: Option<usize>, point: u32) -> bool
+    requires { unwrap_or enable 0 < 20 }
+    ensures { result ≡ option_map_or (is_idle_at (view_data view.now) point) enable true }
+{
+    match enable {
+        Some(k) => is_idle(view, point, k),
+        None => true,
+    }
+}
+
 /// Whether the scan enable of a view is inactive at a point over these places.
 #[tactic(auto, unfolding(crate::specs::Places::is_inactive))]
 pub fn is_inactive(view: &View, places: &[Source], point: u32) -> bool
     requires { length places.now ≤ 20 }
     ensures { result ≡ is_inactive_at (view_data view.now) places.now point }
 {
-    match place_of(places, Source::Pin(view.enable)) {
-        Some(k) => is_idle(view, point, k),
-        None => true,
-    }
+    is_inactive_by(view, enable_place(view, places), point)
 }
 
-/// The values of a support at a point. Contracts see the list of them.
-#[derive(Drop)]
-pub struct SupportPoint {
-    len: usize,
-    bits: [bool; MOST_OUTPUT_SOURCES],
+/// What the sources of a support weigh in a point, in their order.
+pub type Weights = Few<u32, MOST_OUTPUT_SOURCES>;
+
+/// What the sources of a support weigh in a point over these places.
+pub fn weights_of(places: &[Source], support: &[Source]) -> Weights
+    requires places { length places.now ≤ 20 }
+    requires support { length support.now ≤ 10 }
+    ensures is { result ≡ map (weight_of_source places.now) support.now }
+    ensures few { length result ≤ 10 }
+{
+    let mut weights = Few::new(0);
+    for source in support {
+        weights.push(source_weight(places, *source));
+    }
+    weights
 }
 
-impl Model for SupportPoint {
-    ghost use Rattle.std.specs.Prelude.{◌≡◌, ◌≤◌, List, Bool, length, take};
-
-    ghost Value = { List Bool };
-
-    ghost view = { λ s. take s.len s.bits };
-
-    ghost invariant = { λ s. (s.len ≤ 10) × (length s.bits ≡ 10) };
-}
-
-impl SupportPoint {
-    /// The values of a support at a point over these places.
-    pub fn of(places: &[Source], support: &[Source], point: u32) -> SupportPoint
-        requires places { length places.now ≤ 20 }
-        requires support { length support.now ≤ 10 }
-        ensures { result ≡ values_at places.now support.now point }
-    {
-        let mut bits = [false; MOST_OUTPUT_SOURCES];
-        for i in 0..support.len() {
-            bits[i] = value_at(places, point, support[i]);
-        }
-        SupportPoint {
-            len: support.len(),
-            bits,
-        }
+/// The values at a point of the places with these weights.
+pub fn values_over(weights: &[u32], point: u32) -> Few<bool, MOST_OUTPUT_SOURCES>
+    requires { length weights.now ≤ 10 }
+    ensures { result ≡ weighed weights.now point }
+{
+    let mut values = Few::new(false);
+    for weight in weights {
+        values.push(point & *weight != 0);
     }
-
-    /// The values, in the order of the support.
-    pub fn as_slice(&self) -> &[bool]
-        ensures { result.now ≡ self.now }
-    {
-        &self.bits[..self.len]
-    }
+    values
 }

@@ -4,56 +4,19 @@ ghost use Rattle.scan_cells.specs.Views.{view_data};
 ghost use Rattle.scan_cells.specs.Places.{same_source as same_source_of, pin_sources as pin_sources_of, in_cell as in_cell_of};
 
 use crate::views::View;
-use cell_machine::Source;
-use std::marker::Model;
+use cell_machine::{Few, Source};
 
-/// At most twenty sources: those of two supports. Contracts see the list of them.
-#[derive(Drop)]
-pub struct Sources {
-    len: usize,
-    entries: [Source; Sources::MOST],
-}
+/// The most places of a point: the sources of two supports.
+const MOST_PLACES: usize = 20;
 
-impl Model for Sources {
-    ghost use Rattle.std.specs.Prelude.{◌≡◌, ◌≤◌, List, length, take};
-    ghost use Rattle.cell_machine.specs.declared.outputs.Source.{Source};
+/// The sources of two supports at most.
+pub type Sources = Few<Source, MOST_PLACES>;
 
-    ghost Value = { List Source };
-
-    ghost view = { λ s. take s.len s.entries };
-
-    ghost invariant = { λ s. (s.len ≤ 20) × (length s.entries ≡ 20) };
-}
-
-impl Sources {
-    /// The most sources.
-    const MOST: usize = 20;
-
-    /// No sources.
-    pub fn new() -> Sources
-        ensures { result ≡ [] }
-    {
-        Sources {
-            len: 0,
-            entries: [Source::Pin(0); Sources::MOST],
-        }
-    }
-
-    /// Adds a source at the end.
-    pub fn push(&mut self, source: Source)
-        requires { length self.old < 20 }
-        ensures { self.new ≡ self.old ++ source ∷ [] }
-    {
-        self.entries[self.len] = source;
-        self.len += 1;
-    }
-
-    /// The sources in order.
-    pub fn as_slice(&self) -> &[Source]
-        ensures { result.now ≡ self.now }
-    {
-        &self.entries[..self.len]
-    }
+/// No sources.
+pub fn no_sources() -> Sources
+    ensures { result ≡ [] }
+{
+    Few::new(Source::Pin(0))
 }
 
 /// Whether two sources are the same.
@@ -72,7 +35,7 @@ pub fn pin_sources(pins: &[usize]) -> Sources
     requires { length pins.now ≤ 10 }
     ensures { result ≡ pin_sources_of pins.now }
 {
-    let mut sources = Sources::new();
+    let mut sources = no_sources();
     for pin in pins {
         sources.push(Source::Pin(*pin));
     }
@@ -104,7 +67,7 @@ pub fn in_cell(view: &View, sources: &[Source]) -> Sources
     requires { length sources.now ≤ 10 }
     ensures { result ≡ map (in_cell_of (view_data view.now)) sources.now }
 {
-    let mut found = Sources::new();
+    let mut found = no_sources();
     for source in sources {
         found.push(source_in_cell(view, *source));
     }

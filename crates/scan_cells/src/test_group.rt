@@ -6,7 +6,7 @@ ghost use Rattle.scan_cells.specs.TestGroup.{test_of as test_of_cell, is_time as
 ghost use Rattle.cell_parts.specs.Groups.{inner_groups as inner_groups_of};
 
 use cell_parts::groups::inner_groups;
-use liberty_groups::{Group, Item, Value, inner_group};
+use liberty_groups::{Group, Item, Value, copy_bytes, copy_values, inner_group};
 use sqlite_items::Items;
 use std::alloc::{AllocError, Global};
 
@@ -29,26 +29,6 @@ fn is_time(name: &[u8]) -> bool
     name == b"min_pulse_width_high".as_slice()
         || name == b"min_pulse_width_low".as_slice()
         || name == b"min_period".as_slice()
-}
-
-/// A copy of some bytes.
-fn copy_bytes(alloc: Global, bytes: &[u8]) -> Result<Items<u8>, AllocError>
-    ensures { IfOk result (λ copy. copy ≡ bytes.now) }
-{
-    Ok(Items::from_slice(alloc, bytes)?)
-}
-
-/// A copy of some values.
-fn copy_values(alloc: Global, values: &[Value]) -> Result<Items<Value>, AllocError>
-    ensures { IfOk result (λ copy. copy ≡ values.now) }
-{
-    let mut copy = Items::new(alloc);
-    for value in values {
-        let bytes = copy_bytes(alloc, value.bytes.as_slice())?;
-        let quoted = value.quoted;
-        copy.push(Value { bytes, quoted })?;
-    }
-    Ok(copy)
 }
 
 /// Adds a copy of a statement, where it is kept.

@@ -4,7 +4,7 @@
 
 mod input_words;
 mod node_values;
-mod points;
+pub mod points;
 mod step_table;
 
 pub use step_table::{StateValues, StepTable};

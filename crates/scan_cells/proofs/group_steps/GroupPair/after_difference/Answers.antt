@@ -17,7 +17,7 @@ returns-in-None c =
     let view = view_data c.args.self.now.view.now in
     let g = c.args.self.now.group in
     let idle : is_inactive view (step_places cell view g) c.args.after ≡ true =
-    ap (λ xs. is_inactive view xs c.args.after) (sym (c.as_slice.ensures ∙ c.args.self.now.are_places)) ∙ sym c.is_inactive.ensures ∙ c.if-not-is_inactive.false in
+    ap (λ xs. is_inactive view xs c.args.after) (sym c.args.self.now.are_places) ∙ sym c.is_inactive.ensures ∙ c.if-not-is_inactive.false in
     later (is_inactive view (step_places cell view g) c.args.after) (change_difference cell view g c.args.after c.args.after) _
     c.changed_difference.result idle (sym c.change_difference.ensures ∙ c.in-None.is)
     (c.changed_difference.ensures

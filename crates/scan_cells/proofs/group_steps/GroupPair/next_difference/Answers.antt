@@ -1,4 +1,4 @@
-use Rattle.std.proofs.Common.{◌≡◌, List, refl, sym, subst}
+use Rattle.std.proofs.Common.{List, sym, subst}
 use Rattle.cell_machine.specs.declared.outputs.Source.{Source}
 use Rattle.cell_machine.specs.CellData.{data_of}
 use Rattle.scan_cells.specs.Views.{view_data}
@@ -8,16 +8,14 @@ use Rattle.scan_cells.proofs.MixedPoints.{mixed_steps}
 use Rattle.scan_cells.proofs.group_steps.GroupPair.next_difference.Goals as goal
 
 pub returns-then-is_mixed : goal.returns-then-is_mixed
-returns-then-is_mixed c = λ none.
+returns-then-is_mixed c =
     let cell = data_of c.args.self.now.cell.now in
     let view = view_data c.args.self.now.view.now in
     let self = c.args.self.now in
     let g = self.group in
     let of_cell : IsMask view (step_places cell view g) (cell_support cell g) self.cell_mask
-    = subst (λ (xs : List Source). IsMask view xs (cell_support cell g) self.cell_mask) self.are_places
-    (subst (λ (ys : List Source). IsMask view self.places ys self.cell_mask) self.is_of_cell self.is_cell_mask) in
+    = subst (λ (xs : List Source). IsMask view xs (cell_support cell g) self.cell_mask) self.are_places self.is_cell_mask in
     let of_view : IsMask view (step_places cell view g) (view_support view g) self.view_mask
-    = subst (λ (xs : List Source). IsMask view xs (view_support view g) self.view_mask) self.are_places
-    (subst (λ (ys : List Source). IsMask view self.places ys self.view_mask) self.is_of_view self.is_view_mask) in
+    = subst (λ (xs : List Source). IsMask view xs (view_support view g) self.view_mask) self.are_places self.is_view_mask in
     sym (mixed_steps cell view c.args.self.now.group c.args.after c.args.self.now.cell_mask c.args.self.now.view_mask of_cell of_view
-    (c.is_mixed.ensures.first c.if-is_mixed.true) (c.is_mixed.ensures.second c.if-is_mixed.true) none)
+    (c.is_mixed.ensures.first c.if-is_mixed.true) (c.is_mixed.ensures.second c.if-is_mixed.true) c.requires.before)

@@ -1,4 +1,4 @@
-use Rattle.std.proofs.Common.{◌≡◌, List, refl, sym, subst}
+use Rattle.std.proofs.Common.{List, sym, subst}
 use Rattle.cell_machine.specs.declared.outputs.Source.{Source}
 use Rattle.cell_machine.specs.CellTrace.{sources_at}
 use Rattle.cell_machine.specs.CellData.{data_of}
@@ -18,7 +18,6 @@ returns-then-is_mixed c = λ none.
     let of_cell : IsMask view (output_places cell view i j) (sources_at cell i) self.cell_mask
     = subst (λ (xs : List Source). IsMask view xs (sources_at cell i) self.cell_mask) self.are_places self.is_cell_mask in
     let of_view : IsMask view (output_places cell view i j) (output_support view j) self.view_mask
-    = subst (λ (xs : List Source). IsMask view xs (output_support view j) self.view_mask) self.are_places
-    (subst (λ (ys : List Source). IsMask view self.places ys self.view_mask) self.is_of_view self.is_view_mask) in
+    = subst (λ (xs : List Source). IsMask view xs (output_support view j) self.view_mask) self.are_places self.is_view_mask in
     sym (mixed_outputs cell view c.args.self.now.output c.args.self.now.view_output c.args.point c.args.self.now.cell_mask c.args.self.now.view_mask of_cell of_view
     (c.is_mixed.ensures.first c.if-is_mixed.true) (c.is_mixed.ensures.second c.if-is_mixed.true) none)

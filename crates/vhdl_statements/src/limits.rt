@@ -127,7 +127,7 @@ pub fn transition(cursor: &mut Cursor) -> Read<Edge>
 }
 
 /// The second limit, which has to be this one.
-#[tactic(auto, using(crate::proofs::NextLimits::number_found))]
+#[tactic(auto, unfolding(vhdl_text::specs::VhdlChecks::same_number), using(rule_readers::proofs::Values::number_found))]
 fn same_number(cursor: &mut Cursor, limit: u64) -> Read<()>
     ensures { Reads (read (spec.same_number limit) cursor.old) result cursor.new }
 {

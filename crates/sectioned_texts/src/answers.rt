@@ -13,6 +13,17 @@ use udp_tables::ModelFault;
 /// What a part of a text is read as, or its fault. The `AllocError` comes only where memory is wanting.
 pub(crate) type Answer<T> = Result<Result<T, ModelFault>, AllocError>;
 
+/// What a part of a text is read as that is this where it has no fault.
+pub(crate) fn with_answer<T: Drop>(value: T, rest: Answer<()>) -> Answer<T>
+    ensures { result ≡ result_map_both (result_map_both (λ _. value) (λ fault. fault)) (λ error. error) rest }
+{
+    match rest {
+        Ok(Ok(())) => Ok(Ok(value)),
+        Ok(Err(fault)) => Ok(Err(fault)),
+        Err(error) => Err(error),
+    }
+}
+
 /// The models of a text without sections, or its fault.
 pub(crate) fn models_of<L: SectionLanguage>(alloc: Global, text: &[u8]) -> Answer<Vec<L::Model>>
     ensures { IfOk result (λ answer. result_map_both (λ models. models.items) (λ fault. fault) answer ≡ L.language.text text.now) }

@@ -10,7 +10,7 @@ ghost use Rattle.vhdl_declarations.specs.Kinds.{constant_kind};
 
 use crate::state_rows::state_table;
 use crate::truth_rows::truth_table;
-use part_readers::{RepeatedPart, where_read, while_next};
+use part_readers::{RepeatedPart, where_read, while_next, with_end};
 use rule_readers::{Read, Refusal, Stop};
 use sqlite_items::Items;
 use std::alloc::{AllocError, Global};
@@ -72,8 +72,7 @@ fn truth_constant(cursor: &mut Cursor<'_>, alloc: Global) -> Read<TruthTable>
     cursor.expect(b"VitalTruthTableType")?;
     cursor.expect(b":=")?;
     let table = truth_table(cursor, alloc)?;
-    cursor.expect(b";")?;
-    Ok(table)
+    with_end(cursor, &[b";"], table)
 }
 
 /// The table of a state, behind the type of its constant, which stands behind these tables then.

@@ -7,8 +7,8 @@ ghost use Rattle.vhdl_text.specs.VhdlRules as rules;
 ghost use Rattle.vhdl_text.specs.VhdlTables as spec;
 
 use crate::rows::{NextRow, TableRow};
-use crate::symbols::{has_edge, is_as_long_as_state_rows, is_edge, state_row_of, symbol_of};
-use part_readers::{RepeatedPart, one_or_more};
+use crate::symbols::{has_edge, is_edge, result_at, state_at, symbol_of};
+use part_readers::{RepeatedPart, one_or_more, with_end};
 use rule_readers::{Read, Refusal, Stop};
 use sqlite_items::Items;
 use std::alloc::{AllocError, Global};
@@ -46,14 +46,6 @@ impl RepeatedPart<Vhdl> for NextSymbol {
     }
 }
 
-/// The symbols of a row.
-#[tactic(auto, unfolding(vhdl_text::specs::VhdlTables::symbols))]
-fn symbols(cursor: &mut Cursor<'_>, alloc: Global) -> Read<Items<VSymbol>>
-    ensures { Reads (read spec.symbols cursor.old) result cursor.new }
-{
-    one_or_more(cursor, b",", &NextSymbol, Items::new(alloc))
-}
-
 impl TableRow for VStateRow {
     type Entry = VSymbol;
 
@@ -63,16 +55,34 @@ impl TableRow for VStateRow {
 
     ghost is_as_long = { spec.is_as_long_as_state_rows };
 
+    #[tactic(auto, unfolding(vhdl_text::specs::VhdlTables::symbols))]
     fn entries(cursor: &mut Cursor<'_>, alloc: Global) -> Read<Items<VSymbol>> {
-        symbols(cursor, alloc)
+        one_or_more(cursor, b",", &NextSymbol, Items::new(alloc))
     }
 
     fn row_of(alloc: Global, found: &[VSymbol]) -> Result<Option<VStateRow>, AllocError> {
-        state_row_of(alloc, found)
+        if found.len() <= 2 {
+            return Ok(None);
+        }
+        let columns = found.len() - 2;
+        let Some(state) = state_at(found, columns) else {
+            return Ok(None);
+        };
+        let Some(result) = result_at(found, columns + 1) else {
+            return Ok(None);
+        };
+        Ok(Some(VStateRow {
+            inputs: Items::from_slice(alloc, &found[..columns])?,
+            state,
+            result,
+        }))
     }
 
     fn is_as_long(rows: &[VStateRow], row: &VStateRow) -> bool {
-        is_as_long_as_state_rows(rows, row)
+        match rows.first() {
+            Some(first) => row.inputs.len() == first.inputs.len(),
+            None => true,
+        }
     }
 }
 
@@ -90,6 +100,5 @@ pub fn state_table(cursor: &mut Cursor<'_>, alloc: Global) -> Read<VStateTable>
 {
     cursor.expect(b"(")?;
     let rows = state_rows(cursor, alloc)?;
-    cursor.expect(b")")?;
-    Ok(VStateTable { rows })
+    with_end(cursor, &[b")"], VStateTable { rows })
 }

@@ -1,14 +1,12 @@
-//! The symbols and rows of tables. (IEEE 1076.4-2000, the VITAL table symbols.)
+//! The symbols of tables. (IEEE 1076.4-2000, the VITAL table symbols.)
 
-ghost use Rattle.std.specs.Prelude.{◌≡◌, slice_get, IfOk};
+ghost use Rattle.std.specs.Prelude.{◌≡◌, slice_get};
 ghost use Rattle.std.specs.List.{list_any};
 ghost use Rattle.std.specs.Option.{option_and_then};
 ghost use Rattle.vhdl_text.specs.VhdlTables as spec;
 
-use sqlite_items::Items;
-use std::alloc::{AllocError, Global};
 use trit_cubes::Trit;
-use vital_models::{Trits, TruthRow, VNext, VStateRow, VSymbol};
+use vital_models::{Trits, VNext, VSymbol};
 
 /// The level that a symbol stands for.
 pub fn level_of(token: &[u8]) -> Option<Trits>
@@ -94,7 +92,7 @@ fn next_in(symbol: VSymbol) -> Option<VNext>
 }
 
 /// The state that a row wants, by its symbol at a place.
-fn state_at(symbols: &[VSymbol], at: usize) -> Option<Trits>
+pub fn state_at(symbols: &[VSymbol], at: usize) -> Option<Trits>
     ensures { result ≡ option_and_then spec.state_in (slice_get symbols.now at) }
 {
     match symbols.get(at) {
@@ -104,7 +102,7 @@ fn state_at(symbols: &[VSymbol], at: usize) -> Option<Trits>
 }
 
 /// What a row gives, by its symbol at a place.
-fn result_at(symbols: &[VSymbol], at: usize) -> Option<VNext>
+pub fn result_at(symbols: &[VSymbol], at: usize) -> Option<VNext>
     ensures { result ≡ option_and_then spec.next_in (slice_get symbols.now at) }
 {
     match symbols.get(at) {
@@ -113,29 +111,8 @@ fn result_at(symbols: &[VSymbol], at: usize) -> Option<VNext>
     }
 }
 
-/// The row of a state's table that these symbols are. An `Err` comes only where memory is wanting.
-pub fn state_row_of(alloc: Global, symbols: &[VSymbol]) -> Result<Option<VStateRow>, AllocError>
-    ensures { IfOk result (λ row. row ≡ spec.state_row_of symbols.now) }
-{
-    if symbols.len() <= 2 {
-        return Ok(None);
-    }
-    let columns = symbols.len() - 2;
-    let Some(state) = state_at(symbols, columns) else {
-        return Ok(None);
-    };
-    let Some(result) = result_at(symbols, columns + 1) else {
-        return Ok(None);
-    };
-    Ok(Some(VStateRow {
-        inputs: Items::from_slice(alloc, &symbols[..columns])?,
-        state,
-        result,
-    }))
-}
-
 /// The level that a row of a truth table gives.
-fn value_of(level: Trits) -> Option<Trit>
+pub fn value_of(level: Trits) -> Option<Trit>
     ensures { result ≡ spec.value_of level }
 {
     match level {
@@ -143,42 +120,5 @@ fn value_of(level: Trits) -> Option<Trit>
         Trits::One => Some(Trit::One),
         Trits::Unknown => Some(Trit::Unknown),
         Trits::Any | Trits::Binary => None,
-    }
-}
-
-/// The row of a truth table that these levels are. An `Err` comes only where memory is wanting.
-pub fn truth_row_of(alloc: Global, levels: &[Trits]) -> Result<Option<TruthRow>, AllocError>
-    ensures { IfOk result (λ row. row ≡ spec.truth_row_of levels.now) }
-{
-    if levels.len() <= 1 {
-        return Ok(None);
-    }
-    let columns = levels.len() - 1;
-    let Some(result) = levels.get(columns).and_then(|level| value_of(*level)) else {
-        return Ok(None);
-    };
-    Ok(Some(TruthRow {
-        inputs: Items::from_slice(alloc, &levels[..columns])?,
-        result,
-    }))
-}
-
-/// Whether a row behind these is as long as the first of them.
-pub fn is_as_long_as_state_rows(rows: &[VStateRow], row: &VStateRow) -> bool
-    ensures { result ≡ spec.is_as_long_as_state_rows rows.now row.now }
-{
-    match rows.first() {
-        Some(first) => row.inputs.len() == first.inputs.len(),
-        None => true,
-    }
-}
-
-/// Whether a row behind these is as long as the first of them.
-pub fn is_as_long_as_truth_rows(rows: &[TruthRow], row: &TruthRow) -> bool
-    ensures { result ≡ spec.is_as_long_as_truth_rows rows.now row.now }
-{
-    match rows.first() {
-        Some(first) => row.inputs.len() == first.inputs.len(),
-        None => true,
     }
 }

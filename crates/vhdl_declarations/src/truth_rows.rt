@@ -7,8 +7,8 @@ ghost use Rattle.vhdl_text.specs.VhdlRules as rules;
 ghost use Rattle.vhdl_text.specs.VhdlTables as spec;
 
 use crate::rows::{NextRow, TableRow};
-use crate::symbols::{is_as_long_as_truth_rows, level_of, truth_row_of};
-use part_readers::{RepeatedPart, one_or_more};
+use crate::symbols::{level_of, value_of};
+use part_readers::{RepeatedPart, one_or_more, with_end};
 use rule_readers::Read;
 use sqlite_items::Items;
 use std::alloc::{AllocError, Global};
@@ -41,14 +41,6 @@ impl RepeatedPart<Vhdl> for NextLevel {
     }
 }
 
-/// The levels of a row.
-#[tactic(auto, unfolding(vhdl_text::specs::VhdlTables::levels))]
-fn levels(cursor: &mut Cursor<'_>, alloc: Global) -> Read<Items<Trits>>
-    ensures { Reads (read spec.levels cursor.old) result cursor.new }
-{
-    one_or_more(cursor, b",", &NextLevel, Items::new(alloc))
-}
-
 impl TableRow for TruthRow {
     type Entry = Trits;
 
@@ -58,16 +50,30 @@ impl TableRow for TruthRow {
 
     ghost is_as_long = { spec.is_as_long_as_truth_rows };
 
+    #[tactic(auto, unfolding(vhdl_text::specs::VhdlTables::levels))]
     fn entries(cursor: &mut Cursor<'_>, alloc: Global) -> Read<Items<Trits>> {
-        levels(cursor, alloc)
+        one_or_more(cursor, b",", &NextLevel, Items::new(alloc))
     }
 
     fn row_of(alloc: Global, found: &[Trits]) -> Result<Option<TruthRow>, AllocError> {
-        truth_row_of(alloc, found)
+        if found.len() <= 1 {
+            return Ok(None);
+        }
+        let columns = found.len() - 1;
+        let Some(result) = found.get(columns).and_then(|level| value_of(*level)) else {
+            return Ok(None);
+        };
+        Ok(Some(TruthRow {
+            inputs: Items::from_slice(alloc, &found[..columns])?,
+            result,
+        }))
     }
 
     fn is_as_long(rows: &[TruthRow], row: &TruthRow) -> bool {
-        is_as_long_as_truth_rows(rows, row)
+        match rows.first() {
+            Some(first) => row.inputs.len() == first.inputs.len(),
+            None => true,
+        }
     }
 }
 
@@ -85,6 +91,5 @@ pub fn truth_table(cursor: &mut Cursor<'_>, alloc: Global) -> Read<TruthTable>
 {
     cursor.expect(b"(")?;
     let rows = truth_rows(cursor, alloc)?;
-    cursor.expect(b")")?;
-    Ok(TruthTable { rows })
+    with_end(cursor, &[b")"], TruthTable { rows })
 }

@@ -1,7 +1,7 @@
 //! The lines of all outputs. (IEEE 1076.4-2000, VitalPathDelay01; IEEE 1076-1993, 8.4.)
 
 ghost use Rattle.std.specs.Prelude.{◌≡◌, nat_eq, length};
-ghost use Rattle.rule_readers.specs.Reading.{read, Reads, Many};
+ghost use Rattle.rule_readers.specs.Reading.{read, Reads, ReadsAs, Many};
 ghost use Rattle.vhdl_text.specs.VhdlDeclarations as declarations;
 ghost use Rattle.vhdl_text.specs.VhdlOutputs as spec;
 
@@ -12,15 +12,15 @@ use vhdl_tokens::is_name;
 use vhdl_words::{Cursor, Declarations, Uses};
 use vital_models::HPath;
 
-/// The lines of outputs behind these.
+/// The lines of outputs, which stand behind these then.
 #[tactic(auto, using(rule_readers::proofs::Repeats::turn, crate::proofs::NextLine::so_named, crate::proofs::NextLine::no_line, crate::proofs::NextLine::other_line, crate::proofs::NextLine::this_line))]
-fn more_lines(cursor: &mut Cursor, scope: &Declarations, mut lines: Lines) -> Read<Lines>
-    ensures { Reads (read (Many (spec.begins_line scope.now) (spec.line_by scope.now) lines) cursor.old) result cursor.new }
+fn more_lines(cursor: &mut Cursor, scope: &Declarations, lines: &mut Lines) -> Read<()>
+    ensures { ReadsAs (λ _. lines.new) (read (Many (spec.begins_line scope.now) (spec.line_by scope.now) lines.old) cursor.old) result cursor.new }
 {
     for _turn in 0..cursor.left() {
         if cursor.is_next(b"VitalPathDelay01") {
             cursor.skip();
-            lines = call_or_assignment(cursor, scope, lines)?;
+            call_or_assignment(cursor, scope, lines)?;
             continue;
         }
         if !is_name(cursor.bytes()) {
@@ -30,9 +30,9 @@ fn more_lines(cursor: &mut Cursor, scope: &Declarations, mut lines: Lines) -> Re
             return Err(Stop::Refused(Refusal::Undefined));
         }
         cursor.skip();
-        lines = assignment(cursor, scope.alloc(), lines)?;
+        assignment(cursor, scope.alloc(), lines)?;
     }
-    Ok(lines)
+    Ok(())
 }
 
 /// Whether these are the lines of all outputs.
@@ -47,8 +47,8 @@ fn are_all_lines(scope: &Declarations, lines: &[Items<HPath>]) -> bool
 pub fn output_lines(cursor: &mut Cursor, scope: &Declarations, uses: Uses) -> Read<Lines>
     ensures { Reads (read (spec.output_lines scope.now uses) cursor.old) result cursor.new }
 {
-    let none = (Items::new(scope.alloc()), uses);
-    let lines = more_lines(cursor, scope, none)?;
+    let mut lines = (Items::new(scope.alloc()), uses);
+    more_lines(cursor, scope, &mut lines)?;
     cursor.go_on_where(are_all_lines(scope, lines.0.as_slice()))?;
     Ok(lines)
 }

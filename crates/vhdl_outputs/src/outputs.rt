@@ -3,7 +3,7 @@
 ghost use Rattle.std.specs.Prelude.{◌≡◌, ◌+◌, ◌<◌, ◌^◌, length, Some, IfOk, codes};
 ghost use Rattle.std.specs.Option.{option_map, option_copied};
 ghost use Rattle.rule_readers.specs.declared.refusal.Refusal.TheVariants.{Syntax};
-ghost use Rattle.rule_readers.specs.Reading.{read, Reads, Token};
+ghost use Rattle.rule_readers.specs.Reading.{read, Reads, ReadsAs, Token};
 ghost use Rattle.udp_tables.specs.declared.models.VPort.{VPort};
 ghost use Rattle.vital_models.specs.Sound.{output_ports_from};
 ghost use Rattle.vhdl_text.specs.VhdlRules as rules;
@@ -129,42 +129,40 @@ fn next_value_name(cursor: &mut Cursor, alloc: Global, lines: &[Items<HPath>]) -
     value_name(cursor, alloc, lines.len())
 }
 
-/// A path call, behind its word, and behind the lines of other outputs.
+/// A path call, behind its word, whose line stands behind those of other outputs then.
 #[tactic(auto, unfolding(vhdl_text::specs::VhdlOutputs::path_call))]
-fn path_call(cursor: &mut Cursor, scope: &Declarations, before: Lines) -> Read<Lines>
-    ensures { Reads (read (spec.path_call scope.now before) cursor.old) result cursor.new }
+fn path_call(cursor: &mut Cursor, scope: &Declarations, lines: &mut Lines) -> Read<()>
+    ensures { ReadsAs (λ _. lines.new) (read (spec.path_call scope.now lines.old) cursor.old) result cursor.new }
 {
-    let (mut lines, uses) = before;
-    next_start(cursor, scope, lines.as_slice())?;
+    next_start(cursor, scope, lines.0.as_slice())?;
     expect_all(cursor, &[b"Paths", b"=>"])?;
-    let (found, more) = paths(cursor, scope, uses)?;
+    let found = paths(cursor, scope, &mut lines.1)?;
     expect_all(
         cursor,
         &[b",", b"Mode", b"=>", b"VitalTransport", b")", b";"],
     )?;
-    lines.push(found)?;
-    Ok((lines, more))
+    lines.0.push(found)?;
+    Ok(())
 }
 
-/// The variable of an output without paths, behind `<=`, and behind the lines of other outputs.
+/// The variable of an output without paths, behind `<=`, whose line stands behind those of other outputs then.
 #[tactic(auto, unfolding(vhdl_text::specs::VhdlOutputs::assigned_value))]
-fn assigned_value(cursor: &mut Cursor, alloc: Global, before: Lines) -> Read<Lines>
-    ensures { Reads (read (spec.assigned_value before) cursor.old) result cursor.new }
+fn assigned_value(cursor: &mut Cursor, alloc: Global, lines: &mut Lines) -> Read<()>
+    ensures { ReadsAs (λ _. lines.new) (read (spec.assigned_value lines.old) cursor.old) result cursor.new }
 {
-    let (mut lines, uses) = before;
-    next_value_name(cursor, alloc, lines.as_slice())?;
+    next_value_name(cursor, alloc, lines.0.as_slice())?;
     cursor.expect(b";")?;
-    lines.push(Items::new(alloc))?;
-    Ok((lines, uses))
+    lines.0.push(Items::new(alloc))?;
+    Ok(())
 }
 
-/// An assignment, behind the name of its output, and behind the lines of other outputs.
+/// An assignment, behind the name of its output, whose line stands behind those of other outputs then.
 #[tactic(auto, unfolding(vhdl_text::specs::VhdlOutputs::assignment))]
-pub fn assignment(cursor: &mut Cursor, alloc: Global, before: Lines) -> Read<Lines>
-    ensures { Reads (read (spec.assignment before) cursor.old) result cursor.new }
+pub fn assignment(cursor: &mut Cursor, alloc: Global, lines: &mut Lines) -> Read<()>
+    ensures { ReadsAs (λ _. lines.new) (read (spec.assignment lines.old) cursor.old) result cursor.new }
 {
     cursor.expect(b"<=")?;
-    assigned_value(cursor, alloc, before)
+    assigned_value(cursor, alloc, lines)
 }
 
 /// Whether a name is that of the output with this number, from 0, which has no paths.
@@ -195,14 +193,15 @@ fn assigns_so_named(scope: &Declarations, lines: &[Items<HPath>], token: &[u8]) 
     is_same(token, b"<=") && is_next_unpathed(scope, lines, b"VitalPathDelay01")
 }
 
-/// What stands behind `VitalPathDelay01` and behind the lines of other outputs: the assignment of an output of this name, or a call.
+/// What stands behind `VitalPathDelay01`: the assignment of an output of this name, or a call. Its line stands behind those of other
+/// outputs then.
 #[tactic(auto, unfolding(vhdl_text::specs::VhdlOutputs::call_or_assignment), using(rule_readers::proofs::Choices::choose_by, rule_readers::proofs::Choices::choose_not_by))]
-pub fn call_or_assignment(cursor: &mut Cursor, scope: &Declarations, before: Lines) -> Read<Lines>
-    ensures { Reads (read (spec.call_or_assignment scope.now before) cursor.old) result cursor.new }
+pub fn call_or_assignment(cursor: &mut Cursor, scope: &Declarations, lines: &mut Lines) -> Read<()>
+    ensures { ReadsAs (λ _. lines.new) (read (spec.call_or_assignment scope.now lines.old) cursor.old) result cursor.new }
 {
-    if !assigns_so_named(scope, before.0.as_slice(), cursor.bytes()) {
-        return path_call(cursor, scope, before);
+    if !assigns_so_named(scope, lines.0.as_slice(), cursor.bytes()) {
+        return path_call(cursor, scope, lines);
     }
     cursor.skip();
-    assigned_value(cursor, scope.alloc(), before)
+    assigned_value(cursor, scope.alloc(), lines)
 }

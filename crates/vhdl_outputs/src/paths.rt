@@ -1,13 +1,14 @@
 //! The paths of outputs. (IEEE 1076.4-2000, VitalPathDelay01.)
 
 ghost use Rattle.std.specs.Prelude.{length};
-ghost use Rattle.rule_readers.specs.Reading.{read, Reads};
+ghost use Rattle.rule_readers.specs.Reading.{read, Reads, ReadsAs};
 ghost use Rattle.vhdl_text.specs.VhdlRules as rules;
 ghost use Rattle.vhdl_text.specs.VhdlOutputs as spec;
 
-use part_readers::{RepeatedPart, one_or_more, while_next};
+use part_readers::{RepeatedPart, one_or_more, where_read, while_next};
 use rule_readers::Read;
 use sqlite_items::Items;
+use std::mem::replace;
 use vhdl_words::{
     Cursor, Declarations, Uses, Vhdl, an_input, condition, expect_all, this_number, time,
 };
@@ -17,7 +18,24 @@ use vital_models::{HGate, HPath};
 type Zeros = (Items<usize>, Uses);
 
 /// The paths of an output so far, and the lists of the conditions that were looked up.
-pub type Paths = (Items<HPath>, Uses);
+type Paths = (Items<HPath>, Uses);
+
+/// A condition that has to be 0, which stands behind these then, and the lists.
+#[tactic(auto, unfolding(vhdl_text::specs::VhdlOutputs::next_zero))]
+fn zero(
+    cursor: &mut Cursor,
+    scope: &Declarations,
+    conditions: &mut Items<usize>,
+    uses: &mut Uses,
+) -> Read<()>
+    ensures { ReadsAs (λ _. (conditions.new, uses.new)) (read (spec.next_zero scope.now (conditions.old, uses.old)) cursor.old) result cursor.new }
+{
+    cursor.expect(b"VitalTruthTable")?;
+    let number = condition(cursor, scope.alloc(), scope, uses)?;
+    expect_all(cursor, &[b"=", b"'0'"])?;
+    conditions.push(number)?;
+    Ok(())
+}
 
 /// A condition that has to be 0.
 #[derive(Drop)]
@@ -28,64 +46,54 @@ impl RepeatedPart<Vhdl> for NextZero<'_> {
 
     ghost reading = { λ zero found s. read (spec.next_zero zero.0.now found) s };
 
-    #[tactic(auto, unfolding(vhdl_text::specs::VhdlOutputs::next_zero))]
+    #[tactic(auto, using(part_readers::proofs::WithRest::reads_before))]
     fn next(&self, cursor: &mut Cursor<'_>, before: Zeros) -> Read<Zeros> {
-        let (mut conditions, uses) = before;
-        cursor.expect(b"VitalTruthTable")?;
-        let (number, more) = condition(cursor, self.0.alloc(), self.0, uses)?;
-        expect_all(cursor, &[b"=", b"'0'"])?;
-        conditions.push(number)?;
-        Ok((conditions, more))
+        let (mut conditions, mut uses) = before;
+        let rest = zero(cursor, self.0, &mut conditions, &mut uses);
+        where_read((conditions, uses), rest)
     }
 }
 
-/// The conditions that have to be 0, behind the first of them and its `=`.
+/// The conditions that have to be 0, behind the first of them and its `=`, and the lists.
 #[tactic(auto, unfolding(vhdl_text::specs::VhdlOutputs::all_zero))]
-fn all_zero(cursor: &mut Cursor, scope: &Declarations, first: (usize, Uses)) -> Read<(HGate, Uses)>
-    ensures { Reads (read (spec.all_zero scope.now first) cursor.old) result cursor.new }
+fn all_zero(cursor: &mut Cursor, scope: &Declarations, first: usize, uses: &mut Uses) -> Read<HGate>
+    ensures { ReadsAs (λ gate. (gate, uses.new)) (read (spec.all_zero scope.now (first, uses.old)) cursor.old) result cursor.new }
 {
-    let (number, uses) = first;
-    let mut conditions = Items::new(scope.alloc());
-    conditions.push(number)?;
     cursor.expect(b"'0'")?;
-    let (all, more) = while_next(cursor, b"and", &NextZero(scope), (conditions, uses))?;
-    Ok((HGate::AllZero(all), more))
+    let mut conditions = Items::new(scope.alloc());
+    conditions.push(first)?;
+    let before = replace(uses, Items::new(scope.alloc()));
+    let (all, more) = while_next(cursor, b"and", &NextZero(scope), (conditions, before))?;
+    *uses = more;
+    Ok(HGate::AllZero(all))
 }
 
-/// A gate, behind the first word of a look-up.
+/// A gate, behind the first word of a look-up, and the lists.
 #[tactic(auto, unfolding(vhdl_text::specs::VhdlOutputs::gate_of_conditions, vhdl_text::specs::VhdlOutputs::not_zero, vhdl_text::specs::VhdlOutputs::equals_zero), using(rule_readers::proofs::Repeats::choose_begun, rule_readers::proofs::Repeats::choose_other))]
-fn gate_of_conditions(cursor: &mut Cursor, scope: &Declarations, uses: Uses) -> Read<(HGate, Uses)>
-    ensures { Reads (read (spec.gate_of_conditions scope.now uses) cursor.old) result cursor.new }
+fn gate_of_conditions(cursor: &mut Cursor, scope: &Declarations, uses: &mut Uses) -> Read<HGate>
+    ensures { ReadsAs (λ gate. (gate, uses.new)) (read (spec.gate_of_conditions scope.now uses.old) cursor.old) result cursor.new }
 {
-    let (number, more) = condition(cursor, scope.alloc(), scope, uses)?;
+    let number = condition(cursor, scope.alloc(), scope, uses)?;
     if cursor.is_next(b"/=") {
         cursor.skip();
         cursor.expect(b"'0'")?;
-        return Ok((HGate::NotZero(number), more));
+        return Ok(HGate::NotZero(number));
     }
     cursor.expect(b"=")?;
-    all_zero(cursor, scope, (number, more))
-}
-
-/// The word of a path that counts always, and the lists.
-#[tactic(auto, unfolding(vhdl_text::specs::VhdlOutputs::always))]
-fn always(cursor: &mut Cursor, uses: Uses) -> Read<(HGate, Uses)>
-    ensures { Reads (read (spec.always uses) cursor.old) result cursor.new }
-{
-    cursor.expect(b"true")?;
-    Ok((HGate::Always, uses))
+    all_zero(cursor, scope, number, uses)
 }
 
 /// When a path counts, and the lists.
-#[tactic(auto, using(crate::proofs::NextGate::gated, crate::proofs::NextGate::ungated))]
-fn gate_of(cursor: &mut Cursor, scope: &Declarations, uses: Uses) -> Read<(HGate, Uses)>
-    ensures { Reads (read (spec.gate_of scope.now uses) cursor.old) result cursor.new }
+#[tactic(auto, unfolding(vhdl_text::specs::VhdlOutputs::always), using(crate::proofs::NextGate::gated, crate::proofs::NextGate::ungated))]
+fn gate_of(cursor: &mut Cursor, scope: &Declarations, uses: &mut Uses) -> Read<HGate>
+    ensures { ReadsAs (λ gate. (gate, uses.new)) (read (spec.gate_of scope.now uses.old) cursor.old) result cursor.new }
 {
-    if !cursor.is_next(b"VitalTruthTable") {
-        return always(cursor, uses);
+    if cursor.is_next(b"VitalTruthTable") {
+        cursor.skip();
+        return gate_of_conditions(cursor, scope, uses);
     }
-    cursor.skip();
-    gate_of_conditions(cursor, scope, uses)
+    cursor.expect(b"true")?;
+    Ok(HGate::Always)
 }
 
 /// The delays of a rise and of a fall.
@@ -108,6 +116,32 @@ fn path_number(cursor: &mut Cursor, paths: &[HPath]) -> Read<()>
     this_number(cursor, paths.len())
 }
 
+/// A path, which stands behind these then, and the lists.
+#[tactic(auto, unfolding(vhdl_text::specs::VhdlOutputs::next_path))]
+fn path(
+    cursor: &mut Cursor,
+    scope: &Declarations,
+    paths: &mut Items<HPath>,
+    uses: &mut Uses,
+) -> Read<()>
+    ensures { ReadsAs (λ _. (paths.new, uses.new)) (read (spec.next_path scope.now (paths.old, uses.old)) cursor.old) result cursor.new }
+{
+    path_number(cursor, paths.as_slice())?;
+    expect_all(cursor, &[b"=>", b"("])?;
+    let from = an_input(cursor, scope.ports())?;
+    expect_all(cursor, &[b"'", b"last_event", b","])?;
+    let (rise, fall) = delays(cursor)?;
+    let gate = gate_of(cursor, scope, uses)?;
+    cursor.expect(b")")?;
+    paths.push(HPath {
+        from,
+        rise,
+        fall,
+        gate,
+    })?;
+    Ok(())
+}
+
 /// A path, behind others.
 #[derive(Drop)]
 struct NextPath<'a>(&'a Declarations);
@@ -117,34 +151,24 @@ impl RepeatedPart<Vhdl> for NextPath<'_> {
 
     ghost reading = { λ path found s. read (spec.next_path path.0.now found) s };
 
-    #[tactic(auto, unfolding(vhdl_text::specs::VhdlOutputs::next_path))]
+    #[tactic(auto, using(part_readers::proofs::WithRest::reads_before))]
     fn next(&self, cursor: &mut Cursor<'_>, before: Paths) -> Read<Paths> {
-        let (mut paths, uses) = before;
-        path_number(cursor, paths.as_slice())?;
-        expect_all(cursor, &[b"=>", b"("])?;
-        let from = an_input(cursor, self.0.ports())?;
-        expect_all(cursor, &[b"'", b"last_event", b","])?;
-        let (rise, fall) = delays(cursor)?;
-        let (gate, more) = gate_of(cursor, self.0, uses)?;
-        cursor.expect(b")")?;
-        paths.push(HPath {
-            from,
-            rise,
-            fall,
-            gate,
-        })?;
-        Ok((paths, more))
+        let (mut paths, mut uses) = before;
+        let rest = path(cursor, self.0, &mut paths, &mut uses);
+        where_read((paths, uses), rest)
     }
 }
 
 /// All paths of an output, and the lists.
 #[tactic(auto, unfolding(vhdl_text::specs::VhdlOutputs::paths))]
-pub fn paths(cursor: &mut Cursor, scope: &Declarations, uses: Uses) -> Read<Paths>
-    ensures { Reads (read (spec.paths scope.now uses) cursor.old) result cursor.new }
+pub fn paths(cursor: &mut Cursor, scope: &Declarations, uses: &mut Uses) -> Read<Items<HPath>>
+    ensures { ReadsAs (λ paths. (paths, uses.new)) (read (spec.paths scope.now uses.old) cursor.old) result cursor.new }
 {
     cursor.expect(b"(")?;
-    let none = (Items::new(scope.alloc()), uses);
-    let all = one_or_more(cursor, b",", &NextPath(scope), none)?;
+    let before = replace(uses, Items::new(scope.alloc()));
+    let none = (Items::new(scope.alloc()), before);
+    let (all, more) = one_or_more(cursor, b",", &NextPath(scope), none)?;
+    *uses = more;
     cursor.expect(b")")?;
     Ok(all)
 }

@@ -1,3 +1,2 @@
-pub mod NextLimits
 pub mod NextChecks
 pub mod NextColumn

@@ -74,26 +74,26 @@ fn check_with(
     }
 }
 
-/// The rest of the call of a check of this event and of one of this reference, from where it says when the check counts: the check
-/// behind the others.
+/// The rest of the call of a check of this event and of one of this reference, from where it says when the check counts. The check
+/// stands behind the others then.
 #[tactic(auto, unfolding(crate::specs::Checked::timed))]
 fn timed(
     cursor: &mut Cursor,
     scope: &Declarations,
-    before: Checks,
+    found: &mut Checks,
     kind: CheckKind,
     test: Event,
     reference: usize,
     limit: u64,
-) -> Read<Checks>
-    ensures { ReadsAs checks_of (read (timed scope.now (checks_of before) kind test reference limit) cursor.old) result cursor.new }
+) -> Read<()>
+    ensures { ReadsAs (λ _. checks_of found.new) (read (timed scope.now (checks_of found.old) kind test reference limit) cursor.old) result cursor.new }
 {
-    let Checks { mut checks, uses } = before;
-    let (when, uses) = enabled(cursor, scope, uses)?;
+    let when = enabled(cursor, scope, &mut found.uses)?;
     let edge = transition(cursor)?;
     let pin = reference;
-    checks.push(check_with(kind, test, Event { pin, edge }, limit, when))?;
-    Ok(Checks { checks, uses })
+    let check = check_with(kind, test, Event { pin, edge }, limit, when);
+    found.checks.push(check)?;
+    Ok(())
 }
 
 /// The variables of the check behind these, and the input that is tested.
@@ -122,26 +122,26 @@ fn timing_data(cursor: &mut Cursor, scope: &Declarations, before: &Checks) -> Re
     )
 }
 
-/// A call of VitalSetupHoldCheck, behind its word.
+/// A call of VitalSetupHoldCheck, behind its word, whose check stands behind these then.
 #[tactic(auto, unfolding(vhdl_text::specs::VhdlChecks::setup_hold, crate::specs::Checked::timed))]
-fn setup_hold(cursor: &mut Cursor, scope: &Declarations, before: Checks) -> Read<Checks>
-    ensures { ReadsAs checks_of (read (spec.setup_hold scope.now (checks_of before)) cursor.old) result cursor.new }
+fn setup_hold(cursor: &mut Cursor, scope: &Declarations, found: &mut Checks) -> Read<()>
+    ensures { ReadsAs (λ _. checks_of found.new) (read (spec.setup_hold scope.now (checks_of found.old)) cursor.old) result cursor.new }
 {
-    let pin = timing_data(cursor, scope, &before)?;
+    let pin = timing_data(cursor, scope, found)?;
     let edge = Edge::Any;
     let reference = referred(cursor, scope)?;
     let kind = a_setup_or_hold(cursor)?;
     let limit = both_limits(cursor, kind)?;
     let test = Event { pin, edge };
-    timed(cursor, scope, before, kind, test, reference, limit)
+    timed(cursor, scope, found, kind, test, reference, limit)
 }
 
-/// A call of VitalRecoveryRemovalCheck, behind its word.
+/// A call of VitalRecoveryRemovalCheck, behind its word, whose check stands behind these then.
 #[tactic(auto, unfolding(vhdl_text::specs::VhdlChecks::recovery_removal, crate::specs::Checked::timed))]
-fn recovery_removal(cursor: &mut Cursor, scope: &Declarations, before: Checks) -> Read<Checks>
-    ensures { ReadsAs checks_of (read (spec.recovery_removal scope.now (checks_of before)) cursor.old) result cursor.new }
+fn recovery_removal(cursor: &mut Cursor, scope: &Declarations, found: &mut Checks) -> Read<()>
+    ensures { ReadsAs (λ _. checks_of found.new) (read (spec.recovery_removal scope.now (checks_of found.old)) cursor.old) result cursor.new }
 {
-    let pin = timing_data(cursor, scope, &before)?;
+    let pin = timing_data(cursor, scope, found)?;
     let reference = referred(cursor, scope)?;
     let kind = either_word(
         cursor,
@@ -153,22 +153,21 @@ fn recovery_removal(cursor: &mut Cursor, scope: &Declarations, before: Checks) -
     let limit = one_limit(cursor)?;
     let edge = active_low(cursor)?;
     let test = Event { pin, edge };
-    timed(cursor, scope, before, kind, test, reference, limit)
+    timed(cursor, scope, found, kind, test, reference, limit)
 }
 
-/// A call of VitalPeriodPulseCheck, behind its word.
+/// A call of VitalPeriodPulseCheck, behind its word, whose check stands behind these then.
 #[tactic(auto, unfolding(vhdl_text::specs::VhdlChecks::period_pulse))]
-fn period_pulse(cursor: &mut Cursor, scope: &Declarations, before: Checks) -> Read<Checks>
-    ensures { ReadsAs checks_of (read (spec.period_pulse scope.now (checks_of before)) cursor.old) result cursor.new }
+fn period_pulse(cursor: &mut Cursor, scope: &Declarations, found: &mut Checks) -> Read<()>
+    ensures { ReadsAs (λ _. checks_of found.new) (read (spec.period_pulse scope.now (checks_of found.old)) cursor.old) result cursor.new }
 {
-    let Checks { mut checks, uses } = before;
-    let pin = next_tested(cursor, scope, true, b"PeriodData", checks.as_slice())?;
+    let pin = next_tested(cursor, scope, true, b"PeriodData", found.checks.as_slice())?;
     let pulse = a_pulse(cursor)?;
     let limit = one_limit(cursor)?;
-    let (when, uses) = enabled(cursor, scope, uses)?;
+    let when = enabled(cursor, scope, &mut found.uses)?;
     expect_all(cursor, &[b")", b";"])?;
-    checks.push(pulse_check(pulse, pin, limit, when))?;
-    Ok(Checks { checks, uses })
+    found.checks.push(pulse_check(pulse, pin, limit, when))?;
+    Ok(())
 }
 
 /// The procedure that a word calls.
@@ -186,35 +185,35 @@ fn procedure_of(token: &[u8]) -> Option<Procedure>
     }
 }
 
-/// One more check, behind the word of its call.
+/// One more check, behind the word of its call, which stands behind these then.
 fn check(
     cursor: &mut Cursor,
     scope: &Declarations,
-    before: Checks,
+    found: &mut Checks,
     procedure: Procedure,
-) -> Read<Checks>
-    ensures { ReadsAs checks_of (read (spec.check scope.now (checks_of before) (procedure_kind procedure)) cursor.old) result cursor.new }
+) -> Read<()>
+    ensures { ReadsAs (λ _. checks_of found.new) (read (spec.check scope.now (checks_of found.old) (procedure_kind procedure)) cursor.old) result cursor.new }
 {
     match procedure {
-        Procedure::SetupHold => setup_hold(cursor, scope, before),
-        Procedure::RecoveryRemoval => recovery_removal(cursor, scope, before),
-        Procedure::PeriodPulse => period_pulse(cursor, scope, before),
+        Procedure::SetupHold => setup_hold(cursor, scope, found),
+        Procedure::RecoveryRemoval => recovery_removal(cursor, scope, found),
+        Procedure::PeriodPulse => period_pulse(cursor, scope, found),
     }
 }
 
-/// The checks behind these.
+/// The checks, which stand behind these then.
 #[tactic(auto, using(rule_readers::proofs::Repeats::turn, crate::proofs::NextChecks::procedure_begun, crate::proofs::NextChecks::no_procedure))]
-fn more_checks(cursor: &mut Cursor, scope: &Declarations, mut found: Checks) -> Read<Checks>
-    ensures { ReadsAs checks_of (read (Many (λ _. begins_as spec.procedure_of) (spec.check scope.now) (checks_of found)) cursor.old) result cursor.new }
+fn more_checks(cursor: &mut Cursor, scope: &Declarations, found: &mut Checks) -> Read<()>
+    ensures { ReadsAs (λ _. checks_of found.new) (read (Many (λ _. begins_as spec.procedure_of) (spec.check scope.now) (checks_of found.old)) cursor.old) result cursor.new }
 {
     for _turn in 0..cursor.left() {
         let Some(procedure) = procedure_of(cursor.bytes()) else {
             break;
         };
         cursor.skip();
-        found = check(cursor, scope, found, procedure)?;
+        check(cursor, scope, found, procedure)?;
     }
-    Ok(found)
+    Ok(())
 }
 
 /// The checks, one for each of the variables.
@@ -222,11 +221,11 @@ fn more_checks(cursor: &mut Cursor, scope: &Declarations, mut found: Checks) -> 
 pub fn all_checks(cursor: &mut Cursor, scope: &Declarations) -> Read<Checks>
     ensures { ReadsAs checks_of (read (spec.checks scope.now) cursor.old) result cursor.new }
 {
-    let none = Checks {
+    let mut all = Checks {
         checks: Items::new(scope.alloc()),
         uses: Items::new(scope.alloc()),
     };
-    let all = more_checks(cursor, scope, none)?;
+    more_checks(cursor, scope, &mut all)?;
     cursor.go_on_where(all.checks.len() == scope.variables().periods.len())?;
     Ok(all)
 }

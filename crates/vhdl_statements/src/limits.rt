@@ -2,7 +2,7 @@
 //! VitalRecoveryRemovalCheck and VitalPeriodPulseCheck.)
 
 ghost use Rattle.std.specs.Prelude.{◌≡◌, ◌+◌, ◌<◌, ◌^◌, nat_lt, length, [], ◌∷◌, codes};
-ghost use Rattle.rule_readers.specs.Reading.{read, Reads};
+ghost use Rattle.rule_readers.specs.Reading.{read, Reads, ReadsAs};
 ghost use Rattle.rule_readers.specs.Words.{valued};
 ghost use Rattle.vhdl_text.specs.VhdlRules as rules;
 ghost use Rattle.vhdl_text.specs.VhdlChecks as spec;
@@ -86,18 +86,18 @@ pub fn referred(cursor: &mut Cursor, scope: &Declarations) -> Read<usize>
 
 /// The condition that has to be 1, behind the word of its look-up, and the lists.
 #[tactic(auto, unfolding(vhdl_text::specs::VhdlChecks::enabling_condition))]
-fn enabling(cursor: &mut Cursor, scope: &Declarations, uses: Uses) -> Read<(Option<usize>, Uses)>
-    ensures { Reads (read (spec.enabling_condition scope.now uses) cursor.old) result cursor.new }
+fn enabling(cursor: &mut Cursor, scope: &Declarations, uses: &mut Uses) -> Read<Option<usize>>
+    ensures { ReadsAs (λ when. (when, uses.new)) (read (spec.enabling_condition scope.now uses.old) cursor.old) result cursor.new }
 {
-    let (number, more) = condition(cursor, scope.alloc(), scope, uses)?;
+    let number = condition(cursor, scope.alloc(), scope, uses)?;
     expect_all(cursor, &[b"=", b"'1'"])?;
-    Ok((Some(number), more))
+    Ok(Some(number))
 }
 
 /// When a check counts, and the lists.
 #[tactic(auto, unfolding(vhdl_text::specs::VhdlChecks::enabled, vhdl_text::specs::VhdlChecks::always_enabled), using(rule_readers::proofs::Repeats::choose_begun, rule_readers::proofs::Repeats::choose_other))]
-pub fn enabled(cursor: &mut Cursor, scope: &Declarations, uses: Uses) -> Read<(Option<usize>, Uses)>
-    ensures { Reads (read (spec.enabled scope.now uses) cursor.old) result cursor.new }
+pub fn enabled(cursor: &mut Cursor, scope: &Declarations, uses: &mut Uses) -> Read<Option<usize>>
+    ensures { ReadsAs (λ when. (when, uses.new)) (read (spec.enabled scope.now uses.old) cursor.old) result cursor.new }
 {
     expect_all(cursor, &[b"CheckEnabled", b"=>"])?;
     if cursor.is_next(b"VitalTruthTable") {
@@ -105,7 +105,7 @@ pub fn enabled(cursor: &mut Cursor, scope: &Declarations, uses: Uses) -> Read<(O
         return enabling(cursor, scope, uses);
     }
     cursor.expect(b"true")?;
-    Ok((None, uses))
+    Ok(None)
 }
 
 /// The edge of the reference that stands next.
@@ -127,7 +127,7 @@ pub fn transition(cursor: &mut Cursor) -> Read<Edge>
 }
 
 /// The second limit, which has to be this one.
-#[tactic(auto, using(crate::proofs::NextLimits::number_found))]
+#[tactic(auto, unfolding(vhdl_text::specs::VhdlChecks::same_number), using(rule_readers::proofs::Values::number_found))]
 fn same_number(cursor: &mut Cursor, limit: u64) -> Read<()>
     ensures { Reads (read (spec.same_number limit) cursor.old) result cursor.new }
 {

@@ -1,9 +1,8 @@
 //! The calls that look up conditions. (IEEE 1076.4-2000, VitalTruthTable.)
 
 ghost use Rattle.std.specs.Prelude.{◌≡◌, ℕ, ◌+◌, ◌-◌, ◌<◌, ◌^◌, if◌then◌else◌, min, length, drop, slice_get, Option, Some, None};
-ghost use Rattle.std.specs.Prelude.{IfOk, codes, decimal};
-ghost use Rattle.grammar_rules.specs.Rule.{Gives, Then};
-ghost use Rattle.rule_readers.specs.Reading.{read, Reads};
+ghost use Rattle.std.specs.Prelude.{IfOk, decimal};
+ghost use Rattle.rule_readers.specs.Reading.{read, Reads, ReadsAs};
 ghost use Rattle.vhdl_tokens.specs.Spelling.{is_same};
 ghost use Rattle.vhdl_text.specs.VhdlRules as rules;
 ghost use Rattle.vhdl_text.specs.VhdlNames as spec;
@@ -185,53 +184,40 @@ fn same_list(cursor: &mut Cursor<'_>, scope: &Declarations, inputs: &[usize]) ->
     cursor.expect(b")")
 }
 
-/// The lists behind a look-up of this condition.
+/// The lists behind a look-up of this condition, which are these then.
 #[tactic(auto, unfolding(vhdl_text::specs::VhdlNames::list_by))]
 fn list_of(
     cursor: &mut Cursor<'_>,
     alloc: Global,
     scope: &Declarations,
-    mut uses: Items<Items<usize>>,
+    uses: &mut Uses,
     condition: usize,
-) -> Read<Items<Items<usize>>>
-    ensures { Reads (read (spec.list_by scope.now uses condition (slice_get uses condition)) cursor.old) result cursor.new }
+) -> Read<()>
+    ensures { ReadsAs (λ _. uses.new) (read (spec.list_by scope.now uses.old condition (slice_get uses.old condition)) cursor.old) result cursor.new }
 {
     if let Some(inputs) = uses.as_slice().get(condition) {
         same_list(cursor, scope, inputs.as_slice())?;
-        return Ok(uses);
+        return Ok(());
     }
     let inputs = first_list(cursor, alloc, scope, condition)?;
     uses.push(inputs)?;
-    Ok(uses)
+    Ok(())
 }
 
-/// The end of a look-up of this condition, from its list on: the condition's number, and the lists.
-fn list_and_end(
-    cursor: &mut Cursor<'_>,
-    alloc: Global,
-    scope: &Declarations,
-    uses: Items<Items<usize>>,
-    condition: usize,
-) -> Read<(usize, Items<Items<usize>>)>
-    ensures { Reads (read (Then (spec.list_by scope.now uses condition (slice_get uses condition)) (λ more. Then (rules.expect (codes ")")) (λ _. Gives (condition, more)))) cursor.old) result cursor.new }
-{
-    let more = list_of(cursor, alloc, scope, uses, condition)?;
-    cursor.expect(b")")?;
-    Ok((condition, more))
-}
-
-/// A look-up of a condition, behind its word: the condition's number, and the lists.
+/// A look-up of a condition, behind its word: the condition's number. Behind it the lists are these.
 #[tactic(auto, unfolding(vhdl_text::specs::VhdlNames::condition))]
 pub fn condition(
     cursor: &mut Cursor<'_>,
     alloc: Global,
     scope: &Declarations,
-    uses: Items<Items<usize>>,
-) -> Read<(usize, Items<Items<usize>>)>
-    ensures { Reads (read (spec.condition scope.now uses) cursor.old) result cursor.new }
+    uses: &mut Uses,
+) -> Read<usize>
+    ensures { ReadsAs (λ number. (number, uses.new)) (read (spec.condition scope.now uses.old) cursor.old) result cursor.new }
 {
     expect_all(cursor, &[b"(", b"TruthTable", b"=>"])?;
     let number = condition_name(cursor, alloc, scope, uses.as_slice())?;
     expect_all(cursor, &[b",", b"DataIn", b"=>", b"("])?;
-    list_and_end(cursor, alloc, scope, uses, number)
+    list_of(cursor, alloc, scope, uses, number)?;
+    cursor.expect(b")")?;
+    Ok(number)
 }

@@ -1,7 +1,7 @@
 use Rattle.std.proofs.Common.{◌≡◌, [], drop}
 use Rattle.token_spans.specs.Spans.{LieInside}
 use Rattle.sectioned_texts.specs.DrivenModels.{taken_names, more_drivers}
-use Rattle.sectioned_texts.proofs.drivers.drivers_of.Given as goal
+use Rattle.sectioned_texts.proofs.drivers.push_drivers.Given as goal
 
 abbrev pub invariant-loop-section : goal.invariant-loop-section
 invariant-loop-section g l = record {

@@ -5,7 +5,7 @@ use Rattle.token_spans.specs.Spans.{LieInside}
 use Rattle.driver_models.specs.declared.model.DriverModel.{DriverModel}
 use Rattle.sectioned_texts.specs.DrivenModels.{taken_names, more_drivers}
 use Rattle.sectioned_texts.proofs.NextDrivers.{taken_more, next_driver}
-use Rattle.sectioned_texts.proofs.drivers.drivers_of.Goals as goal
+use Rattle.sectioned_texts.proofs.drivers.push_drivers.Goals as goal
 
 pub loop-section-preserved : goal.loop-section-preserved
 loop-section-preserved g c =
@@ -18,14 +18,14 @@ loop-section-preserved g c =
     let driver : DriverModel = c.in-Ok.driver in
     let first : Span = record { at = 0; end = 0 } in
     let left : i < length sections = omega arith in
-    let all : c.push.new.self ≡ drivers ++ driver ∷ [] = c.in_ok-push-in-Ok.ensures.ok in
+    let all : c.with_driver.new.drivers ≡ drivers ++ driver ∷ [] = c.in_ok-names-in-Ok.ensures.added in
     record {
-      names = c.in_ok-names-in-Ok.ensures ∙ ap (λ (name : List ℕ). c.loop-section.names ++ name ∷ []) c.as_slice.ensures
+      names = c.in_ok-names-in-Ok.ensures.named
           ∙ ap (λ (before : List (List ℕ)). before ++ driver.name ∷ []) c.loop-section.invariant.names ∙ sym (taken_more l text models drivers driver)
           ∙ ap (taken_names l models) (sym all);
       inside = (subst (LieInside text) (drop_more sections i first left) c.loop-section.invariant.inside).2;
       drivers = ap (λ (ds : List DriverModel). more_drivers l text models ds (drop (i + 1) sections)) all
-          ∙ sym (next_driver l text models drivers c.loop-section.names _ sections i _ left c.loop-section.invariant.names c.in_ok-cores.ensures driver
+          ∙ sym (next_driver l text models drivers c.loop-section.names _ sections i _ left c.loop-section.invariant.names c.requires.cores driver
           (sym c.in-Ok.is ∙ c.in_ok-driver.ensures))
           ∙ c.loop-section.invariant.drivers;
     }

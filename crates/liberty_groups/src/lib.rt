@@ -1,4 +1,4 @@
-//! Liberty text to trees of groups, and back.
+//! Liberty text to trees of groups, and laws of their text.
 #![tactic(auto)]
 
 mod attributes;
@@ -13,7 +13,7 @@ mod read;
 mod reader;
 mod skip;
 mod tree;
-mod write;
+mod writing;
 
 pub use attributes::{Attribute, inner_group, last_attribute, simple_attribute};
 pub use contents::{UnitLine, one_text};
@@ -25,4 +25,4 @@ pub use outline::{Standing, next_standing};
 pub use read::{End, Halt, Reading, fault_of, faults_are_first, one_reading, read_library};
 pub use reader::{Mark, Start};
 pub use tree::{Group, Item, Value};
-pub use write::{writable_parts, write_group, writing_reads_back};
+pub use writing::{writable_parts, writing_reads_back};

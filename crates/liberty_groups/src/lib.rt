@@ -11,7 +11,6 @@ mod library;
 mod outline;
 mod read;
 mod reader;
-mod skip;
 mod tree;
 mod writing;
 
@@ -23,6 +22,6 @@ pub use fault::{Expected, LibraryFault, Refusal, Stop, fault_at, lexical_fault};
 pub use library::LEVELS_INSIDE;
 pub use outline::{Standing, next_standing};
 pub use read::{End, Halt, Reading, fault_of, faults_are_first, one_reading, read_library};
-pub use reader::{Mark, Start};
+pub use reader::{Mark, Place, Start, goes_on};
 pub use tree::{Group, Item, Value};
 pub use writing::{writable_parts, writing_reads_back};

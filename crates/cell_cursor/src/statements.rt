@@ -18,6 +18,7 @@ use liberty_groups::{
     Cursor, Expected, Item, LEVELS_INSIDE, LibraryFault, Mark, Refusal, Start, Stop, fault_at,
 };
 use liberty_text::{Token, TokenKind};
+use skipped_statements::whole_statement;
 use std::alloc::{AllocError, Global};
 
 /// What the tokens of a part come to, whatever follows them.
@@ -64,7 +65,7 @@ fn read_statement(
     ensures inner { IfOk result (λ ended. ended ≡ false → has_outer place.Inside (lexeme_kinds (rest cursor.old)) ≡ false) }
 {
     let (name, at) = cursor.name(alloc)?;
-    let statement = cursor.whole_statement(alloc, LEVELS_INSIDE, name, at)?;
+    let statement = whole_statement(cursor, alloc, LEVELS_INSIDE, name, at)?;
     let has_ended = has_ended(&statement, cursor);
     add(items, item_of(alloc, statement))?;
     Ok(has_ended)

@@ -32,21 +32,22 @@ impl Watch {
     /// Sees tokens of these bytes that have ended. A misfit is told once.
     pub(crate) fn see(&mut self, bytes: &[u8], tokens: &[Kept]) -> Sight {
         let mut sight = Sight::Nothing;
-        let mut standing = self.standing;
+        let Some(mut here) = self.standing else {
+            return sight;
+        };
         for kept in tokens {
-            let Some(here) = standing else {
-                break;
-            };
             let token = kept.token();
-            let is_library = here == Standing::Start && is_library(bytes, token);
-            standing = next_standing(here, token, is_library);
-            if standing.is_none() {
-                sight = Sight::Misfit;
-            } else if is_behind_statement(here) && standing == Some(Standing::AfterName(0)) {
+            let is_library = matches!(here, Standing::Start) && is_library(bytes, token);
+            let Some(next) = next_standing(here, token, is_library) else {
+                self.standing = None;
+                return Sight::Misfit;
+            };
+            if is_behind_statement(here) && matches!(next, Standing::AfterName(0)) {
                 sight = Sight::Name;
             }
+            here = next;
         }
-        self.standing = standing;
+        self.standing = Some(here);
         sight
     }
 }

@@ -15,8 +15,6 @@ pub mod Outlines
 pub mod Parts
 pub mod Pieces
 pub mod Rereads
-pub mod Skipped
-pub mod Skips
 pub mod Spelling
 pub mod Statements
 pub mod Texts

@@ -7,5 +7,4 @@ pub mod Grammar
 pub mod Lexeme
 pub mod Library
 pub mod Outline
-pub mod Skipping
 pub mod Writing

@@ -58,7 +58,7 @@ impl<'a> Cursor<'a> {
     }
 
     /// A cursor at the same place.
-    pub(crate) fn again(&self) -> Cursor<'a>
+    pub fn again(&self) -> Cursor<'a>
         ensures { result ≡ self.now }
     {
         Cursor {

@@ -63,14 +63,15 @@ impl fmt::Display for LibraryFault {
     ghost output = { λ x. Some (fault_text x) };
 
     fn fmt<W: fmt::Write>(&self, f: &mut fmt::Formatter<W>) -> fmt::Result {
-        match self {
-            LibraryFault::BadByte(_) => f.pad("byte"),
-            LibraryFault::OpenText(_) => f.pad("text not closed"),
-            LibraryFault::OpenComment(_) => f.pad("comment not closed"),
-            LibraryFault::Syntax { expected, .. } => expected.fmt(f),
-            LibraryFault::TooDeep(_) => f.pad("too deep"),
-            LibraryFault::NotLibrary(_) => f.pad("not a library"),
-        }
+        let text = match self {
+            LibraryFault::BadByte(_) => "byte",
+            LibraryFault::OpenText(_) => "text not closed",
+            LibraryFault::OpenComment(_) => "comment not closed",
+            LibraryFault::Syntax { expected, .. } => return expected.fmt(f),
+            LibraryFault::TooDeep(_) => "too deep",
+            LibraryFault::NotLibrary(_) => "not a library",
+        };
+        f.pad(text)
     }
 }
 

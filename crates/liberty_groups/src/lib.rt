@@ -1,4 +1,4 @@
-//! Liberty text to trees of groups, and back.
+//! Liberty text to trees of groups, and laws of their text.
 #![tactic(auto)]
 
 mod attributes;
@@ -11,9 +11,8 @@ mod library;
 mod outline;
 mod read;
 mod reader;
-mod skip;
 mod tree;
-mod write;
+mod writing;
 
 pub use attributes::{Attribute, inner_group, last_attribute, simple_attribute};
 pub use contents::{UnitLine, one_text};
@@ -23,6 +22,6 @@ pub use fault::{Expected, LibraryFault, Refusal, Stop, fault_at, lexical_fault};
 pub use library::LEVELS_INSIDE;
 pub use outline::{Standing, next_standing};
 pub use read::{End, Halt, Reading, fault_of, faults_are_first, one_reading, read_library};
-pub use reader::{Mark, Start};
+pub use reader::{Mark, Place, Start, goes_on};
 pub use tree::{Group, Item, Value};
-pub use write::{writable_parts, write_group, writing_reads_back};
+pub use writing::{writable_parts, writing_reads_back};

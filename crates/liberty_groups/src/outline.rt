@@ -12,7 +12,7 @@ use crate::reader::{
 use liberty_text::{Token, TokenKind};
 
 /// Where a token of a library stands. A depth counts the groups that are open inside the library.
-#[derive(Clone, Copy, PartialEq, Eq)]
+#[derive(Clone, Copy)]
 pub enum Standing {
     /// At the name of the library.
     Start,

@@ -221,7 +221,7 @@ impl Cursor<'_> {
     }
 
     /// The end of a value, which is not taken.
-    pub(crate) fn value_end(&self, place: Place) -> Result<(), Stop>
+    pub fn value_end(&self, place: Place) -> Result<(), Stop>
         ensures { Reads (read (spec.value_end place) self.now) result self.now }
     {
         match self.peek() {

@@ -3,7 +3,8 @@
 ghost use Rattle.std.specs.Prelude.{IfOk, IsTrue};
 ghost use Rattle.liberty_groups.specs.Writing.{is_writable};
 
-use liberty_groups::{Group, Item, Value, write_group};
+use group_writer::write_group;
+use liberty_groups::{Group, Item, Value};
 use sqlite_items::Items;
 use std::alloc::{AllocError, Global};
 use std::test::Fail;

@@ -16,7 +16,7 @@ use Rattle.liberty_groups.specs.declared.tree.Item.TheVariants as item
 use Rattle.liberty_groups.specs.declared.tree.Value.{Value}
 use Rattle.liberty_groups.specs.Lexeme.{Lexeme}
 use Rattle.liberty_groups.specs.Grammar.{Grammar, ◌>>=◌, expect, part_of, part_at, goes_on, parts, arguments, value_end, more_value, no_value, value, colon, simple, starts, one_more, some_statements, statements, opens, group_of, complex_or_group, bracketed, after_name, body, statement, Reads}
-use Rattle.liberty_groups.specs.Skipping.{Skipping, passed_at, skipped_parts, skipped_arguments, skipped_more_value, skipped_no_value, skipped_value, skipped_more, skipped_some, skipped_statements, skipped_group, skipped_bracketed, skipped_after_name, skipped_body, skipped_statement, forgotten}
+use Rattle.skipped_statements.specs.Skipping.{Skipping, passed_at, skipped_parts, skipped_arguments, skipped_more_value, skipped_no_value, skipped_value, skipped_more, skipped_some, skipped_statements, skipped_group, skipped_bracketed, skipped_after_name, skipped_body, skipped_statement, forgotten}
 
 -- the second rule is the first one without what it gives
 abbrev Forgets : {A : Type 0} → Grammar A → Skipping → Type 0

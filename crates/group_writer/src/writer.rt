@@ -2,9 +2,9 @@
 
 ghost use Rattle.std.specs.Prelude.{◌≡◌, ◌++◌, true, OnOk, IfOk, IsTrue};
 ghost use Rattle.liberty_text.specs.TextValue.{quoted};
-ghost use Rattle.liberty_groups.specs.Writing.{value_text, values_text, item_text, items_text, group_text, is_writable, WritingReadsBack, WritableParts};
+ghost use Rattle.liberty_groups.specs.Writing.{value_text, values_text, item_text, items_text, group_text, is_writable};
 
-use crate::tree::{Group, Item, Value};
+use liberty_groups::{Group, Item, Value};
 use std::alloc::{AllocError, Global};
 
 /// The text of a value between quotes, with a backslash before each quote in it.
@@ -104,7 +104,7 @@ fn push_group(out: &mut Vec<u8>, group: &Group) -> Result<(), AllocError>
 /// in it.
 ///
 /// It needs names that are Words, values that hold no line feed and do not end in a backslash, and at
-/// most 32 groups open inside one another: then `writing_reads_back` holds of the text.
+/// most 32 groups open inside one another: then `liberty_groups::writing_reads_back` holds of the text.
 pub fn write_group(alloc: Global, group: &Group) -> Result<Vec<u8>, AllocError>
     requires { IsTrue (is_writable 32 group.now) }
     ensures { IfOk result (λ text. text.items ≡ group_text group.now) }
@@ -113,14 +113,3 @@ pub fn write_group(alloc: Global, group: &Group) -> Result<Vec<u8>, AllocError>
     push_group(&mut out, group)?;
     Ok(out)
 }
-
-/// A law: the text of a group that can be written is read again as that group, but for offsets and
-/// quotes.
-pub fn writing_reads_back()
-    ensures { WritingReadsBack }
-{}
-
-/// A law: what a group and a statement of each form need to be written.
-pub fn writable_parts()
-    ensures { WritableParts }
-{}

@@ -1,6 +1,6 @@
 use Rattle.std.proofs.Common.{◌≡◌, ◌++◌, ◌∷◌, [], drop}
 use Rattle.liberty_text.specs.TextValue.{quoted}
-use Rattle.liberty_groups.proofs.write.push_value.Given as goal
+use Rattle.group_writer.proofs.writer.push_value.Given as goal
 
 abbrev pub invariant-loop-byte : goal.invariant-loop-byte
 invariant-loop-byte l =

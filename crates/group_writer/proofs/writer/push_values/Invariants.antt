@@ -1,6 +1,6 @@
 use Rattle.std.proofs.Common.{◌≡◌, ◌++◌, true, drop}
 use Rattle.liberty_groups.specs.Writing.{values_text}
-use Rattle.liberty_groups.proofs.write.push_values.Given as goal
+use Rattle.group_writer.proofs.writer.push_values.Given as goal
 
 abbrev pub invariant-loop-value : goal.invariant-loop-value
 invariant-loop-value l =

@@ -1,7 +1,7 @@
 use Rattle.std.proofs.Common.{◌≡◌, ◌+◌, ◌-◌, ◌*◌, length}
-use Rattle.liberty_groups.specs.Skipping as spec
-use Rattle.liberty_groups.proofs.Skips.{statement_turns}
-use Rattle.liberty_groups.proofs.cursor.Cursor.+skipping.Given as goal
+use Rattle.skipped_statements.specs.Skipping as spec
+use Rattle.skipped_statements.proofs.Skips.{statement_turns}
+use Rattle.skipped_statements.proofs.skip.+skipping.Given as goal
 
 abbrev pub decreases-skip_group : goal.decreases-skip_group
 decreases-skip_group l = 5 * l.levels
@@ -20,5 +20,5 @@ decreases-skip_statements l = 5 * l.levels + 4
 
 abbrev pub invariant-skip_some-loop-turn : goal.invariant-skip_some-loop-turn
 invariant-skip_some-loop-turn l =
-    statement_turns (spec.skipped_statement l.levels) (l._turn-end - l._turn) l.self
-    ≡ statement_turns (spec.skipped_statement l.levels) (length l.initial.self) l.initial.self
+    statement_turns (spec.skipped_statement l.levels) (l._turn-end - l._turn) l.cursor
+    ≡ statement_turns (spec.skipped_statement l.levels) (length l.initial.cursor) l.initial.cursor

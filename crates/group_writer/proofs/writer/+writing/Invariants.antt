@@ -1,6 +1,6 @@
 use Rattle.std.proofs.Common.{◌≡◌, ◌++◌, drop}
 use Rattle.liberty_groups.specs.Writing.{items_text}
-use Rattle.liberty_groups.proofs.write.+writing.Given as goal
+use Rattle.group_writer.proofs.writer.+writing.Given as goal
 
 abbrev pub invariant-push_items-loop-item : goal.invariant-push_items-loop-item
 invariant-push_items-loop-item l =

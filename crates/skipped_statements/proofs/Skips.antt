@@ -10,7 +10,7 @@ use Rattle.liberty_groups.specs.declared.reader.Place.{Place}
 use Rattle.liberty_groups.specs.declared.reader.Start.TheVariants as start
 use Rattle.liberty_groups.specs.Lexeme.{Lexeme, next_token, rest}
 use Rattle.liberty_groups.specs.Grammar.{goes_on, starts, next_start, Reads}
-use Rattle.liberty_groups.specs.Skipping.{Skipping, passed_at, skipped_more, skipped_statements, skipped_statement, skipped_body}
+use Rattle.skipped_statements.specs.Skipping.{Skipping, passed_at, skipped_more, skipped_statements, skipped_statement, skipped_body}
 
 less : (n i : ℕ) → i < n → n - i ≡ suc (n - (i + 1))
 less n i h = omega arith

@@ -1,0 +1,6 @@
+//! Groups to Liberty text.
+#![tactic(auto)]
+
+mod writer;
+
+pub use writer::write_group;

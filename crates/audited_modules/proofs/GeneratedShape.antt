@@ -13,7 +13,7 @@ use Rattle.cell_machine.specs.CellData.{CellData}
 use Rattle.cell_machine.specs.CellRules.{is_input_pin, is_output_pin, is_condition, has_events, longest_time, is_check, is_arc, HoldsRules}
 use Rattle.udp_tables.specs.declared.timing_checks.TimingCheck.{TimingCheck}
 use Rattle.udp_tables.specs.Conditions.{condition_list, conditions_by}
-use Rattle.udp_tables.proofs.CellLaws.{conditions_are_numbered-lem}
+use Rattle.specify_blocks.proofs.cell_tables.CellLaws.{conditions_are_numbered-lem}
 use Rattle.specify_blocks.specs.declared.model.Gate.TheVariants as gate
 use Rattle.specify_blocks.specs.declared.model.VPath.{VPath}
 use Rattle.specify_blocks.specs.Sound.{IsSound}

@@ -20,12 +20,12 @@ use Rattle.cell_machine.specs.Outputs.{output_at, condition_at}
 use Rattle.cell_machine.specs.Values.{no_values}
 use Rattle.cell_machine.specs.CellTrace.{support_at, sources_at}
 use Rattle.udp_tables.specs.declared.table.Udp.{Udp}
-use Rattle.udp_tables.specs.declared.cell_primitives.Part.TheVariants as part
+use Rattle.udp_tables.specs.declared.parts.Part.TheVariants as part
 use Rattle.udp_tables.specs.Primitive.{level_output}
 use Rattle.udp_tables.specs.Sequential.{udp_next, noted}
 use Rattle.udp_tables.specs.Conditions.{conditions_of, condition_place}
 use Rattle.udp_tables.specs.CellPrimitives.{has_notifier, group_primitive, condition_tree, condition_primitive, has_sources, output_primitive}
-use Rattle.udp_tables.proofs.CellLaws.{parts_resolve-lem, groups_are_machines-lem, groups_are_forced-lem}
+use Rattle.specify_blocks.proofs.cell_tables.CellLaws.{parts_resolve-lem, groups_are_machines-lem, groups_are_forced-lem}
 use Rattle.specify_blocks.specs.declared.model.VNet.{VNet}
 use Rattle.specify_blocks.specs.declared.model.VNet.TheVariants as net
 use Rattle.specify_blocks.specs.declared.model.Instance.TheVariants as instance

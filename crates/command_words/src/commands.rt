@@ -6,9 +6,10 @@ ghost use Rattle.command_words.specs.Reading.{asked_primitive, primitive_read, u
 
 use crate::numerals::asked_cells;
 use bool_functions::{Function, FunctionFault, read_free};
+use cell_tables::function_udp;
 use std::alloc::Global;
 use text_io::{Desk, FileCommand, asked_files};
-use udp_tables::{Udp, function_udp};
+use udp_tables::Udp;
 use verilog_tokens::is_kept_cell_name;
 
 /// What words ask for.

@@ -7,7 +7,7 @@ use Rattle.std.specs.Option.{option_and_then}
 use Rattle.std.proofs.lemmas.List.Elements.{All-nil, All-cons, recursion_from_All}
 use Rattle.generated_drivers.specs.cell_machine.CellData.{CellData}
 use Rattle.generated_drivers.proofs.cell_machine.RuleLemmas.{rules_of}
-use Rattle.generated_drivers.proofs.udp_tables.CellParts.{Rules}
+use Rattle.generated_drivers.proofs.cell_tables.CellParts.{Rules}
 use Rattle.generated_drivers.specs.vhdl_names.Kept.{lowered}
 use Rattle.written_driven_models.specs.vhdl_tokens.Spelling.{is_same}
 use Rattle.generated_drivers.specs.vital_models.declared.model.VEntity.{VEntity}

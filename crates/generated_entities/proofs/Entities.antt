@@ -25,17 +25,17 @@ use Rattle.cell_machine.proofs.RuleLemmas.{rules_of}
 use Rattle.udp_tables.specs.CellPrimitives.{has_sources}
 use Rattle.udp_tables.specs.Conditions.{conditions_of, conditions_beside}
 use Rattle.udp_tables.proofs.CubeLemmas.{below-among}
-use Rattle.udp_tables.proofs.ConditionLemmas.{support-ascending}
+use Rattle.specify_blocks.proofs.cell_tables.ConditionLemmas.{support-ascending}
 use Rattle.udp_tables.specs.declared.timing_checks.TimingCheck.{TimingCheck}
 use Rattle.vital_models.specs.declared.model.OutValue.TheVariants as value
 use Rattle.vital_models.specs.Kept.{entity_name}
 use Rattle.vital_models.specs.Ports.{ports_of, port_number}
 use Rattle.vital_models.specs.Generated.{has_violation, ports_at, state_of, states_of, condition_of, source_at, output_table, value_of_output, place_of, all_zero, gate_by, path_of, output_of, check_of, entity_of}
-use Rattle.udp_tables.proofs.ConditionUses.{all-among, condition-over}
+use Rattle.specify_blocks.proofs.cell_tables.ConditionUses.{all-among, condition-over}
 use Rattle.vital_models.proofs.Soundness.{entity_is_sound}
 use Rattle.vhdl_text.specs.VhdlDeclarations.{port_names}
 use Rattle.vhdl_text.specs.WellFormed.{IsPortName, IsWrittenState, IsWrittenTruth, IsWrittenLookup, IsWrittenValue, IsNumber, names_condition, IsWrittenPath, IsWrittenOutput, IsWellFormedEntity}
-use Rattle.udp_tables.proofs.CellParts.{Rules, outputs_hold, checks_hold, arcs_hold}
+use Rattle.specify_blocks.proofs.cell_tables.CellParts.{Rules, outputs_hold, checks_hold, arcs_hold}
 use Rattle.library_cells.proofs.CellParts.{few_pins, group_support, arc_numbers, check_number}
 use Rattle.library_cells.proofs.Conditions.{condition_placed}
 use Rattle.generated_entities.specs.Laws.{EntityIsWellFormed}

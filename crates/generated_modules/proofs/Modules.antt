@@ -35,8 +35,8 @@ use Rattle.generated_modules.proofs.InnerNames.{inner_are_named}
 use Rattle.generated_modules.proofs.PrimitiveNames.{primitive_is_name, primitive_count}
 use Rattle.generated_modules.proofs.Primitives.{function_well_formed, group_well_formed}
 use Rattle.library_cells.proofs.Conditions.{condition_placed, few_conditions}
-use Rattle.udp_tables.proofs.OutputLemmas.{among-at}
-use Rattle.udp_tables.proofs.CellParts.{Rules, outputs_hold, checks_hold, arcs_hold}
+use Rattle.specify_blocks.proofs.cell_tables.OutputLemmas.{among-at}
+use Rattle.specify_blocks.proofs.cell_tables.CellParts.{Rules, outputs_hold, checks_hold, arcs_hold}
 use Rattle.library_cells.proofs.CellParts.{few_pins, distinct_pins, few_groups, group_support, few_sources, few_outputs, few_checks, few_arcs, arc_numbers, check_number}
 
 -- one for each number below another

@@ -16,8 +16,8 @@ use Rattle.udp_tables.specs.Tables.{value_rows, or_row}
 use Rattle.udp_tables.specs.PortNames.{output_name, input_name, input_names}
 use Rattle.udp_tables.specs.Generated.{level_row, function_rows, primitive_of}
 use Rattle.udp_tables.specs.CellPrimitives.{has_notifier, group_inputs, group_primitive}
-use Rattle.udp_tables.proofs.TableLemmas.{length-input_names, primitive-combinational}
-use Rattle.udp_tables.proofs.CellLaws.{groups_are_sequential-lem}
+use Rattle.specify_blocks.proofs.cell_tables.TableLemmas.{length-input_names, primitive-combinational}
+use Rattle.specify_blocks.proofs.cell_tables.CellLaws.{groups_are_sequential-lem}
 use Rattle.specify_blocks.specs.Names.{numbered}
 use Rattle.specify_blocks.specs.Sound.{IsTable}
 use Rattle.specify_blocks.specs.WellFormed.{IsName, most_inputs_of, HasNoState, HasNoStates, IsWellFormedUdp}

@@ -13,7 +13,7 @@ use Rattle.cell_machine.specs.Names.{source_name}
 use Rattle.cell_machine.specs.CellRules.{longest_time, is_name, are_distinct, is_input_pin, is_output_pin, is_support, is_group, are_groups_from, is_output_of, has_events, is_check, is_arc, output_pins_from}
 use Rattle.cell_machine.specs.CellData.{CellData}
 use Rattle.cell_machine.specs.CellTrace.{support_at}
-use Rattle.udp_tables.proofs.CellParts.{Rules, groups_hold}
+use Rattle.specify_blocks.proofs.cell_tables.CellParts.{Rules, groups_hold}
 use Rattle.specify_blocks.proofs.OutputPins.{outputs_are_pins, few_output_pins}
 
 -- between these numbers

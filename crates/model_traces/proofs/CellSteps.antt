@@ -23,7 +23,7 @@ use Rattle.cell_machine.specs.CellTrace.{NamedGroup, named_from, step_of, suppor
 use Rattle.cell_machine.proofs.StepLemmas.{ascending}
 use Rattle.udp_tables.specs.Conditions.{condition_list, arc_conditions, used_conditions, conditions_of, condition_place}
 use Rattle.udp_tables.specs.Laws.{ConditionsAreNumbered}
-use Rattle.udp_tables.proofs.CellParts.{group_support-at}
+use Rattle.specify_blocks.proofs.cell_tables.CellParts.{group_support-at}
 use Rattle.specify_blocks.proofs.OutputPins.{outputs_are_pins}
 
 -- a group at its place, with the name of its state

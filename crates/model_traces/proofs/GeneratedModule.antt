@@ -31,7 +31,7 @@ use Rattle.cell_machine.specs.Outputs.{output_at, condition_at, is_one, is_zero}
 use Rattle.cell_machine.specs.History.{value_before, is_event}
 use Rattle.cell_machine.specs.CellTrace.{inputs_of, condition_value, condition_holds, NamedGroup, named_groups, named_from, sources_at, place_in, moved_at, moved, same_pins}
 use Rattle.cell_machine.specs.CellTrace as cell
-use Rattle.udp_tables.specs.declared.cell_primitives.Part.TheVariants as part
+use Rattle.udp_tables.specs.declared.parts.Part.TheVariants as part
 use Rattle.udp_tables.specs.declared.models.VPort.{VPort}
 use Rattle.udp_tables.specs.Primitive.{level_output}
 use Rattle.udp_tables.specs.Sequential.{udp_next, noted}

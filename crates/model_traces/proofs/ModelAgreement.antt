@@ -6,7 +6,7 @@ use Rattle.cell_machine.specs.History.{inputs_after, value_before, is_event}
 use Rattle.cell_machine.specs.Report.{any_true}
 use Rattle.cell_machine.specs.CellTrace.{inputs_of, input_check, reports_of, named_groups, state_step, state_after, states_after, violated}
 use Rattle.cell_machine.proofs.RuleLemmas.{rules_of}
-use Rattle.udp_tables.proofs.CellLaws.{parts_resolve-lem, groups_are_machines-lem, groups_are_forced-lem, conditions_are_numbered-lem}
+use Rattle.specify_blocks.proofs.cell_tables.CellLaws.{parts_resolve-lem, groups_are_machines-lem, groups_are_forced-lem, conditions_are_numbered-lem}
 use Rattle.specify_blocks.specs.Generated.{module_of}
 use Rattle.specify_blocks.proofs.Soundness.{module_is_sound}
 use Rattle.vital_models.specs.Generated.{entity_of}

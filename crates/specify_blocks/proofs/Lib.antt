@@ -15,3 +15,4 @@ pub mod ReadTokens
 pub mod ReadText
 mod VerilogExamples
 mod VerilogReadings
+pub use Rattle.cell_tables.proofs as cell_tables

@@ -33,9 +33,9 @@ use Rattle.cell_machine.specs.CellData.{CellData}
 use Rattle.udp_tables.specs.Conditions.{conditions_of, condition_place, condition_list, conditions_by}
 use Rattle.cell_machine.specs.CellTrace.{support_at, sources_at, output_value_at}
 use Rattle.udp_tables.specs.CellPrimitives.{has_notifier, group_inputs, group_primitive, condition_tree, condition_primitive, has_sources, output_primitive, primitive_name, output_number, condition_number}
-use Rattle.udp_tables.proofs.CellParts.{Rules, group_support-at, groups_hold, outputs_hold, checks_hold, arcs_hold}
-use Rattle.udp_tables.proofs.TableLemmas.{primitive-combinational}
-use Rattle.udp_tables.proofs.CellLaws.{groups_are_sequential-lem}
+use Rattle.cell_tables.proofs.CellParts.{Rules, group_support-at, groups_hold, outputs_hold, checks_hold, arcs_hold}
+use Rattle.cell_tables.proofs.TableLemmas.{primitive-combinational}
+use Rattle.cell_tables.proofs.CellLaws.{groups_are_sequential-lem}
 use Rattle.cell_machine.specs.Outputs.{condition_at}
 use Rattle.specify_blocks.specs.declared.model.VNet.{VNet}
 use Rattle.specify_blocks.specs.declared.model.VNet.TheVariants as net
@@ -52,9 +52,9 @@ use Rattle.specify_blocks.proofs.PortLemmas.{input_port, output_port, hits, outp
 use Rattle.specify_blocks.proofs.InstanceLemmas.{drivers-append, or-left, or-right, is_state-more, no_port, wire_before, wire_after, wire_once, no_wire, port_hits, are-append, each_are, any_each}
 use Rattle.specify_blocks.proofs.PrimitiveLemmas.{numbered-length, inputs-length, group_primitive-at, condition_primitive-at, output_primitive-at}
 use Rattle.specify_blocks.proofs.ApartLemmas.{apart_pins, apart_sources, wire_apart, wire_apart_all, apart_noted, output_apart}
-use Rattle.udp_tables.proofs.ConditionLemmas.{support-ascending}
-use Rattle.udp_tables.proofs.ConditionUses.{condition-over, check-numbered, arc-numbered}
-use Rattle.udp_tables.proofs.OutputLemmas.{among-at}
+use Rattle.cell_tables.proofs.ConditionLemmas.{support-ascending}
+use Rattle.cell_tables.proofs.ConditionUses.{condition-over, check-numbered, arc-numbered}
+use Rattle.cell_tables.proofs.OutputLemmas.{among-at}
 
 -- what is made of each element of which a test holds
 all-made :

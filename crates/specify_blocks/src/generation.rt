@@ -11,9 +11,9 @@ use crate::ports::verilog_ports;
 use crate::primitives::primitives_of;
 use crate::timing::{module_checks, paths_of};
 use cell_machine::Cell;
+use cell_tables::{ModelSource, conditions};
 use sqlite_items::Items;
 use std::alloc::{AllocError, Global};
-use udp_tables::{ModelSource, conditions};
 
 /// The Verilog module of a cell, with its primitives: one for each group, condition and output, a path for each arc, and the
 /// checks. Names that Verilog does not keep are replaced. What it answers is sound.

@@ -10,9 +10,9 @@ use crate::model::{Instance, VNet};
 use crate::nets::{add_notifier, pin_net, pin_nets, source_nets};
 use bool_functions::Function;
 use cell_machine::{Cell, OutputPin, StateGroup, Values};
+use cell_tables::ModelSource;
 use sqlite_items::Items;
 use std::alloc::{AllocError, Global};
-use udp_tables::ModelSource;
 
 /// The instances of a cell's module, by its groups, conditions and outputs.
 pub(crate) fn instances_of(from: &ModelSource) -> Result<Items<Instance>, AllocError>

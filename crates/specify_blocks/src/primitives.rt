@@ -6,9 +6,10 @@ ghost use Rattle.specify_blocks.specs.Generated.{group_primitives, condition_pri
 
 use crate::instances::has_sources;
 use cell_machine::Cell;
+use cell_tables::{ModelSource, part_udp, sequential_udp};
 use sqlite_items::Items;
 use std::alloc::{AllocError, Global};
-use udp_tables::{ModelSource, Part, Udp, part_udp, sequential_udp};
+use udp_tables::{Part, Udp};
 
 /// The primitives of a cell's module, of its groups, conditions and outputs.
 pub(crate) fn primitives_of(from: &ModelSource) -> Result<Items<Udp>, AllocError>

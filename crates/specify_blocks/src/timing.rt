@@ -8,9 +8,10 @@ ghost use Rattle.specify_blocks.specs.Generated.{wire_of, is_conditional, gate_b
 use crate::model::{Gate, VPath};
 use bool_functions::Function;
 use cell_machine::{Arc, Cell};
+use cell_tables::{ModelSource, checks_of, condition_number};
 use sqlite_items::Items;
 use std::alloc::AllocError;
-use udp_tables::{ModelSource, TimingCheck, checks_of, condition_number, port_number};
+use udp_tables::{TimingCheck, port_number};
 
 /// The paths of a cell's module: one for each arc, in order.
 pub(crate) fn paths_of(from: &ModelSource) -> Result<Items<VPath>, AllocError>

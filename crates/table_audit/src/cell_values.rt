@@ -16,9 +16,9 @@ use crate::net_rows::NetRows;
 use crate::resolved::{resolved, values_at};
 use bool_functions::Function;
 use cell_machine::{Cell, Few, Values, boolean_step, numbered_value, output_at};
+use cell_tables::forced_at;
 use row_selection::NextStates;
 use trit_cubes::{Trit, resolve};
-use udp_tables::forced_at;
 
 /// Adds more values at the end.
 fn add_bits(all: &mut Few<bool, 8>, more: &[bool])

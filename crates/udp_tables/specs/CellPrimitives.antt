@@ -8,8 +8,8 @@ use Rattle.bool_functions.specs.Support.{support_of}
 use Rattle.cell_machine.specs.declared.outputs.OutputPin.{OutputPin}
 use Rattle.cell_machine.specs.Outputs.{condition_at}
 use Rattle.udp_tables.specs.declared.table.Udp.{Udp}
-use Rattle.udp_tables.specs.declared.cell_primitives.Part.{Part}
-use Rattle.udp_tables.specs.declared.cell_primitives.Part.TheVariants as part
+use Rattle.udp_tables.specs.declared.parts.Part.{Part}
+use Rattle.udp_tables.specs.declared.parts.Part.TheVariants as part
 use Rattle.udp_tables.specs.PortNames.{output_name, input_names}
 use Rattle.udp_tables.specs.Generated.{primitive_of}
 use Rattle.udp_tables.specs.Sequential.{compact_rows}

@@ -1,13 +1,19 @@
--- The rows of a step in any language, from the primes of the points at which it gives 1 and 0.
-use Rattle.std.specs.Prelude.{ℕ, zero, suc, Bool, true, false, not, ◌&&◌, ◌||◌, List, [], ◌∷◌, ◌++◌, map, filter, if◌then◌else◌}
+-- The rows of a function and of a step in any language, from the primes of the points at which it gives 1 and 0.
+use Rattle.std.specs.Prelude.{ℕ, zero, suc, Bool, true, false, not, ◌&&◌, ◌||◌, List, [], ◌∷◌, ◌++◌, map, filter, replicate, if◌then◌else◌}
 use Rattle.std.specs.List.{list_any}
 use Rattle.trit_cubes.specs.declared.trits.Trit.{Trit}
 use Rattle.trit_cubes.specs.declared.trits.Trit.TheVariants.{Zero, One, Unknown}
 use Rattle.trit_cubes.specs.Filling.{is_unknown, same}
 use Rattle.trit_cubes.specs.Sets.{gives}
 use Rattle.trit_cubes.specs.Prime.{prime_list}
-use Rattle.cell_machine.specs.Machine.{Step, last, edge_value, forced_at}
-use Rattle.udp_tables.specs.Tables.{value_rows}
+use Rattle.cell_machine.specs.Machine.{Step, insert, init, last, edge_value, forced_at}
+use Rattle.udp_tables.specs.Tables.{value_rows, or_row}
+
+-- The rows of a function of n places: the primes of the points at which it gives 1, then of those at which it gives 0. Where
+-- there is no row, one row of free places gives x.
+abbrev pub rows_by : {R : Type 0} → (Trit → List Trit → R) → ℕ → (List Bool → Trit) → List R
+rows_by make n f =
+    or_row (make Unknown (replicate n Unknown)) (value_rows make (prime_list n (gives One f)) (prime_list n (gives Zero f)))
 
 -- The rows of the points that are forced to 1, and then to 0.
 abbrev pub forced_rows : {R : Type 0} → (Trit → List Trit → R) → ℕ → Step → List R
@@ -67,3 +73,17 @@ compact_value_rows make keep ones zeros =
 abbrev pub compact_edge_rows : {R : Type 0} → (ℕ → Trit → List Trit → R) → (ℕ → List Trit → R) → Step → ℕ → ℕ → List R
 compact_edge_rows make keep step n p =
     compact_value_rows (make p) (keep p) (edge_cubes step n p One) (edge_cubes step n p Zero)
+
+-- The rows of a step of n inputs that decide what it gives: the forced points, the rows of a check that reports, and then the
+-- rows of the changes of each input, in compact form.
+abbrev pub decisive_rows :
+    {R : Type 0} → (Trit → List Trit → R) → (ℕ → List R) → (ℕ → Trit → List Trit → R) → (ℕ → List Trit → R) → ℕ → Step → List R
+decisive_rows level report edge keep n step =
+    forced_rows level n step ++ report n ++ each_below (compact_edge_rows edge keep step n) n
+
+-- The columns of the inputs for the cube of a change of the one at place p, from the symbol for a place of a cube and the one for
+-- the value before and the value after.
+abbrev pub change_columns : {E : Type 0} → (Trit → E) → (Trit → Trit → E) → ℕ → List Trit → List E
+change_columns place change p [] = []
+change_columns place change p (old ∷ []) = []
+change_columns place change p (old ∷ new ∷ rest) = insert p (change old new) (map place (init rest))

@@ -1,11 +1,9 @@
 -- The rows that this project writes for a function, from the primes of the points at which it gives 1 and 0.
-use Rattle.std.specs.Prelude.{◌≡◌, ℕ, zero, suc, Bool, false, List, [], ◌∷◌, ◌++◌, map, replicate, length}
+use Rattle.std.specs.Prelude.{◌≡◌, ℕ, zero, suc, Bool, false, List, [], ◌∷◌, ◌++◌, map, length}
 use Rattle.trit_cubes.specs.declared.trits.Trit.{Trit}
 use Rattle.trit_cubes.specs.declared.trits.Trit.TheVariants as trit
 use Rattle.trit_cubes.specs.Filling.{trit_of}
 use Rattle.trit_cubes.specs.Resolution.{res}
-use Rattle.trit_cubes.specs.Sets.{gives}
-use Rattle.trit_cubes.specs.Prime.{prime_list}
 use Rattle.bool_functions.specs.declared.tree.Node.{Node}
 use Rattle.bool_functions.specs.Tree.{value_of}
 use Rattle.udp_tables.specs.declared.table.Level.TheVariants as level
@@ -15,7 +13,7 @@ use Rattle.udp_tables.specs.declared.table.Next.{Next}
 use Rattle.udp_tables.specs.declared.table.Next.TheVariants as next
 use Rattle.udp_tables.specs.declared.table.UdpRow.{UdpRow}
 use Rattle.udp_tables.specs.declared.table.Udp.{Udp}
-use Rattle.udp_tables.specs.Tables.{value_rows, or_row}
+use Rattle.udp_tables.specs.Edges.{rows_by}
 use Rattle.udp_tables.specs.Primitive.{level_output, IsCombinational}
 use Rattle.udp_tables.specs.PortNames.{output_name, input_names}
 
@@ -35,12 +33,9 @@ next_to trit.Unknown = next.Unknown
 abbrev pub level_row : Trit → List Trit → UdpRow
 level_row value cube = record { inputs = map level_entry cube; state = level.Any; next = next_to value }
 
--- The rows of a function of n places: the primes of the points at which it gives 1, then of those at which it gives 0. Where
--- there is no row, one row of free places gives x.
+-- the rows of a function of n places
 abbrev pub function_rows : ℕ → (List Bool → Trit) → List UdpRow
-function_rows n f =
-    or_row (level_row trit.Unknown (replicate n trit.Unknown))
-    (value_rows level_row (prime_list n (gives trit.One f)) (prime_list n (gives trit.Zero f)))
+function_rows = rows_by level_row
 
 -- the combinational primitive of a function of n places
 abbrev pub primitive_of : List ℕ → ℕ → (List Bool → Trit) → Udp

@@ -4,7 +4,7 @@ use Rattle.std.specs.Prelude.{◌≡◌, ◌≤◌, ℕ, count_by, Bool, true, f
 use Rattle.std.specs.List.{list_all}
 use Rattle.trit_cubes.specs.declared.trits.Trit.{Trit}
 use Rattle.trit_cubes.specs.declared.trits.Trit.TheVariants as trit
-use Rattle.cell_machine.specs.Machine.{Step, insert, init, last}
+use Rattle.cell_machine.specs.Machine.{Step, last}
 use Rattle.udp_tables.specs.declared.table.Level.{Level}
 use Rattle.udp_tables.specs.declared.table.Level.TheVariants as level
 use Rattle.udp_tables.specs.declared.table.Entry.{Entry}
@@ -16,7 +16,7 @@ use Rattle.udp_tables.specs.declared.table.Udp.{Udp}
 use Rattle.udp_tables.specs.Tables.{first, columns_match, or_row}
 use Rattle.udp_tables.specs.Primitive.{level_matches, entry_matches, is_level, next_of}
 use Rattle.udp_tables.specs.Generated.{level_entry, next_to}
-use Rattle.udp_tables.specs.Edges.{forced_rows, edge_rows, compact_edge_rows, each_below}
+use Rattle.udp_tables.specs.Edges.{forced_rows, edge_rows, compact_edge_rows, each_below, change_columns}
 
 -- Whether the row matches a change of the inputs in this state: its level entries hold the values after, its change entry
 -- the change, and its state column the state. A change entry of an input that does not change matches nothing.
@@ -90,9 +90,7 @@ notifier_rows true n =
 
 -- the entries of the inputs for the cube of a change of the one at place p
 abbrev pub edge_inputs : ℕ → List Trit → List Entry
-edge_inputs p [] = []
-edge_inputs p (old ∷ []) = []
-edge_inputs p (old ∷ new ∷ rest) = insert p (edge_entry old new) (map level_entry (init rest))
+edge_inputs = change_columns level_entry edge_entry
 
 -- the row of the cube of a change that asks for this state and gives this next one
 abbrev pub change_row : Bool → ℕ → List Trit → Level → Next → UdpRow

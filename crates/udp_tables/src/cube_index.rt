@@ -13,13 +13,14 @@ use trit_cubes::{Cube, Trit};
 
 /// The cubes of a list, to be looked up: their numbers, ascending.
 #[derive(Drop)]
-pub(crate) struct CubeIndex {
-    numbers: Vec<u32>,
+pub struct CubeIndex {
+    /// The numbers, ascending: a cube's places are digits to the base 4, the first with the least weight.
+    pub numbers: Vec<u32>,
 }
 
 impl CubeIndex {
-    /// The index of these cubes.
-    pub(crate) fn of(alloc: Global, cubes: &[Cube]) -> Result<CubeIndex, AllocError>
+    /// The index of these cubes. `AllocError` comes only where memory is wanting.
+    pub fn of(alloc: Global, cubes: &[Cube]) -> Result<CubeIndex, AllocError>
         requires { All (λ cube. 1 ≤ length cube) cubes.now }
         ensures { IfOk result (λ index. AreNumbers cubes.now index.numbers.items) }
     {
@@ -30,7 +31,7 @@ impl CubeIndex {
 
     /// Whether a cube with this state is paired: the cubes of the index have the one that is equal to it at all other places
     /// and has the other state.
-    pub(crate) fn pairs(&self, state: Trit, other: Trit, cube: &Cube) -> bool
+    pub fn pairs(&self, state: Trit, other: Trit, cube: &Cube) -> bool
         requires { 1 ≤ length cube.now }
         ensures { (cubes : List (List Trit)) → AreNumbers cubes self.now.numbers.items → result ≡ is_paired state other cubes cube.now }
     {

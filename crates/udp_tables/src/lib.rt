@@ -1,39 +1,34 @@
-//! User-defined primitives as tables of rows, by IEEE 1364-2005, clause 8.
+//! User-defined primitives as tables of rows, by IEEE 1364-2005, clause 8: what they match, how they are looked up, and the rows
+//! that stand for cubes.
 #![tactic(auto)]
 
-mod cell_conditions;
-mod cell_primitives;
-mod cell_values;
-mod change_rows;
 mod combinational;
-mod combinational_rows;
 mod cube_index;
-mod entries;
-mod generation;
-mod group_rows;
-pub mod laws;
 mod matching;
 mod models;
-mod points;
-mod port_names;
+mod parts;
 mod ports;
 mod row_keys;
+mod row_makers;
 mod row_words;
 mod sequential;
+mod symbols;
 mod table;
 mod text_faults;
 mod timing_checks;
+mod udp_rows;
 
-pub use cell_conditions::{ModelSource, condition_number, conditions};
-pub use cell_primitives::{Part, combinational_udp, part_udp, sequential_udp};
 pub use combinational::{keyed_level, udp_level};
-pub use generation::function_udp;
+pub use cube_index::CubeIndex;
 pub use models::{ModelFault, VPort};
-pub use points::forced_at;
+pub use parts::Part;
 pub use ports::{event_of, is_input_port, is_port, port_number};
 pub use row_keys::{RowKey, keys_of};
+pub use row_makers::{LevelRows, StepRows};
 pub use row_words::{Column, RowWords, value_word};
 pub use sequential::{keyed_next, udp_next};
+pub use symbols::{ChangeSymbol, PlaceSymbol, change_symbols, cube_symbols};
 pub use table::{Entry, Level, Next, Udp, UdpRow};
 pub use text_faults::refusal_fault;
-pub use timing_checks::{TimingCheck, checks_of};
+pub use timing_checks::TimingCheck;
+pub use udp_rows::{CombinationalUdpRows, SequentialUdpRows};

@@ -11,7 +11,7 @@ use Rattle.udp_tables.specs.Edges.{edge_cubes, edge_rows, with_last, compact_edg
 use Rattle.udp_tables.proofs.ColumnLemmas.{and-true}
 use Rattle.udp_tables.proofs.CubeLemmas.{edge-long, edge-moves}
 use Rattle.udp_tables.proofs.PairLemmas.{init-with}
-use Rattle.udp_tables.proofs.RowForms.{FitsCubes, FitsPairs, rows-each, rows-right, rows-found, compact-each, compact-right, compact-found}
+use Rattle.cell_tables.proofs.RowForms.{FitsCubes, FitsPairs, rows-each, rows-right, rows-found, compact-each, compact-right, compact-found}
 use Rattle.vital_tables.specs.declared.table.VSymbol.TheVariants as symbol
 use Rattle.vital_tables.specs.declared.table.Trits.TheVariants as trits
 use Rattle.vital_tables.specs.declared.table.VStateRow.{VStateRow}

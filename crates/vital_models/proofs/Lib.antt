@@ -5,7 +5,6 @@ pub mod EdgeRows
 pub mod TruthRows
 pub mod RowLawLemmas
 pub mod RowExamples
-pub mod TranslationLemmas
 pub mod CellLaws
 pub mod PortFacts
 pub mod Widths

@@ -30,7 +30,7 @@ use Rattle.cell_machine.specs.CellData.{CellData}
 use Rattle.udp_tables.specs.Conditions.{conditions_of, conditions_beside, conditions_by, condition_list}
 use Rattle.cell_machine.specs.CellTrace.{support_at, step_at}
 use Rattle.udp_tables.specs.CellPrimitives.{has_sources}
-use Rattle.udp_tables.proofs.CellParts.{Rules, groups_hold, outputs_hold, checks_hold, arcs_hold}
+use Rattle.cell_tables.proofs.CellParts.{Rules, groups_hold, outputs_hold, checks_hold, arcs_hold}
 use Rattle.udp_tables.proofs.CubeLemmas.{below-among}
 use Rattle.vital_models.specs.declared.model.OutValue.TheVariants as value
 use Rattle.vital_models.specs.declared.model.VOutput.{VOutput}
@@ -41,7 +41,7 @@ use Rattle.vital_models.specs.Sound.{IsState, IsTruth, feeds, IsValue, is_condit
 use Rattle.udp_tables.specs.Ports.{is_input_port}
 use Rattle.vital_models.proofs.PortFacts.{input_port, output_ports}
 use Rattle.vital_models.proofs.Widths.{truth-width, width, state-width}
-use Rattle.udp_tables.proofs.ConditionUses.{all-among, check-numbered, arc-numbered, condition-over}
+use Rattle.cell_tables.proofs.ConditionUses.{all-among, check-numbered, arc-numbered, condition-over}
 
 -- what holds of each element
 all-from : {X : Type 0} (P : X → Type 0) (xs : List X) → ((x : X) → Among x xs → P x) → All P xs

@@ -12,8 +12,8 @@ use Rattle.udp_tables.specs.Edges.{forced_rows, each_below}
 use Rattle.udp_tables.proofs.FirstLemmas.{found-any, any-found, cond-same, first-append, first-gives}
 use Rattle.udp_tables.proofs.ColumnLemmas.{length-insert}
 use Rattle.udp_tables.proofs.CubeLemmas.{known-or, among-below}
-use Rattle.udp_tables.proofs.ChangeColumns.{levels-cover}
-use Rattle.udp_tables.proofs.ForcedRows.{FitsForced, forced-given, forced-found, changed-own}
+use Rattle.cell_tables.proofs.ChangeColumns.{levels-cover}
+use Rattle.cell_tables.proofs.ForcedRows.{FitsForced, forced-given, forced-found, changed-own}
 use Rattle.vital_tables.specs.declared.table.VStateRow.{VStateRow}
 use Rattle.vital_tables.specs.Symbols.{next_of}
 use Rattle.vital_tables.specs.LookUps.{state_matches, row_next, lookup_state}

@@ -8,7 +8,7 @@ use Rattle.udp_tables.specs.Tables.{columns_match}
 use Rattle.udp_tables.specs.Edges.{moves}
 use Rattle.udp_tables.proofs.ColumnLemmas.{and-true, and-false, length-insert, at-insert}
 use Rattle.udp_tables.proofs.CubeLemmas.{admits, same-self}
-use Rattle.udp_tables.proofs.ChangeColumns.{FitsEntries, levels-cover, change-kept, change-covers}
+use Rattle.cell_tables.proofs.ChangeColumns.{FitsEntries, levels-cover, change-kept, change-covers}
 use Rattle.vital_tables.specs.declared.table.VSymbol.{VSymbol}
 use Rattle.vital_tables.specs.declared.table.VSymbol.TheVariants as symbol
 use Rattle.vital_tables.specs.declared.table.Trits.TheVariants as trits

@@ -12,7 +12,7 @@ use Rattle.udp_tables.specs.Tables.{value_rows, or_row}
 use Rattle.udp_tables.specs.Edges.{forced_rows, edge_cubes, compact_edge_rows, each_below}
 use Rattle.udp_tables.proofs.ColumnLemmas.{length-insert}
 use Rattle.udp_tables.proofs.CubeLemmas.{edge-long, value_rows-among, below-among}
-use Rattle.udp_tables.proofs.GroupLemmas.{length-init}
+use Rattle.udp_tables.proofs.SymbolLemmas.{length-init}
 use Rattle.udp_tables.proofs.PairLemmas.{compact-among}
 use Rattle.vital_tables.specs.declared.table.TruthRow.{TruthRow}
 use Rattle.vital_tables.specs.declared.table.VSymbol.{VSymbol}

@@ -2,7 +2,6 @@ pub mod RowLaws
 pub mod Kept
 pub mod Ports
 pub mod Generated
-pub mod Translation
 pub mod Sound
 pub mod Laws
 pub use Rattle.vital_tables.specs.Symbols as Symbols

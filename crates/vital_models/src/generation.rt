@@ -12,9 +12,10 @@ use crate::tables::{condition_table, has_violation, output_table, state_table};
 use crate::timing::{entity_checks, paths_to};
 use bool_functions::Function;
 use cell_machine::{Cell, OutputPin, Pin, Source, Values};
+use cell_tables::{ModelSource, conditions};
 use sqlite_items::Items;
 use std::alloc::{AllocError, Global};
-use udp_tables::{ModelSource, conditions, port_number};
+use udp_tables::port_number;
 
 /// The entity of a cell, with this name: a state for each group, a truth table for each condition and for each output that
 /// depends on something, a path for each arc, and the checks. What it answers is sound. `AllocError` comes only where memory is

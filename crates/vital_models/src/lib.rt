@@ -9,7 +9,6 @@ mod names;
 mod ports;
 mod tables;
 mod timing;
-mod translation;
 
 pub use generation::vital_model;
 pub use model::{HGate, HPath, OutValue, VEntity, VOutput, VState, VTruth};

@@ -2,16 +2,14 @@
 ghost use Rattle.std.specs.Prelude.{◌≡◌, ◌<◌, map, length, slice_get, Some, IfOk};
 ghost use Rattle.cell_machine.specs.CellData.{data_of};
 ghost use Rattle.udp_tables.specs.Conditions.{conditions_of};
-ghost use Rattle.udp_tables.specs.CellPrimitives.{condition_tree, group_primitive};
-ghost use Rattle.vital_models.specs.Translation.{state_rows_from};
+ghost use Rattle.udp_tables.specs.CellPrimitives.{condition_tree};
 ghost use Rattle.vital_models.specs.Generated.{has_violation, state_table, condition_table, output_table};
 
-use crate::translation::{state_rows_from, truth_rows_from};
 use cell_machine::{Cell, OutputPin};
-use sqlite_items::Items;
+use cell_tables::{ModelSource, group_rows, part_rows};
 use std::alloc::{AllocError, Global};
-use udp_tables::{ModelSource, Part, part_udp, sequential_udp};
-use vital_tables::{TruthTable, VStateRow, VStateTable, state_rows};
+use udp_tables::Part;
+use vital_tables::{StateTableRows, TruthTable, TruthTableRows, VStateTable, state_rows};
 
 /// Whether state tables have a column of the violation: the cell has checks.
 pub(crate) fn has_violation(cell: &Cell) -> bool
@@ -29,20 +27,12 @@ pub(crate) fn state_table(
     requires { group < length cell.now.groups }
     ensures { IfOk result (λ table. table ≡ state_table (data_of cell.now) group) }
 {
+    let violation = has_violation(cell);
     let pins = cell.group(group).support.len();
-    let decisive = decisive_rows(alloc, cell, group)?;
+    let decisive = group_rows(alloc, cell, group, StateTableRows { violation })?;
     Ok(VStateTable {
-        rows: state_rows(alloc, has_violation(cell), pins, decisive)?,
+        rows: state_rows(alloc, violation, pins, decisive)?,
     })
-}
-
-/// The rows of a group's state table that the rows of its primitive become.
-fn decisive_rows(alloc: Global, cell: &Cell, group: usize) -> Result<Items<VStateRow>, AllocError>
-    requires { group < length cell.now.groups }
-    ensures { IfOk result (λ rows. rows ≡ state_rows_from (has_violation (data_of cell.now)) (group_primitive (data_of cell.now) group).rows) }
-{
-    let udp = sequential_udp(alloc, cell, group)?;
-    state_rows_from(alloc, has_violation(cell), udp.rows.as_slice())
 }
 
 /// The truth table of a condition, which the cell has with this number, over the pins that it names.
@@ -51,10 +41,8 @@ pub(crate) fn condition_table(from: &ModelSource, number: usize) -> Result<Truth
     requires number { number < length (conditions_of (data_of from.now.cell.now)) }
     ensures { IfOk result (λ table. table ≡ condition_table (condition_tree (data_of from.now.cell.now) number)) }
 {
-    let udp = part_udp(from, Part::Condition(number))?;
-    Ok(TruthTable {
-        rows: truth_rows_from(from.alloc, udp.rows.as_slice())?,
-    })
+    let rows = part_rows(from, Part::Condition(number), TruthTableRows)?;
+    Ok(TruthTable { rows })
 }
 
 /// The truth table of an output, which the cell has with this number and which depends on something, over its support.
@@ -68,8 +56,6 @@ pub(crate) fn output_table(
     requires some { 0 < length output.now.support }
     ensures { IfOk result (λ table. table ≡ output_table (data_of from.now.cell.now) output.now) }
 {
-    let udp = part_udp(from, Part::Output(number))?;
-    Ok(TruthTable {
-        rows: truth_rows_from(from.alloc, udp.rows.as_slice())?,
-    })
+    let rows = part_rows(from, Part::Output(number), TruthTableRows)?;
+    Ok(TruthTable { rows })
 }

@@ -8,9 +8,10 @@ ghost use Rattle.vital_models.specs.Generated.{place_of, all_zero, gate_by, path
 use crate::model::{HGate, HPath};
 use bool_functions::Function;
 use cell_machine::Arc;
+use cell_tables::{ModelSource, checks_of, condition_number};
 use sqlite_items::Items;
 use std::alloc::AllocError;
-use udp_tables::{ModelSource, TimingCheck, checks_of, condition_number, port_number};
+use udp_tables::{TimingCheck, port_number};
 
 /// The paths of a cell's entity to an output pin: one for each arc that ends there.
 pub(crate) fn paths_to(from: &ModelSource, pin: usize) -> Result<Items<HPath>, AllocError>

@@ -2,11 +2,8 @@
 use Rattle.std.specs.Prelude.{ℕ, Bool, true, false, List, [], ◌∷◌, ◌++◌, map, replicate}
 use Rattle.trit_cubes.specs.declared.trits.Trit.{Trit}
 use Rattle.trit_cubes.specs.declared.trits.Trit.TheVariants as trit
-use Rattle.trit_cubes.specs.Sets.{gives}
-use Rattle.trit_cubes.specs.Prime.{prime_list}
-use Rattle.cell_machine.specs.Machine.{Step, insert, init, last}
-use Rattle.udp_tables.specs.Tables.{value_rows, or_row}
-use Rattle.udp_tables.specs.Edges.{forced_rows, edge_rows, compact_edge_rows, each_below}
+use Rattle.cell_machine.specs.Machine.{Step, last}
+use Rattle.udp_tables.specs.Edges.{rows_by, forced_rows, edge_rows, compact_edge_rows, each_below, change_columns}
 use Rattle.vital_tables.specs.declared.table.Trits.{Trits}
 use Rattle.vital_tables.specs.declared.table.Trits.TheVariants as trits
 use Rattle.vital_tables.specs.declared.table.TruthRow.{TruthRow}
@@ -26,12 +23,9 @@ level_of trit.Unknown = trits.Any
 abbrev pub truth_row : Trit → List Trit → TruthRow
 truth_row value cube = record { inputs = map level_of cube; result = value }
 
--- The truth table of a function of n places: the primes of the points at which it gives 1, then of those at which it gives 0.
--- Where there is no row, one row of free places gives X.
+-- the rows of the truth table of a function of n places
 abbrev pub truth_rows : ℕ → (List Bool → Trit) → List TruthRow
-truth_rows n f =
-    or_row (truth_row trit.Unknown (replicate n trit.Unknown))
-    (value_rows truth_row (prime_list n (gives trit.One f)) (prime_list n (gives trit.Zero f)))
+truth_rows = rows_by truth_row
 
 -- the input columns: what stands for the violation, where there is such a column, and then the pins
 abbrev pub violated : {X : Type 0} → Bool → X → List X → List X
@@ -92,9 +86,7 @@ violation_rows true n =
 
 -- the symbols of the pins for the cube of a change of the one at place p
 abbrev pub edge_columns : ℕ → List Trit → List VSymbol
-edge_columns p [] = []
-edge_columns p (old ∷ []) = []
-edge_columns p (old ∷ new ∷ rest) = insert p (edge_symbol old new) (map level_symbol (init rest))
+edge_columns = change_columns level_symbol edge_symbol
 
 -- the row that gives this value on the points of the cube of a change, whatever the violation is
 abbrev pub edge_row : Bool → ℕ → Trit → List Trit → VStateRow

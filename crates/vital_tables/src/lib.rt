@@ -1,14 +1,17 @@
-//! The tables of VITAL (IEEE 1076.4-2000) as data: truth tables and state tables, what their rows match, how they are looked up, and
-//! the rows that stand in every state table that this project writes.
+//! The tables of VITAL (IEEE 1076.4-2000) as data: truth tables and state tables, what their rows match, how they are looked up, the
+//! rows that stand for cubes, and those in every state table that this project writes.
 #![tactic(auto)]
 
 mod lookups;
 mod matching;
+mod row_makers;
 mod row_words;
 mod state_tables;
+mod symbols;
 pub mod table;
 
 pub use lookups::{keyed_state, keyed_truth, lookup_state, lookup_truth};
+pub use row_makers::{StateTableRows, TruthTableRows};
 pub use row_words::{TableRow, words_of};
 pub use state_tables::state_rows;
 pub use table::{Trits, TruthRow, TruthTable, VNext, VStateRow, VStateTable, VSymbol};

@@ -6,9 +6,10 @@ ghost use Rattle.udp_tables.specs.CellPrimitives.{IsPart};
 use super::alike::first_cell;
 use bool_functions::Names;
 use cell_machine::Cell;
+use cell_tables::{combinational_udp, sequential_udp};
 use std::alloc::Global;
 use std::test::Fail;
-use udp_tables::{Entry, Level, Next, Part, UdpRow, combinational_udp, sequential_udp};
+use udp_tables::{Entry, Level, Next, Part, UdpRow};
 use vital_models::entity_name;
 
 /// A flip-flop.

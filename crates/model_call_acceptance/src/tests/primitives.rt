@@ -5,12 +5,12 @@ ghost use Rattle.udp_tables.specs.Primitive.{IsCombinational};
 ghost use Rattle.udp_tables.specs.Sequential.{HasEntries};
 
 use bool_functions::{Function, read_free};
+use cell_tables::{function_udp, laws::primitive_is_combinational};
 use sqlite_items::Items;
 use std::alloc::{AllocError, Global};
 use std::test::Fail;
 use trit_cubes::Trit;
-use udp_tables::laws::primitive_is_combinational;
-use udp_tables::{Entry, Level, Next, Udp, UdpRow, function_udp, udp_level, udp_next};
+use udp_tables::{Entry, Level, Next, Udp, UdpRow, udp_level, udp_next};
 
 /// The levels of a row of two inputs, and what it gives.
 type LevelRow = (Level, Level, Next);

@@ -1,7 +1,7 @@
 use Rattle.std.proofs.Common.{◌≡◌, ◌≤◌, length, map, arith}
 use Rattle.std.proofs.lemmas.List.{length-map}
 use Rattle.cell_machine.proofs.RuleLemmas.{few_groups}
-use Rattle.udp_tables.proofs.ConditionLemmas.{place-within}
+use Rattle.cell_tables.proofs.ConditionLemmas.{place-within}
 use Rattle.specify_blocks.proofs.timing.wire_of.Goals as goal
 
 pub overflow_add-result : goal.overflow_add-result

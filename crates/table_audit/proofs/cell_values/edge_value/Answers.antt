@@ -3,7 +3,7 @@ use Rattle.cell_machine.specs.Machine.{insert}
 use Rattle.cell_machine.specs.CellData.{data_of}
 use Rattle.cell_machine.specs.CellTrace.{step_at}
 use Rattle.udp_tables.proofs.ColumnLemmas.{length-insert}
-use Rattle.udp_tables.proofs.GroupLemmas.{edge_value-parts, length-others}
+use Rattle.cell_tables.proofs.GroupLemmas.{edge_value-parts, length-others}
 use Rattle.table_audit.proofs.cell_values.edge_value.Goals as goal
 
 pub boolean_step-requires-clause-before : goal.boolean_step-requires-clause-before

@@ -3,7 +3,7 @@ use Rattle.trit_cubes.specs.Sets.{AreValuesOf}
 use Rattle.cell_machine.specs.Machine.{forced_at}
 use Rattle.cell_machine.specs.CellData.{data_of}
 use Rattle.cell_machine.specs.CellTrace.{step_at, support_at}
-use Rattle.udp_tables.proofs.GroupPlaces.{pins-counted}
+use Rattle.cell_tables.proofs.GroupPlaces.{pins-counted}
 use Rattle.table_audit.proofs.cell_values.forces.Goals as goal
 
 pub returns : goal.returns

@@ -1,5 +1,5 @@
 use Rattle.std.proofs.Common.{◌∙◌, append_assoc, [], ◌∷◌, take, drop}
-use Rattle.udp_tables.proofs.GroupLemmas.{insert-parts}
+use Rattle.udp_tables.proofs.SymbolLemmas.{insert-parts}
 use Rattle.table_audit.proofs.cell_values.inserted.Goals as goal
 
 pub returns : goal.returns

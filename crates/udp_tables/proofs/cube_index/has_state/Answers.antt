@@ -1,7 +1,7 @@
 use Rattle.std.proofs.Common.{◌∙◌, ap, arith}
 use Rattle.trit_cubes.specs.declared.trits.Trit.TheVariants.{Unknown}
 use Rattle.trit_cubes.specs.Filling.{same}
-use Rattle.udp_tables.proofs.GroupLemmas.{get-last}
+use Rattle.udp_tables.proofs.SymbolLemmas.{get-last}
 use Rattle.udp_tables.proofs.cube_index.has_state.Goals as goal
 
 pub returns : goal.returns

@@ -1,0 +1,10 @@
+use Rattle.std.proofs.Common.{◌≡◌, not, ◌++◌, map, drop}
+use Rattle.std.specs.Prelude.{filter}
+use Rattle.trit_cubes.specs.declared.trits.Trit.TheVariants.{Zero, One}
+use Rattle.udp_tables.specs.Edges.{is_paired}
+use Rattle.cell_tables.proofs.change_rows.add_rows_of_zeros.Given as goal
+
+abbrev pub invariant-loop-cube : goal.invariant-loop-cube
+invariant-loop-cube g l =
+    l.rows ++ map (g.M.StepRows.edge_row l.maker l.place Zero) (filter (λ c. not (is_paired Zero One l.ones c)) (drop l.cube-index l.zeros))
+    ≡ l.fn.rows ++ map (g.M.StepRows.edge_row l.maker l.place Zero) (filter (λ c. not (is_paired Zero One l.ones c)) l.zeros)

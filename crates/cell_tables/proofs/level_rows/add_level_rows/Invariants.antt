@@ -1,0 +1,7 @@
+use Rattle.std.proofs.Common.{◌≡◌, ◌++◌, map, drop}
+use Rattle.cell_tables.proofs.level_rows.add_level_rows.Given as goal
+
+abbrev pub invariant-loop-cube : goal.invariant-loop-cube
+invariant-loop-cube g l =
+    l.rows ++ map (g.M.LevelRows.level_row l.maker l.value) (drop l.cube-index l.cubes)
+    ≡ l.fn.rows ++ map (g.M.LevelRows.level_row l.maker l.value) l.cubes

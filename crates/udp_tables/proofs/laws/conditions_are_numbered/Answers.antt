@@ -1,5 +1,0 @@
-use Rattle.udp_tables.proofs.CellLaws.{conditions_are_numbered-lem}
-use Rattle.udp_tables.proofs.laws.conditions_are_numbered.Goals as goal
-
-pub returns : goal.returns
-returns c = conditions_are_numbered-lem

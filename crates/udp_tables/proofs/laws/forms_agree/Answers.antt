@@ -1,5 +1,0 @@
-use Rattle.udp_tables.proofs.LawLemmas.{forms_agree-lem}
-use Rattle.udp_tables.proofs.laws.forms_agree.Goals as goal
-
-pub returns : goal.returns
-returns c = forms_agree-lem

@@ -1,5 +1,0 @@
-use Rattle.udp_tables.proofs.CellLaws.{groups_are_sequential-lem}
-use Rattle.udp_tables.proofs.laws.groups_are_sequential.Goals as goal
-
-pub returns : goal.returns
-returns c = groups_are_sequential-lem

@@ -1,5 +1,0 @@
-use Rattle.udp_tables.proofs.TableLemmas.{primitive-combinational}
-use Rattle.udp_tables.proofs.laws.primitive_is_combinational.Goals as goal
-
-pub returns : goal.returns
-returns c = primitive-combinational

@@ -1,5 +1,0 @@
-use Rattle.udp_tables.proofs.LawLemmas.{rows_are_machine-lem}
-use Rattle.udp_tables.proofs.laws.rows_are_machine.Goals as goal
-
-pub returns : goal.returns
-returns c = rows_are_machine-lem

@@ -1,5 +1,0 @@
-use Rattle.udp_tables.proofs.TableLemmas.{function_rows-res}
-use Rattle.udp_tables.proofs.laws.rows_give_resolution.Goals as goal
-
-pub returns : goal.returns
-returns c = function_rows-res

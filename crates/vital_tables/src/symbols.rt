@@ -1,0 +1,61 @@
+//! The symbols of VITAL's tables for the places of a cube.
+ghost use Rattle.std.specs.Prelude.{◌≡◌};
+ghost use Rattle.vital_tables.specs.Rows.{next_to};
+
+use crate::table::{Trits, VNext, VSymbol};
+use trit_cubes::Trit;
+use udp_tables::{ChangeSymbol, PlaceSymbol};
+
+impl PlaceSymbol for Trits {
+    ghost use Rattle.vital_tables.specs.Rows.{level_of};
+
+    ghost of_place = { level_of };
+
+    fn of_place(place: Trit) -> Trits {
+        match place {
+            Trit::Zero => Trits::Zero,
+            Trit::One => Trits::One,
+            Trit::Unknown => Trits::Any,
+        }
+    }
+}
+
+impl PlaceSymbol for VSymbol {
+    ghost use Rattle.vital_tables.specs.Rows.{level_symbol};
+
+    ghost of_place = { level_symbol };
+
+    fn of_place(place: Trit) -> VSymbol {
+        VSymbol::Level(Trits::of_place(place))
+    }
+}
+
+impl ChangeSymbol for VSymbol {
+    ghost use Rattle.vital_tables.specs.Rows.{edge_symbol};
+
+    ghost of_change = { edge_symbol };
+
+    fn of_change(old: Trit, new: Trit) -> VSymbol {
+        match (old, new) {
+            (Trit::Zero, Trit::One) => VSymbol::Rise,
+            (Trit::Zero, Trit::Zero | Trit::Unknown) => VSymbol::From0,
+            (Trit::One, Trit::Zero) => VSymbol::Fall,
+            (Trit::One, Trit::One | Trit::Unknown) => VSymbol::From1,
+            (Trit::Unknown, Trit::Zero) => VSymbol::To0,
+            (Trit::Unknown, Trit::One) => VSymbol::To1,
+            (Trit::Unknown, Trit::Unknown) => VSymbol::Change,
+        }
+    }
+}
+
+impl From<Trit> for VNext {
+    ghost from_gives = { λ value next. next ≡ next_to value };
+
+    fn from(value: Trit) -> VNext {
+        match value {
+            Trit::Zero => VNext::Zero,
+            Trit::One => VNext::One,
+            Trit::Unknown => VNext::Unknown,
+        }
+    }
+}

@@ -11,7 +11,7 @@ use crate::sources::sources_of;
 use crate::text_kinds::Numbering;
 use cell_machine::{Direction, OutputPin, StateGroup};
 use cell_parts::held::held_with;
-use cell_parts::least::lesser;
+use cell_machine::least::lesser;
 use cell_parts::limits::MOST_OUTPUT_SOURCES;
 use cell_parts::outputs::pin_text;
 use cell_parts::pins::direction_of;

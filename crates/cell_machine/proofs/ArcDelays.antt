@@ -7,20 +7,12 @@ use Rattle.cell_machine.specs.declared.arcs.Arc.{Arc}
 use Rattle.cell_machine.specs.Delay.{Path, lesser, least, path_delay, active_delays}
 use Rattle.cell_machine.specs.CellTrace.{is_active, is_between, path_of}
 use Rattle.cell_machine.specs.ArcDelay.{arc_delay}
+use Rattle.cell_machine.proofs.LeastLemmas.{lesser_assoc}
 
 -- the least over the arcs in this list; the arcs in the first list decide which are active
 abbrev pub least_of : List Pin → List Arc → List Trit → ℕ → ℕ → Trit → Trit → List Arc → Option ℕ
 least_of pins arcs v input output a b rest =
     least (active_delays a b (map (path_of pins arcs v) (filter (is_between pins input output) rest)))
-
-min_assoc : (x y z : ℕ) → min (min x y) z ≡ min x (min y z)
-min_assoc x y z = omega arith
-
-pub lesser_assoc : (x y z : Option ℕ) → lesser (lesser x y) z ≡ lesser x (lesser y z)
-lesser_assoc None y z = refl
-lesser_assoc (Some x) None z = refl
-lesser_assoc (Some x) (Some y) None = refl
-lesser_assoc (Some x) (Some y) (Some z) = ap Some (min_assoc x y z)
 
 pub drop-at : {X : Type 0} (xs : List X) (i : ℕ) (x : X) → slice_get xs i ≡ Some x → drop i xs ≡ x ∷ drop (suc i) xs
 drop-at [] i x e = absurd cc

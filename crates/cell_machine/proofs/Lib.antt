@@ -8,6 +8,7 @@ pub mod OutputFacts
 pub mod TimeLemmas
 pub mod TimingFacts
 pub mod RuleLemmas
+pub mod LeastLemmas
 pub mod ArcDelays
 pub mod KeptValues
 pub mod Tables

@@ -19,6 +19,7 @@ mod group_tables;
 mod groups;
 mod kept_conditions;
 mod laws;
+pub mod least;
 mod liberty_sim;
 mod output_tables;
 mod outputs;

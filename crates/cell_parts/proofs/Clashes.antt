@@ -13,7 +13,7 @@ use Rattle.cell_parts.specs.declared.declarations.Role.{Role}
 use Rattle.cell_parts.specs.Declarations.{Declared, may_share, clashes, clashes_after}
 use Rattle.cell_parts.specs.declared.declarations.Declared.{Declared as HeldName}
 use Rattle.cell_parts.specs.Shown.{shown_name}
-use Rattle.cell_parts.proofs.LeastLemmas.{least_append, lesser_assoc, lesser_none}
+use Rattle.cell_machine.proofs.LeastLemmas.{least_append, lesser_assoc, lesser_none}
 use Rattle.cell_parts.specs.KnownNames.{clashes_as, clash_in, IsAgainst}
 
 is_some_from : (o : Option ℕ) → (o ≡ None → ⊥) → is_some o ≡ true

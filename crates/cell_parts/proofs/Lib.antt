@@ -1,4 +1,3 @@
-pub mod LeastLemmas
 pub mod Inserting
 pub mod Turns
 pub mod Fits

@@ -9,7 +9,7 @@ ghost use Rattle.cell_parts.specs.States.{states_in as states_in_of};
 ghost use Rattle.cell_parts.specs.Shown.{shown_name, shown_state};
 
 use crate::groups::{is_pin, is_state};
-use crate::least::lesser;
+use cell_machine::least::lesser;
 use crate::limits::MOST_NAME_BYTES;
 use crate::pins::direction_of;
 use crate::states::{StateName, states_in};
@@ -216,7 +216,7 @@ fn clash_at(known: &Known, one: &Declared<'_>) -> Option<usize>
 }
 
 /// The least offset of a name that clashes with an earlier one, where none is declared so far. The names become declared.
-#[tactic(auto, using(crate::proofs::LeastLemmas::lesser_none))]
+#[tactic(auto, using(cell_machine::proofs::LeastLemmas::lesser_none))]
 fn clash_among(known: &mut Known, declared: &[Declared<'_>]) -> Result<Option<usize>, AllocError>
     requires { IsKnown [] known.old }
     ensures { IfOk result (λ at. at ≡ least (clashes_after [] (map shown_name declared.now))) }
@@ -263,7 +263,7 @@ pub fn is_name(name: &[u8]) -> bool
 }
 
 /// The least offset of a declared name that may be none.
-#[tactic(auto, using(crate::proofs::LeastLemmas::lesser_assoc, crate::proofs::LeastLemmas::lesser_none, crate::proofs::LeastLemmas::least_append))]
+#[tactic(auto, using(cell_machine::proofs::LeastLemmas::lesser_assoc, cell_machine::proofs::LeastLemmas::lesser_none, cell_machine::proofs::LeastLemmas::least_append))]
 pub fn first_bad_name(declared: &[Declared<'_>]) -> Option<usize>
     ensures { result ≡ least (flat_map bad_name_in_of (map shown_name declared.now)) }
 {

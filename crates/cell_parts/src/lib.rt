@@ -6,7 +6,6 @@ mod group_texts;
 pub mod groups;
 pub mod held;
 mod laws;
-pub mod least;
 pub mod limits;
 pub mod outputs;
 pub mod pins;

@@ -15,7 +15,7 @@ use Rattle.cell_parts.specs.TextFaults.{malformed_in, unknown_in}
 use Rattle.cell_parts.specs.CellLaws.{readings_of, texts_of}
 use Rattle.cell_parts.specs.Limits.{first_past, place_of_group, state_at, no_support_in, wide_support_in}
 use Rattle.cell_parts.proofs.Distinct.{nil_parts}
-use Rattle.cell_parts.proofs.LeastLemmas.{least_append}
+use Rattle.cell_machine.proofs.LeastLemmas.{least_append}
 use Rattle.cell_refusals.specs.declared.refusal.Reason.{Reason}
 use Rattle.cell_refusals.specs.declared.refusal.Reason.TheVariants as reason
 use Rattle.cell_refusals.specs.declared.refusal.Refusal.{Refusal}

@@ -13,13 +13,13 @@ use crate::limits::known_cell;
 use crate::scans::{BadDirections, BankGroups, ClearPresets, LeftOutStates, ThreeStates};
 use bool_functions::Names;
 use cell_parts::declarations::{Declared, first_clash};
-use cell_parts::least::lesser;
+use cell_machine::least::lesser;
 use cell_refusals::{Reason, Refusal, least_among_held, refused_or};
 use liberty_groups::Group;
 use std::alloc::{AllocError, Global};
 
 /// Where a name is declared twice, or an earlier cell has the name of this one.
-#[tactic(auto, using(cell_parts::proofs::LeastLemmas::least_append))]
+#[tactic(auto, using(cell_machine::proofs::LeastLemmas::least_append))]
 fn duplicates(
     alloc: Global,
     earlier: &Names,
@@ -34,7 +34,7 @@ fn duplicates(
 }
 
 /// Where a pin or a state has an attribute whose states are left out.
-#[tactic(auto, using(cell_parts::proofs::LeastLemmas::least_append))]
+#[tactic(auto, using(cell_machine::proofs::LeastLemmas::least_append))]
 fn left_out(cell: &Group, pins: &[&Group], states: &[&Group]) -> Option<usize>
     requires pins { map (λ group. group.now) pins.now ≡ pin_groups cell.now }
     requires states { map (λ group. group.now) states.now ≡ state_groups cell.now }

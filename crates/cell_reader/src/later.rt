@@ -11,7 +11,7 @@ use crate::parts::Parts;
 use crate::scans::NoFunctions;
 use crate::text_faults::WrongText;
 use cell_parts::declarations::first_bad_name;
-use cell_parts::least::lesser;
+use cell_machine::least::lesser;
 use cell_parts::limits::{MOST_ARCS, MOST_CHECKS, MOST_PINS, MOST_STATES};
 use cell_refusals::{Reason, Refusal, least_among, least_among_held, refused_or};
 use cell_timings::{WrongTiming, made_offsets};
@@ -27,7 +27,7 @@ macro_rules! least_wrong {
 }
 
 /// Where a text or a table of the cell does not read.
-#[tactic(auto, using(cell_parts::proofs::LeastLemmas::least_append))]
+#[tactic(auto, using(cell_machine::proofs::LeastLemmas::least_append))]
 fn malformed(parts: &Parts<'_>) -> Option<usize>
     requires { AreParts parts.now }
     ensures { result ≡ least (malformed_told (subject_in parts.now) parts.now.cell.now) }
@@ -36,7 +36,7 @@ fn malformed(parts: &Parts<'_>) -> Option<usize>
 }
 
 /// Where a text of the cell names nothing of the kind that it may name.
-#[tactic(auto, using(cell_parts::proofs::LeastLemmas::least_append))]
+#[tactic(auto, using(cell_machine::proofs::LeastLemmas::least_append))]
 fn unknown_names(parts: &Parts<'_>) -> Option<usize>
     requires { AreParts parts.now }
     ensures { result ≡ least (unknown_told (subject_in parts.now) parts.now.cell.now) }
@@ -45,7 +45,7 @@ fn unknown_names(parts: &Parts<'_>) -> Option<usize>
 }
 
 /// Where a name of the cell is none.
-#[tactic(auto, using(cell_parts::proofs::LeastLemmas::least_append))]
+#[tactic(auto, using(cell_machine::proofs::LeastLemmas::least_append))]
 fn bad_names(parts: &Parts<'_>) -> Option<usize>
     requires { AreParts parts.now }
     ensures { result ≡ least (bad_names_of parts.now.cell.now) }
@@ -57,7 +57,7 @@ fn bad_names(parts: &Parts<'_>) -> Option<usize>
 }
 
 /// Where a limit of the cell is passed.
-#[tactic(auto, using(cell_parts::proofs::LeastLemmas::least_append))]
+#[tactic(auto, using(cell_machine::proofs::LeastLemmas::least_append))]
 fn limits(alloc: Global, parts: &Parts<'_>) -> Result<Option<usize>, AllocError>
     requires { AreParts parts.now }
     ensures { IfOk result (λ at. at ≡ least (limits_told (subject_in parts.now) parts.now.cell.now)) }

@@ -17,7 +17,7 @@ use cell_logic::cell_numbers::cell_numbers;
 use cell_logic::output_pins::OutputReader;
 use cell_logic::state_groups::state_groups;
 use cell_machine::StateGroup;
-use cell_parts::least::lesser;
+use cell_machine::least::lesser;
 use cell_refusals::least_among;
 use cell_timings::WideTimings;
 use sqlite_items::Items;
@@ -93,7 +93,7 @@ fn wide_states(parts: &Parts<'_>) -> Option<usize>
 }
 
 /// Where a state group names more than 8 pins, or an output function or a condition more than 10 names.
-#[tactic(auto, using(cell_parts::proofs::LeastLemmas::least_append))]
+#[tactic(auto, using(cell_machine::proofs::LeastLemmas::least_append))]
 pub(crate) fn udp_inputs(
     alloc: Global,
     parts: &Parts<'_>,

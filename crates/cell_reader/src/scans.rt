@@ -6,14 +6,14 @@ ghost use Rattle.cell_parts.specs.Scans.{direction_in as direction_in_of, three_
 
 use cell_machine::{Both, Direction};
 use cell_parts::groups::{is_bank, is_called, is_missing};
-use cell_parts::least::lesser;
+use cell_machine::least::lesser;
 use cell_parts::pins::{direction_named, direction_of};
 use cell_parts::states::both_named;
 use cell_refusals::Scan;
 use liberty_groups::{Group, last_attribute, simple_attribute};
 
 /// The least offset of the simple attributes of this name in a group.
-#[tactic(auto, using(cell_parts::proofs::LeastLemmas::lesser_assoc, cell_parts::proofs::LeastLemmas::lesser_none))]
+#[tactic(auto, using(cell_machine::proofs::LeastLemmas::lesser_assoc, cell_machine::proofs::LeastLemmas::lesser_none))]
 fn first_offset(group: &Group, name: &[u8]) -> Option<usize>
     ensures { result ≡ least (offsets_of name.now group.now) }
 {
@@ -74,7 +74,7 @@ pub(crate) struct LeftOutStates;
 impl Scan<Group> for LeftOutStates {
     ghost places = { λ _. left_out_in_of };
 
-    #[tactic(auto, unfolding(cell_parts::specs::Scans::left_out_in), using(cell_parts::proofs::LeastLemmas::least_append))]
+    #[tactic(auto, unfolding(cell_parts::specs::Scans::left_out_in), using(cell_machine::proofs::LeastLemmas::least_append))]
     fn least_in(&self, group: &Group) -> Option<usize> {
         let clocked = first_offset(group, b"clocked_on_also");
         let enable = first_offset(group, b"enable_also");
@@ -117,7 +117,7 @@ pub(crate) struct ClearPresets;
 impl Scan<Group> for ClearPresets {
     ghost places = { λ _. clear_preset_in_of };
 
-    #[tactic(auto, unfolding(cell_parts::specs::Scans::clear_preset_in), using(cell_parts::proofs::LeastLemmas::least_append))]
+    #[tactic(auto, unfolding(cell_parts::specs::Scans::clear_preset_in), using(cell_machine::proofs::LeastLemmas::least_append))]
     fn least_in(&self, group: &Group) -> Option<usize> {
         if is_called(group, b"statetable") {
             return None;

@@ -2,7 +2,7 @@
 ghost use Rattle.std.specs.Prelude.{◌≡◌, ℕ, List, map, flat_map};
 ghost use Rattle.cell_machine.specs.Delay.{least};
 
-use cell_parts::least::lesser;
+use cell_machine::least::lesser;
 
 /// Something that is sought in a thing of this type.
 pub trait Scan<T> {

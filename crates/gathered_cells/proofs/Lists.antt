@@ -8,7 +8,7 @@ use Rattle.std.proofs.lemmas.List.Elements.{filter-append}
 use Rattle.liberty_groups.specs.declared.tree.Value.{Value}
 use Rattle.liberty_groups.specs.declared.tree.Group.{Group}
 use Rattle.cell_machine.specs.Delay.{least, lesser}
-use Rattle.cell_machine.proofs.ArcDelays.{lesser_assoc}
+use Rattle.cell_machine.proofs.LeastLemmas.{lesser_assoc}
 use Rattle.cell_parts.specs.Groups.{is_called, is_pin, is_state}
 use Rattle.cell_parts.specs.States.{states_in}
 use Rattle.cell_parts.specs.Scans.{bank_in}

@@ -3,7 +3,8 @@ use Rattle.std.proofs.Common.{◌≡◌, ℕ, suc, true, false, ◌&&◌, Bool, 
 use Rattle.std.specs.Prelude.{filter}
 use Rattle.trit_cubes.specs.declared.trits.Trit.{Trit}
 use Rattle.cell_machine.specs.Delay.{Path, lesser, least, path_delay, active_delays}
-use Rattle.cell_machine.proofs.ArcDelays.{lesser_assoc, drop-at}
+use Rattle.cell_machine.proofs.LeastLemmas.{lesser_assoc}
+use Rattle.cell_machine.proofs.ArcDelays.{drop-at}
 use Rattle.run_parts.specs.LeastPath.{path_delay_of, least_of}
 
 -- one path and the rest

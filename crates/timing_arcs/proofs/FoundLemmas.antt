@@ -30,7 +30,7 @@ use Rattle.timing_arcs.specs.Merging.{Placed, same_path, firsts, merged_into, me
 use Rattle.timing_arcs.specs.Timing.{timing_groups, malformed_in, unknown_in, own_in, wide_in, bad_numbers_in, pulse_high, pulse_low, least_period, attribute_checks, attribute_check_at, bad_attribute, at_each, placed_arcs_in, left_out_at, left_out_from, checks_of, check_at_of, malformed_at, unknown_names_at, own_conditions_at, numbers_at, timing_of, unless_at, reading_answer, held_answer}
 use Rattle.timing_arcs.specs.Adding.{joined_with, pushed, with_left_out, with_placed, with_checks, with_arcs, with_inputs, with_noted, with_group, with_optional, with_items, with_limit, with_attribute, nothing_found, found_of, answer_found}
 use Rattle.timing_arcs.specs.Readings.{joined, offsets_in}
-use Rattle.timing_arcs.proofs.OffsetLemmas.{least-append}
+use Rattle.cell_machine.proofs.LeastLemmas.{least_append}
 use Rattle.timing_arcs.proofs.MergingLemmas.{merged-append, merged_at-append}
 
 -- what is found, part by part, before arcs are merged and of offsets the least are taken
@@ -276,11 +276,11 @@ with_noted-shows room subject place p group =
     left-held (is_left_out subject group) room.left_out (record (shows room p) { offsets = joined ((shows room p).offsets) (offsets_in subject group) }) place p.left_out refl refl
     ∙ (λ i. record (shows room (noted subject place p group)) {
       offsets = record {
-        malformed = sym (least-append p.malformed (malformed_in subject group)) i;
-        unknown_name = sym (least-append p.unknown (unknown_in subject group)) i;
-        own_condition = sym (least-append p.own (own_in subject group)) i;
-        number = sym (least-append p.numbers (bad_numbers_in subject group)) i;
-        wide = sym (least-append p.wide (wide_in subject group)) i;
+        malformed = sym (least_append p.malformed (malformed_in subject group)) i;
+        unknown_name = sym (least_append p.unknown (unknown_in subject group)) i;
+        own_condition = sym (least_append p.own (own_in subject group)) i;
+        number = sym (least_append p.numbers (bad_numbers_in subject group)) i;
+        wide = sym (least_append p.wide (wide_in subject group)) i;
       };
     })
 
@@ -350,7 +350,7 @@ attribute-time room subject k first second p attribute None e =
     (λ i. record (shows room p) {
       checks = take room.checks (sym (append-nil p.checks) i);
       check_at = take room.checks (sym (append-nil p.check_at) i);
-      offsets = record ((shows room p).offsets) { number = sym (least-append p.numbers (attribute.at ∷ [])) i };
+      offsets = record ((shows room p).offsets) { number = sym (least_append p.numbers (attribute.at ∷ [])) i };
     })
 attribute-time room subject k first second p attribute (Some time) e =
     let made : List Check = check k (event subject.place first) (event subject.place second) time None ∷ [] in

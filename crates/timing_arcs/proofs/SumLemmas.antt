@@ -14,7 +14,7 @@ use Rattle.liberty_groups.specs.declared.tree.Group.{Group}
 use Rattle.liberty_text.specs.declared.time.Unit.{Unit as TimeUnit}
 use Rattle.timing_arcs.specs.declared.tables.Sum.{Sum}
 use Rattle.cell_machine.specs.Delay.{lesser, least}
-use Rattle.timing_arcs.proofs.OffsetLemmas.{lesser-none, lesser-assoc, least-append}
+use Rattle.cell_machine.proofs.LeastLemmas.{lesser_none, lesser_assoc, least_append}
 use Rattle.timing_arcs.specs.Times.{time_of}
 use Rattle.liberty_groups.specs.Attributes.{first_of, words_between, group_named, groups_named}
 use Rattle.timing_arcs.specs.Tables.{is_separator, Values, entries_of, values_as, values_of, values_named, greatest, times_of, limit_of, has_entry, bad_values_at, bad_numbers_at, empty_tables_at}
@@ -44,18 +44,18 @@ plus unit sum vs = record {
 }
 
 plus-nil : (unit : Option TimeUnit) (sum : Sum) → plus unit sum [] ≡ sum
-plus-nil unit sum = same_sum _ _ (or-false sum.has_entry) (omega arith) (lesser-none sum.bad_at)
+plus-nil unit sum = same_sum _ _ (or-false sum.has_entry) (omega arith) (lesser_none sum.bad_at)
 
 plus-append : (unit : Option TimeUnit) (sum : Sum) (xs ys : List Values) → plus unit sum (xs ++ ys) ≡ plus unit (plus unit sum xs) ys
 plus-append unit sum xs ys =
     let g : greatest (flat_map (times_of unit) (xs ++ ys)) ≡ max (greatest (flat_map (times_of unit) xs)) (greatest (flat_map (times_of unit) ys)) =
     ap greatest (flat_map-append (times_of unit) xs ys) ∙ greatest-append (flat_map (times_of unit) xs) (flat_map (times_of unit) ys) in
     let t : least (filter_map (bad_values_at unit) (xs ++ ys)) ≡ lesser (least (filter_map (bad_values_at unit) xs)) (least (filter_map (bad_values_at unit) ys)) =
-    ap least (filter_map-append (bad_values_at unit) xs ys) ∙ least-append (filter_map (bad_values_at unit) xs) (filter_map (bad_values_at unit) ys) in
+    ap least (filter_map-append (bad_values_at unit) xs ys) ∙ least_append (filter_map (bad_values_at unit) xs) (filter_map (bad_values_at unit) ys) in
     same_sum _ _
     (ap (λ b. sum.has_entry || b) (list_any-append has_entry xs ys) ∙ sym (or-assoc sum.has_entry (list_any has_entry xs) (list_any has_entry ys)))
     (omega arith)
-    (ap (lesser sum.bad_at) t ∙ sym (lesser-assoc sum.bad_at _ _))
+    (ap (lesser sum.bad_at) t ∙ sym (lesser_assoc sum.bad_at _ _))
 
 -- one statement
 abbrev values : ℕ → List (List ℕ) → List Values
@@ -93,7 +93,7 @@ plus-texts unit at sum xs ys =
     same_sum _ _
     (ap (λ b. sum.has_entry || b) h ∙ sym (or-assoc sum.has_entry _ _))
     (omega arith)
-    (ap (lesser sum.bad_at) t ∙ sym (lesser-assoc sum.bad_at _ _))
+    (ap (lesser sum.bad_at) t ∙ sym (lesser_assoc sum.bad_at _ _))
 
 plus-no_texts : (unit : Option TimeUnit) (at : ℕ) (sum : Sum) → plus unit sum (values at []) ≡ sum
 plus-no_texts unit at sum = plus-nil unit sum
@@ -104,7 +104,7 @@ has_one false b h = h
 
 entry-time : (unit : Option TimeUnit) (at : ℕ) (sum : Sum) (text : List ℕ) (time : Option ℕ) → time_of unit text ≡ time → with_time at sum time ≡ plus unit sum (values at (text ∷ []))
 entry-time unit at sum text None e = rw e (same_sum _ _ (sym (has_one sum.has_entry true refl)) (omega arith) refl)
-entry-time unit at sum text (Some time) e = rw e (same_sum _ _ (sym (has_one sum.has_entry true refl)) (omega arith) (sym (lesser-none sum.bad_at)))
+entry-time unit at sum text (Some time) e = rw e (same_sum _ _ (sym (has_one sum.has_entry true refl)) (omega arith) (sym (lesser_none sum.bad_at)))
 
 texts-fold : (unit : Option TimeUnit) (at : ℕ) (sum : Sum) (texts : List (List ℕ)) → fold (with_entry unit at) sum texts ≡ plus unit sum (values at texts)
 texts-fold unit at sum [] = sym (plus-no_texts unit at sum)
@@ -183,4 +183,4 @@ unfolding bad_numbers_at
 bad_numbers-least unit name group =
     rw (tables-has_entry unit name group, tables-bad_at unit name group)
     (ap (λ a. lesser a (least (filter_map (bad_values_at unit) (values_named name group)))) (sym (empty-least (values_named name group) (groups_named name group.items)))
-    ∙ sym (least-append (empty_tables_at (values_named name group) (groups_named name group.items)) (filter_map (bad_values_at unit) (values_named name group))))
+    ∙ sym (least_append (empty_tables_at (values_named name group) (groups_named name group.items)) (filter_map (bad_values_at unit) (values_named name group))))

@@ -40,7 +40,8 @@ use Rattle.timing_arcs.specs.Adding.{with_checks, with_arcs, with_left_out, with
 use Rattle.timing_arcs.specs.GroupTexts.{named_related, related_text, when_as, when_text, group_text, optional_text, texts_from, cell_of, pin_texts, is_of_one_pin, used_under, read_under, left_out_under, made_under, unknown_under, names_pin, own_under, read_offsets, offsets_under, inputs_under, with_all_made, with_text_noted, with_text, with_texts}
 use Rattle.timing_arcs.specs.PinLimits.{limit_as, pin_limit, pin_limits, limit_under, with_pin_limit, with_pin_limits}
 use Rattle.timing_arcs.specs.TimingTexts.{AreTexts}
-use Rattle.timing_arcs.proofs.OffsetLemmas.{least_if, least-append}
+use Rattle.timing_arcs.proofs.OffsetLemmas.{least_if}
+use Rattle.cell_machine.proofs.LeastLemmas.{least_append}
 use Rattle.timing_arcs.proofs.FoundLemmas.{answer-is}
 
 -- The texts do not tell which pin of the cell it is.
@@ -233,7 +234,7 @@ own_noted subject place group =
     ∙ sym (noted (is_read subject group) (names_one (subject.place ∷ inputs_of subject group) (condition_of subject group)) (place_of (attribute_of group (codes "when"))))
 
 number_noted : (read : Bool) (xs ys : List ℕ) → (if read then lesser (least xs) (least ys) else None) ≡ least (if read then xs ++ ys else [])
-number_noted true xs ys = sym (least-append xs ys)
+number_noted true xs ys = sym (least_append xs ys)
 number_noted false xs ys = refl
 
 unknown_noted : (subject : Subject) (place : ℕ) (group : Group) →
@@ -246,7 +247,7 @@ unknown_noted subject place group =
     ap (λ (b : Bool). lesser (where_so b (least at)) (if is_read subject group then where_so (has_unknown ((when_text subject group).condition)) ((when_text subject group).at) else None)) (unknown_same subject place group)
     ∙ ap (lesser (where_so names (least at))) (condition_noted subject group has_unknown)
     ∙ ap (λ (o : Option ℕ). lesser o (least (unknown_condition_in subject group))) (sym (least_if names at))
-    ∙ sym (least-append (unknown_related_in subject group) (unknown_condition_in subject group))
+    ∙ sym (least_append (unknown_related_in subject group) (unknown_condition_in subject group))
 
 -- the offsets of a group that is read, or not
 offsets_as : (read : Bool) (u m k o n w : Option ℕ) →

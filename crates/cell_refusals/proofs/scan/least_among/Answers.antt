@@ -1,6 +1,6 @@
 use Rattle.std.proofs.Common.{◌∙◌, ap}
 use Rattle.cell_machine.specs.Delay.{lesser}
-use Rattle.cell_parts.proofs.LeastLemmas.{least_more}
+use Rattle.cell_machine.proofs.LeastLemmas.{least_more}
 use Rattle.cell_refusals.proofs.scan.least_among.Goals as goal
 
 pub loop-item-preserved : goal.loop-item-preserved

@@ -2,7 +2,7 @@ use Rattle.std.proofs.Common.{◌∙◌, ap}
 use Rattle.cell_machine.specs.Delay.{lesser}
 use Rattle.cell_parts.specs.Limits.{wide_output}
 use Rattle.cell_parts.specs.Shown.{shown_vocabulary}
-use Rattle.cell_parts.proofs.LeastLemmas.{least_turn}
+use Rattle.cell_machine.proofs.LeastLemmas.{least_turn}
 use Rattle.cell_logic.proofs.output_pins.OutputReader.wide_outputs.Goals as goal
 
 pub loop-owner-preserved : goal.loop-owner-preserved

@@ -1,11 +1,12 @@
 pub mod NetDrivers
 pub mod FedInstances
+pub mod KeptValues
+pub mod FedLists
 pub mod ModuleStarts
 pub mod ModuleStands
 pub mod QuietPorts
 pub mod Wiring
 pub mod OutputPaths
 pub mod Keys
-pub mod NumberedLists
 pub mod ModuleIndexed
 pub mod ShownPorts

@@ -6,7 +6,7 @@ use Rattle.module_runs.specs.Keys.{udp_keys}
 use Rattle.run_parts.specs.InputNumbers.{input_numbers}
 use Rattle.module_runs.specs.NetDrivers.{AreDrivers}
 use Rattle.module_runs.specs.OutputPaths.{AreByOutput}
-use Rattle.module_runs.specs.FedInstances.{AreFed}
+use Rattle.module_runs.specs.FedLists.{AreFed}
 
 -- these are the keys of its tables, the numbers of its ports among the inputs, the drivers of its nets, the paths to its ports
 -- and the instances that changes feed

@@ -7,7 +7,9 @@ use Rattle.run_parts.specs.declared.shown.ShownPort.{ShownPort}
 use Rattle.model_traces.specs.PortNumbers.{input_count, output_ports}
 use Rattle.model_traces.specs.ModuleRun.{HasEach, run_after}
 use Rattle.model_traces.specs.ModuleTrace.{output_after, delay_after, reports_after}
+use Rattle.trit_cubes.specs.declared.trits.Trit.{Trit}
 use Rattle.module_runs.specs.Wiring.{is_wired}
+use Rattle.module_runs.specs.KeptValues.{kept_values}
 pub use Rattle.model_traces.specs.ModuleTrace.{module_machine}
 pub use Rattle.model_traces.specs.ModuleSized.{module_sized}
 
@@ -15,9 +17,11 @@ pub use Rattle.model_traces.specs.ModuleSized.{module_sized}
 abbrev pub shown_after : VModule → List Change → ℕ → ShownPort
 shown_after m h p = record { port = p; value = output_after m h p; delay = delay_after m h p }
 
--- A run of a module, with the reports of its checks and with room for the values of the nets that feed any instance.
-pub record IsReady (m : VModule) (run : ModuleRun) (reports : List Bool) (room : ℕ) : Type 0 where
+-- A run of a module, with what its instances drive, with the reports of its checks and with room for the values of the nets that
+-- feed any instance.
+pub record IsReady (m : VModule) (run : ModuleRun) (kept : List Trit) (reports : List Bool) (room : ℕ) : Type 0 where
   pub wired : IsTrue (is_wired room m)
+  pub current : kept ≡ kept_values m run.inputs run.states
   pub each_input : length run.inputs ≡ input_count m.ports
   pub one_each : HasEach m run
   pub one_report : length reports ≡ length m.checks

@@ -1,7 +1,7 @@
 -- The paths of a module by the outputs to which they lead.
 use Rattle.std.specs.Prelude.{ℕ, Bool, List, filter, nat_eq}
 use Rattle.specify_blocks.specs.declared.model.VPath.{VPath}
-use Rattle.module_runs.specs.NumberedLists.{AreLists}
+use Rattle.run_parts.specs.NumberedLists.{AreLists}
 
 -- whether a path leads to a port
 abbrev pub leads_to : ℕ → VPath → Bool

@@ -1,18 +1,15 @@
 //! The delay of an output's change: the least over the active paths.
-ghost use Rattle.std.specs.Prelude.{◌≡◌, ◌<◌, true, length, IsTrue, drop};
+ghost use Rattle.std.specs.Prelude.{◌≡◌, ◌<◌, true, length, drop};
 ghost use Rattle.std.specs.List.{list_all};
 ghost use Rattle.cell_machine.specs.Delay.{least_delay};
-ghost use Rattle.module_runs.specs.Wiring.{is_wired};
 ghost use Rattle.model_traces.specs.PathDelays.{is_off, is_quiet, is_active, is_between, paths_between, path_at, delay_at};
 ghost use Rattle.run_parts.specs.LeastPath.{path_delay_of};
 ghost use Rattle.module_runs.specs.QuietPorts.{IsKnown};
 
-use crate::module_values::ModuleValues;
-use crate::net_values::net_value;
+use crate::module_values::{ModuleValues, net_value};
 use cell_machine::lesser;
 use run_parts::{OutputChange, input_number};
 use specify_blocks::{Gate, VNet, VPath};
-use sqlite_items::Items;
 use trit_cubes::Trit;
 
 /// Whether all `if` paths of two ports are 0.
@@ -27,40 +24,34 @@ pub struct Quiet {
 }
 
 /// Whether a path is no `if` path or its net is 0.
-fn is_off(values: &ModuleValues, gate: Gate, room: &mut Items<Trit>) -> bool
-    requires { IsTrue (is_wired (length room.old) values.now.tables.model.now) }
-    ensures off { result ≡ is_off values.now.tables.model.now values.now.inputs.now values.now.states.now gate }
-    ensures len { length room.new ≡ length room.old }
+fn is_off(values: &ModuleValues, gate: Gate) -> bool
+    ensures { result ≡ is_off values.now.tables.model.now values.now.inputs.now values.now.states.now gate }
 {
     match gate {
         Gate::Always => true,
-        Gate::If(wire) => { net_value(values, VNet::Wire(wire), room) == Trit::Zero }
+        Gate::If(wire) => { net_value(values, VNet::Wire(wire)) == Trit::Zero }
         Gate::IfNone => true,
     }
 }
 
 /// Whether another path leaves an `ifnone` path active.
-fn is_quiet(values: &ModuleValues, path: VPath, other: VPath, room: &mut Items<Trit>) -> bool
-    requires { IsTrue (is_wired (length room.old) values.now.tables.model.now) }
-    ensures quiet { result ≡ is_quiet values.now.tables.model.now values.now.inputs.now values.now.states.now path other }
-    ensures len { length room.new ≡ length room.old }
+fn is_quiet(values: &ModuleValues, path: VPath, other: VPath) -> bool
+    ensures { result ≡ is_quiet values.now.tables.model.now values.now.inputs.now values.now.states.now path other }
 {
     let same_ports = path.from == other.from && path.to == other.to;
     if !same_ports {
         return true;
     }
-    is_off(values, other.gate, room)
+    is_off(values, other.gate)
 }
 
 /// Whether all other paths leave an `ifnone` path active.
-fn all_are_quiet(values: &ModuleValues, path: VPath, room: &mut Items<Trit>) -> bool
-    requires { IsTrue (is_wired (length room.old) values.now.tables.model.now) }
-    ensures quiet { result ≡ list_all (is_quiet values.now.tables.model.now values.now.inputs.now values.now.states.now path) values.now.tables.model.now.paths }
-    ensures len { length room.new ≡ length room.old }
+fn all_are_quiet(values: &ModuleValues, path: VPath) -> bool
+    ensures { result ≡ list_all (is_quiet values.now.tables.model.now values.now.inputs.now values.now.states.now path) values.now.tables.model.now.paths }
 {
     let paths = values.tables.paths_to(path.to);
     for i in 0..paths.len() {
-        if !is_quiet(values, path, paths[i], room) {
+        if !is_quiet(values, path, paths[i]) {
             return false;
         }
     }
@@ -68,24 +59,17 @@ fn all_are_quiet(values: &ModuleValues, path: VPath, room: &mut Items<Trit>) -> 
 }
 
 /// Whether an `ifnone` path is active. `quiet` holds the answer of the two ports for which it was found last.
-fn is_left(
-    values: &ModuleValues,
-    path: VPath,
-    quiet: &mut Option<Quiet>,
-    room: &mut Items<Trit>,
-) -> bool
-    requires wired { IsTrue (is_wired (length room.old) values.now.tables.model.now) }
+fn is_left(values: &ModuleValues, path: VPath, quiet: &mut Option<Quiet>) -> bool
     requires known { IsKnown values.now.tables.model.now values.now.inputs.now values.now.states.now quiet.old }
     ensures left { result ≡ list_all (is_quiet values.now.tables.model.now values.now.inputs.now values.now.states.now path) values.now.tables.model.now.paths }
     ensures known { IsKnown values.now.tables.model.now values.now.inputs.now values.now.states.now quiet.new }
-    ensures len { length room.new ≡ length room.old }
 {
     if let Some(known) = *quiet {
         if known.from == path.from && known.to == path.to {
             return known.holds;
         }
     }
-    let holds = all_are_quiet(values, path, room);
+    let holds = all_are_quiet(values, path);
     *quiet = Some(Quiet {
         from: path.from,
         to: path.to,
@@ -95,22 +79,15 @@ fn is_left(
 }
 
 /// Whether a path is active.
-fn is_active(
-    values: &ModuleValues,
-    path: VPath,
-    quiet: &mut Option<Quiet>,
-    room: &mut Items<Trit>,
-) -> bool
-    requires wired { IsTrue (is_wired (length room.old) values.now.tables.model.now) }
+fn is_active(values: &ModuleValues, path: VPath, quiet: &mut Option<Quiet>) -> bool
     requires known { IsKnown values.now.tables.model.now values.now.inputs.now values.now.states.now quiet.old }
     ensures active { result ≡ is_active values.now.tables.model.now values.now.inputs.now values.now.states.now path path.gate }
     ensures known { IsKnown values.now.tables.model.now values.now.inputs.now values.now.states.now quiet.new }
-    ensures len { length room.new ≡ length room.old }
 {
     match path.gate {
         Gate::Always => true,
-        Gate::If(wire) => { net_value(values, VNet::Wire(wire), room) != Trit::Zero }
-        Gate::IfNone => is_left(values, path, quiet, room),
+        Gate::If(wire) => { net_value(values, VNet::Wire(wire)) != Trit::Zero }
+        Gate::IfNone => is_left(values, path, quiet),
     }
 }
 
@@ -120,53 +97,42 @@ fn path_delay(
     change: OutputChange,
     path: VPath,
     quiet: &mut Option<Quiet>,
-    room: &mut Items<Trit>,
 ) -> Option<u64>
-    requires wired { IsTrue (is_wired (length room.old) values.now.tables.model.now) }
     requires known { IsKnown values.now.tables.model.now values.now.inputs.now values.now.states.now quiet.old }
     ensures delay { result ≡ path_delay_of (is_between values.now.tables.model.now.ports change.input change.port) (path_at values.now.tables.model.now values.now.inputs.now values.now.states.now) change.from change.to path }
     ensures known { IsKnown values.now.tables.model.now values.now.inputs.now values.now.states.now quiet.new }
-    ensures len { length room.new ≡ length room.old }
 {
     let leads = input_number(&values.tables.ports(), path.from) == change.input
         && path.to == change.port;
     if !leads {
         return None;
     }
-    if !is_active(values, path, quiet, room) {
+    if !is_active(values, path, quiet) {
         return None;
     }
     Some(change.delay(path.rise, path.fall))
 }
 
 /// The delay of a change of an output: the least over the active paths from the input to it, 0 where none is active.
-fn least_delay(values: &ModuleValues, change: OutputChange, room: &mut Items<Trit>) -> u64
-    requires { IsTrue (is_wired (length room.old) values.now.tables.model.now) }
-    ensures delay { result ≡ least_delay change.from change.to (paths_between values.now.tables.model.now values.now.inputs.now values.now.states.now change.input change.port) }
-    ensures len { length room.new ≡ length room.old }
+fn least_delay(values: &ModuleValues, change: OutputChange) -> u64
+    ensures { result ≡ least_delay change.from change.to (paths_between values.now.tables.model.now values.now.inputs.now values.now.states.now change.input change.port) }
 {
     let paths = values.tables.paths_to(change.port);
     let mut best = None;
     let mut quiet = None;
     for i in 0..paths.len() {
-        best = lesser(best, path_delay(values, change, paths[i], &mut quiet, room));
+        best = lesser(best, path_delay(values, change, paths[i], &mut quiet));
     }
     best.unwrap_or(0)
 }
 
 /// The delay of an output, there where it changes.
-pub(crate) fn delay_at(
-    values: &ModuleValues,
-    change: OutputChange,
-    room: &mut Items<Trit>,
-) -> Option<u64>
-    requires { IsTrue (is_wired (length room.old) values.now.tables.model.now) }
-    ensures delay { result ≡ delay_at values.now.tables.model.now values.now.inputs.now values.now.states.now change.input change.port change.from change.to }
-    ensures len { length room.new ≡ length room.old }
+pub(crate) fn delay_at(values: &ModuleValues, change: OutputChange) -> Option<u64>
+    ensures { result ≡ delay_at values.now.tables.model.now values.now.inputs.now values.now.states.now change.input change.port change.from change.to }
 {
     if change.from == change.to {
         None
     } else {
-        Some(least_delay(values, change, room))
+        Some(least_delay(values, change))
     }
 }

@@ -1,29 +1,33 @@
-//! The instances that the inputs of a module and the register of its checks feed.
+//! The instances that the inputs of a module, the register of its checks and its states feed.
 ghost use Rattle.std.specs.Prelude.{◌≡◌, ◌||◌, ℕ, List, [], ◌∷◌, ◌++◌, length, cond, IfOk, OnOk};
 ghost use Rattle.std.specs.List.{list_any};
 ghost use Rattle.model_traces.specs.declared.turns.Turned.TheVariants as turned;
 ghost use Rattle.specify_blocks.specs.declared.model.VNet.TheVariants as net;
 ghost use Rattle.model_traces.specs.PortNumbers.{input_count};
 ghost use Rattle.model_traces.specs.Primitives.{is_turned};
-ghost use Rattle.module_runs.specs.NumberedLists.{AreLists};
-ghost use Rattle.module_runs.specs.FedInstances.{nets_of, fed_places, is_among, AddsPlace, AreFed};
+ghost use Rattle.run_parts.specs.NumberedLists.{AreLists, AddsPlace};
+ghost use Rattle.module_runs.specs.FedInstances.{nets_of, fed_places, is_among};
+ghost use Rattle.module_runs.specs.KeptValues.{is_wire, state_places};
+ghost use Rattle.module_runs.specs.FedLists.{AreFed};
 
-use crate::numbered_lists::{add, empty_lists};
 use crate::primitives::is_turned;
 use model_traces::Turned;
-use run_parts::{Ports, input_count, input_number};
+use run_parts::{Ports, add, empty_lists, input_count, input_number};
 use specify_blocks::{Instance, VNet};
 use sqlite_items::Items;
 use std::alloc::{AllocError, Global};
 use udp_tables::is_input_port;
 
-/// The places of the instances that each input of a module feeds, and of those that the register of its checks feeds, in order.
+/// The places of the instances that each input of a module feeds, of those that the register of its checks feeds, and of those that
+/// states may feed, in order.
 #[derive(Drop)]
 pub struct FedInstances {
     /// For each input those that it feeds.
     pub by_input: Items<Items<usize>>,
     /// Those that the register feeds.
     pub by_register: Items<usize>,
+    /// Those that states may feed: a wire feeds them.
+    pub by_states: Items<usize>,
 }
 
 impl FedInstances {
@@ -37,9 +41,11 @@ impl FedInstances {
     {
         let by_input = fed_by_inputs(alloc, ports, instances)?;
         let by_register = fed_by_register(alloc, ports, instances)?;
+        let by_states = fed_by_states(alloc, instances)?;
         Ok(FedInstances {
             by_input,
             by_register,
+            by_states,
         })
     }
 }
@@ -72,6 +78,31 @@ fn fed_by_register(
     let mut places = Items::new(alloc);
     for i in 0..instances.len() {
         let is_fed = any_is_turned(ports, Turned::Notifier, nets_of(&instances[i]));
+        if is_fed {
+            places.push(i)?;
+        }
+    }
+    Ok(places)
+}
+
+/// Whether one of these nets is a wire.
+fn any_is_wire(nets: &[VNet]) -> bool
+    ensures { result ≡ list_any is_wire nets.now }
+{
+    nets.iter().any(|net| match net {
+        VNet::Port(_) => false,
+        VNet::Wire(_) => true,
+        VNet::Notifier => false,
+    })
+}
+
+/// The places of the instances that states may feed.
+fn fed_by_states(alloc: Global, instances: &[Instance]) -> Result<Items<usize>, AllocError>
+    ensures { IfOk result (λ places. places ≡ state_places instances.now) }
+{
+    let mut places = Items::new(alloc);
+    for i in 0..instances.len() {
+        let is_fed = any_is_wire(nets_of(&instances[i]));
         if is_fed {
             places.push(i)?;
         }

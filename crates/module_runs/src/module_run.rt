@@ -1,12 +1,16 @@
 //! How a change of an input takes the run of a module on. `room` has place for the values of the nets that feed one instance.
-ghost use Rattle.std.specs.Prelude.{◌≡◌, ◌<◌, [], ◌∷◌, length, IsTrue, IfOk};
+ghost use Rattle.std.specs.Prelude.{◌≡◌, ◌<◌, List, [], ◌∷◌, length, IsTrue, IfOk};
+ghost use Rattle.trit_cubes.specs.declared.trits.Trit.{Trit};
 ghost use Rattle.module_runs.specs.Wiring.{is_wired};
+ghost use Rattle.module_runs.specs.KeptValues.{kept_values};
 ghost use Rattle.module_runs.specs.ModuleStands.{IsReady};
 ghost use Rattle.cell_machine.specs.History.{value_before};
 ghost use Rattle.model_traces.specs.Primitives.{next_states};
 ghost use Rattle.model_traces.specs.PortNumbers.{input_count};
-ghost use Rattle.model_traces.specs.ModuleRun.{start_run, toggled, entered, notified, shaken, reports_at, happened, step_reports, run_step, HasEach};
+ghost use Rattle.model_traces.specs.ModuleRun.{start_run, toggled, entered, kept as times_kept, notified, shaken, reports_by, reports_at, happened, step_reports, run_step, HasEach};
 
+use crate::kept_values::find_anew;
+use crate::module_states::ModuleStates;
 use crate::module_tables::ModuleTables;
 use crate::module_values::ModuleValues;
 use crate::primitives::step_states;
@@ -21,7 +25,7 @@ use std::alloc::{AllocError, Global};
 use trit_cubes::Trit;
 
 /// The run of a module before any change.
-pub fn start_run(alloc: Global, model: &VModule) -> Result<ModuleRun, AllocError>
+pub(crate) fn start_run(alloc: Global, model: &VModule) -> Result<ModuleRun, AllocError>
     ensures run { IfOk result (λ run. run ≡ start_run model.now) }
     ensures each_input { IfOk result (λ run. length run.inputs ≡ input_count model.now.ports) }
     ensures one_each { IfOk result (λ run. HasEach model.now run) }
@@ -67,9 +71,30 @@ fn turn_states(run: &mut ModuleRun, tables: &ModuleTables, turn: Turn, room: &mu
     );
 }
 
-/// The input takes its value, and the primitives that it feeds their next states.
+/// What states feed is found anew. Before, what is kept was so for the same inputs.
+fn find_fed_by_states(
+    run: &ModuleRun,
+    kept: &mut Items<Trit>,
+    tables: &ModuleTables,
+    room: &mut Items<Trit>,
+)
+    requires wired { IsTrue (is_wired (length room.old) tables.now.model.now) }
+    requires one_each { length kept.old ≡ length tables.now.model.now.instances }
+    ensures current { (before : List Trit) → kept.old ≡ kept_values tables.now.model.now run.now.inputs before → kept.new ≡ kept_values tables.now.model.now run.now.inputs run.now.states }
+    ensures len { length room.new ≡ length room.old }
+{
+    let values = ModuleStates {
+        tables: *tables,
+        inputs: run.inputs.as_slice(),
+        states: run.states.as_slice(),
+    };
+    find_anew(&values, tables.fed_by_states(), kept, room);
+}
+
+/// The input takes its value, what it feeds is found anew, and the primitives with a state that it feeds take their next states.
 fn change_input(
     run: &mut ModuleRun,
+    kept: &mut Items<Trit>,
     tables: &ModuleTables,
     change: Change,
     from: Trit,
@@ -77,18 +102,24 @@ fn change_input(
 )
     requires wired { IsTrue (is_wired (length room.old) tables.now.model.now) }
     requires one_each { HasEach tables.now.model.now run.old }
+    requires current { kept.old ≡ kept_values tables.now.model.now run.old.inputs run.old.states }
     requires inside { change.pin < length run.old.inputs }
     requires from { from ≡ value_before run.old.inputs change }
     ensures stepped { run.new ≡ entered tables.now.model.now run.old change }
     ensures one_each { HasEach tables.now.model.now run.new }
+    ensures current { kept.new ≡ kept_values tables.now.model.now run.new.inputs run.new.states }
     ensures len { length room.new ≡ length room.old }
 {
     run.inputs.set(change.pin, change.to);
-    let turn = Turn {
-        what: Turned::Input(change.pin),
-        from,
+    let what = Turned::Input(change.pin);
+    let values = ModuleStates {
+        tables: *tables,
+        inputs: run.inputs.as_slice(),
+        states: run.states.as_slice(),
     };
-    turn_states(run, tables, turn, room);
+    find_anew(&values, tables.fed_by(what), kept, room);
+    turn_states(run, tables, Turn { what, from }, room);
+    find_fed_by_states(run, kept, tables, room);
 }
 
 /// The register of the checks changes once.
@@ -146,27 +177,28 @@ fn toggle_for_each(
     }
 }
 
-/// Takes the run over an event, and writes which checks report.
-fn step_event(
+/// Writes which checks report at a change, and takes the times that they keep over it.
+fn compare_checks(
     run: &mut ModuleRun,
+    kept: &[Trit],
     tables: &ModuleTables,
     change: Change,
     from: Trit,
     reports: &mut Items<bool>,
-    room: &mut Items<Trit>,
 )
-    requires ready { IsReady tables.now.model.now run.old reports.old (length room.old) }
-    requires inside { change.pin < length run.old.inputs }
-    requires from { from ≡ value_before run.old.inputs change }
-    ensures stepped { run.new ≡ happened tables.now.model.now run.old change }
-    ensures reports { reports.new ≡ reports_at tables.now.model.now run.old change }
-    ensures ready { IsReady tables.now.model.now run.new reports.new (length room.new) }
+    requires current { kept.now ≡ kept_values tables.now.model.now run.old.inputs run.old.states }
+    requires one_each { HasEach tables.now.model.now run.old }
+    requires one_report { length reports.old ≡ length tables.now.model.now.checks }
+    ensures stamped { run.new ≡ times_kept tables.now.model.now run.old from change }
+    ensures reports { reports.new ≡ reports_by tables.now.model.now run.old from change }
+    ensures one_each { HasEach tables.now.model.now run.new }
+    ensures len { length reports.new ≡ length reports.old }
 {
-    change_input(run, tables, change, from, room);
     let values = ModuleValues {
         tables: *tables,
         inputs: run.inputs.as_slice(),
         states: run.states.as_slice(),
+        kept,
     };
     let ports = tables.ports();
     let seen = InputChange {
@@ -175,29 +207,52 @@ fn step_event(
         change,
     };
     let checks = tables.model.checks.as_slice();
-    compare_all(&values, &seen, checks, run.stamps.as_slice(), reports, room);
+    compare_all(&values, &seen, checks, run.stamps.as_slice(), reports);
     stamp_all(&seen, checks, &mut run.stamps);
-    toggle_for_each(run, tables, reports.as_slice(), room);
 }
 
-/// Takes the run over a change of an input, and writes which checks report.
-pub fn step_run(
+/// Takes the run over an event, and writes which checks report.
+fn step_event(
     run: &mut ModuleRun,
+    kept: &mut Items<Trit>,
+    tables: &ModuleTables,
+    change: Change,
+    from: Trit,
+    reports: &mut Items<bool>,
+    room: &mut Items<Trit>,
+)
+    requires ready { IsReady tables.now.model.now run.old kept.old reports.old (length room.old) }
+    requires inside { change.pin < length run.old.inputs }
+    requires from { from ≡ value_before run.old.inputs change }
+    ensures stepped { run.new ≡ happened tables.now.model.now run.old change }
+    ensures reports { reports.new ≡ reports_at tables.now.model.now run.old change }
+    ensures ready { IsReady tables.now.model.now run.new kept.new reports.new (length room.new) }
+{
+    change_input(run, kept, tables, change, from, room);
+    compare_checks(run, kept.as_slice(), tables, change, from, reports);
+    toggle_for_each(run, tables, reports.as_slice(), room);
+    find_fed_by_states(run, kept, tables, room);
+}
+
+/// Takes the run over a change of an input, and writes which checks report. `kept` has what each instance without a state drives.
+pub(crate) fn step_run(
+    run: &mut ModuleRun,
+    kept: &mut Items<Trit>,
     tables: &ModuleTables,
     change: Change,
     reports: &mut Items<bool>,
     room: &mut Items<Trit>,
 )
-    requires ready { IsReady tables.now.model.now run.old reports.old (length room.old) }
+    requires ready { IsReady tables.now.model.now run.old kept.old reports.old (length room.old) }
     requires inside { change.pin < length run.old.inputs }
     ensures stepped { run.new ≡ run_step tables.now.model.now run.old change }
     ensures reports { reports.new ≡ step_reports tables.now.model.now run.old change }
-    ensures ready { IsReady tables.now.model.now run.new reports.new (length room.new) }
+    ensures ready { IsReady tables.now.model.now run.new kept.new reports.new (length room.new) }
 {
     let from = run.inputs.as_slice()[change.pin];
     if from == change.to {
         clear(reports);
     } else {
-        step_event(run, tables, change, from, reports, room);
+        step_event(run, kept, tables, change, from, reports, room);
     }
 }

@@ -1,13 +1,12 @@
 //! What the outputs of a module show after a change of an input.
 ghost use Rattle.std.specs.Prelude.{◌≡◌, ◌<◌, ◌++◌, length, map, IsTrue, IfOk, OnOk};
 ghost use Rattle.model_traces.specs.PortNumbers.{output_by, output_ports};
-ghost use Rattle.module_runs.specs.Wiring.{is_wired};
+ghost use Rattle.module_runs.specs.KeptValues.{kept_values};
 ghost use Rattle.module_runs.specs.ShownPorts.{shown_first, shown_step};
 
 use crate::delays::delay_at;
 use crate::module_tables::ModuleTables;
-use crate::module_values::ModuleValues;
-use crate::net_values::net_value;
+use crate::module_values::{ModuleValues, net_value};
 use run_parts::{OutputChange, ShownPort};
 use specify_blocks::VNet;
 use sqlite_items::Items;
@@ -15,43 +14,29 @@ use std::alloc::{AllocError, Global};
 use trit_cubes::Trit;
 
 /// What one output shows after a change of an input.
-fn shown_step(
-    values: &ModuleValues,
-    input: usize,
-    was: ShownPort,
-    room: &mut Items<Trit>,
-) -> ShownPort
-    requires { IsTrue (is_wired (length room.old) values.now.tables.model.now) }
-    ensures shown { result ≡ shown_step values.now.tables.model.now values.now.inputs.now values.now.states.now input was }
-    ensures len { length room.new ≡ length room.old }
+fn shown_step(values: &ModuleValues, input: usize, was: ShownPort) -> ShownPort
+    ensures { result ≡ shown_step values.now.tables.model.now values.now.inputs.now values.now.states.now input was }
 {
     let port = was.port;
-    let value = net_value(values, VNet::Port(port), room);
+    let value = net_value(values, VNet::Port(port));
     let change = OutputChange {
         input,
         port,
         from: was.value,
         to: value,
     };
-    let delay = delay_at(values, change, room);
+    let delay = delay_at(values, change);
     ShownPort { port, value, delay }
 }
 
-/// Takes what the outputs show over a change of an input. `inputs` and `states` are those after it.
-pub fn show_all(
-    values: &ModuleValues,
-    input: usize,
-    shown: &mut Items<ShownPort>,
-    room: &mut Items<Trit>,
-)
-    requires { IsTrue (is_wired (length room.old) values.now.tables.model.now) }
+/// Takes what the outputs show over a change of an input. The values are those after it.
+pub(crate) fn show_all(values: &ModuleValues, input: usize, shown: &mut Items<ShownPort>)
     ensures stepped { shown.new ≡ map (shown_step values.now.tables.model.now values.now.inputs.now values.now.states.now input) shown.old }
     ensures len { length shown.new ≡ length shown.old }
-    ensures room { length room.new ≡ length room.old }
 {
     for i in 0..shown.len() {
         let was = shown.as_slice()[i];
-        let now = shown_step(values, input, was, room);
+        let now = shown_step(values, input, was);
         shown.set(i, now);
     }
 }
@@ -62,16 +47,13 @@ fn add_first(
     port: usize,
     is_input: bool,
     shown: &mut Items<ShownPort>,
-    room: &mut Items<Trit>,
 ) -> Result<(), AllocError>
-    requires { IsTrue (is_wired (length room.old) values.now.tables.model.now) }
-    ensures shown { OnOk result (shown.new ≡ shown.old ++ map (shown_first values.now.tables.model.now values.now.inputs.now values.now.states.now) (output_by port is_input)) }
-    ensures len { length room.new ≡ length room.old }
+    ensures { OnOk result (shown.new ≡ shown.old ++ map (shown_first values.now.tables.model.now values.now.inputs.now values.now.states.now) (output_by port is_input)) }
 {
     if is_input {
         return Ok(());
     }
-    let value = net_value(values, VNet::Port(port), room);
+    let value = net_value(values, VNet::Port(port));
     shown.push(ShownPort {
         port,
         value,
@@ -81,40 +63,34 @@ fn add_first(
 }
 
 /// What the outputs show at the start, where the inputs and the states have these values: no delays.
-fn show_start(
-    alloc: Global,
-    values: &ModuleValues,
-    room: &mut Items<Trit>,
-) -> Result<Items<ShownPort>, AllocError>
-    requires { IsTrue (is_wired (length room.old) values.now.tables.model.now) }
-    ensures shown { IfOk result (λ shown. shown ≡ map (shown_first values.now.tables.model.now values.now.inputs.now values.now.states.now) (output_ports values.now.tables.model.now.ports)) }
-    ensures len { length room.new ≡ length room.old }
+fn show_start(alloc: Global, values: &ModuleValues) -> Result<Items<ShownPort>, AllocError>
+    ensures { IfOk result (λ shown. shown ≡ map (shown_first values.now.tables.model.now values.now.inputs.now values.now.states.now) (output_ports values.now.tables.model.now.ports)) }
 {
     let mut shown = Items::new(alloc);
     let ports = values.tables.model.ports.as_slice();
     for i in 0..ports.len() {
         let is_input = ports[i].input;
-        add_first(values, i, is_input, &mut shown, room)?;
+        add_first(values, i, is_input, &mut shown)?;
     }
     Ok(shown)
 }
 
-/// What the outputs show before any change, where the inputs and the states have these values.
+/// What the outputs show before any change, where the inputs and the states have these values and the instances drive these.
 pub(crate) fn first_shown(
     alloc: Global,
     tables: &ModuleTables,
     inputs: &[Trit],
     states: &[Trit],
-    room: &mut Items<Trit>,
+    kept: &[Trit],
 ) -> Result<Items<ShownPort>, AllocError>
-    requires { IsTrue (is_wired (length room.old) tables.now.model.now) }
-    ensures shown { IfOk result (λ shown. shown ≡ map (shown_first tables.now.model.now inputs.now states.now) (output_ports tables.now.model.now.ports)) }
-    ensures len { length room.new ≡ length room.old }
+    requires { kept.now ≡ kept_values tables.now.model.now inputs.now states.now }
+    ensures { IfOk result (λ shown. shown ≡ map (shown_first tables.now.model.now inputs.now states.now) (output_ports tables.now.model.now.ports)) }
 {
     let values = ModuleValues {
         tables: *tables,
         inputs,
         states,
+        kept,
     };
-    show_start(alloc, &values, room)
+    show_start(alloc, &values)
 }

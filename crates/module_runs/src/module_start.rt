@@ -1,4 +1,5 @@
 //! A module before any change.
+use crate::kept_values::first_kept;
 use crate::module_index::ModuleIndex;
 use crate::module_run::start_run;
 use crate::module_shown::first_shown;
@@ -8,12 +9,15 @@ use run_parts::{ShownPort, unknown_values};
 use specify_blocks::VModule;
 use sqlite_items::Items;
 use std::alloc::{AllocError, Global};
+use trit_cubes::Trit;
 
 /// What is known of a module before any change, which all its simulators begin with.
 #[derive(Drop)]
 pub struct ModuleStart {
     /// Where its parts are found.
     pub index: ModuleIndex,
+    /// What each instance drives, X where it has a state.
+    pub kept: Items<Trit>,
     /// What its outputs show.
     pub shown: Items<ShownPort>,
 }
@@ -36,13 +40,20 @@ impl ModuleStart {
             model,
             index: &index,
         };
-        let shown = first_shown(
+        let kept = first_kept(
             alloc,
             &tables,
             run.inputs.as_slice(),
             run.states.as_slice(),
             &mut room,
         )?;
-        Ok(ModuleStart { index, shown })
+        let shown = first_shown(
+            alloc,
+            &tables,
+            run.inputs.as_slice(),
+            run.states.as_slice(),
+            kept.as_slice(),
+        )?;
+        Ok(ModuleStart { index, kept, shown })
     }
 }

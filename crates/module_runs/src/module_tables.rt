@@ -5,6 +5,7 @@ ghost use Rattle.model_traces.specs.NetValues.{driver};
 ghost use Rattle.module_runs.specs.ModuleIndexed.{IsModuleIndex};
 ghost use Rattle.module_runs.specs.OutputPaths.{leads_to};
 ghost use Rattle.module_runs.specs.FedInstances.{fed_places};
+ghost use Rattle.module_runs.specs.KeptValues.{state_places};
 
 use crate::module_index::ModuleIndex;
 use model_traces::Turned;
@@ -70,6 +71,13 @@ impl<'a> ModuleTables<'a> {
             Turned::Input(input) => self.fed_by_input(input),
             Turned::Notifier => self.index.fed.by_register.as_slice(),
         }
+    }
+
+    /// The places of the instances that states may feed, in order.
+    pub(crate) fn fed_by_states(&self) -> &[usize]
+        ensures { result.now ≡ state_places self.now.model.now.instances }
+    {
+        self.index.fed.by_states.as_slice()
     }
 
     /// The places of the instances that an input feeds, in order.

@@ -1,5 +1,5 @@
-//! The values of a module's nets, of the values of its inputs and the states of its instances. `room` has place for the
-//! values of the nets that feed one instance.
+//! What the instances of a module drive, found by their tables of the values of its inputs and the states of its instances. `room`
+//! has place for the values of the nets that feed one instance.
 ghost use Rattle.std.specs.Prelude.{◌≡◌, ◌≤◌, ◌<◌, length, map, take, false, IsTrue, slice_index_or};
 ghost use Rattle.trit_cubes.specs.declared.trits.Trit.TheVariants.{Unknown};
 ghost use Rattle.trit_cubes.specs.Filling.{trit_of};
@@ -7,10 +7,9 @@ ghost use Rattle.udp_tables.specs.Tables.{AreKept};
 ghost use Rattle.udp_tables.specs.Primitive.{IsCombinational};
 ghost use Rattle.udp_tables.specs.RowKeys.{row_key};
 ghost use Rattle.module_runs.specs.Wiring.{is_table, is_joined, is_wired};
-ghost use Rattle.model_traces.specs.NetValues.{kept_state, source_value, table_value, primitive_value, instance_value, net_value};
+ghost use Rattle.model_traces.specs.NetValues.{kept_state, source_value, table_value, primitive_value, instance_value};
 
-use crate::module_values::ModuleValues;
-use crate::wiring::instance_at;
+use crate::module_states::ModuleStates;
 use cell_machine::numbered_value;
 use run_parts::input_value;
 use specify_blocks::{Instance, VNet};
@@ -29,7 +28,7 @@ fn kept_state(states: &[Trit], place: Option<usize>) -> Trit
 }
 
 /// The value of a net that feeds a primitive without a state.
-fn source_value(values: &ModuleValues, net: VNet) -> Trit
+fn source_value(values: &ModuleStates, net: VNet) -> Trit
     ensures { result ≡ source_value values.now.tables.model.now values.now.inputs.now values.now.states.now net }
 {
     match net {
@@ -40,7 +39,7 @@ fn source_value(values: &ModuleValues, net: VNet) -> Trit
 }
 
 /// Writes the values of the nets that feed a primitive without a state to the front of the room.
-fn feed(values: &ModuleValues, nets: &[VNet], room: &mut Items<Trit>)
+fn feed(values: &ModuleStates, nets: &[VNet], room: &mut Items<Trit>)
     requires { length nets.now ≤ length room.old }
     ensures front { take (length nets.now) room.new ≡ map (source_value values.now.tables.model.now values.now.inputs.now values.now.states.now) nets.now }
     ensures len { length room.new ≡ length room.old }
@@ -52,7 +51,7 @@ fn feed(values: &ModuleValues, nets: &[VNet], room: &mut Items<Trit>)
 
 /// What a primitive without a state gives for the nets that feed it.
 fn table_value(
-    values: &ModuleValues,
+    values: &ModuleStates,
     nets: &[VNet],
     udp: &Udp,
     keys: &[RowKey],
@@ -71,7 +70,7 @@ fn table_value(
 
 /// What a primitive drives whose instance has this state.
 fn primitive_value(
-    values: &ModuleValues,
+    values: &ModuleStates,
     state: Trit,
     nets: &[VNet],
     udp: &Udp,
@@ -93,8 +92,8 @@ fn primitive_value(
 }
 
 /// What an instance with this state drives.
-fn instance_value(
-    values: &ModuleValues,
+pub(crate) fn instance_value(
+    values: &ModuleStates,
     state: Trit,
     instance: &Instance,
     room: &mut Items<Trit>,
@@ -118,22 +117,4 @@ fn instance_value(
         },
         Instance::Constant { one, .. } => Trit::from(*one),
     }
-}
-
-/// The value of a net that an instance drives: a wire or an output. Unknown where nothing drives it.
-pub(crate) fn net_value(values: &ModuleValues, net: VNet, room: &mut Items<Trit>) -> Trit
-    requires { IsTrue (is_wired (length room.old) values.now.tables.model.now) }
-    ensures value { result ≡ net_value values.now.tables.model.now values.now.inputs.now values.now.states.now net }
-    ensures len { length room.new ≡ length room.old }
-{
-    let place = values.tables.driver(net);
-    let state = kept_state(values.states, place);
-    let Some(place) = place else {
-        return Trit::Unknown;
-    };
-    if place >= values.tables.model.instances.len() {
-        return Trit::Unknown;
-    }
-    let instance = instance_at(values.tables.model, place);
-    instance_value(values, state, instance, room)
 }

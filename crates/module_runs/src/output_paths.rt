@@ -2,7 +2,7 @@
 ghost use Rattle.std.specs.Prelude.{IfOk};
 ghost use Rattle.module_runs.specs.OutputPaths.{AreByOutput};
 
-use crate::numbered_lists::{add, empty_lists};
+use run_parts::{add, empty_lists};
 use specify_blocks::VPath;
 use sqlite_items::Items;
 use std::alloc::{AllocError, Global};

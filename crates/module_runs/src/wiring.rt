@@ -15,7 +15,7 @@ pub(crate) fn instance_at(model: &VModule, i: usize) -> &Instance
 }
 
 /// The most nets that feed one instance. With room for so many values a sound module can be run.
-pub fn most_nets(model: &VModule) -> usize
+pub(crate) fn most_nets(model: &VModule) -> usize
     requires { IsSound model.now }
     ensures { IsTrue (is_wired result model.now) }
 {

@@ -1,3 +1,4 @@
 pub mod EntityLemmas
 pub mod TableWordLemmas
 pub mod ColumnLemmas
+pub mod ConditionLemmas

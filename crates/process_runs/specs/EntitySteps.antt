@@ -22,6 +22,7 @@ use Rattle.model_traces.specs.EntityTrace.{output_after, delay_after, reports_af
 use Rattle.run_parts.specs.declared.shown.ShownPort.{ShownPort}
 use Rattle.process_runs.specs.declared.process_run.ProcessState.{ProcessState}
 use Rattle.process_runs.specs.EntityRooms.{IsSound, HasRoom}
+use Rattle.process_runs.specs.KeptConditions.{condition_values}
 pub use Rattle.model_traces.specs.ProcessRun.{violation_by}
 pub use Rattle.model_traces.specs.EntityTrace.{entity_machine}
 pub use Rattle.process_runs.specs.EntitySized.{entity_sized}
@@ -90,9 +91,11 @@ pub record HasParts (e : VEntity) (r : ProcessState) : Type 0 where
   pub stamps : length r.stamps ≡ length e.checks
   pub before : length r.before ≡ length r.inputs
 
--- A run of an entity, with the reports of its checks and with room for the columns of any table, before a change and after it.
-pub record IsReady (e : VEntity) (run : ProcessState) (reports : List Bool) (before after : ℕ) : Type 0 where
+-- A run of an entity, with the values of its conditions, with the reports of its checks and with room for the columns of any table,
+-- before a change and after it.
+pub record IsReady (e : VEntity) (run : ProcessState) (conditions : List Trit) (reports : List Bool) (before after : ℕ) : Type 0 where
   pub sound : IsSound e
+  pub current : conditions ≡ condition_values e run.inputs
   pub earlier : HasRoom before e
   pub room : HasRoom after e
   pub each_input : length run.inputs ≡ input_count e.ports
@@ -100,8 +103,8 @@ pub record IsReady (e : VEntity) (run : ProcessState) (reports : List Bool) (bef
   pub one_report : length reports ≡ length e.checks
 
 -- The same, where this input changes.
-pub record CanTake (e : VEntity) (run : ProcessState) (reports : List Bool) (before after pin : ℕ) : Type 0 where
-  pub ready : IsReady e run reports before after
+pub record CanTake (e : VEntity) (run : ProcessState) (conditions : List Trit) (reports : List Bool) (before after pin : ℕ) : Type 0 where
+  pub ready : IsReady e run conditions reports before after
   pub inside : pin < length run.inputs
 
 -- The fields of a simulator's run, but for the kept times, are those of the process's run.

@@ -5,3 +5,4 @@ pub mod EntitySteps
 pub mod EntityIndexed
 pub mod EntityRooms
 pub mod TableWords
+pub mod KeptConditions

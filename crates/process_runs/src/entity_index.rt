@@ -1,6 +1,7 @@
 //! What a simulator knows of its entity before any change.
 use crate::entity_words::EntityWords;
-use run_parts::input_numbers;
+use crate::fed_conditions::fed_conditions;
+use run_parts::{Ports, input_numbers};
 use sqlite_items::Items;
 use std::alloc::{AllocError, Global};
 use vital_models::VEntity;
@@ -12,6 +13,8 @@ pub struct EntityIndex {
     pub words: EntityWords,
     /// For each port how many inputs stand before it.
     pub numbers: Items<usize>,
+    /// For each input the places of the conditions that it feeds.
+    pub fed: Items<Items<usize>>,
 }
 
 impl EntityIndex {
@@ -24,6 +27,15 @@ impl EntityIndex {
     {
         let words = EntityWords::of(alloc, model)?;
         let numbers = input_numbers(alloc, model.ports.as_slice())?;
-        Ok(EntityIndex { words, numbers })
+        let ports = Ports {
+            list: model.ports.as_slice(),
+            numbers: numbers.as_slice(),
+        };
+        let fed = fed_conditions(alloc, &ports, model.conditions.as_slice())?;
+        Ok(EntityIndex {
+            words,
+            numbers,
+            fed,
+        })
     }
 }

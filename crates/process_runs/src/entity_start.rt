@@ -1,12 +1,14 @@
 //! An entity before any change.
 use crate::entity_index::EntityIndex;
 use crate::entity_tables::EntityTables;
+use crate::kept_conditions::first_conditions;
 use crate::process_rooms::most_columns;
 use crate::process_run::start_state;
-use crate::process_shown::show_first;
+use crate::process_shown::first_shown;
 use run_parts::{ShownPort, unknown_values};
 use sqlite_items::Items;
 use std::alloc::{AllocError, Global};
+use trit_cubes::Trit;
 use vital_models::VEntity;
 
 /// What is known of an entity before any change, which all its simulators begin with.
@@ -14,6 +16,8 @@ use vital_models::VEntity;
 pub struct EntityStart {
     /// Where its parts are found.
     pub index: EntityIndex,
+    /// The value of each condition.
+    pub conditions: Items<Trit>,
     /// What its outputs show.
     pub shown: Items<ShownPort>,
 }
@@ -36,13 +40,19 @@ impl EntityStart {
             model,
             index: &index,
         };
-        let shown = show_first(
+        let conditions = first_conditions(alloc, &tables, run.inputs.as_slice(), &mut room)?;
+        let shown = first_shown(
             alloc,
             &tables,
             run.inputs.as_slice(),
             run.states.as_slice(),
+            conditions.as_slice(),
             &mut room,
         )?;
-        Ok(EntityStart { index, shown })
+        Ok(EntityStart {
+            index,
+            conditions,
+            shown,
+        })
     }
 }

@@ -1,7 +1,9 @@
 //! An entity with what is known of it.
-ghost use Rattle.std.specs.Prelude.{◌≡◌};
+ghost use Rattle.std.specs.Prelude.{◌≡◌, ◌<◌, [], slice_get, unwrap_or};
+ghost use Rattle.model_traces.specs.PortNumbers.{input_count};
 ghost use Rattle.process_runs.specs.EntityIndexed.{IsEntityIndex};
 ghost use Rattle.process_runs.specs.TableWords.{words_at};
+ghost use Rattle.process_runs.specs.KeptConditions.{fed_places};
 
 use crate::entity_index::EntityIndex;
 use run_parts::Ports;
@@ -20,7 +22,7 @@ pub struct EntityTables<'a> {
 }
 
 impl<'a> EntityTables<'a> {
-    ghost use Rattle.std.specs.Prelude.{slice_get, Some};
+    ghost use Rattle.std.specs.Prelude.{Some};
     ghost use Rattle.udp_tables.specs.Tables.{AreKept};
     ghost use Rattle.vital_models.specs.declared.model.VState.{VState};
     ghost use Rattle.vital_models.specs.declared.model.VTruth.{VTruth};
@@ -36,6 +38,14 @@ impl<'a> EntityTables<'a> {
             list: self.model.ports.as_slice(),
             numbers: self.index.numbers.as_slice(),
         }
+    }
+
+    /// The places of the conditions that an input feeds, in order.
+    pub(crate) fn fed_by(&self, input: usize) -> &[usize]
+        requires { input < input_count self.now.model.now.ports }
+        ensures { result.now ≡ fed_places self.now.model.now.ports self.now.model.now.conditions input }
+    {
+        places_at(self.index.fed.as_slice(), input)
     }
 
     /// The words of the rows of the table of the state with this number.
@@ -57,6 +67,16 @@ impl<'a> EntityTables<'a> {
         ensures { (output : VOutput) → slice_get self.now.model.now.outputs i ≡ Some output → AreKept truth_words result.now (value_rows output.value) }
     {
         words_at(self.index.words.outputs.as_slice(), i)
+    }
+}
+
+/// The places with this number, none where there is no such list.
+fn places_at(all: &[Items<usize>], i: usize) -> &[usize]
+    ensures { result.now ≡ unwrap_or (slice_get all.now i) [] }
+{
+    match at(all, i) {
+        Some(places) => places.as_slice(),
+        None => &[],
     }
 }
 

@@ -1,5 +1,5 @@
-//! The run of the process of a VITAL entity, event by event: the look-ups of its tables, the values and the delays of its outputs.
-//! (IEEE 1076.4-2000.)
+//! The simulator of a VITAL entity, and the run of its process, event by event: the look-ups of its tables, the values and the delays
+//! of its outputs. (IEEE 1076.4-2000.)
 #![tactic(auto)]
 
 mod conditions;
@@ -8,17 +8,15 @@ mod entity_start;
 mod entity_tables;
 mod entity_values;
 mod entity_words;
+mod fed_conditions;
+mod kept_conditions;
 mod process_delays;
 mod process_rooms;
 mod process_run;
 mod process_shown;
 mod process_states;
 mod process_values;
+mod vital_sim;
 
-pub use entity_index::EntityIndex;
 pub use entity_start::EntityStart;
-pub use entity_tables::EntityTables;
-pub use entity_values::EntityValues;
-pub use process_rooms::most_columns;
-pub use process_run::{ProcessState, start_state, step_run};
-pub use process_shown::show_entity;
+pub use vital_sim::VitalSim;

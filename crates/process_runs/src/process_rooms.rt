@@ -40,7 +40,7 @@ fn most_of<T: Tabled>(parts: &[T]) -> usize
 }
 
 /// The most columns of any table.
-pub fn most_columns(model: &VEntity) -> usize
+pub(crate) fn most_columns(model: &VEntity) -> usize
     ensures { HasRoom result model.now }
 {
     let states = most_of(model.states.as_slice());

@@ -1,12 +1,15 @@
 //! How a change of an input takes the run of a process on.
-ghost use Rattle.std.specs.Prelude.{◌≡◌, ◌<◌, length, IfOk};
+ghost use Rattle.std.specs.Prelude.{◌≡◌, ◌<◌, length, slice_set, IfOk};
 ghost use Rattle.cell_machine.specs.History.{value_before};
 ghost use Rattle.cell_machine.specs.Report.{any_true};
 ghost use Rattle.model_traces.specs.PortNumbers.{input_count};
+ghost use Rattle.process_runs.specs.EntityRooms.{IsSound, HasRoom};
+ghost use Rattle.process_runs.specs.KeptConditions.{condition_values};
 ghost use Rattle.process_runs.specs.EntitySteps.{HasParts, start_state, violation_by, event_reports, event_step, state_step, change_reports, IsReady, CanTake};
 
 use crate::entity_tables::EntityTables;
 use crate::entity_values::EntityValues;
+use crate::kept_conditions::find_anew;
 use crate::process_states::step_entity;
 use cell_machine::{Change, Times};
 use run_parts::{
@@ -33,7 +36,7 @@ pub struct ProcessState {
 }
 
 /// The run of a process before any change.
-pub fn start_state(alloc: Global, model: &VEntity) -> Result<ProcessState, AllocError>
+pub(crate) fn start_state(alloc: Global, model: &VEntity) -> Result<ProcessState, AllocError>
     ensures run { IfOk result (λ run. run ≡ start_state model.now) }
     ensures each_input { IfOk result (λ run. length run.inputs ≡ input_count model.now.ports) }
     ensures one_each { IfOk result (λ run. HasParts model.now run) }
@@ -70,9 +73,32 @@ fn violation_of(reports: &[bool]) -> Trit
     }
 }
 
+/// The input takes its value, and the conditions that it feeds are found anew.
+fn change_input(
+    run: &mut ProcessState,
+    conditions: &mut Items<Trit>,
+    tables: &EntityTables,
+    change: Change,
+    room: &mut Items<Trit>,
+)
+    requires sound { IsSound tables.now.model.now }
+    requires room { HasRoom (length room.old) tables.now.model.now }
+    requires current { conditions.old ≡ condition_values tables.now.model.now run.old.inputs }
+    requires each_input { length run.old.inputs ≡ input_count tables.now.model.now.ports }
+    requires inside { change.pin < length run.old.inputs }
+    ensures changed { run.new ≡ record { inputs = slice_set run.old.inputs change.pin change.to; before = run.old.before; states = run.old.states; violation = run.old.violation; stamps = run.old.stamps } }
+    ensures current { conditions.new ≡ condition_values tables.now.model.now (slice_set run.old.inputs change.pin change.to) }
+    ensures room { length room.new ≡ length room.old }
+{
+    run.inputs.set(change.pin, change.to);
+    let places = tables.fed_by(change.pin);
+    find_anew(tables, run.inputs.as_slice(), places, conditions, room);
+}
+
 /// Takes the run over an event, and writes which checks report.
 fn step_event(
     run: &mut ProcessState,
+    conditions: &mut Items<Trit>,
     tables: &EntityTables,
     change: Change,
     from: Trit,
@@ -80,17 +106,18 @@ fn step_event(
     earlier: &mut Items<Trit>,
     room: &mut Items<Trit>,
 )
-    requires able { CanTake tables.now.model.now run.old reports.old (length earlier.old) (length room.old) change.pin }
+    requires able { CanTake tables.now.model.now run.old conditions.old reports.old (length earlier.old) (length room.old) change.pin }
     requires from { from ≡ value_before run.old.inputs change }
     ensures stepped { run.new ≡ event_step tables.now.model.now run.old change (violation_by (any_true (event_reports tables.now.model.now run.old change))) }
     ensures reports { reports.new ≡ event_reports tables.now.model.now run.old change }
-    ensures ready { IsReady tables.now.model.now run.new reports.new (length earlier.new) (length room.new) }
+    ensures ready { IsReady tables.now.model.now run.new conditions.new reports.new (length earlier.new) (length room.new) }
 {
-    run.inputs.set(change.pin, change.to);
+    change_input(run, conditions, tables, change, room);
     let values = EntityValues {
         tables: *tables,
         inputs: run.inputs.as_slice(),
         states: run.states.as_slice(),
+        conditions: conditions.as_slice(),
     };
     let ports = tables.ports();
     let seen = InputChange {
@@ -99,7 +126,7 @@ fn step_event(
         change,
     };
     let checks = tables.model.checks.as_slice();
-    compare_all(&values, &seen, checks, run.stamps.as_slice(), reports, room);
+    compare_all(&values, &seen, checks, run.stamps.as_slice(), reports);
     let violation = violation_of(reports.as_slice());
     step_entity(
         tables,
@@ -116,24 +143,27 @@ fn step_event(
     stamp_all(&seen, checks, &mut run.stamps);
 }
 
-/// Takes the run over a change of an input, and writes which checks report.
-pub fn step_run(
+/// Takes the run over a change of an input, and writes which checks report. `conditions` has the value of each condition.
+pub(crate) fn step_run(
     run: &mut ProcessState,
+    conditions: &mut Items<Trit>,
     tables: &EntityTables,
     change: Change,
     reports: &mut Items<bool>,
     earlier: &mut Items<Trit>,
     room: &mut Items<Trit>,
 )
-    requires { CanTake tables.now.model.now run.old reports.old (length earlier.old) (length room.old) change.pin }
+    requires { CanTake tables.now.model.now run.old conditions.old reports.old (length earlier.old) (length room.old) change.pin }
     ensures stepped { run.new ≡ state_step tables.now.model.now run.old change }
     ensures reports { reports.new ≡ change_reports tables.now.model.now run.old change }
-    ensures ready { IsReady tables.now.model.now run.new reports.new (length earlier.new) (length room.new) }
+    ensures ready { IsReady tables.now.model.now run.new conditions.new reports.new (length earlier.new) (length room.new) }
 {
     let from = run.inputs.as_slice()[change.pin];
     if from == change.to {
         clear(reports);
     } else {
-        step_event(run, tables, change, from, reports, earlier, room);
+        step_event(
+            run, conditions, tables, change, from, reports, earlier, room,
+        );
     }
 }

@@ -6,6 +6,7 @@ ghost use Rattle.vital_models.specs.Sound.{IsOutput, IsSound};
 ghost use Rattle.vital_models.specs.RowWords.{truth_words};
 ghost use Rattle.process_runs.specs.EntityRooms.{source_count, HasRoom};
 ghost use Rattle.process_runs.specs.EntitySteps.{output_first, output_step};
+ghost use Rattle.process_runs.specs.KeptConditions.{condition_values};
 ghost use Rattle.process_runs.specs.TableWords.{value_rows};
 
 use crate::entity_tables::EntityTables;
@@ -47,7 +48,7 @@ fn output_step(
     let delay = if was.value == value {
         None
     } else {
-        Some(least_delay(values, change, output, room))
+        Some(least_delay(values, change, output))
     };
     ShownPort {
         port: output.port,
@@ -57,7 +58,7 @@ fn output_step(
 }
 
 /// Takes what the outputs show over a change of an input. `inputs` and `states` are those after it.
-pub fn show_entity(
+pub(crate) fn show_entity(
     values: &EntityValues,
     input: usize,
     shown: &mut Items<ShownPort>,
@@ -79,29 +80,22 @@ pub fn show_entity(
     }
 }
 
-/// What the outputs show at the start, where the inputs and the states have these values: no delays.
-pub(crate) fn show_first(
+/// What the outputs show at the start: no delays.
+fn show_start(
     alloc: Global,
-    tables: &EntityTables,
-    inputs: &[Trit],
-    states: &[Trit],
+    values: &EntityValues,
     room: &mut Items<Trit>,
 ) -> Result<Items<ShownPort>, AllocError>
-    requires sound { IsSound tables.now.model.now }
-    requires room { HasRoom (length room.old) tables.now.model.now }
-    ensures shown { IfOk result (λ shown. shown ≡ map (output_first tables.now.model.now inputs.now states.now) tables.now.model.now.outputs) }
+    requires sound { IsSound values.now.tables.model.now }
+    requires room { HasRoom (length room.old) values.now.tables.model.now }
+    ensures shown { IfOk result (λ shown. shown ≡ map (output_first values.now.tables.model.now values.now.inputs.now values.now.states.now) values.now.tables.model.now.outputs) }
     ensures len { length room.new ≡ length room.old }
 {
-    let values = EntityValues {
-        tables: *tables,
-        inputs,
-        states,
-    };
     let mut shown = Items::new(alloc);
-    for i in 0..tables.model.outputs.len() {
-        let output = entry(&tables.model.outputs, i);
-        let words = tables.output_words(i);
-        let value = output_value(&values, &output.value, words, room);
+    for i in 0..values.tables.model.outputs.len() {
+        let output = entry(&values.tables.model.outputs, i);
+        let words = values.tables.output_words(i);
+        let value = output_value(values, &output.value, words, room);
         shown.push(ShownPort {
             port: output.port,
             value,
@@ -109,4 +103,27 @@ pub(crate) fn show_first(
         })?;
     }
     Ok(shown)
+}
+
+/// What the outputs show before any change, where the inputs, the states and the conditions have these values.
+pub(crate) fn first_shown(
+    alloc: Global,
+    tables: &EntityTables,
+    inputs: &[Trit],
+    states: &[Trit],
+    conditions: &[Trit],
+    room: &mut Items<Trit>,
+) -> Result<Items<ShownPort>, AllocError>
+    requires sound { IsSound tables.now.model.now }
+    requires room { HasRoom (length room.old) tables.now.model.now }
+    requires current { conditions.now ≡ condition_values tables.now.model.now inputs.now }
+    ensures { IfOk result (λ shown. shown ≡ map (output_first tables.now.model.now inputs.now states.now) tables.now.model.now.outputs) }
+{
+    let values = EntityValues {
+        tables: *tables,
+        inputs,
+        states,
+        conditions,
+    };
+    show_start(alloc, &values, room)
 }

@@ -4,13 +4,13 @@ ghost use Rattle.std.specs.Prelude.{◌≡◌, ◌+◌, ◌<◌, ◌≤◌, ◌+
 ghost use Rattle.udp_tables.specs.Tables.{AreKept};
 ghost use Rattle.vital_models.specs.Sound.{IsValue};
 ghost use Rattle.vital_models.specs.RowWords.{truth_words};
-ghost use Rattle.process_runs.specs.EntityRooms.{IsSound, source_count, HasRoom};
+ghost use Rattle.process_runs.specs.EntityRooms.{source_count};
 ghost use Rattle.process_runs.specs.TableWords.{value_rows};
 ghost use Rattle.model_traces.specs.PortNumbers.{input_value};
-ghost use Rattle.model_traces.specs.ProcessValues.{truth_value, condition_value, source_value, output_value};
+ghost use Rattle.model_traces.specs.ProcessValues.{truth_value, source_value, output_value};
 
 use crate::entity_values::EntityValues;
-use cell_machine::{Source, entry, numbered_value};
+use cell_machine::{Source, numbered_value};
 use run_parts::{Ports, input_value};
 use sqlite_items::Items;
 use trit_cubes::Trit;
@@ -36,7 +36,7 @@ pub(crate) fn feed(
 }
 
 /// What a truth table of input ports gives, whose rows have these words where they are kept.
-fn truth_value(
+pub(crate) fn truth_value(
     ports: &Ports,
     inputs: &[Trit],
     truth: &VTruth,
@@ -52,25 +52,6 @@ fn truth_value(
     let count = truth.inputs.len();
     feed(ports, inputs, truth.inputs.as_slice(), 0, room);
     keyed_truth(&truth.table, words, &room.as_slice()[..count])
-}
-
-/// The value of the condition with this number, unknown where there is none.
-pub(crate) fn condition_value(values: &EntityValues, i: usize, room: &mut Items<Trit>) -> Trit
-    requires sound { IsSound values.now.tables.model.now }
-    requires room { HasRoom (length room.old) values.now.tables.model.now }
-    ensures value { result ≡ condition_value values.now.tables.model.now values.now.inputs.now i }
-    ensures len { length room.new ≡ length room.old }
-{
-    if i >= values.tables.model.conditions.len() {
-        return Trit::Unknown;
-    }
-    truth_value(
-        &values.tables.ports(),
-        values.inputs,
-        entry(&values.tables.model.conditions, i),
-        values.tables.condition_words(i),
-        room,
-    )
 }
 
 /// The value of an input port, or of a state.

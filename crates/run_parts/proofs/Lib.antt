@@ -1,3 +1,5 @@
 pub mod PortLemmas
 pub mod LeastPaths
 pub mod Fronts
+pub mod NumberedListLemmas
+pub mod PlaceLemmas

@@ -1,2 +1,4 @@
 pub mod InputNumbers
 pub mod LeastPath
+pub mod NumberedLists
+pub mod Places

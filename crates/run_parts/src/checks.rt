@@ -69,16 +69,13 @@ fn check_reports<V: Conditions>(
     seen: &InputChange,
     check: &TimingCheck,
     stamps: Times,
-    room: &mut Items<Trit>,
 ) -> bool
-    requires { V.fits values.now (length room.old) }
-    ensures reports { result ≡ reports_where seen.now.ports.list.now (V.counts values.now) seen.now.from seen.now.change check.now stamps }
-    ensures len { length room.new ≡ length room.old }
+    ensures { result ≡ reports_where seen.now.ports.list.now (V.counts values.now) seen.now.from seen.now.change check.now stamps }
 {
     if !happens(seen, check.second) {
         return false;
     }
-    let enabled = values.is_enabled(check.condition, room);
+    let enabled = values.is_enabled(check.condition);
     enabled && is_within(seen.change.at, check.limit, opened(seen, check, stamps))
 }
 
@@ -89,17 +86,14 @@ pub fn compare_all<V: Conditions>(
     checks: &[TimingCheck],
     stamps: &[Times],
     reports: &mut Items<bool>,
-    room: &mut Items<Trit>,
 )
-    requires fits { V.fits values.now (length room.old) }
     requires one_each { length stamps.now ≡ length checks.now }
     requires one_report { length reports.old ≡ length checks.now }
     ensures reports { reports.new ≡ each (reports_where seen.now.ports.list.now (V.counts values.now) seen.now.from seen.now.change) checks.now stamps.now }
     ensures len { length reports.new ≡ length reports.old }
-    ensures room { length room.new ≡ length room.old }
 {
     for i in 0..reports.len() {
-        let reported = check_reports(values, seen, &checks[i], stamps[i], room);
+        let reported = check_reports(values, seen, &checks[i], stamps[i]);
         reports.set(i, reported);
     }
 }

@@ -4,6 +4,7 @@
 
 mod checks;
 mod conditions;
+mod numbered_lists;
 mod output_change;
 mod ports;
 mod shown;
@@ -11,6 +12,7 @@ mod starts;
 
 pub use checks::{InputChange, clear, compare_all, stamp_all};
 pub use conditions::Conditions;
+pub use numbered_lists::{add, empty_lists};
 pub use output_change::OutputChange;
 pub use ports::{Ports, input_count, input_number, input_numbers, input_value};
 pub use shown::ShownPort;

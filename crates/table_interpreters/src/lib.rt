@@ -2,10 +2,5 @@
 //! 15; IEEE 1076.4-2000.)
 #![tactic(auto)]
 
-mod verilog_sim;
-mod vital_sim;
-
-pub use module_runs::ModuleStart;
-pub use process_runs::EntityStart;
-pub use verilog_sim::VerilogSim;
-pub use vital_sim::VitalSim;
+pub use module_runs::{ModuleStart, VerilogSim};
+pub use process_runs::{EntityStart, VitalSim};

@@ -16,7 +16,6 @@ loop-i-init c =
           ap (λ ps. least (active_delays change.from change.to (map (path_at m v.inputs.now v.states.now) ps)))
           (same-between m.ports change.input change.port c.paths_to-paths.result.now m.paths c.paths_to-paths.ensures);
       known = λ quiet path e from' to'. absurd cc;
-      len = refl;
     }
 
 pub loop-i-preserved : goal.loop-i-preserved
@@ -33,5 +32,4 @@ loop-i-preserved c =
           (slice_get-get_or c.paths_to-paths.result.now c.loop-i.i _ inside) c.path_delay.ensures.delay
           ∙ c.loop-i.invariant.least);
       known = c.path_delay.ensures.known;
-      len = c.path_delay.ensures.len ∙ c.loop-i.invariant.len;
     }

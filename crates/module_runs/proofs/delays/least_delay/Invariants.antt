@@ -15,5 +15,4 @@ invariant-loop-i l = record {
       ≡ least_of (is_between l.values.tables.model.now.ports l.change.input l.change.port) (path_at l.values.tables.model.now l.values.inputs.now l.values.states.now)
       l.change.from l.change.to l.values.tables.model.now.paths;
   known : IsKnown l.values.tables.model.now l.values.inputs.now l.values.states.now l.quiet;
-  len : length l.room ≡ length l.initial.room;
 }

@@ -2,7 +2,7 @@ use Rattle.std.proofs.Common.{◌<◌, ◌++◌, ◌∷◌, [], cond, ap, sym, �
 use Rattle.std.proofs.lemmas.List.Folds.{list_any_more}
 use Rattle.model_traces.specs.declared.turns.Turned.TheVariants as turned
 use Rattle.model_traces.specs.Primitives.{is_turned}
-use Rattle.module_runs.proofs.NumberedListLemmas.{same-lists}
+use Rattle.run_parts.proofs.NumberedListLemmas.{same-lists}
 use Rattle.module_runs.proofs.fed_instances.add_nets.Goals as goal
 
 pub loop-j-preserved : goal.loop-j-preserved

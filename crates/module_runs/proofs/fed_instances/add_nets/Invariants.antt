@@ -2,7 +2,7 @@ use Rattle.std.proofs.Common.{◌≡◌, ℕ, List, [], ◌∷◌, ◌++◌, con
 use Rattle.std.specs.List.{list_any}
 use Rattle.model_traces.specs.declared.turns.Turned.TheVariants as turned
 use Rattle.model_traces.specs.Primitives.{is_turned}
-use Rattle.module_runs.specs.NumberedLists.{AreLists}
+use Rattle.run_parts.specs.NumberedLists.{AreLists}
 use Rattle.module_runs.proofs.fed_instances.add_nets.Given as goal
 
 -- the place stands in the lists of the inputs among the nets so far

@@ -3,7 +3,7 @@ use Rattle.std.specs.List.{list_any}
 use Rattle.std.proofs.lemmas.Result.{on_ok_weaker}
 use Rattle.model_traces.specs.declared.turns.Turned.TheVariants as turned
 use Rattle.model_traces.specs.Primitives.{is_turned}
-use Rattle.module_runs.proofs.NumberedListLemmas.{same-lists}
+use Rattle.run_parts.proofs.NumberedListLemmas.{same-lists}
 use Rattle.module_runs.proofs.FedLemmas.{port-added, port-kept}
 use Rattle.module_runs.proofs.fed_instances.add_port.Goals as goal
 

@@ -1,7 +1,7 @@
 use Rattle.std.proofs.Common.{◌<◌, ◌++◌, ◌∷◌, [], ◌∙◌, ap, cond, take, length, arith}
 use Rattle.model_traces.specs.declared.turns.Turned.TheVariants as turned
 use Rattle.module_runs.specs.FedInstances.{is_fed, fed_places}
-use Rattle.module_runs.proofs.NumberedListLemmas.{same-lists}
+use Rattle.run_parts.proofs.NumberedListLemmas.{same-lists}
 use Rattle.module_runs.proofs.FedLemmas.{fed-more}
 use Rattle.module_runs.proofs.fed_instances.fed_by_inputs.Goals as goal
 

@@ -1,7 +1,7 @@
 use Rattle.std.proofs.Common.{◌≡◌, take, length}
 use Rattle.model_traces.specs.declared.turns.Turned.TheVariants as turned
 use Rattle.model_traces.specs.PortNumbers.{input_count}
-use Rattle.module_runs.specs.NumberedLists.{AreLists}
+use Rattle.run_parts.specs.NumberedLists.{AreLists}
 use Rattle.module_runs.specs.FedInstances.{fed_places}
 use Rattle.module_runs.proofs.fed_instances.fed_by_inputs.Given as goal
 

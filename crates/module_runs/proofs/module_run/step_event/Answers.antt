@@ -1,22 +1,33 @@
-use Rattle.std.proofs.Common.{◌∙◌}
-use Rattle.cell_machine.specs.Each.{each}
-use Rattle.model_traces.specs.CheckTimes.{is_enabled, reports_where}
+use Rattle.std.proofs.Common.{List, ap, sym, subst, ◌∙◌, length, IsTrue}
+use Rattle.std.proofs.lemmas.List.{length-set}
+use Rattle.trit_cubes.specs.declared.trits.Trit.{Trit}
+use Rattle.model_traces.specs.declared.module_run.ModuleRun.{ModuleRun}
 use Rattle.model_traces.specs.ModuleRun.{reports_by}
+use Rattle.module_runs.specs.Wiring.{is_wired}
+use Rattle.module_runs.specs.KeptValues.{kept_values}
 use Rattle.module_runs.proofs.module_run.step_event.Goals as goal
-
-pub toggle_for_each-requires-clause-one_each : goal.toggle_for_each-requires-clause-one_each
-toggle_for_each-requires-clause-one_each c =
-    record {
-      states = c.change_input.ensures.one_each.states;
-      stamps = c.stamp_all.ensures.len ∙ c.change_input.ensures.one_each.stamps;
-    }
 
 pub returns-clause-reports : goal.returns-clause-reports
 returns-clause-reports c =
     let m = c.args.tables.now.model.now in
-    c.compare_all.ensures.reports
-    ∙ (λ i.
-    each
-    (reports_where (c.ports-ports.ensures i) (is_enabled m (c.as_slice.ensures i) (c.as_slice-2.ensures i)) c.args.from c.args.change)
-    (c.as_slice-checks.ensures i) (c.as_slice-3.ensures i))
+    c.compare_checks.ensures.reports
     ∙ (λ i. reports_by m (c.change_input.ensures.stepped i) (c.requires.from i) c.args.change)
+
+pub returns-clause-ready : goal.returns-clause-ready
+returns-clause-ready c =
+    let m = c.args.tables.now.model.now in
+    let inputs_of : ModuleRun → List Trit = λ r. r.inputs in
+    let inputs = c.toggle_for_each.ensures.inputs ∙ ap inputs_of c.compare_checks.ensures.stamped in
+    let room = c.find_fed_by_states.ensures.len ∙ c.toggle_for_each.ensures.len ∙ c.change_input.ensures.len in
+    record {
+      wired = subst (λ n. IsTrue (is_wired n m)) (sym room) c.requires.ready.wired;
+      current =
+          c.find_fed_by_states.ensures.current c.change_input.new.run.states
+          (c.change_input.ensures.current ∙ ap (λ (v : List Trit). kept_values m v c.change_input.new.run.states) (sym inputs));
+      each_input =
+          ap length (inputs ∙ ap inputs_of c.change_input.ensures.stepped)
+          ∙ length-set c.args.run.now.inputs c.args.change.pin c.args.change.to
+          ∙ c.requires.ready.each_input;
+      one_each = c.toggle_for_each.ensures.one_each;
+      one_report = c.compare_checks.ensures.len ∙ c.requires.ready.one_report;
+    }

@@ -12,10 +12,9 @@ loop-i-preserved c =
       whole =
           rw (c.set.ensures, add-one)
           (map-step (shown_step v.tables.model.now v.inputs.now v.states.now c.args.input) c.loop-i.shown c.loop-i.i _
-          c.shown_step-now.result many (rw c.as_slice.ensures at c.shown_step-now.ensures.shown)
+          c.shown_step-now.result many (rw c.as_slice.ensures at c.shown_step-now.ensures)
           ∙ c.loop-i.invariant.whole);
       len = ap length c.set.ensures ∙ length-set c.loop-i.shown c.loop-i.i c.shown_step-now.result ∙ c.loop-i.invariant.len;
-      room = c.shown_step-now.ensures.len ∙ c.loop-i.invariant.room;
     }
 
 pub returns-clause-stepped : goal.returns-clause-stepped

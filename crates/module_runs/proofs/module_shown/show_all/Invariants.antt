@@ -9,5 +9,4 @@ invariant-loop-i l = record {
       take l.i l.shown ++ map (shown_step l.values.tables.model.now l.values.inputs.now l.values.states.now l.input) (drop l.i l.shown)
       ≡ map (shown_step l.values.tables.model.now l.values.inputs.now l.values.states.now l.input) l.initial.shown;
   len : length l.shown ≡ length l.initial.shown;
-  room : length l.room ≡ length l.initial.room;
 }

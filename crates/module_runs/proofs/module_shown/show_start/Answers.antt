@@ -11,10 +11,6 @@ loop-i-preserved c =
     let inside : c.loop-i.i < length m.ports = rw c.as_slice-ports.ensures at raw in
     let read = rw c.as_slice-ports.ensures at c.index-ports-i.is in
     let is = slice_get_read m.ports (length m.ports) c.loop-i.i c.index-ports-i.result refl inside read in
-    record {
-      whole =
-          outputs-step (shown_first m c.args.values.now.inputs.now c.args.values.now.states.now) m.ports c.loop-i.i _ c.loop-i.shown
-          c.add_first.new.shown (is ∙ ap Some c.index-ports-i.is) c.in_ok-add_first.ensures.shown
-          ∙ c.loop-i.invariant.whole;
-      room = c.in_ok-add_first.ensures.len ∙ c.loop-i.invariant.room;
-    }
+    outputs-step (shown_first m c.args.values.now.inputs.now c.args.values.now.states.now) m.ports c.loop-i.i _ c.loop-i.shown
+    c.add_first.new.shown (is ∙ ap Some c.index-ports-i.is) c.in_ok-add_first.ensures
+    ∙ c.loop-i.invariant

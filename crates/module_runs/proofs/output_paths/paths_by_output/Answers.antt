@@ -1,5 +1,5 @@
 use Rattle.std.proofs.Common.{◌<◌, length, arith}
-use Rattle.module_runs.proofs.NumberedListLemmas.{same-lists}
+use Rattle.run_parts.proofs.NumberedListLemmas.{same-lists}
 use Rattle.module_runs.proofs.OutputPathLemmas.{one-path}
 use Rattle.module_runs.proofs.output_paths.paths_by_output.Goals as goal
 

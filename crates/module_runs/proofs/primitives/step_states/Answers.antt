@@ -3,7 +3,8 @@ use Rattle.std.proofs.lemmas.List.{length-set}
 use Rattle.std.proofs.lemmas.Option.{slice_get-get_or}
 use Rattle.trit_cubes.specs.declared.trits.Trit.TheVariants.{Zero}
 use Rattle.model_traces.specs.Primitives.{next_state}
-use Rattle.module_runs.proofs.FedLemmas.{step-more, step-done, place-inside}
+use Rattle.run_parts.proofs.PlaceLemmas.{step-more}
+use Rattle.module_runs.proofs.FedLemmas.{step-done, place-inside}
 use Rattle.module_runs.proofs.primitives.step_states.Goals as goal
 
 pub instance_at-instance-requires : goal.instance_at-instance-requires

@@ -1,7 +1,7 @@
 use Rattle.std.proofs.Common.{◌≡◌, drop, length}
 use Rattle.trit_cubes.specs.declared.trits.Trit.TheVariants.{Zero}
 use Rattle.model_traces.specs.Primitives.{next_state}
-use Rattle.module_runs.proofs.FedLemmas.{stepped}
+use Rattle.run_parts.proofs.PlaceLemmas.{stepped}
 use Rattle.module_runs.proofs.primitives.step_states.Given as goal
 
 -- the steps of the instances that are left take the states to where the steps of all that are fed take them

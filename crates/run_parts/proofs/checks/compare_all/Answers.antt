@@ -16,9 +16,8 @@ loop-i-preserved g c =
           rw c.set.ensures
           (front-step (reports_where c.args.seen.now.ports.list.now (g.V.Conditions.counts c.args.values.now) c.args.seen.now.from c.args.seen.now.change) checks
           c.args.stamps.now c.loop-i.reports c.loop-i.i _ _ c.check_reports-reported.result
-          (slice_get-get_or checks c.loop-i.i _ inside) kept many c.check_reports-reported.ensures.reports c.loop-i.invariant.front);
+          (slice_get-get_or checks c.loop-i.i _ inside) kept many c.check_reports-reported.ensures c.loop-i.invariant.front);
       len = ap length c.set.ensures ∙ length-set c.loop-i.reports c.loop-i.i c.check_reports-reported.result ∙ c.loop-i.invariant.len;
-      room = c.check_reports-reported.ensures.len ∙ c.loop-i.invariant.room;
     }
 
 pub returns-clause-reports : goal.returns-clause-reports

@@ -10,5 +10,4 @@ invariant-loop-i g l = record {
       take l.i l.reports
       ≡ each (reports_where l.seen.ports.list.now (g.V.Conditions.counts l.values) l.seen.from l.seen.change) (take l.i l.checks) (take l.i l.stamps);
   len : length l.reports ≡ length l.initial.reports;
-  room : length l.room ≡ length l.initial.room;
 }

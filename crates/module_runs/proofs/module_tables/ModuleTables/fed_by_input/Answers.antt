@@ -1,6 +1,7 @@
 use Rattle.std.proofs.Common.{◌≤◌, List, ℕ, ◌∙◌, ap, sym, slice_get, arith}
 use Rattle.model_traces.specs.PortNumbers.{input_count}
-use Rattle.module_runs.proofs.FedLemmas.{unfed, past-end}
+use Rattle.run_parts.proofs.PlaceLemmas.{past-end}
+use Rattle.module_runs.proofs.FedLemmas.{unfed}
 use Rattle.module_runs.proofs.module_tables.ModuleTables.fed_by_input.Goals as goal
 
 pub returns-in-None : goal.returns-in-None

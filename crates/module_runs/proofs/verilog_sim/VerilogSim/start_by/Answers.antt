@@ -1,0 +1,30 @@
+use Rattle.std.proofs.Common.{◌∙◌, ap, sym, subst, length, replicate, false, IsTrue}
+use Rattle.std.proofs.lemmas.List.{length-replicate}
+use Rattle.trit_cubes.specs.declared.trits.Trit.TheVariants.{Unknown}
+use Rattle.model_traces.specs.declared.module_run.ModuleRun.{ModuleRun}
+use Rattle.module_runs.specs.Wiring.{is_wired}
+use Rattle.module_runs.specs.KeptValues.{kept_values}
+use Rattle.module_runs.specs.declared.module_start.ModuleStart.{ModuleStart}
+use Rattle.module_runs.proofs.ModuleSteps.{start-stands}
+use Rattle.module_runs.proofs.verilog_sim.VerilogSim.start_by.Goals as goal
+
+pub returns-clause-stands : goal.returns-clause-stands
+returns-clause-stands c =
+    let shown = c.in_ok-shown.ensures ∙ c.as_slice-2.ensures ∙ ap (λ (k : ModuleStart). k.shown) c.get-2.ensures ∙ c.requires.known.shown_are in
+    start-stands c.args.model.now c.in_ok-run.run' c.in_ok-reports.reports c.in_ok-shown.shown c.in_ok-run.ensures.run
+    (c.in_ok-reports.ensures ∙ ap (λ n. replicate n false) c.len.ensures) shown
+
+pub invariant_of-result-clause-ready : goal.invariant_of-result-clause-ready
+invariant_of-result-clause-ready c =
+    let m = c.args.model.now in
+    record {
+      wired =
+          subst (λ n. IsTrue (is_wired n m)) (sym (ap length c.in_ok-room.ensures ∙ length-replicate c.most_nets.result Unknown))
+          c.most_nets.ensures;
+      current =
+          c.in_ok-kept.ensures ∙ c.as_slice.ensures ∙ ap (λ (k : ModuleStart). k.kept) c.get.ensures ∙ c.requires.known.kept_are
+          ∙ ap (λ (r : ModuleRun). kept_values m r.inputs r.states) (sym c.in_ok-run.ensures.run);
+      each_input = c.in_ok-run.ensures.each_input;
+      one_each = c.in_ok-run.ensures.one_each;
+      one_report = ap length c.in_ok-reports.ensures ∙ length-replicate c.len.result false ∙ c.len.ensures;
+    }

@@ -1,0 +1,72 @@
+//! What the instances without a state drive, kept from one change to the next and found anew where a change feeds them. `room` has place
+//! for the values of the nets that feed one instance.
+ghost use Rattle.std.specs.Prelude.{◌≡◌, ◌<◌, All, length, map, take, IsTrue, IfOk};
+ghost use Rattle.module_runs.specs.Wiring.{is_wired};
+ghost use Rattle.module_runs.specs.KeptValues.{kept_value, kept_values};
+ghost use Rattle.run_parts.specs.Places.{FindsAnew};
+
+use crate::module_states::ModuleStates;
+use crate::module_tables::ModuleTables;
+use crate::net_values::instance_value;
+use crate::wiring::instance_at;
+use sqlite_items::Items;
+use std::alloc::{AllocError, Global};
+use trit_cubes::Trit;
+
+/// What each instance drives, X where it has a state.
+fn find_all(
+    alloc: Global,
+    values: &ModuleStates,
+    room: &mut Items<Trit>,
+) -> Result<Items<Trit>, AllocError>
+    requires { IsTrue (is_wired (length room.old) values.now.tables.model.now) }
+    ensures kept { IfOk result (λ kept. kept ≡ kept_values values.now.tables.model.now values.now.inputs.now values.now.states.now) }
+    ensures len { length room.new ≡ length room.old }
+{
+    let mut kept = Items::new(alloc);
+    for i in 0..values.tables.model.instances.len() {
+        let instance = instance_at(values.tables.model, i);
+        kept.push(instance_value(values, Trit::Unknown, instance, room))?;
+    }
+    Ok(kept)
+}
+
+/// What each instance drives before any change, X where it has a state. The inputs and the states have these values.
+pub(crate) fn first_kept(
+    alloc: Global,
+    tables: &ModuleTables,
+    inputs: &[Trit],
+    states: &[Trit],
+    room: &mut Items<Trit>,
+) -> Result<Items<Trit>, AllocError>
+    requires { IsTrue (is_wired (length room.old) tables.now.model.now) }
+    ensures { IfOk result (λ kept. kept ≡ kept_values tables.now.model.now inputs.now states.now) }
+{
+    let values = ModuleStates {
+        tables: *tables,
+        inputs,
+        states,
+    };
+    find_all(alloc, &values, room)
+}
+
+/// Finds anew what the instances at these places drive.
+pub(crate) fn find_anew(
+    values: &ModuleStates,
+    places: &[usize],
+    kept: &mut Items<Trit>,
+    room: &mut Items<Trit>,
+)
+    requires wired { IsTrue (is_wired (length room.old) values.now.tables.model.now) }
+    requires inside { All (λ place. place < length values.now.tables.model.now.instances) places.now }
+    requires one_each { length kept.old ≡ length values.now.tables.model.now.instances }
+    ensures anew { FindsAnew (kept_value values.now.tables.model.now values.now.inputs.now values.now.states.now) values.now.tables.model.now.instances places.now kept.old kept.new }
+    ensures room { length room.new ≡ length room.old }
+{
+    for j in 0..places.len() {
+        let i = places[j];
+        let instance = instance_at(values.tables.model, i);
+        let value = instance_value(values, Trit::Unknown, instance, room);
+        kept.set(i, value);
+    }
+}

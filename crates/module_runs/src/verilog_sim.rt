@@ -1,0 +1,121 @@
+//! The simulator of a Verilog module.
+ghost use Rattle.std.specs.Prelude.{◌≡◌, [], length, IfOk};
+ghost use Rattle.specify_blocks.specs.Sound.{IsSound};
+ghost use Rattle.model_traces.specs.PortNumbers.{output_ports};
+ghost use Rattle.module_runs.specs.ModuleIndexed.{IsModuleIndex};
+ghost use Rattle.module_runs.specs.ModuleStarts.{IsModuleStart};
+ghost use Rattle.module_runs.specs.ModuleStands.{IsReady, Stands, module_machine, module_sized};
+
+use crate::module_run::{start_run, step_run};
+use crate::module_shown::show_all;
+use crate::module_start::ModuleStart;
+use crate::module_tables::ModuleTables;
+use crate::module_values::ModuleValues;
+use crate::wiring::most_nets;
+use cell_machine::{CellSim, Change, Shared, Sizes};
+use model_traces::ModuleRun;
+use run_parts::{ShownPort, no_reports, unknown_values};
+use specify_blocks::VModule;
+use sqlite_items::Items;
+use std::alloc::{AllocError, Global};
+use trit_cubes::Trit;
+
+/// A Verilog module run by its tables, paths and checks. (IEEE 1364-2005, clauses 8, 14 and 15.)
+#[derive(Drop)]
+pub struct VerilogSim<'a> {
+    model: &'a VModule,
+    known: Shared<ModuleStart>,
+    run: ModuleRun,
+    kept: Items<Trit>,
+    reports: Items<bool>,
+    shown: Items<ShownPort>,
+    room: Items<Trit>,
+    ghost indexed: { IsModuleIndex model.now known.index },
+    ghost ready: { IsReady model.now run kept reports (length room) },
+    ghost each_output: { length shown ≡ length (output_ports model.now.ports) },
+}
+
+impl<'a> VerilogSim<'a> {
+    /// The simulator of a sound module before any change: all inputs, states and the register of the checks are unknown.
+    pub fn start(alloc: Global, model: &'a VModule) -> Result<VerilogSim<'a>, AllocError>
+        requires { IsSound model.now }
+        ensures machine { IfOk result (λ sim. ⟦<VerilogSim<'a> as CellSim>⟧.machine sim ≡ module_machine model.now) }
+        ensures stands { IfOk result (λ sim. ⟦<VerilogSim<'a> as CellSim>⟧.stands sim []) }
+    {
+        let known = Shared::new(alloc, ModuleStart::of(alloc, model)?)?;
+        VerilogSim::start_by(alloc, model, &known)
+    }
+
+    /// The same, by what is known of the module before any change.
+    pub fn start_by(
+        alloc: Global,
+        model: &'a VModule,
+        known: &Shared<ModuleStart>,
+    ) -> Result<VerilogSim<'a>, AllocError>
+        requires sound { IsSound model.now }
+        requires known { IsModuleStart model.now known.now }
+        ensures machine { IfOk result (λ sim. ⟦<VerilogSim<'a> as CellSim>⟧.machine sim ≡ module_machine model.now) }
+        ensures stands { IfOk result (λ sim. ⟦<VerilogSim<'a> as CellSim>⟧.stands sim []) }
+    {
+        let room = unknown_values(alloc, most_nets(model))?;
+        let run = start_run(alloc, model)?;
+        let kept = Items::from_slice(alloc, known.get().kept.as_slice())?;
+        let reports = no_reports(alloc, model.checks.len())?;
+        let shown = Items::from_slice(alloc, known.get().shown.as_slice())?;
+        Ok(VerilogSim {
+            model,
+            known: known.again()?,
+            run,
+            kept,
+            reports,
+            shown,
+            room,
+        })
+    }
+}
+
+impl<'a> CellSim for VerilogSim<'a> {
+    ghost machine = { λ s. module_machine s.model.now };
+
+    ghost stands = { λ s h. Stands s.model.now s.run s.reports s.shown h };
+
+    fn sizes(&self) -> Sizes {
+        Sizes {
+            inputs: self.run.inputs.len(),
+            outputs: self.shown.len(),
+            checks: self.reports.len(),
+        }
+    }
+
+    fn step(&mut self, at: u64, pin: usize, to: Trit) {
+        let tables = ModuleTables {
+            model: self.model,
+            index: &self.known.get().index,
+        };
+        step_run(
+            &mut self.run,
+            &mut self.kept,
+            &tables,
+            Change { at, pin, to },
+            &mut self.reports,
+            &mut self.room,
+        );
+        let values = ModuleValues {
+            tables,
+            inputs: self.run.inputs.as_slice(),
+            states: self.run.states.as_slice(),
+            kept: self.kept.as_slice(),
+        };
+        show_all(&values, pin, &mut self.shown);
+    }
+
+    fn shown(&self, place: usize) -> cell_machine::Shown {
+        self.shown.as_slice()[place].alone()
+    }
+
+    fn reported(&self, check: usize) -> bool {
+        self.reports.as_slice()[check]
+    }
+
+    ghost sized = { λ s. module_sized s.model.now };
+}

@@ -1,0 +1,127 @@
+//! The simulator of a VITAL entity.
+ghost use Rattle.std.specs.Prelude.{◌≡◌, [], length, IfOk};
+ghost use Rattle.std.proofs.Props.{props};
+ghost use Rattle.process_runs.specs.EntityProps.{value_prop};
+ghost use Rattle.process_runs.specs.EntityIndexed.{IsEntityIndex};
+ghost use Rattle.process_runs.specs.EntityStarts.{IsEntityStart};
+ghost use Rattle.process_runs.specs.EntityRooms.{IsSound};
+ghost use Rattle.process_runs.specs.EntitySteps.{IsReady, EntityStands, entity_machine, entity_sized};
+
+use crate::entity_start::EntityStart;
+use crate::entity_tables::EntityTables;
+use crate::entity_values::EntityValues;
+use crate::process_rooms::most_columns;
+use crate::process_run::{ProcessState, start_state, step_run};
+use crate::process_shown::show_entity;
+use cell_machine::{CellSim, Change, Shared, Sizes};
+use run_parts::{ShownPort, no_reports, unknown_values};
+use sqlite_items::Items;
+use std::alloc::{AllocError, Global};
+use trit_cubes::Trit;
+use vital_models::VEntity;
+
+/// A VITAL entity run by its tables, paths and checks. (IEEE 1076.4-2000.)
+#[derive(Drop)]
+pub struct VitalSim<'a> {
+    model: &'a VEntity,
+    known: Shared<EntityStart>,
+    run: ProcessState,
+    conditions: Items<Trit>,
+    reports: Items<bool>,
+    shown: Items<ShownPort>,
+    earlier: Items<Trit>,
+    room: Items<Trit>,
+    ghost indexed: { IsEntityIndex model.now known.index },
+    ghost ready: { IsReady model.now run conditions reports (length earlier) (length room) } by { Prim.hlevel (props, value_prop) },
+    ghost each_output: { length shown ≡ length model.now.outputs },
+}
+
+impl<'a> VitalSim<'a> {
+    /// The simulator of a sound entity before any change: all inputs and states, the columns of its tables and the violation are
+    /// unknown. `AllocError` comes only where memory is wanted and not there.
+    pub fn start(alloc: Global, model: &'a VEntity) -> Result<VitalSim<'a>, AllocError>
+        requires { IsSound model.now }
+        ensures machine { IfOk result (λ sim. ⟦<VitalSim<'a> as CellSim>⟧.machine sim ≡ entity_machine model.now) }
+        ensures stands { IfOk result (λ sim. ⟦<VitalSim<'a> as CellSim>⟧.stands sim []) }
+    {
+        let known = Shared::new(alloc, EntityStart::of(alloc, model)?)?;
+        VitalSim::start_by(alloc, model, &known)
+    }
+
+    /// The same, by what is known of the entity before any change.
+    pub fn start_by(
+        alloc: Global,
+        model: &'a VEntity,
+        known: &Shared<EntityStart>,
+    ) -> Result<VitalSim<'a>, AllocError>
+        requires sound { IsSound model.now }
+        requires known { IsEntityStart model.now known.now }
+        ensures machine { IfOk result (λ sim. ⟦<VitalSim<'a> as CellSim>⟧.machine sim ≡ entity_machine model.now) }
+        ensures stands { IfOk result (λ sim. ⟦<VitalSim<'a> as CellSim>⟧.stands sim []) }
+    {
+        let most = most_columns(model);
+        let earlier = unknown_values(alloc, most)?;
+        let room = unknown_values(alloc, most)?;
+        let run = start_state(alloc, model)?;
+        let conditions = Items::from_slice(alloc, known.get().conditions.as_slice())?;
+        let reports = no_reports(alloc, model.checks.len())?;
+        let shown = Items::from_slice(alloc, known.get().shown.as_slice())?;
+        Ok(VitalSim {
+            model,
+            known: known.again()?,
+            run,
+            conditions,
+            reports,
+            shown,
+            earlier,
+            room,
+        })
+    }
+}
+
+impl<'a> CellSim for VitalSim<'a> {
+    ghost machine = { λ s. entity_machine s.model.now };
+
+    ghost stands = { λ s h. EntityStands s.model.now s.run s.reports s.shown h };
+
+    fn sizes(&self) -> Sizes {
+        Sizes {
+            inputs: self.run.inputs.len(),
+            outputs: self.shown.len(),
+            checks: self.reports.len(),
+        }
+    }
+
+    fn step(&mut self, at: u64, pin: usize, to: Trit) {
+        let tables = EntityTables {
+            model: self.model,
+            index: &self.known.get().index,
+        };
+        step_run(
+            &mut self.run,
+            &mut self.conditions,
+            &tables,
+            Change { at, pin, to },
+            &mut self.reports,
+            &mut self.earlier,
+            &mut self.room,
+        );
+        let values = EntityValues {
+            tables,
+            inputs: self.run.inputs.as_slice(),
+            states: self.run.states.as_slice(),
+            conditions: self.conditions.as_slice(),
+        };
+        show_entity(&values, pin, &mut self.shown, &mut self.room);
+    }
+
+    fn shown(&self, place: usize) -> cell_machine::Shown {
+        self.shown.as_slice()[place].alone()
+    }
+
+    fn reported(&self, check: usize) -> bool {
+        self.reports.as_slice()[check]
+    }
+
+    ghost sized = { λ s. entity_sized s.model.now };
+}

@@ -273,6 +273,18 @@ def timing_of_a_bundle(n):
     return library(cell(inputs(["R"]), "bundle (B) { members (%s); direction : input; %s}\n" % (members, groups)))
 
 
+def timing_of_an_output_bundle(n):
+    """the same of outputs, whose function names another bundle of as many members"""
+    bundles = (
+        "bundle (%s) { members (%s); %s }\n" % (name, ", ".join("%s%d" % (name, k) for k in range(n)), said)
+        for name, said in (
+            ("A", "direction : input;"),
+            ("B", 'direction : output; function : "A"; ' + 'timing () { related_pin : "R"; }\n' * n),
+        )
+    )
+    return library(cell(inputs(["R"]), *bundles))
+
+
 def related_words(n):
     """as many buses as words of a related pin"""
     buses = ('bus (B%d) { bus_type : T; direction : input; }\n' % k for k in range(n))
@@ -483,6 +495,7 @@ TRANSLATED = {
     "bank_of_long_texts": (bank_of_long_texts, (4, 8, 16)),
     "bundle_of_one_name": (bundle_of_one_name, (7500, 15000, 30000)),
     "timing_of_a_bundle": (timing_of_a_bundle, (100, 200, 400)),
+    "timing_of_an_output_bundle": (timing_of_an_output_bundle, (100, 200, 400)),
     "related_words": (related_words, (2000, 4000, 8000)),
     "lines_without_semicolons": (lines_without_semicolons, (2500000, 5000000, 10000000)),
     "delay_file": (delay_file, (150000, 300000, 600000)),

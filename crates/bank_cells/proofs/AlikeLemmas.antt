@@ -12,7 +12,7 @@ use Rattle.liberty_groups.specs.declared.tree.Group.{Group}
 use Rattle.liberty_groups.specs.Attributes.{Attribute, simple_named, attributes_named, last_or, text_of}
 use Rattle.bus_texts.specs.declared.vectors.Vector.{Vector}
 use Rattle.bus_texts.specs.Vectors.{is_called}
-use Rattle.bank_cells.specs.Members.{is_shared, names_member, own_items_as, own_items, member_items}
+use Rattle.bank_cells.specs.Members.{is_shared, names_member, own_items_as, own_items}
 use Rattle.bank_cells.specs.Faults.{pin_texts, fault_named, text_faults, timing_faults, timing_faults_as, timing_faults_in, pin_faults}
 use Rattle.bank_cells.specs.Fixed.{names_none, is_fixed}
 use Rattle.bank_cells.specs.Refusals.{along, member_faults, vector_faults}

@@ -1,6 +1,5 @@
 //! The expanded group of a cell in which the pins of a bus or bundle are one pin group, where they have the same statements.
 ghost use Rattle.std.specs.Prelude.{◌≡◌, ◌++◌, IfOk, OnOk, Some, map, filter, flat_map};
-ghost use Rattle.liberty_groups.specs.declared.tree.Item.{out-Item};
 ghost use Rattle.bank_cells.specs.Members.{is_shared};
 ghost use Rattle.bank_cells.specs.Expanded.{pin_item};
 ghost use Rattle.bank_cells.specs.Gathered as spec;

@@ -1,5 +1,5 @@
 -- The state that the expanded group of a bank at a position holds is that of the bank there.
-use Rattle.std.proofs.Common.{◌≡◌, ℕ, true, false, ◌||◌, List, [], ◌∷◌, length, map, Option, None, Some, if◌then◌else◌, refl, sym, ap, subst, ◌∙◌, inl, inr, codes, unwrap_or}
+use Rattle.std.proofs.Common.{◌≡◌, ℕ, Bool, true, false, ◌||◌, List, [], ◌∷◌, length, map, Option, None, Some, if◌then◌else◌, refl, sym, ap, subst, ◌∙◌, inl, inr, codes, unwrap_or}
 use Rattle.std.specs.Prelude.{flat_map, bytes_eq}
 use Rattle.std.specs.Option.{option_map}
 use Rattle.std.specs.List.{AllByRecursion}
@@ -43,6 +43,22 @@ pub record IsStateOf (vectors : List Vector) (bank : Bank) (group : Group) (at :
   pub named : single.name ≡ state_name group
   pub two : single.arguments ≡ variables_at bank at
   pub statements : single.items ≡ map (text_at vectors (Some at) (state_texts group)) group.items
+
+-- the names of the texts of a flip-flop or latch
+abbrev data_named : Bool → List ℕ
+data_named ff = if ff then codes "next_state" else codes "data_in"
+
+abbrev control_named : Bool → List ℕ
+control_named ff = if ff then codes "clocked_on" else codes "enable"
+
+abbrev texts_named : Bool → List (List ℕ)
+texts_named ff = data_named ff ∷ control_named ff ∷ codes "clear" ∷ codes "preset" ∷ []
+
+names_known : (ff : Bool) → (is_one_of (texts_named ff) (data_named ff) ≡ true) × (is_one_of (texts_named ff) (control_named ff) ≡ true)
+    × (is_one_of (texts_named ff) (codes "clear") ≡ true) × (is_one_of (texts_named ff) (codes "preset") ≡ true)
+    × (is_one_of (texts_named ff) (codes "clear_preset_var1") ≡ false) × (is_one_of (texts_named ff) (codes "clear_preset_var2") ≡ false)
+names_known true = (refl, refl, refl, refl, refl, refl)
+names_known false = (refl, refl, refl, refl, refl, refl)
 
 pub is_name : (name : List ℕ) (group : Group) → is_called name group ≡ true → group.name ≡ name
 is_name name group e = (bytes_eq-Decides group.name name).0 e
@@ -113,68 +129,63 @@ module _
     abbrev fault_of : List ℕ → List ℕ
     fault_of name = fault_named vectors (Some at) group.items name
 
+    -- what is read of the texts is read of those of the bank
+    abbrev SameTexts : Bool → Type 0
+    SameTexts ff =
+        (function_in numbers reading.data_text ≡ function_if cell at (attribute_of group (data_named ff)))
+        × (function_in numbers reading.control ≡ function_if cell at (attribute_of group (control_named ff)))
+        × (function_in numbers reading.clear ≡ function_if cell at (attribute_of group (codes "clear")))
+        × (function_in numbers reading.preset ≡ function_if cell at (attribute_of group (codes "preset")))
+        × (unwrap_or (first_both single) both.Unknown ≡ unwrap_or (first_both group) both.Unknown)
+        × (unwrap_or (second_both single) both.Unknown ≡ unwrap_or (second_both group) both.Unknown)
+
+    texts_same : (b : Bool) → is_ff single ≡ b → state_texts group ≡ texts_named b → IsSoundReading reading → SameTexts b
+    texts_same b ff texts sound =
+        let parts : flat_map fault_of (texts_named b) ≡ [] = sym (ap (flat_map fault_of) texts) ∙ faults in
+        let one = nil_parts (fault_of (data_named b)) _ parts in
+        let two = nil_parts (fault_of (control_named b)) _ one.1 in
+        let three = nil_parts (fault_of (codes "clear")) _ two.1 in
+        let four = nil_parts (fault_of (codes "preset")) _ three.1 in
+        let named = names_known b in
+        let among : (name : List ℕ) (is : Bool) → is_one_of (texts_named b) name ≡ is → is_one_of (state_texts group) name ≡ is =
+        λ name is e. ap (λ names. is_one_of names name) texts ∙ e in
+        let data_text =
+        text_function (own_scope v (arguments_of single)) (data_named b) reading.data_text
+        (ap (λ b. text_as v (own_scope v (arguments_of single)) (attribute_of single (data_named b))) ff)
+        (among (data_named b) true named.0) one.0 sound.of_data in
+        let control_text =
+        text_function scope.Control (control_named b) reading.control (ap (λ b. text_as v scope.Control (attribute_of single (control_named b))) ff)
+        (among (control_named b) true named.1) two.0 sound.of_control in
+        let clear_text = text_function scope.Control (codes "clear") reading.clear refl (among (codes "clear") true named.2) three.0 sound.of_clear in
+        let preset_text = text_function scope.Control (codes "preset") reading.preset refl (among (codes "preset") true named.3) four.0 sound.of_preset in
+        (data_text, control_text, clear_text, preset_text, first_same (among (codes "clear_preset_var1") false named.4), second_same (among (codes "clear_preset_var2") false named.5))
+
     clocked_same :
         is_ff single ≡ true → state_texts group ≡ ff_texts → IsSoundReading reading → clocked numbers single reading ≡ clocked_at cell group at
     clocked_same ff texts sound =
-        let parts : flat_map fault_of ff_texts ≡ [] = sym (ap (flat_map fault_of) texts) ∙ faults in
-        let one = nil_parts (fault_of (codes "next_state")) _ parts in
-        let two = nil_parts (fault_of (codes "clocked_on")) _ one.1 in
-        let three = nil_parts (fault_of (codes "clear")) _ two.1 in
-        let four = nil_parts (fault_of (codes "preset")) _ three.1 in
-        let data_text =
-        text_function (own_scope v (arguments_of single)) (codes "next_state") reading.data_text
-        (ap (λ b. text_as v (own_scope v (arguments_of single)) (attribute_of single (if b then codes "next_state" else codes "data_in"))) ff)
-        (ap (λ names. is_one_of names (codes "next_state")) texts) one.0 sound.of_data in
-        let control_text =
-        text_function scope.Control (codes "clocked_on") reading.control
-        (ap (λ b. text_as v scope.Control (attribute_of single (if b then codes "clocked_on" else codes "enable"))) ff)
-        (ap (λ names. is_one_of names (codes "clocked_on")) texts) two.0 sound.of_control in
-        let clear_text =
-        text_function scope.Control (codes "clear") reading.clear refl (ap (λ names. is_one_of names (codes "clear")) texts) three.0 sound.of_clear in
-        let preset_text =
-        text_function scope.Control (codes "preset") reading.preset refl (ap (λ names. is_one_of names (codes "preset")) texts) four.0 sound.of_preset in
-        let next = or_first (function_in numbers reading.data_text) (function_if cell at (attribute_of group (codes "next_state"))) data_text in
-        let clock = or_first (function_in numbers reading.control) (function_if cell at (attribute_of group (codes "clocked_on"))) control_text in
-        let first = first_same (ap (λ names. is_one_of names (codes "clear_preset_var1")) texts) in
-        let second = second_same (ap (λ names. is_one_of names (codes "clear_preset_var2")) texts) in
+        let same = texts_same true ff texts sound in
+        let next = or_first (function_in numbers reading.data_text) (function_if cell at (attribute_of group (codes "next_state"))) same.0 in
+        let clock = or_first (function_in numbers reading.control) (function_if cell at (attribute_of group (codes "clocked_on"))) same.1 in
         λ i. record {
           next_state = next i;
           clocked_on = clock i;
-          clear = clear_text i;
-          preset = preset_text i;
-          both1 = first i;
-          both2 = second i;
+          clear = same.2 i;
+          preset = same.3 i;
+          both1 = same.4 i;
+          both2 = same.5 i;
         }
 
     gated_same :
         is_ff single ≡ false → state_texts group ≡ latch_texts → IsSoundReading reading → gated numbers single reading ≡ gated_at cell group at
     gated_same ff texts sound =
-        let parts : flat_map fault_of latch_texts ≡ [] = sym (ap (flat_map fault_of) texts) ∙ faults in
-        let one = nil_parts (fault_of (codes "data_in")) _ parts in
-        let two = nil_parts (fault_of (codes "enable")) _ one.1 in
-        let three = nil_parts (fault_of (codes "clear")) _ two.1 in
-        let four = nil_parts (fault_of (codes "preset")) _ three.1 in
-        let data_text =
-        text_function (own_scope v (arguments_of single)) (codes "data_in") reading.data_text
-        (ap (λ b. text_as v (own_scope v (arguments_of single)) (attribute_of single (if b then codes "next_state" else codes "data_in"))) ff)
-        (ap (λ names. is_one_of names (codes "data_in")) texts) one.0 sound.of_data in
-        let control_text =
-        text_function scope.Control (codes "enable") reading.control
-        (ap (λ b. text_as v scope.Control (attribute_of single (if b then codes "clocked_on" else codes "enable"))) ff)
-        (ap (λ names. is_one_of names (codes "enable")) texts) two.0 sound.of_control in
-        let clear_text =
-        text_function scope.Control (codes "clear") reading.clear refl (ap (λ names. is_one_of names (codes "clear")) texts) three.0 sound.of_clear in
-        let preset_text =
-        text_function scope.Control (codes "preset") reading.preset refl (ap (λ names. is_one_of names (codes "preset")) texts) four.0 sound.of_preset in
-        let first = first_same (ap (λ names. is_one_of names (codes "clear_preset_var1")) texts) in
-        let second = second_same (ap (λ names. is_one_of names (codes "clear_preset_var2")) texts) in
+        let same = texts_same false ff texts sound in
         λ i. record {
-          data_in = data_text i;
-          enable = control_text i;
-          clear = clear_text i;
-          preset = preset_text i;
-          both1 = first i;
-          both2 = second i;
+          data_in = same.0 i;
+          enable = same.1 i;
+          clear = same.2 i;
+          preset = same.3 i;
+          both1 = same.4 i;
+          both2 = same.5 i;
         }
 
     flip_flop :

@@ -1,5 +1,5 @@
 //! The cell of a group with buses, bundles and banks.
-ghost use Rattle.std.specs.Prelude.{◌≡◌, IfOk, IfErr, None, [], length, ◌==◌};
+ghost use Rattle.std.specs.Prelude.{◌≡◌, ◌==◌, IfOk, IfErr, None, length};
 ghost use Rattle.cell_reader.specs.CellTexts.{Tells};
 ghost use Rattle.core_groups.specs.Outputs.{three_state_outputs};
 ghost use Rattle.three_state_cells.specs.DrivenCells.{driven_data, driven_data_of};

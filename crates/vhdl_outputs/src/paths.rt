@@ -20,7 +20,7 @@ type Zeros = (Items<usize>, Uses);
 /// The paths of an output so far, and the lists of the conditions that were looked up.
 type Paths = (Items<HPath>, Uses);
 
-/// A condition that has to be 0, which stands behind these then, and the lists.
+/// A condition that has to be 0, which stands behind these then; the lists have its own, too.
 #[tactic(auto, unfolding(vhdl_text::specs::VhdlOutputs::next_zero))]
 fn zero(
     cursor: &mut Cursor,
@@ -54,7 +54,7 @@ impl RepeatedPart<Vhdl> for NextZero<'_> {
     }
 }
 
-/// The conditions that have to be 0, behind the first of them and its `=`, and the lists.
+/// The conditions that have to be 0, behind the first of them and its `=`; the lists have theirs, too, then.
 #[tactic(auto, unfolding(vhdl_text::specs::VhdlOutputs::all_zero))]
 fn all_zero(cursor: &mut Cursor, scope: &Declarations, first: usize, uses: &mut Uses) -> Read<HGate>
     ensures { ReadsAs (λ gate. (gate, uses.new)) (read (spec.all_zero scope.now (first, uses.old)) cursor.old) result cursor.new }
@@ -68,7 +68,7 @@ fn all_zero(cursor: &mut Cursor, scope: &Declarations, first: usize, uses: &mut 
     Ok(HGate::AllZero(all))
 }
 
-/// A gate, behind the first word of a look-up, and the lists.
+/// A gate, behind the first word of a look-up; the lists have those of its conditions, too, then.
 #[tactic(auto, unfolding(vhdl_text::specs::VhdlOutputs::gate_of_conditions, vhdl_text::specs::VhdlOutputs::not_zero, vhdl_text::specs::VhdlOutputs::equals_zero), using(rule_readers::proofs::Repeats::choose_begun, rule_readers::proofs::Repeats::choose_other))]
 fn gate_of_conditions(cursor: &mut Cursor, scope: &Declarations, uses: &mut Uses) -> Read<HGate>
     ensures { ReadsAs (λ gate. (gate, uses.new)) (read (spec.gate_of_conditions scope.now uses.old) cursor.old) result cursor.new }
@@ -83,7 +83,7 @@ fn gate_of_conditions(cursor: &mut Cursor, scope: &Declarations, uses: &mut Uses
     all_zero(cursor, scope, number, uses)
 }
 
-/// When a path counts, and the lists.
+/// When a path counts; the lists have those of its conditions, too, then.
 #[tactic(auto, unfolding(vhdl_text::specs::VhdlOutputs::always), using(crate::proofs::NextGate::gated, crate::proofs::NextGate::ungated))]
 fn gate_of(cursor: &mut Cursor, scope: &Declarations, uses: &mut Uses) -> Read<HGate>
     ensures { ReadsAs (λ gate. (gate, uses.new)) (read (spec.gate_of scope.now uses.old) cursor.old) result cursor.new }
@@ -116,7 +116,7 @@ fn path_number(cursor: &mut Cursor, paths: &[HPath]) -> Read<()>
     this_number(cursor, paths.len())
 }
 
-/// A path, which stands behind these then, and the lists.
+/// A path, which stands behind these then; the lists have those of its conditions, too.
 #[tactic(auto, unfolding(vhdl_text::specs::VhdlOutputs::next_path))]
 fn path(
     cursor: &mut Cursor,
@@ -159,7 +159,7 @@ impl RepeatedPart<Vhdl> for NextPath<'_> {
     }
 }
 
-/// All paths of an output, and the lists.
+/// All paths of an output; the lists have those of their conditions, too, then.
 #[tactic(auto, unfolding(vhdl_text::specs::VhdlOutputs::paths))]
 pub fn paths(cursor: &mut Cursor, scope: &Declarations, uses: &mut Uses) -> Read<Items<HPath>>
     ensures { ReadsAs (λ paths. (paths, uses.new)) (read (spec.paths scope.now uses.old) cursor.old) result cursor.new }

@@ -84,7 +84,7 @@ pub fn referred(cursor: &mut Cursor, scope: &Declarations) -> Read<usize>
     Ok(pin)
 }
 
-/// The condition that has to be 1, behind the word of its look-up, and the lists.
+/// The condition that has to be 1, behind the word of its look-up; the lists have its own, too, then.
 #[tactic(auto, unfolding(vhdl_text::specs::VhdlChecks::enabling_condition))]
 fn enabling(cursor: &mut Cursor, scope: &Declarations, uses: &mut Uses) -> Read<Option<usize>>
     ensures { ReadsAs (λ when. (when, uses.new)) (read (spec.enabling_condition scope.now uses.old) cursor.old) result cursor.new }
@@ -94,7 +94,7 @@ fn enabling(cursor: &mut Cursor, scope: &Declarations, uses: &mut Uses) -> Read<
     Ok(Some(number))
 }
 
-/// When a check counts, and the lists.
+/// When a check counts; the lists have that of its condition, too, then.
 #[tactic(auto, unfolding(vhdl_text::specs::VhdlChecks::enabled, vhdl_text::specs::VhdlChecks::always_enabled), using(rule_readers::proofs::Repeats::choose_begun, rule_readers::proofs::Repeats::choose_other))]
 pub fn enabled(cursor: &mut Cursor, scope: &Declarations, uses: &mut Uses) -> Read<Option<usize>>
     ensures { ReadsAs (λ when. (when, uses.new)) (read (spec.enabled scope.now uses.old) cursor.old) result cursor.new }

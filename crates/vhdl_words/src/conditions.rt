@@ -184,7 +184,7 @@ fn same_list(cursor: &mut Cursor<'_>, scope: &Declarations, inputs: &[usize]) ->
     cursor.expect(b")")
 }
 
-/// The lists behind a look-up of this condition, which are these then.
+/// The list of a look-up of this condition; where it is the first one, it stands behind these lists then.
 #[tactic(auto, unfolding(vhdl_text::specs::VhdlNames::list_by))]
 fn list_of(
     cursor: &mut Cursor<'_>,
@@ -204,7 +204,8 @@ fn list_of(
     Ok(())
 }
 
-/// A look-up of a condition, behind its word: the condition's number. Behind it the lists are these.
+/// A look-up of a condition, behind its word: the condition's number. Where it is the first one of this condition, its list stands
+/// behind these then.
 #[tactic(auto, unfolding(vhdl_text::specs::VhdlNames::condition))]
 pub fn condition(
     cursor: &mut Cursor<'_>,

@@ -46,9 +46,9 @@ fn read_single(
     }
 }
 
-/// The cell with this number in its library of a group whose gathered group this is, read as `read_driven` reads the group expanded to
-/// single bits: a gathered group without three-state outputs is read as it stands, and the expanded one is made only for another.
-/// `Memory` comes only where memory is wanting.
+/// The cell with this number in its library of a group whose gathered group this is, read as `read_driven` reads the group
+/// expanded to single bits: a gathered group without three-state outputs is read as it stands, and the expanded one is made only
+/// for another. `Memory` comes only where memory is wanting.
 pub fn read_gathered(
     alloc: Global,
     cell: &Group,

@@ -5,8 +5,8 @@ ghost use Rattle.bool_functions.specs.NameList.{AreDistinct};
 ghost use Rattle.file_models.specs.FileModels.{core_named};
 ghost use Rattle.file_models.specs.Folded.{folded_names};
 
-use crate::shared::Shared;
 use bool_functions::Names;
+use cell_machine::Shared;
 use driver_models::DriverLanguage;
 use sectioned_texts::SectionLanguage;
 use sqlite_items::{Items, at};

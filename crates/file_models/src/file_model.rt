@@ -1,5 +1,5 @@
 //! A model of a file.
-use crate::shared::Shared;
+use cell_machine::Shared;
 use driven_traces::Driver;
 use sqlite_items::Items;
 use udp_tables::VPort;

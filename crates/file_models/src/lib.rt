@@ -5,8 +5,6 @@
 mod cores;
 mod file_model;
 mod models;
-mod shared;
 
 pub use file_model::FileModel;
 pub use models::file_models;
-pub use shared::Shared;

@@ -7,8 +7,8 @@ ghost use Rattle.file_models.specs.Folded.{folded_names};
 
 use crate::cores::{core_names, core_of, shared_models};
 use crate::file_model::FileModel;
-use crate::shared::Shared;
 use bool_functions::Names;
+use cell_machine::Shared;
 use driven_traces::Driver;
 use driver_models::DriverModel;
 use driver_texts::{input_count, output_count};

@@ -139,41 +139,49 @@ fn toggle_notifier(run: &mut ModuleRun, tables: &ModuleTables, room: &mut Items<
     turn_states(run, tables, turn, room);
 }
 
-/// The register changes where a check reported.
+/// The register changes where a check reported, and what states feed is found anew.
 fn toggle_where_reported(
     run: &mut ModuleRun,
+    kept: &mut Items<Trit>,
     tables: &ModuleTables,
     reported: bool,
     room: &mut Items<Trit>,
 )
     requires wired { IsTrue (is_wired (length room.old) tables.now.model.now) }
     requires one_each { HasEach tables.now.model.now run.old }
+    requires current { kept.old ≡ kept_values tables.now.model.now run.old.inputs run.old.states }
     ensures stepped { run.new ≡ shaken tables.now.model.now (reported ∷ []) run.old }
     ensures one_each { HasEach tables.now.model.now run.new }
+    ensures current { kept.new ≡ kept_values tables.now.model.now run.new.inputs run.new.states }
     ensures inputs { run.new.inputs ≡ run.old.inputs }
     ensures len { length room.new ≡ length room.old }
 {
-    if reported {
-        toggle_notifier(run, tables, room);
+    if !reported {
+        return;
     }
+    toggle_notifier(run, tables, room);
+    find_fed_by_states(run, kept, tables, room);
 }
 
 /// The register changes once for each report.
 fn toggle_for_each(
     run: &mut ModuleRun,
+    kept: &mut Items<Trit>,
     tables: &ModuleTables,
     reports: &[bool],
     room: &mut Items<Trit>,
 )
     requires wired { IsTrue (is_wired (length room.old) tables.now.model.now) }
     requires one_each { HasEach tables.now.model.now run.old }
+    requires current { kept.old ≡ kept_values tables.now.model.now run.old.inputs run.old.states }
     ensures stepped { run.new ≡ shaken tables.now.model.now reports.now run.old }
     ensures one_each { HasEach tables.now.model.now run.new }
+    ensures current { kept.new ≡ kept_values tables.now.model.now run.new.inputs run.new.states }
     ensures inputs { run.new.inputs ≡ run.old.inputs }
     ensures len { length room.new ≡ length room.old }
 {
     for i in 0..reports.len() {
-        toggle_where_reported(run, tables, reports[i], room);
+        toggle_where_reported(run, kept, tables, reports[i], room);
     }
 }
 
@@ -230,8 +238,7 @@ fn step_event(
 {
     change_input(run, kept, tables, change, from, room);
     compare_checks(run, kept.as_slice(), tables, change, from, reports);
-    toggle_for_each(run, tables, reports.as_slice(), room);
-    find_fed_by_states(run, kept, tables, room);
+    toggle_for_each(run, kept, tables, reports.as_slice(), room);
 }
 
 /// Takes the run over a change of an input, and writes which checks report. `kept` has what each instance without a state drives.

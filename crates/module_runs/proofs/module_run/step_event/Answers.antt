@@ -18,12 +18,10 @@ returns-clause-ready c =
     let m = c.args.tables.now.model.now in
     let inputs_of : ModuleRun → List Trit = λ r. r.inputs in
     let inputs = c.toggle_for_each.ensures.inputs ∙ ap inputs_of c.compare_checks.ensures.stamped in
-    let room = c.find_fed_by_states.ensures.len ∙ c.toggle_for_each.ensures.len ∙ c.change_input.ensures.len in
+    let room = c.toggle_for_each.ensures.len ∙ c.change_input.ensures.len in
     record {
       wired = subst (λ n. IsTrue (is_wired n m)) (sym room) c.requires.ready.wired;
-      current =
-          c.find_fed_by_states.ensures.current c.change_input.new.run.states
-          (c.change_input.ensures.current ∙ ap (λ (v : List Trit). kept_values m v c.change_input.new.run.states) (sym inputs));
+      current = c.toggle_for_each.ensures.current;
       each_input =
           ap length (inputs ∙ ap inputs_of c.change_input.ensures.stepped)
           ∙ length-set c.args.run.now.inputs c.args.change.pin c.args.change.to
@@ -31,3 +29,8 @@ returns-clause-ready c =
       one_each = c.toggle_for_each.ensures.one_each;
       one_report = c.compare_checks.ensures.len ∙ c.requires.ready.one_report;
     }
+
+pub toggle_for_each-requires-clause-current : goal.toggle_for_each-requires-clause-current
+toggle_for_each-requires-clause-current c =
+    c.change_input.ensures.current
+    ∙ (λ i. kept_values c.args.tables.now.model.now (sym c.compare_checks.ensures.stamped i).inputs (sym c.compare_checks.ensures.stamped i).states)

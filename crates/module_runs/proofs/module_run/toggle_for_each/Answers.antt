@@ -13,6 +13,7 @@ loop-i-preserved c =
           (slice_get-get_or reports c.loop-i.i _ inside) c.toggle_where_reported.ensures.stepped
           ∙ c.loop-i.invariant.stepped;
       one_each = c.toggle_where_reported.ensures.one_each;
+      current = c.toggle_where_reported.ensures.current;
       inputs = c.toggle_where_reported.ensures.inputs ∙ c.loop-i.invariant.inputs;
       len = c.toggle_where_reported.ensures.len ∙ c.loop-i.invariant.len;
     }

@@ -1,0 +1,15 @@
+use Rattle.std.proofs.Common.{List, ap, sym, ◌∙◌}
+use Rattle.trit_cubes.specs.declared.trits.Trit.{Trit}
+use Rattle.module_runs.specs.KeptValues.{kept_values}
+use Rattle.module_runs.proofs.KeptLemmas.{one-kept}
+use Rattle.module_runs.proofs.module_run.toggle_where_reported.Goals as goal
+
+pub find_fed_by_states-requires-clause-one_each : goal.find_fed_by_states-requires-clause-one_each
+find_fed_by_states-requires-clause-one_each c =
+    one-kept c.args.tables.now.model.now c.args.run.now.inputs c.args.run.now.states c.args.kept.now c.requires.current
+
+pub returns-clause-current : goal.returns-clause-current
+returns-clause-current c =
+    c.find_fed_by_states.ensures.current c.args.run.now.states
+    (c.requires.current
+    ∙ ap (λ (v : List Trit). kept_values c.args.tables.now.model.now v c.args.run.now.states) (sym c.toggle_notifier.ensures.inputs))

@@ -14,7 +14,7 @@ mod scans;
 mod text_faults;
 
 pub use cell_refusals::{Reason, Refusal, refusal};
-pub use cell_timings::{LeftOut, left_out, type_text};
+pub use cell_timings::{LeftOut, left_out, shared_kind, type_text};
 pub use fault::CellFault;
 pub use laws::{
     accepted_cells_are_sound, accepted_meets_none, accepted_pins_are_sound, accepted_states_are_few,

@@ -3,6 +3,7 @@ ghost use Rattle.std.specs.Prelude.{◌≡◌, ◌++◌, ◌<◌, OnOk, IfOk, le
 ghost use Rattle.std.specs.Option.{option_copied};
 ghost use Rattle.cell_timings.specs.PinTimings.{type_text as type_text_of, type_at as type_at_of, left_out_as, left_out_in, left_out_from};
 
+use cell_machine::Shared;
 use liberty_groups::{Group, Item, inner_group, last_attribute};
 use sqlite_items::Items;
 use std::alloc::{AllocError, Global};
@@ -13,8 +14,17 @@ use timing_arcs::{PinTiming, TimingFault};
 pub struct LeftOut {
     /// The number of the pin that has it.
     pub pin: usize,
-    /// The text of its `timing_type`, `combinational` where it has none.
-    pub kind: Items<u8>,
+    /// The text of its `timing_type`, `combinational` where it has none. The pins of a group hold it together.
+    pub kind: Shared<Items<u8>>,
+}
+
+impl LeftOut {
+    /// The text of its type.
+    pub fn text(&self) -> &[u8]
+        ensures { result.now ≡ self.now.kind }
+    {
+        self.kind.get().as_slice()
+    }
 }
 
 /// The type of a timing group as it is written, `combinational` where there is none.
@@ -40,6 +50,33 @@ fn type_at(items: &[Item], place: usize) -> &[u8]
     }
 }
 
+/// The one that stands so many places before the end of those found so far.
+fn found_before(found: &[LeftOut], back: usize) -> Option<&LeftOut> {
+    match found.len().checked_sub(back) {
+        None => None,
+        Some(place) => found.get(place),
+    }
+}
+
+/// The text of a type. Where the one that stands so many places before the end of those found so far has the same text, it is held
+/// together with that one: the pins of a group leave out as many timing groups each, with the same texts.
+pub fn shared_kind(
+    alloc: Global,
+    found: &[LeftOut],
+    back: usize,
+    text: &[u8],
+) -> Result<Shared<Items<u8>>, AllocError>
+    ensures { IfOk result (λ kind. kind ≡ text.now) }
+{
+    if let Some(earlier) = found_before(found, back) {
+        if earlier.text() == text {
+            return earlier.kind.again();
+        }
+    }
+    let kind = Items::from_slice(alloc, text)?;
+    Shared::new(alloc, kind)
+}
+
 /// Adds the timing groups at these places among the statements of a pin.
 fn add_left_out(
     alloc: Global,
@@ -51,7 +88,8 @@ fn add_left_out(
     ensures { OnOk result (found.new ≡ found.old ++ map (left_out_as pin owner.now) places.now) }
 {
     for place in places {
-        let kind = Items::from_slice(alloc, type_at(owner.items.as_slice(), *place))?;
+        let text = type_at(owner.items.as_slice(), *place);
+        let kind = shared_kind(alloc, found.as_slice(), places.len(), text)?;
         found.push(LeftOut { pin, kind })?;
     }
     Ok(())

@@ -9,7 +9,7 @@ mod timing_faults;
 mod timings;
 
 pub use answers::timing_answers;
-pub use left_out::{LeftOut, left_out_of, type_text};
+pub use left_out::{LeftOut, left_out_of, shared_kind, type_text};
 pub use offsets::{MadeOffsets, WideTimings, made_offsets};
 pub use timing_faults::WrongTiming;
 pub use timings::{CellTiming, cell_timing};

@@ -7,9 +7,9 @@ ghost use Rattle.core_groups.specs.DriverGroups.{is_no_type as is_no_type_of, re
 ghost use Rattle.core_groups.specs.DriverGroups.{driver_timing as driver_timing_of, driver_item as driver_item_of};
 ghost use Rattle.core_groups.specs.DriverGroups.{driver_pin as driver_pin_of};
 
-use crate::copies::{copy_item, copy_items, with_items};
+use crate::copies::with_items;
 use cell_parts::groups::is_missing;
-use liberty_groups::{Group, Item, inner_group, last_attribute};
+use liberty_groups::{Group, Item, copy_item, copy_items, inner_group, last_attribute};
 use sqlite_items::Items;
 use std::alloc::{AllocError, Global};
 

@@ -7,10 +7,9 @@ ghost use Rattle.core_groups.specs.CoreGroups.{one_value as one_value_of, enable
 ghost use Rattle.core_groups.specs.CoreGroups.{enable_pin as enable_pin_as, enable_pin_of};
 ghost use Rattle.core_groups.specs.CoreGroups.{enable_pins};
 
-use crate::copies::copy_bytes;
 use crate::outputs::ThreeStateOutput;
 use bool_functions::{FunctionFault, read_free};
-use liberty_groups::{Attribute, Group, Item, Value, last_attribute};
+use liberty_groups::{Attribute, Group, Item, Value, copy_bytes, last_attribute};
 use sqlite_items::Items;
 use std::alloc::{AllocError, Global};
 use vhdl_names::numbered_name;

@@ -5,10 +5,10 @@ ghost use Rattle.core_groups.specs.Outputs.{shown, three_state_outputs as three_
 ghost use Rattle.core_groups.specs.CoreGroups.{stays_in_core as stays_in_core_of, core_pin as core_pin_of};
 ghost use Rattle.core_groups.specs.CoreGroups.{core_statement as core_statement_of, core_group as core_group_of};
 
-use crate::copies::{copy_item, with_items};
+use crate::copies::with_items;
 use crate::enable_pins::add_enable_pins;
 use crate::outputs::{ThreeStateOutput, is_three_state};
-use liberty_groups::{Group, Item};
+use liberty_groups::{Group, Item, copy_item};
 use sqlite_items::Items;
 use std::alloc::{AllocError, Global};
 

@@ -8,7 +8,6 @@ mod enable_pins;
 mod groups;
 mod outputs;
 
-pub use copies::copy_bytes;
 pub use driver_groups::{driver_pin, timing_groups};
 pub use groups::core_group;
 pub use outputs::{CellPins, ThreeStateOutput, is_three_state};

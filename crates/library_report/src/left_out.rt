@@ -19,7 +19,7 @@ impl ItemText<LeftOut> for GroupLines<'_> {
 
     #[tactic(auto, unfolding(crate::specs::LeftOutLines::left_out_group_line, crate::specs::LeftOutLines::left_out_line))]
     fn put<D: Desk>(&self, group: &LeftOut, line: &mut Line, desk: &mut D, slot: OutSlot) -> Put {
-        let kind = parts!(Bytes(b" "), Bytes(group.kind.as_slice()), Bytes(b"\n"));
+        let kind = parts!(Bytes(b" "), Bytes(group.text()), Bytes(b"\n"));
         let pin = parts!(Bytes(b" "), Bytes(pin_name(self.1, group.pin)), kind);
         parts!(Bytes(b"left-out "), Decimal(self.0 as u128), pin).put(line, desk, slot)
     }

@@ -40,7 +40,8 @@ use Rattle.core_groups.specs.Outputs.{ThreeStateOutput, three_state_of, is_three
 use Rattle.core_groups.specs.CoreGroups.{core_group}
 use Rattle.three_state_cells.specs.Timing.{is_output_at, output_number, driven_of, answer_of, path_of, paths_from, driver_of}
 use Rattle.three_state_cells.specs.Drivers.{HasEnables, IsDriverOf}
-use Rattle.three_state_cells.specs.DrivenCells.{AreDrivers, IsCoreOfPins, cell_data, core_name, floating_of, data_by, driven_data}
+use Rattle.three_state_cells.specs.CoreReadings.{AreDrivers, IsCoreOfPins}
+use Rattle.three_state_cells.specs.DrivenCells.{cell_data, core_name, floating_of, data_by, driven_data}
 use Rattle.three_state_cells.specs.Laws.{enable_outputs, KeepsOutputs, DriversAreOfCores}
 use Rattle.three_state_cells.proofs.DataLemmas.{data_as}
 use Rattle.three_state_cells.proofs.CorePins.{core_pins_are}

@@ -21,7 +21,8 @@ use Rattle.core_groups.specs.Outputs.{ThreeStateOutput, shown, three_state_outpu
 use Rattle.three_state_cells.specs.Refusals.{floating_refusal, refusal_by, driven_refusal}
 use Rattle.core_groups.specs.CoreGroups.{core_group}
 use Rattle.three_state_cells.specs.Timing.{all_left_out, in_pin_order}
-use Rattle.three_state_cells.specs.DrivenCells.{AreDrivers, IsFloating, driven_data_of, cell_data, core_name, floating_of, plain_of, data_by, driven_data}
+use Rattle.three_state_cells.specs.CoreReadings.{AreDrivers, IsFloating}
+use Rattle.three_state_cells.specs.DrivenCells.{driven_data_of, cell_data, core_name, floating_of, plain_of, data_by, driven_data}
 
 -- a cell that a group describes, as data
 pub data_as :

@@ -1,5 +1,5 @@
 -- A cell as it is read where its outputs may float: a core without Z, and what drives its three-state outputs.
-use Rattle.std.specs.Prelude.{◌≡◌, ℕ, Bool, List, [], ◌∷◌, ◌++◌, length, nat_lt, codes, decimal, Option}
+use Rattle.std.specs.Prelude.{ℕ, Bool, List, [], ◌∷◌, ◌++◌, length, nat_lt, codes, decimal, Option}
 use Rattle.liberty_text.specs.declared.time.Unit.{Unit}
 use Rattle.liberty_groups.specs.declared.tree.Group.{Group}
 use Rattle.cell_machine.specs.CellData.{CellData, data_of}
@@ -8,15 +8,12 @@ use Rattle.cell_parts.specs.Groups.{cell_name}
 use Rattle.cell_parts.specs.Pins.{pins_of}
 use Rattle.cell_parts.specs.CellLaws.{groups_of, outputs_of}
 use Rattle.cell_reader.specs.declared.left_out.LeftOut.{LeftOut}
-use Rattle.cell_reader.specs.declared.read.ReadCell.{ReadCell}
 use Rattle.cell_reader.specs.CellTexts.{subject_of}
 use Rattle.cell_reader.specs.Refusals.{checks_of, arcs_of, left_out_of}
 use Rattle.driven_traces.specs.declared.drivers.Driver.{Driver}
 use Rattle.driven_traces.specs.Drivers.{plain}
 use Rattle.three_state_cells.specs.declared.driven_cell.DrivenCell.{DrivenCell}
-use Rattle.three_state_cells.specs.declared.drivers.Drivers.{Drivers}
-use Rattle.core_groups.specs.declared.outputs.CellPins.{CellPins}
-use Rattle.core_groups.specs.Outputs.{ThreeStateOutput, three_state_outputs, ArePins}
+use Rattle.core_groups.specs.Outputs.{ThreeStateOutput, three_state_outputs}
 use Rattle.core_groups.specs.CoreGroups.{core_group}
 use Rattle.three_state_cells.specs.Timing.{driver_of, all_left_out, in_pin_order}
 
@@ -49,22 +46,6 @@ cell_data unit name number group = record {
 -- The name of the core of the cell with this number: none that model texts keep.
 abbrev pub core_name : ℕ → List ℕ
 core_name number = codes "-z" ++ decimal number
-
--- What drives these three-state outputs, where this is the group of the core.
-pub record AreDrivers (unit : Option Unit) (core : Group) (outputs : List ThreeStateOutput) (drivers : Drivers) : Type 0 where
-  pub driver : drivers.driver ≡ driver_of (subject_of unit core) outputs
-  pub left_out : drivers.left_out ≡ all_left_out (subject_of unit core) outputs
-
--- This is the group of the core of a cell with these pin groups and three-state outputs.
-abbrev pub IsCoreOfPins : Group → CellPins → Type 0
-IsCoreOfPins core pins = (cell : Group) × ((core ≡ core_group cell) × ArePins cell pins)
-
--- The cell with this number whose core was read so, under another name, and whose three-state outputs these drive.
-pub record IsFloating (read : ReadCell) (drivers : Drivers) (number : ℕ) (cell : DrivenCell) : Type 0 where
-  pub core : data_of cell.core ≡ record (data_of read.cell) { name = core_name number }
-  pub name : cell.name ≡ read.cell.name
-  pub driver : cell.driver ≡ drivers.driver
-  pub left_out : cell.left_out ≡ in_pin_order 0 read.cell.pins read.left_out drivers.left_out
 
 -- A cell with this core and these three-state outputs, of which there are some. Its own name is that of its core's group.
 unfoldable pub floating_of : Option Unit → ℕ → Group → List ThreeStateOutput → DrivenData

@@ -5,4 +5,5 @@ pub mod Refusals
 pub mod Timing
 pub mod Drivers
 pub mod DrivenCells
+pub mod CoreReadings
 pub mod Laws

@@ -5,8 +5,8 @@ ghost use Rattle.core_groups.specs.Outputs.{shown};
 ghost use Rattle.three_state_cells.specs.Timing.{left_out_as, of_pin, in_pin_order as in_pin_order_of};
 
 use cell_machine::Pin;
-use cell_reader::{LeftOut, type_text};
-use core_groups::{ThreeStateOutput, copy_bytes, timing_groups};
+use cell_reader::{LeftOut, shared_kind, type_text};
+use core_groups::{ThreeStateOutput, timing_groups};
 use liberty_groups::Group;
 use sqlite_items::Items;
 use std::alloc::{AllocError, Global};
@@ -32,25 +32,21 @@ pub(crate) fn add_left_out(
 {
     let groups = timing_groups(alloc, output.group)?;
     for place in places {
-        let kind = copy_bytes(alloc, type_text(group_at(&groups, *place)))?;
+        let text = type_text(group_at(&groups, *place));
+        let kind = shared_kind(alloc, found.as_slice(), places.len(), text)?;
         let pin = output.pin;
         found.push(LeftOut { pin, kind })?;
     }
     Ok(())
 }
 
-/// Adds copies of those that are a pin's.
-fn add_of_pin(
-    alloc: Global,
-    found: &mut Items<LeftOut>,
-    pin: usize,
-    lines: &[LeftOut],
-) -> Result<(), AllocError>
+/// Adds those that are a pin's. Their texts are held together.
+fn add_of_pin(found: &mut Items<LeftOut>, pin: usize, lines: &[LeftOut]) -> Result<(), AllocError>
     ensures { OnOk result (found.new ≡ found.old ++ of_pin pin lines.now) }
 {
     for line in lines {
         if line.pin == pin {
-            let kind = copy_bytes(alloc, line.kind.as_slice())?;
+            let kind = line.kind.again()?;
             found.push(LeftOut { pin, kind })?;
         }
     }
@@ -68,8 +64,8 @@ pub(crate) fn in_pin_order(
 {
     let mut found = Items::new(alloc);
     for pin in 0..pins.len() {
-        add_of_pin(alloc, &mut found, pin, one)?;
-        add_of_pin(alloc, &mut found, pin, other)?;
+        add_of_pin(&mut found, pin, one)?;
+        add_of_pin(&mut found, pin, other)?;
     }
     Ok(found)
 }

@@ -13,7 +13,7 @@ ghost use Rattle.three_state_cells.specs.Timing.{in_pin_order as in_pin_order_of
 ghost use Rattle.three_state_cells.specs.Refusals.{first_of_two, driver_refusal as driver_refusal_of, floating_refusal};
 ghost use Rattle.three_state_cells.specs.Refusals.{driven_refusal, IsRefusedCore};
 ghost use Rattle.three_state_cells.specs.DrivenCells.{driven_data, driven_data_of, core_name, plain_of, floating_of};
-ghost use Rattle.three_state_cells.specs.DrivenCells.{AreDrivers, IsFloating, IsCoreOfPins};
+ghost use Rattle.three_state_cells.specs.CoreReadings.{AreDrivers, IsFloating, IsCoreOfPins};
 
 use crate::driven_cell::DrivenCell;
 use crate::driver_refusals::{driver_refusal, first_with};
@@ -25,9 +25,9 @@ use cell_parts::groups::{inner_groups, pins_among};
 use cell_parts::held::{held_with, kept_unless};
 use cell_parts::pins::pins_of;
 use cell_reader::{CellFault, LeftOut, ReadCell, Reason, Refusal, names_of, read_cell};
-use core_groups::{CellPins, copy_bytes, core_group};
+use core_groups::{CellPins, core_group};
 use driven_traces::Driver;
-use liberty_groups::Group;
+use liberty_groups::{Group, copy_bytes};
 use liberty_text::Unit;
 use sqlite_items::Items;
 use std::alloc::{AllocError, Global};

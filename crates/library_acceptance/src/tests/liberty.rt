@@ -173,7 +173,7 @@ impl Row for RefusedCell<'_> {
 /// Whether these are the timing groups that are left out: the number of the pin that has each, and its type.
 pub(crate) fn leaves_out(left_out: &[LeftOut], wanted: &[(usize, &str)]) -> bool {
     for (group, (pin, kind)) in left_out.iter().zip(wanted.iter()) {
-        if group.pin != *pin || group.kind.as_slice() != kind.as_bytes() {
+        if group.pin != *pin || group.text() != kind.as_bytes() {
             return false;
         }
     }

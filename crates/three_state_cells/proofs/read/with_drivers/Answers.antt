@@ -4,7 +4,7 @@ use Rattle.cell_reader.specs.Refusals.{left_out_of}
 use Rattle.cell_reader.specs.declared.read.ReadCell.{ReadCell}
 use Rattle.cell_reader.proofs.Reading.{lift_ok}
 use Rattle.core_groups.specs.Outputs.{outputs_shown}
-use Rattle.three_state_cells.specs.DrivenCells.{AreDrivers}
+use Rattle.three_state_cells.specs.CoreReadings.{AreDrivers}
 use Rattle.three_state_cells.proofs.CoreDrivers.{read_driver}
 use Rattle.three_state_cells.proofs.DataLemmas.{floating_as}
 use Rattle.three_state_cells.proofs.read.with_drivers.Goals as goal

@@ -65,11 +65,6 @@ nets-among ms ns h =
     (and_parts (list_all (is_among ns) ms) (list_all (is_among ms) ns)
     (and_parts _ (list_all (is_among ns) ms && list_all (is_among ms) ns) h).1).0
 
-pub nets-back : (ms ns : List VNet) → IsTrue (same_nets ms ns) → IsTrue (list_all (is_among ms) ns)
-nets-back ms ns h =
-    (and_parts (list_all (is_among ns) ms) (list_all (is_among ms) ns)
-    (and_parts _ (list_all (is_among ns) ms && list_all (is_among ms) ns) h).1).1
-
 -- Of the nets of pins, with the register of the checks behind them or not, each is the port of one of the pins, or that register.
 abbrev pub PinOrNotifier : List Pin → List ℕ → VNet → Type 0
 PinOrNotifier pins support n = ((p : ℕ) × (pin_net pins p ≡ n) × Among p support) ⊎ (net.Notifier ≡ n)

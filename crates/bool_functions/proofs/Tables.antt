@@ -96,14 +96,3 @@ points_values places f values inside points bits =
 pub IfOk-both : {X E : Type 0} (P Q R : X → Type 0) → ((x : X) → P x → Q x → R x) → (r : Result X E) → IfOk r P → IfOk r Q → IfOk r R
 IfOk-both P Q R k (Ok x) p q = k x p q
 IfOk-both P Q R k (Err e) p q = p
-
--- where the places are all names in their order, the point is the list of bits itself
-bits_from : (before bits : List Bool) → map (λ i. slice_index_or (before ++ bits) i false) (range_with_len (length before) (length bits)) ≡ bits
-bits_from before [] = refl
-bits_from before (b ∷ bits) =
-    let longer : (before ++ b ∷ []) ++ bits ≡ before ++ b ∷ bits = append_assoc before (b ∷ []) bits in
-    let len : length (before ++ b ∷ []) ≡ length before + 1 = length-append before (b ∷ []) in
-    let rest : map (λ i. slice_index_or (before ++ b ∷ bits) i false) (range_with_len (length before + 1) (length bits)) ≡ bits =
-    ap (λ n. map (λ i. slice_index_or (before ++ b ∷ bits) i false) (range_with_len n (length bits))) (sym len)
-    ∙ ap (λ l. map (λ i. slice_index_or l i false) (range_with_len (length (before ++ b ∷ [])) (length bits))) (sym longer) ∙ bits_from (before ++ b ∷ []) bits in
-    ap (λ x. x ∷ map (λ i. slice_index_or (before ++ b ∷ bits) i false) (range_with_len (length before + 1) (length bits))) (get_or-append_seam before b bits false) ∙ ap (λ l. b ∷ l) rest

@@ -40,10 +40,6 @@ get_kept : (types : List BusType) (kind : BusType) (place : Option ℕ) → IfSo
 get_kept types kind None h = refl
 get_kept types kind (Some at) h = get_before types kind at h
 
--- before the first type
-pub finds_none : (last : FirstNames) → last.names ≡ [] → last.places ≡ [] → FindsLast last []
-finds_none last n p = rw (n, p) (record { same_length = refl; within = λ name. tt; last_one = λ name. refl })
-
 -- with one type more
 pub finds_more : (old new : FirstNames) (types : List BusType) (kind : BusType) → FindsLast old types → SetsPlace old kind.name (length types) new
     → FindsLast new (types ++ kind ∷ [])

@@ -103,25 +103,6 @@ failed_inner items more_items s left next (Refused k) w e h = λ none.
     (item_failed items more_items k (next_bytes left) (next_at left) (rest left) (h ∙ ap (λ (l : List Lexeme). Err ((more_items, k), l)) none))
 failed_inner items more_items s left next Memory w e h = tt
 
--- the end of the library
-pub end_missing : (items all : List LibraryItem) (s left next : List Lexeme) (t : Token) (e : Stop) → read (statements_after items) s ≡ Ok (all, left) → next_token left ≡ Some t →
-    Reads {A = Unit {0}} (read (expect mark.End (Syntax expected.Statement)) left) (Err e) next → ComesSo (Err e) place.Inside items s all next
-unfolding rest_inside library_end
-end_missing items all s [] next t e f g h = absurd cc
-end_missing items all s (x ∷ left) next t (Refused k) f g h = (
-  ap (λ (o : Told). and_then o (λ a m. read (library_end a) m)) f ∙ ap (λ (o : Outcome Lexeme Refusal (Unit {0})). and_then (marked (λ k. (all, k)) o) (λ _ m. read (file_end all) m)) h,
-  λ none. absurd (mark_some x left next k h none),
-)
-  where
-    by_verdict : (b : Bool) (x : Lexeme) (left next : List Lexeme) (k : Refusal) →
-        ◌≡◌ {A = Outcome Lexeme Refusal (Unit {0})} (judge (cond b (Fits tt) (Misfit (Syntax expected.Statement))) (λ a. Ok (a, left)) (λ j. Err (j, x ∷ left))) (Err (k, next)) → next ≡ [] → ⊥
-    by_verdict true x left next k e none = absurd cc
-    by_verdict false x left next k e none = let g : x ∷ left ≡ [] = ap (rest_of {T = Lexeme} {K = Refusal} {A = Unit {0}}) e ∙ none in absurd cc
-
-    mark_some : (x : Lexeme) (left next : List Lexeme) (k : Refusal) → read {K = Refusal} (expect mark.End (Syntax expected.Statement)) (x ∷ left) ≡ Err (k, next) → next ≡ [] → ⊥
-    mark_some x left next k e none = by_verdict (is_mark mark.End x.token.kind) x left next k e none
-end_missing items all s (x ∷ left) next t Memory f g h = tt
-
 -- a token that is refused
 
 word_by : (k : TokenKind) (b : Bool) → (not (is_word k) || b) ≡ false → k ≡ Word

@@ -153,6 +153,3 @@ named_ends all more_items s left next left' h one e =
     ap (read (item_statement all (next_bytes left) (next_at left))) (sym (append-nil (rest left))) ∙ one [] ∙ ap (λ (t : List Lexeme). Ok (more_items, t)) (append-nil next) in
     let i : Suffix (rest left) next = subst (λ (o : Told). Suffix (rest left) (rest_of o)) now (suffix (item_statement all (next_bytes left) (next_at left)) (rest left)) in
     subst (λ (l : List Lexeme). Suffix s l) (sym e) (suffix_trans s (rest left) next (rest_ends s left h) i)
-
-pub reaches : (items all : List LibraryItem) (s left : List Lexeme) (count : ℕ) → Suffix s left → length left ≡ count → ReadsOn items s all left → ReadsUpTo items s all count
-reaches items all s left count h size on = (h.0, left, h.1, size, on)

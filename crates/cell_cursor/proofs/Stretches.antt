@@ -41,16 +41,6 @@ pub record Passed (here : Place) (ts : List Token) (mode : Mode) (at : ℕ) (mor
   pub few : depth ≤ at + count
   pub inner : has_outer here (kinds_of ts) ≡ false → NoneOuterEnds here ts mode at more (count + 1)
 
-pub passed_none : (here : Place) (ts : List Token) (mode : Mode) (at depth : ℕ) (more : List ℕ) → depth ≡ depth_after 0 (kinds_of ts) → depth ≤ at → Passed here ts mode at more 0 ts mode depth
-passed_none here ts mode at depth more counted few = record {
-  within = omega arith;
-  tokens_are = sym (append-nil ts);
-  mode_is = refl;
-  counted = counted;
-  few = omega (arith, few);
-  inner = λ none n less. let first : n ≡ 0 = omega (arith, less) in ap (λ (k : ℕ). has_outer here (kinds_of (ts ++ tokens_ended mode at (take k more)))) first ∙ ap (λ (l : List Token). has_outer here (kinds_of l)) (append-nil ts) ∙ none;
-}
-
 -- What is known of one more run of bytes, of which a token ends at most with the last one.
 pub record Runs (mode : Mode) (at : ℕ) (left : List ℕ) (count : ℕ) (tokens tokens' : List Token) (now : Mode) (kind : Option TokenKind) : Type 0 where
   pub within : count ≤ length left

@@ -32,11 +32,6 @@ met_with : (b apart rest : Bool) → apart ≡ false → (b || false) ≡ ((b &&
 met_with true apart rest h = rw h refl
 met_with false apart rest h = refl
 
-not_met_with : (b apart before : Bool) → apart ≡ true → before ≡ (before || ((b && not apart) || false))
-not_met_with b apart true h = refl
-not_met_with true apart false h = rw h refl
-not_met_with false apart false h = refl
-
 known_before : (b before : Bool) → (b ≡ true → before ≡ true) → before ≡ (before || (b || false))
 known_before b true h = refl
 known_before true false h = h refl
@@ -72,16 +67,6 @@ kept role one old new number apart added earlier against name =
     ∙ (ap (λ b. b || (bytes_eq name one.name || false)) (against name)
     ∙ (ap (λ b. list_any (clashes_as name role) earlier || b) (met_with (bytes_eq name one.name) (may_share role one.role) false apart)
     ∙ sym (list_any-append (clashes_as name role) earlier (one ∷ []))))
-
--- a name that may be shared with a name of this role is not kept for it
-pub passed :
-    (role : Role) (one : Declared) (names : List (List ℕ))
-    → may_share role one.role ≡ true → (earlier : List Declared) → IsAgainst role earlier names
-    → IsAgainst role (earlier ++ one ∷ []) names
-passed role one names shared earlier against name =
-    against name
-    ∙ (not_met_with (bytes_eq name one.name) (may_share role one.role) (list_any (clashes_as name role) earlier) shared
-    ∙ sym (list_any-append (clashes_as name role) earlier (one ∷ [])))
 
 -- a name clashes where it is among the names with which one of its role clashes
 pub is_clash :

@@ -28,11 +28,6 @@ all_parts p xs ys h = and_parts (list_all p xs) (list_all p ys) (sym (list_all-a
 pub all_from : {X : Type 0} (p : X → Bool) (xs ys : List X) → IsTrue (list_all p xs) → IsTrue (list_all p ys) → IsTrue (list_all p (xs ++ ys))
 all_from p xs ys h k = list_all-append p xs ys ∙ and_from (list_all p xs) (list_all p ys) h k
 
--- all of what passes alone
-pub all_true : {X : Type 0} (p : X → Bool) (xs : List X) → ((x : X) → IsTrue (p x)) → IsTrue (list_all p xs)
-all_true p [] h = refl
-all_true p (x ∷ xs) h = and_from (p x) (list_all p xs) (h x) (all_true p xs h)
-
 -- where two tests pass, so does what follows from both
 pub all_both :
     {X : Type 0} (p q r : X → Bool) (xs : List X) → ((x : X) → IsTrue (p x) → IsTrue (q x) → IsTrue (r x))

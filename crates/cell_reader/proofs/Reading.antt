@@ -49,14 +49,6 @@ pub middle_decides :
 middle_decides subject cell told h =
     met_first (middle_reasons subject cell) (met reason.UdpInputs (udp_inputs subject cell) ∷ []) told h
 
-pub last_decides :
-    (subject : Subject) (cell : Group) (at : Option ℕ)
-    → first_refusal (middle_reasons subject cell) ≡ None → at ≡ least (udp_inputs subject cell)
-    → first_refusal (later_reasons subject cell) ≡ refused_or reason.UdpInputs at None
-last_decides subject cell at h is =
-    unmet_first (middle_reasons subject cell) (met reason.UdpInputs (udp_inputs subject cell) ∷ []) h
-    ∙ ap (λ a. refused_or reason.UdpInputs a None) (sym is)
-
 pub later_decide :
     (subject : Subject) (earlier : List (List ℕ)) (cell : Group)
     → first_refusal (early_reasons earlier cell) ≡ None → refusal_of subject earlier cell ≡ first_refusal (later_reasons subject cell)

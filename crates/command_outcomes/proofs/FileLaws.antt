@@ -146,10 +146,6 @@ pub first_files : (files done others : Files) (file : Slot × ℕ) → ((done ++
 first_files files done others file e =
     sym (take-append_seam (done ++ (file ∷ [])) others) ∙ ap (λ n. take n ((done ++ (file ∷ [])) ++ others)) (length-append done (file ∷ [])) ∙ ap (take (length done + 1)) e
 
-both_true : (a b : Bool) → (a && b) ≡ true → b ≡ true
-both_true true b e = e
-both_true false b e = absurd cc
-
 no_output_at : (files : Files) → are_inputs files ≡ true → (slot : OutSlot) (place k : ℕ) → k < length files → slice_index_or files k (Output slot, place) ≡ (Output slot, place) → ⊥
 no_output_at [] all slot place k h e = omega (arith, h)
 no_output_at ((Input s, n) ∷ files) all slot place zero h e = let same : ◌≡◌ (Input s) (Output slot) = ap (λ file. file.0) e in cc

@@ -15,9 +15,6 @@ use Rattle.file_models.specs.FileModels.{core_named}
 
 -- How many inputs and outputs a core has.
 
-is_output : VPort → Bool
-is_output port = not port.input
-
 pub inputs_more : (port : VPort) (ports : List VPort) → input_count (port ∷ ports) ≡ cond port.input 1 0 + input_count ports
 inputs_more port ports = sum_by-cons (λ (x : VPort). cond x.input 1 0) port ports
 

@@ -93,10 +93,6 @@ added : (old new : FirstNames) (name x : List ℕ) (number : ℕ) (found : Optio
 added old new name x number (Some i) same a e = rw (a.2, e) (added_new old.names old.places name x number same)
 added old new name x number None same a e = rw (a.1, e) (added_old old.names old.places name x number same a.0)
 
--- before the first thing
-pub first_none : {X : Type 0} (name_of : X → List ℕ) → FindsFirst name_of (record { names = []; places = [] }) []
-first_none name_of = record { same_length = refl; first = λ name. refl }
-
 -- behind one thing more
 pub first_more : {X : Type 0} (name_of : X → List ℕ) (old new : FirstNames) (xs : List X) (i : ℕ) (x : X) → i < length xs → x ≡ get_or xs i x
     → FindsFirst name_of old (take i xs) → AddsPlace old (name_of x) i new → FindsFirst name_of new (take (i + 1) xs)

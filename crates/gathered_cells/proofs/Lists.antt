@@ -104,10 +104,6 @@ lesser_same (Some x) = ap Some (same x)
     same : (x : ℕ) → min x x ≡ x
     same x = omega arith
 
-lesser_none : (o : Option ℕ) → lesser o None ≡ o
-lesser_none None = refl
-lesser_none (Some x) = refl
-
 again :
     (x : Group → List ℕ) (group : Group) → ((value : Value) → x (single group value) ≡ x group) → (value : Value) (values : List Value)
     → least (flat_map x (map (single group) (value ∷ values))) ≡ least (x group)

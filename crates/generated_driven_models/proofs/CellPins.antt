@@ -30,9 +30,6 @@ front_distinct (x ∷ xs) ys h =
     (no_more (list_any (bytes_eq x) xs) (list_any (bytes_eq x) ys) (subst (λ b. IsTrue (not b)) (list_any-append (bytes_eq x) xs ys) both.0))
     (front_distinct xs ys both.1)
 
-name_of : Pin → List ℕ
-name_of pin = pin.name
-
 few_products : (a b : ℕ) → b ≤ 64 → a * b ≤ a * 64
 few_products zero b h = omega arith
 few_products (suc a) b h =

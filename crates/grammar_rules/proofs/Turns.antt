@@ -8,9 +8,6 @@ use Rattle.grammar_rules.proofs.Steps.{value_is, rest_is, choose_ok, choose_fits
 abbrev pub Shrinks : {T K A S : Type 0} → (S → A → List T → Outcome T K S) → Type 0
 Shrinks {T} {K} {A} {S} go = (w : S) (a : A) (m : List T) (v : S) (q : List T) → go w a m ≡ Ok (v, q) → length q ≤ length m
 
-none_in : {T : Type 0} (x : T) (s m : List T) → length s ≤ 0 → s ≡ x ∷ m → ⊥
-none_in x s m h e = let k = ap length e in absurd (omega arith)
-
 shorter : {T : Type 0} (x : T) (s m : List T) (n : ℕ) → s ≡ x ∷ m → length s ≤ suc n → length m ≤ n
 shorter x s m n e h = let k = ap length e in omega arith
 

@@ -36,10 +36,6 @@ more_ports old new ports i port h e same a =
     let named : port_names (take (i + 1) ports) ≡ port_names (take i ports) ++ port.name ∷ [] = ap port_names longer ∙ map-append _ (take i ports) (port ∷ []) in
     subst (HaveSame new) (sym named) (added_same old new (port_names (take i ports)) port.name a same)
 
--- before the first wire
-pub no_wires : (names ports : List (List ℕ)) → HaveSame names ports → HaveSame names (ports ++ [])
-no_wires names ports h = subst (HaveSame names) (sym (append-nil ports)) h
-
 -- the name of a wire that was read is the next token, and was none of these
 pub wire_named : (others s left : List (List ℕ)) (r : Result (List ℕ) Stop) → Reads (read (new_name others) s) r left → IfOk r (λ name. name ≡ next_bytes s)
 wire_named others s left (Ok name) reads = (name_read others s left name reads).0

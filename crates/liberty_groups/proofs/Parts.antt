@@ -27,18 +27,3 @@ pub part_turn : (p : Place) (n i : ℕ) (found : List Value) (s : List Lexeme) (
 part_turn p n i found s t l e h =
     let k : n - i ≡ suc (n - (i + 1)) = omega arith in
     ap (λ (m : ℕ). part_turns p m found s) k ∙ part_turn_suc p (n - (i + 1)) found s t e h
-
-pub part_end : (p : Place) (n : ℕ) (found : List Value) (s : List Lexeme) (t : Token) → next_token s ≡ Some t → goes_on p t ≡ false →
-    part_turns p n found s ≡ Ok (found, s)
-part_end p zero found s t e h = refl
-part_end p (suc n) found [] t e h = refl
-part_end p (suc n) found (x ∷ s) t e h =
-    let i : goes_on p x.token ≡ false = ap (goes_on p) (some_is e) ∙ h in rw i refl
-  where
-    some_is : {a b : Token} → Some a ≡ Some b → a ≡ b
-    some_is e = cc
-
-pub part_none : (p : Place) (n : ℕ) (found : List Value) (s : List Lexeme) → next_token s ≡ None → part_turns p n found s ≡ Ok (found, s)
-part_none p zero found s e = refl
-part_none p (suc n) found [] e = refl
-part_none p (suc n) found (x ∷ s) e = absurd cc

@@ -2,7 +2,6 @@ pub mod Complete
 pub mod Covered
 pub mod Firsts
 pub mod Fixeds
-pub mod Joined
 pub mod Numbers
 pub mod Packing
 pub mod Places

@@ -5,4 +5,3 @@ pub mod Following
 pub mod KeptLemmas
 pub mod WrittenLemmas
 pub mod FoldLemmas
-pub mod ReadLemmas

@@ -88,13 +88,3 @@ change-stands m run reports shown h c run' reports' shown' st r k o =
           ∙ map-map (shown_step m (run_after m (c ∷ h)).inputs (run_after m (c ∷ h)).states c.pin) (shown_after m h)
           (output_ports m.ports);
     }
-
--- a change to the value that the input has
-pub no-event :
-    (m : VModule) (r : ModuleRun) (c : Change)
-    → is_event r.inputs c ≡ false
-    → (r ≡ run_step m r c) × (replicate (length m.checks) false ≡ step_reports m r c)
-no-event m r c e = (
-  λ j. if sym e j then happened m r c else r,
-  λ j. if sym e j then reports_at m r c else replicate (length m.checks) false,
-)

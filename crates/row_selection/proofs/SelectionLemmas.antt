@@ -202,13 +202,3 @@ selected-decide p old rows values state wide inside few =
     ∙ sym (of-kind true p old rows values state changes wide inside few)
     ∙ ap (first (λ row. is_of true row && row_matches (slice_set values p old) values state row) (row_next state) rows)
     (sym (of-kind false p old rows values state Unknown wide inside few))
-
--- the rows that are selected, one row apart
-pub selected-cons :
-    (levels : Bool) (p : ℕ) (old : Trit) (row : UdpRow) (rows : List UdpRow)
-    → selected_of levels p old (row ∷ rows) ≡ selected_of levels p old (row ∷ []) ++ selected_of levels p old rows
-selected-cons levels p old row rows =
-    elim (cases_Bool (is_of levels row && selects p old row)) [
-      | inl k ↦ rw k refl
-      | inr k ↦ rw k refl
-    ]

@@ -61,25 +61,6 @@ pub named_turn : (rule : Skipping) (n i : ℕ) (s r : List Lexeme) → i < n →
     statement_turns rule (n - i) s ≡ statement_turns rule (n - (i + 1)) r
 named_turn rule n i s r h e t = ap (λ (k : ℕ). statement_turns rule k s) (less n i h) ∙ named_suc rule (n - (i + 1)) s r e t
 
-failed_suc : (rule : Skipping) (n : ℕ) (s : List Lexeme) (k : Refusal) (m : List Lexeme) → next_start s ≡ start.Named → read rule (rest s) ≡ Err (k, m) →
-    statement_turns rule (suc n) s ≡ Err (k, m)
-failed_suc rule n [] k m e h = absurd cc
-failed_suc rule n (x ∷ s) k m e h = rw (e, h) refl
-
-failed_turn : (rule : Skipping) (n i : ℕ) (s : List Lexeme) (k : Refusal) (m : List Lexeme) → i < n → next_start s ≡ start.Named → read rule (rest s) ≡ Err (k, m) →
-    statement_turns rule (n - i) s ≡ Err (k, m)
-failed_turn rule n i s k m h e t = ap (λ (j : ℕ). statement_turns rule j s) (less n i h) ∙ failed_suc rule (n - (i + 1)) s k m e t
-
--- where a statement is refused, so are the statements
-pub failed_reads : (rule : Skipping) (n i : ℕ) (s : List Lexeme) (whole : Outcome Lexeme Refusal (Unit {0})) →
-    i < n → next_start s ≡ start.Named → statement_turns rule (n - i) s ≡ whole →
-    (more : List Lexeme) → more ≡ rest s → (found : Result (Unit {0}) Stop) (left : List Lexeme) → Reads (read rule more) found left →
-    (e : Stop) → found ≡ Err e → Reads whole (Err e) left
-failed_reads rule n i s whole h b w more v found left r Memory e = tt
-failed_reads rule n i s whole h b w more v found left r (Refused k) e =
-    let t = subst (λ f. Reads (read rule more) f left) e r in
-    sym w ∙ failed_turn rule n i s k left h b (sym (ap (λ (m : List Lexeme). read rule m) v) ∙ t)
-
 pub no_turn : (rule : Skipping) (n : ℕ) (s : List Lexeme) → next_start s ≡ start.Other → statement_turns rule n s ≡ Ok (tt, s)
 no_turn rule zero s e = refl
 no_turn rule (suc n) [] e = refl

@@ -86,10 +86,6 @@ neither : (a b : Bool) → (a || b) ≡ false → (a ≡ false) × (b ≡ false)
 neither true b e = absurd cc
 neither false b e = (refl, e)
 
-not_true : (a : Bool) → not a ≡ false → a ≡ true
-not_true true e = refl
-not_true false e = absurd cc
-
 changes-cons : (e : Entry) (entries : List Entry) → count_by (λ e. not (is_level e)) (e ∷ entries) ≡ cond (not (is_level e)) 1 0 + count_by (λ e. not (is_level e)) entries
 changes-cons e entries = sum_by-cons (λ e. cond (not (is_level e)) 1 0) e entries
 

@@ -62,23 +62,9 @@ pub lane_all : (k : ℕ) → k < 64 → lane k 18446744073709551615 ≡ true
 unfolding lane
 lane_all k h = ap (λ x. nat_eq x 1) (bit_at_ones 64 k h)
 
-pub and_true : (p : Bool) → (p && true) ≡ p
-and_true true = refl
-and_true false = refl
-
 pub and_false : (p : Bool) → (p && false) ≡ false
 and_false true = refl
 and_false false = refl
-
-pub and_swap : (p a b : Bool) → (p && (a && not b)) ≡ (p && (not b && a))
-and_swap false a b = refl
-and_swap true a true = and_false a
-and_swap true a false = and_true a
-
-pub not_swap : (p a b : Bool) → (p && not (a && not b)) ≡ (p && not (not b && a))
-not_swap false a b = refl
-not_swap true a true = ap not (and_false a)
-not_swap true a false = ap not (and_true a)
 
 pub and_assoc : (p a b : Bool) → ((p && a) && b) ≡ (p && (a && b))
 and_assoc true a b = refl
@@ -115,36 +101,6 @@ unequal_columns k points symbols inputs h =
 -- what is found with one more row
 abbrev pub found : Bool → Bool → Bool → Option Bool → Option Bool
 found u s z later = cond u later (cond s (Some true) (cond z (Some false) None))
-
-more : (u s z m : Bool) (g later : Option Bool)
-    → found (u && not (u && m)) ((s && not (u && m)) || ((u && m) && is_one g)) ((z && not (u && m)) || ((u && m) && is_zero g)) later
-    ≡ found u s z (cond m g later)
-more false false false m g later = refl
-more false false true m g later = refl
-more false true false m g later = refl
-more false true true m g later = refl
-more true s z false g later = refl
-more true false false true None later = refl
-more true false true true None later = refl
-more true true false true None later = refl
-more true true true true None later = refl
-more true false false true (Some true) later = refl
-more true false true true (Some true) later = refl
-more true true false true (Some true) later = refl
-more true true true true (Some true) later = refl
-more true false false true (Some false) later = refl
-more true false true true (Some false) later = refl
-more true true false true (Some false) later = refl
-more true true true true (Some false) later = refl
-
-pub more_found :
-    (k u ones zeros u' ones' zeros' : ℕ) (m : Bool) (g later : Option Bool)
-    → lane k u' ≡ (lane k u && not (lane k u && m))
-    → lane k ones' ≡ ((lane k ones && not (lane k u && m)) || ((lane k u && m) && is_one g))
-    → lane k zeros' ≡ ((lane k zeros && not (lane k u && m)) || ((lane k u && m) && is_zero g))
-    → found (lane k u') (lane k ones') (lane k zeros') later ≡ found (lane k u) (lane k ones) (lane k zeros) (cond m g later)
-more_found k u ones zeros u' ones' zeros' m g later o s z =
-    rw (o, s, z) (more (lane k u) (lane k ones) (lane k zeros) m g later)
 
 -- a row that matches none of the u points adds nothing
 pub none_found :

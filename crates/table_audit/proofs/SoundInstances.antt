@@ -52,46 +52,10 @@ found m p earlier (x ∷ xs) i h e =
 pub driving-stands : (m : VModule) (n : VNet) (i : Instance) → IsSound m → driving m n ≡ Some i → StandsIn m i
 driving-stands m n i sound e = found m (λ i. same_net (net_driven i) n) [] m.instances i sound.instances e
 
--- what holds of all entries holds of one
-all-get : {X : Type 0} (P : X → Type 0) (xs : List X) (i : ℕ) (x : X) → All P xs → slice_get xs i ≡ Some x → P x
-all-get P [] i x h e = absurd cc
-all-get P (y ∷ ys) zero x h e = let same : y ≡ x = cc in subst P same (h zero y (omega arith))
-all-get P (y ∷ ys) (suc i) x h e = all-get P ys i x (λ k d l. h (suc k) d (omega (arith, l))) e
-
-table-entries : (b : Bool) (udp : Udp) → IsTable b udp → HasEntries udp
-table-entries true udp t = t.entries
-table-entries false udp t = t.entries
-
-pub has-entries : (m : VModule) (number : ℕ) (udp : Udp) → IsSound m → slice_get m.udps number ≡ Some udp → HasEntries udp
-has-entries m number udp sound e =
-    table-entries udp.sequential udp (all-get (λ (u : Udp). IsTable u.sequential u) m.udps number udp sound.tables e)
-
-pub is-combinational :
-    (m : VModule) (number : ℕ) (udp : Udp)
-    → IsSound m → slice_get m.udps number ≡ Some udp → is_sequential m.udps number ≡ false → IsCombinational udp
-is-combinational m number udp sound e is =
-    let plain : udp.sequential ≡ false = sym (λ i. option_map_or (λ (u : Udp). u.sequential) (e i) false) ∙ is in
-    subst (λ b. IsTable b udp) plain (all-get (λ (u : Udp). IsTable u.sequential u) m.udps number udp sound.tables e)
-
-pub inputs-counted :
-    (m : VModule) (number : ℕ) (output : VNet) (inputs : List VNet) (udp : Udp)
-    → StandsIn m (instance.Primitive number output inputs) → slice_get m.udps number ≡ Some udp → length inputs ≡ length udp.inputs
-inputs-counted m number output inputs udp h e =
-    let both : Some h.1.0 ≡ Some udp = sym h.1.1 ∙ e in
-    let same : h.1.0 ≡ udp = cc in
-    h.1.2.entries ∙ ap (λ (u : Udp). length u.inputs) same
-
 -- as many nets feed an instance as those that it stands for
 same-count : (ms ns : List VNet) → IsTrue (same_nets ms ns) → length ms ≡ length ns
 same-count ms ns h =
     eqb-true (length ms) (length ns) (and_parts (nat_eq (length ms) (length ns)) (list_all (is_among ns) ms && list_all (is_among ms) ns) h).0
-
-pub fed-count :
-    (d : CellData) (m : VModule) (g : ℕ) (i : Instance)
-    → IsTrue (feeds_group d m g) → slice_get (sequential_instances m) g ≡ Some i → length (nets_feeding i) ≡ length (group_nets d g)
-fed-count d m g i h e =
-    same-count (nets_feeding i) (group_nets d g)
-    (subst (λ o. IsTrue (option_map_or (λ i. same_nets (nets_feeding i) (group_nets d g)) o false)) e h)
 
 standing :
     (m : VModule) (nets : List VNet) (i : Instance)

@@ -43,12 +43,6 @@ apart-last [] s t (suc k) h = refl
 apart-last (v ∷ values) s t zero h = refl
 apart-last (v ∷ values) s t (suc k) h = apart-last values s t k (λ e. h (ap suc e))
 
--- without a register there is no value of it
-pub no-note : (d : CellData) (g : ℕ) (r : NetRows) → has_notifier d ≡ false → IgnoresNote d g r
-no-note d g r e = record {
-  same_next = λ note s values long. (λ i. looked_up r (noted (e i) note values) s) ∙ sym (λ i. looked_up r (noted (e i) Unknown values) s);
-}
-
 pub note-ignored : (d : CellData) (g : ℕ) (r : NetRows) → IgnoresNet (length (support_at d g)) r → IgnoresNote d g r
 note-ignored d g r h = record { same_next = λ note s values long. by (has_notifier d) note s values long }
   where

@@ -66,17 +66,6 @@ floating_as unit number core outputs read drivers cell h l d f =
 
 -- A cell without three-state outputs, and one with some.
 
-pub empty_is : {A : Type 0} (xs : List A) → (length xs == 0) ≡ true → xs ≡ []
-empty_is [] h = refl
-empty_is (x ∷ xs) h = let none : length (x ∷ xs) ≡ 0 = eqb-true (length (x ∷ xs)) 0 h in absurd (omega arith)
-
-pub some_are : {A : Type 0} (xs : List A) → (length xs == 0) ≡ false → xs ≡ [] → ⊥
-some_are [] h e = absurd cc
-some_are (x ∷ xs) h e = absurd cc
-
-pub no_outputs : (cell : Group) (pins : CellPins) → ArePins cell pins → pins.outputs.items ≡ [] → three_state_outputs cell ≡ []
-no_outputs cell pins h e = sym h.of_outputs ∙ ap (map shown) e
-
 pub plain_as :
     (unit : Option Unit) (number : ℕ) (cell : Group) (read : ReadCell) (driven : DrivenCell)
     → three_state_outputs cell ≡ [] → IsCellOf (subject_of unit cell) number cell read.cell → read.left_out ≡ left_out_of (subject_of unit cell) cell

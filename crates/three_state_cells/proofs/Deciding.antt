@@ -84,15 +84,6 @@ early_numbers earlier cell =
 
 -- No early reason is met where a cell is accepted, or refused by a later one.
 
-unmet_by :
-    (subject : Subject) (earlier : List (List ℕ)) (cell : Group) (early : Option Refusal)
-    → first_refusal (early_reasons earlier cell) ≡ early → refusal_of subject earlier cell ≡ None → first_refusal (early_reasons earlier cell) ≡ None
-unmet_by subject earlier cell None e h = e
-unmet_by subject earlier cell (Some told) e h = let met : refusal_of subject earlier cell ≡ Some told = early_decides subject earlier cell told e in absurd cc
-
-pub accepted_early : (subject : Subject) (earlier : List (List ℕ)) (cell : Group) → refusal_of subject earlier cell ≡ None → IsEarlyUnmet cell
-accepted_early subject earlier cell h = (earlier, unmet_by subject earlier cell (first_refusal (early_reasons earlier cell)) refl h)
-
 late_by_number :
     (subject : Subject) (earlier : List (List ℕ)) (cell : Group) (told : Refusal) (early : Option Refusal)
     → first_refusal (early_reasons earlier cell) ≡ early → IsEarly early → refusal_of subject earlier cell ≡ Some told

@@ -11,11 +11,3 @@ passed n i s q u h e =
     let k : n - i ≡ suc (n - (i + 1)) = omega (arith, h) in
     ap (λ (m : ℕ). read (buffers (i + 1) m) s) k
     ∙ ap (λ (o : Outcome (List ℕ) Refusal (Unit {0})). and_then o (λ _ v. read (buffers (i + 1 + 1) (n - (i + 1))) v)) e
-
--- one that is refused
-pub refused : (n i : ℕ) (s q : List (List ℕ)) (k : Refusal) → i < n → read (buffer (i + 1)) s ≡ Err (k, q)
-    → read (buffers (i + 1) (n - i)) s ≡ Err (k, q)
-refused n i s q k h e =
-    let m : n - i ≡ suc (n - (i + 1)) = omega (arith, h) in
-    ap (λ (m : ℕ). read (buffers (i + 1) m) s) m
-    ∙ ap (λ (o : Outcome (List ℕ) Refusal (Unit {0})). and_then o (λ _ v. read (buffers (i + 1 + 1) (n - (i + 1))) v)) e

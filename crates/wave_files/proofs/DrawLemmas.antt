@@ -35,10 +35,6 @@ told : (P : Outcome → Type 0) (left : Option (List ℕ)) (taken : Taken) → I
 told P None taken b m h = tt
 told P (Some all) taken b m h = subst P (sym (known taken.more taken.bytes.items all b m)) h
 
-owed : (r : Result Status Stop) (P : Status → Type 0) (Q : Type 0) → IfOk r P → ((status : Status) → P status → Q) → IfOk r (λ _. Q)
-owed (Ok x) P Q h f = f x h
-owed (Err y) P Q h f = tt
-
 whole_told : (old : DeskState) (taken : Taken) (text : Written) (faults : List ℕ) (r : Result Status Stop) → IfSome (old.left Library) (λ all. taken.bytes.items ≡ take report_limit all)
     → IfSome (old.left Library) (λ all. taken.more ≡ nat_lt report_limit (length all)) → IfOk r (λ status. IsAllOf status text faults (outcome_where taken.more taken.bytes.items))
     → IfOk r (λ status. IfSome (old.left Library) (λ bytes. IsAllOf status text faults (report_outcome bytes)))

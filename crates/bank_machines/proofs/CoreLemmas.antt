@@ -16,13 +16,13 @@ use Rattle.liberty_groups.specs.Attributes.{Attribute, text_of, simple_named, at
 use Rattle.cell_machine.specs.declared.groups.StateGroup.{StateGroup}
 use Rattle.cell_machine.specs.declared.pins.Direction.{Direction}
 use Rattle.cell_machine.specs.declared.pins.Direction.TheVariants as direction
-use Rattle.cell_parts.specs.Groups.{inner_of, is_pin, is_state}
-use Rattle.cell_parts.specs.Pins.{direction_as, direction_of, owner_as, owners_in}
-use Rattle.cell_parts.specs.Scans.{is_output_group}
-use Rattle.cell_parts.specs.Vocabulary.{Vocabulary}
-use Rattle.cell_parts.specs.Texts.{malformed_at, unknown_at}
-use Rattle.cell_parts.specs.Outputs.{node_as, output_with, pin_text_as, pin_text}
-use Rattle.cell_parts.specs.Building.{output_pin, output_in, outputs_from}
+use Rattle.cell_attributes.specs.Groups.{inner_of, is_pin, is_state}
+use Rattle.cell_attributes.specs.Pins.{direction_as, direction_of, owner_as, owners_in}
+use Rattle.cell_attributes.specs.Scans.{is_output_group}
+use Rattle.cell_attributes.specs.Vocabulary.{Vocabulary}
+use Rattle.cell_attributes.specs.Texts.{malformed_at, unknown_at}
+use Rattle.cell_attributes.specs.Outputs.{node_as, output_with, pin_text_as, pin_text}
+use Rattle.cell_attributes.specs.Building.{output_pin, output_in, outputs_from}
 use Rattle.three_state_cells.specs.Outputs.{ThreeStateOutput, three_state_of, is_three_state}
 use Rattle.three_state_cells.specs.CoreGroups.{stays_in_core, core_pin, core_statement_as, core_statement, one_value, enable_function, enable_statements, enable_pin_of, enable_pins}
 use Rattle.three_state_cells.proofs.Statements.{not_false, attributes_kept}

@@ -10,11 +10,11 @@ use Rattle.liberty_groups.specs.declared.tree.Item.TheViews.{out-roll-Group}
 use Rattle.liberty_groups.specs.declared.tree.Group.{Group}
 use Rattle.cell_machine.specs.declared.groups.StateGroup.{StateGroup}
 use Rattle.cell_machine.specs.declared.outputs.OutputPin.{OutputPin}
-use Rattle.cell_parts.specs.CellLaws.{numbers_of, groups_of, outputs_of, CellMeetsNone}
-use Rattle.cell_parts.specs.Groups.{cell_name, pin_groups}
-use Rattle.cell_parts.specs.Pins.{pins_of}
-use Rattle.cell_parts.specs.Vocabulary.{Vocabulary, vocabulary}
-use Rattle.cell_parts.specs.Building.{outputs_from}
+use Rattle.cell_attributes.specs.CellLaws.{numbers_of, groups_of, outputs_of, CellMeetsNone}
+use Rattle.cell_attributes.specs.Groups.{cell_name, pin_groups}
+use Rattle.cell_attributes.specs.Pins.{pins_of}
+use Rattle.cell_attributes.specs.Vocabulary.{Vocabulary, vocabulary}
+use Rattle.cell_attributes.specs.Building.{outputs_from}
 use Rattle.cell_reader.specs.declared.refusal.Refusal.{Refusal}
 use Rattle.cell_reader.specs.CellTexts.{subject_of}
 use Rattle.cell_reader.specs.Refusals.{refusal_of}

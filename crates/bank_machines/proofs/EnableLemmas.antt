@@ -10,17 +10,17 @@ use Rattle.liberty_groups.specs.Attributes.{Attribute, attribute_of}
 use Rattle.cell_machine.specs.declared.groups.StateGroup.{StateGroup}
 use Rattle.cell_machine.specs.declared.outputs.OutputPin.{OutputPin}
 use Rattle.cell_machine.specs.declared.pins.Direction.TheVariants as direction
-use Rattle.cell_parts.specs.declared.texts.Scope.TheVariants as scope
-use Rattle.cell_parts.specs.declared.texts.Text.{Text}
-use Rattle.cell_parts.specs.Groups.{is_pin}
-use Rattle.cell_parts.specs.Pins.{direction_as, direction_of}
-use Rattle.cell_parts.specs.Scans.{is_output_group}
-use Rattle.cell_parts.specs.Vocabulary.{Vocabulary}
-use Rattle.cell_parts.specs.Outputs.{output_with, pin_text_as, pin_text}
-use Rattle.cell_parts.specs.Texts.{text_as, malformed_at, unknown_at}
-use Rattle.cell_parts.specs.Building.{function_of, output_pin, output_in, outputs_from}
-use Rattle.cell_parts.proofs.Distinct.{nil_parts}
-use Rattle.cell_parts.proofs.TextNames.{IsSound, function_apart}
+use Rattle.cell_attributes.specs.declared.texts.Scope.TheVariants as scope
+use Rattle.cell_attributes.specs.declared.texts.Text.{Text}
+use Rattle.cell_attributes.specs.Groups.{is_pin}
+use Rattle.cell_attributes.specs.Pins.{direction_as, direction_of}
+use Rattle.cell_attributes.specs.Scans.{is_output_group}
+use Rattle.cell_attributes.specs.Vocabulary.{Vocabulary}
+use Rattle.cell_attributes.specs.Outputs.{output_with, pin_text_as, pin_text}
+use Rattle.cell_attributes.specs.Texts.{text_as, malformed_at, unknown_at}
+use Rattle.cell_attributes.specs.Building.{function_of, output_pin, output_in, outputs_from}
+use Rattle.cell_attributes.proofs.Distinct.{nil_parts}
+use Rattle.cell_attributes.proofs.TextNames.{IsSound, function_apart}
 use Rattle.three_state_cells.specs.Outputs.{ThreeStateOutput, three_state_of, is_three_state, outputs_from as three_states_from}
 use Rattle.three_state_cells.specs.CoreGroups.{enable_function}
 use Rattle.three_state_cells.proofs.CorePins.{three_state_floats}

@@ -20,11 +20,11 @@ use Rattle.bool_functions.proofs.Complete.{text_tree}
 use Rattle.bool_functions.proofs.JoinedTexts.{symbols_append}
 use Rattle.bool_functions.proofs.Readings.{alike_symbols, reading_tree}
 use Rattle.bool_functions.proofs.Trees.{fold-Not}
-use Rattle.cell_parts.specs.declared.texts.Scope.{Scope}
-use Rattle.cell_parts.specs.Building.{function_of}
-use Rattle.cell_parts.specs.Texts.{judged, text_as}
-use Rattle.cell_parts.specs.Vocabulary.{Vocabulary}
-use Rattle.cell_parts.proofs.TextNames.{IsSound}
+use Rattle.cell_attributes.specs.declared.texts.Scope.{Scope}
+use Rattle.cell_attributes.specs.Building.{function_of}
+use Rattle.cell_attributes.specs.Texts.{judged, text_as}
+use Rattle.cell_attributes.specs.Vocabulary.{Vocabulary}
+use Rattle.cell_attributes.proofs.TextNames.{IsSound}
 use Rattle.three_state_cells.specs.CoreGroups.{reads_alone, enable_function}
 use Rattle.bus_texts.specs.declared.vectors.Vector.{Vector}
 use Rattle.bus_texts.specs.Texts.{is_misplaced, text_fails, rewritten}

@@ -18,12 +18,12 @@ use Rattle.cell_machine.specs.CellRules.{are_groups_from}
 use Rattle.cell_machine.specs.CellTrace.{cell_line, delay_at, delay_after, reports_of, NamedGroup, inputs_of, named_from, state_after, states_after, output_value, output_after}
 use Rattle.cell_machine.specs.Delay.{least}
 use Rattle.cell_machine.specs.History.{inputs_after}
-use Rattle.cell_parts.specs.CellLaws.{numbers_of, groups_of, outputs_of, CellMeetsNone}
-use Rattle.cell_parts.specs.Groups.{pin_groups}
-use Rattle.cell_parts.specs.Pins.{pins_of}
-use Rattle.cell_parts.specs.Vocabulary.{Vocabulary, vocabulary}
-use Rattle.cell_parts.specs.Building.{output_in, outputs_from}
-use Rattle.cell_parts.proofs.CellGroups.{groups_keep_rules}
+use Rattle.cell_attributes.specs.CellLaws.{numbers_of, groups_of, outputs_of, CellMeetsNone}
+use Rattle.cell_attributes.specs.Groups.{pin_groups}
+use Rattle.cell_attributes.specs.Pins.{pins_of}
+use Rattle.cell_attributes.specs.Vocabulary.{Vocabulary, vocabulary}
+use Rattle.cell_attributes.specs.Building.{output_in, outputs_from}
+use Rattle.cell_attributes.proofs.CellGroups.{groups_keep_rules}
 use Rattle.cell_reader.specs.CellTexts.{subject_of}
 use Rattle.cell_reader.proofs.Accepted.{accepted_meets_none_here}
 use Rattle.cell_reader.proofs.Refused.{least_none}

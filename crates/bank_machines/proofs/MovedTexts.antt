@@ -18,11 +18,11 @@ use Rattle.bus_texts.specs.Vectors.{is_called}
 use Rattle.bus_texts.specs.Texts.{is_misplaced, rewritten, text_for, text_fails}
 use Rattle.bank_cells.specs.Faults.{pin_texts, fault_of}
 use Rattle.bank_cells.specs.Expanded.{values_at, values_if, is_one_of, text_as as statement_as, text_at, timing_at, pin_item_as, pin_item}
-use Rattle.cell_parts.specs.declared.texts.Scope.{Scope}
-use Rattle.cell_parts.specs.Building.{function_in}
-use Rattle.cell_parts.specs.Texts.{judged, text_as}
-use Rattle.cell_parts.specs.Vocabulary.{Vocabulary}
-use Rattle.cell_parts.proofs.TextNames.{IsSound}
+use Rattle.cell_attributes.specs.declared.texts.Scope.{Scope}
+use Rattle.cell_attributes.specs.Building.{function_in}
+use Rattle.cell_attributes.specs.Texts.{judged, text_as}
+use Rattle.cell_attributes.specs.Vocabulary.{Vocabulary}
+use Rattle.cell_attributes.proofs.TextNames.{IsSound}
 use Rattle.bank_machines.specs.BankTexts.{CellNames, function_if}
 use Rattle.bank_machines.proofs.TextLemmas.{Spells, read_same, IsRead, judged_reads}
 

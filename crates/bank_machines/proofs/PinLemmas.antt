@@ -16,19 +16,19 @@ use Rattle.bool_functions.proofs.Trees.{fold-Name}
 use Rattle.cell_machine.specs.declared.groups.StateGroup.{StateGroup}
 use Rattle.cell_machine.specs.declared.pins.Direction.{Direction}
 use Rattle.cell_machine.specs.declared.pins.Direction.TheVariants as direction
-use Rattle.cell_parts.specs.declared.texts.Scope.{Scope}
-use Rattle.cell_parts.specs.declared.texts.Scope.TheVariants as scope
-use Rattle.cell_parts.specs.declared.texts.Text.{Text}
-use Rattle.cell_parts.specs.declared.texts.Text.TheVariants as text
-use Rattle.cell_parts.specs.declared.vocabulary.Class.{Class}
-use Rattle.cell_parts.specs.Pins.{direction_as, direction_of}
-use Rattle.cell_parts.specs.Scans.{is_output_group}
-use Rattle.cell_parts.specs.Vocabulary.{Vocabulary}
-use Rattle.cell_parts.specs.Texts.{is_coupled, use_of, class_at, text_as, is_node_class, node_at, malformed_at, unknown_at, coupled_at}
-use Rattle.cell_parts.specs.Outputs.{output_with, output_text, pin_text_as, pin_text}
-use Rattle.cell_parts.specs.Building.{function_in, function_of, output_pin, output_in, outputs_from}
-use Rattle.cell_parts.proofs.Distinct.{nil_parts}
-use Rattle.cell_parts.proofs.TextNames.{IsSound, function_apart, state_function_apart}
+use Rattle.cell_attributes.specs.declared.texts.Scope.{Scope}
+use Rattle.cell_attributes.specs.declared.texts.Scope.TheVariants as scope
+use Rattle.cell_attributes.specs.declared.texts.Text.{Text}
+use Rattle.cell_attributes.specs.declared.texts.Text.TheVariants as text
+use Rattle.cell_attributes.specs.declared.vocabulary.Class.{Class}
+use Rattle.cell_attributes.specs.Pins.{direction_as, direction_of}
+use Rattle.cell_attributes.specs.Scans.{is_output_group}
+use Rattle.cell_attributes.specs.Vocabulary.{Vocabulary}
+use Rattle.cell_attributes.specs.Texts.{is_coupled, use_of, class_at, text_as, is_node_class, node_at, malformed_at, unknown_at, coupled_at}
+use Rattle.cell_attributes.specs.Outputs.{output_with, output_text, pin_text_as, pin_text}
+use Rattle.cell_attributes.specs.Building.{function_in, function_of, output_pin, output_in, outputs_from}
+use Rattle.cell_attributes.proofs.Distinct.{nil_parts}
+use Rattle.cell_attributes.proofs.TextNames.{IsSound, function_apart, state_function_apart}
 use Rattle.bus_texts.specs.declared.vectors.Vector.{Vector}
 use Rattle.bank_cells.specs.Faults.{pin_texts, fault_of, fault_named, text_faults}
 use Rattle.bank_cells.specs.Expanded.{is_one_of, pin_item}

@@ -13,12 +13,12 @@ use Rattle.liberty_groups.specs.declared.tree.Item.TheOpen as layer
 use Rattle.liberty_groups.specs.declared.tree.Item.TheVariants as made
 use Rattle.liberty_groups.specs.declared.tree.Item.TheViews.{outs-Simple, outs-Complex, outs-Inner, out-roll-Group}
 use Rattle.liberty_groups.specs.declared.tree.Group.{Group, roll-Group}
-use Rattle.cell_parts.specs.Groups.{inner_of, inner_groups, is_pin}
-use Rattle.cell_parts.specs.Pins.{owner_as, owners_in}
-use Rattle.cell_parts.specs.Vocabulary.{Vocabulary}
-use Rattle.cell_parts.specs.Outputs.{pin_text}
-use Rattle.cell_parts.specs.Texts.{malformed_at, unknown_at}
-use Rattle.cell_parts.proofs.Distinct.{nil_parts}
+use Rattle.cell_attributes.specs.Groups.{inner_of, inner_groups, is_pin}
+use Rattle.cell_attributes.specs.Pins.{owner_as, owners_in}
+use Rattle.cell_attributes.specs.Vocabulary.{Vocabulary}
+use Rattle.cell_attributes.specs.Outputs.{pin_text}
+use Rattle.cell_attributes.specs.Texts.{malformed_at, unknown_at}
+use Rattle.cell_attributes.proofs.Distinct.{nil_parts}
 use Rattle.bus_texts.specs.declared.bus_types.BusType.{BusType}
 use Rattle.bus_texts.specs.declared.vectors.Vector.{Vector}
 use Rattle.bus_texts.specs.Vectors.{Bank, is_called, is_bank, bank_of, pin_vectors, positions}

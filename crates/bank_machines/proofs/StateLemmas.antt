@@ -15,18 +15,18 @@ use Rattle.cell_machine.specs.declared.groups.GroupKind.{GroupKind}
 use Rattle.cell_machine.specs.declared.groups.GroupKind.TheVariants as kind
 use Rattle.cell_machine.specs.declared.groups.StateGroup.{StateGroup}
 use Rattle.cell_machine.specs.declared.pins.Pin.{Pin}
-use Rattle.cell_parts.specs.declared.texts.Scope.{Scope}
-use Rattle.cell_parts.specs.declared.texts.Scope.TheVariants as scope
-use Rattle.cell_parts.specs.declared.texts.Text.{Text}
-use Rattle.cell_parts.specs.declared.state_readings.StateReading.{StateReading}
-use Rattle.cell_parts.specs.States.{Arguments, two_of, arguments_of, is_table, both_named, both_with, unless_kept, first_both, second_both}
-use Rattle.cell_parts.specs.Vocabulary.{Vocabulary}
-use Rattle.cell_parts.specs.Texts.{text_as}
-use Rattle.cell_parts.specs.StateReadings.{is_ff, own_scope, reading_of_texts, reading_of_table, state_reading}
-use Rattle.cell_parts.specs.Building.{function_in, clocked, gated, kind_of_texts, table_groups, groups_with, groups_in}
-use Rattle.cell_parts.proofs.Distinct.{nil_parts}
-use Rattle.cell_parts.proofs.GroupRules.{IsSoundReading}
-use Rattle.cell_parts.proofs.TextNames.{IsSound}
+use Rattle.cell_attributes.specs.declared.texts.Scope.{Scope}
+use Rattle.cell_attributes.specs.declared.texts.Scope.TheVariants as scope
+use Rattle.cell_attributes.specs.declared.texts.Text.{Text}
+use Rattle.cell_attributes.specs.declared.state_readings.StateReading.{StateReading}
+use Rattle.cell_attributes.specs.States.{Arguments, two_of, arguments_of, is_table, both_named, both_with, unless_kept, first_both, second_both}
+use Rattle.cell_attributes.specs.Vocabulary.{Vocabulary}
+use Rattle.cell_attributes.specs.Texts.{text_as}
+use Rattle.cell_attributes.specs.StateReadings.{is_ff, own_scope, reading_of_texts, reading_of_table, state_reading}
+use Rattle.cell_attributes.specs.Building.{function_in, clocked, gated, kind_of_texts, table_groups, groups_with, groups_in}
+use Rattle.cell_attributes.proofs.Distinct.{nil_parts}
+use Rattle.cell_attributes.proofs.GroupRules.{IsSoundReading}
+use Rattle.cell_attributes.proofs.TextNames.{IsSound}
 use Rattle.bus_texts.specs.declared.vectors.Vector.{Vector}
 use Rattle.bus_texts.specs.Vectors.{Bank, is_called, is_bank, member_name}
 use Rattle.bank_cells.specs.Faults.{ff_texts, latch_texts, fault_named}

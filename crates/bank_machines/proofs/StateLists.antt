@@ -14,14 +14,14 @@ use Rattle.liberty_groups.specs.declared.tree.Group.{Group}
 use Rattle.cell_machine.specs.declared.groups.StateGroup.{StateGroup}
 use Rattle.cell_machine.specs.declared.pins.Pin.{Pin}
 use Rattle.cell_machine.specs.CellRules.{is_group, are_groups_from}
-use Rattle.cell_parts.specs.declared.state_readings.StateReading.{StateReading}
-use Rattle.cell_parts.specs.Groups.{inner_of, inner_groups, is_state}
-use Rattle.cell_parts.specs.TextFaults.{malformed_in, unknown_in, coupled_in}
-use Rattle.cell_parts.specs.Vocabulary.{Vocabulary}
-use Rattle.cell_parts.specs.StateReadings.{state_reading}
-use Rattle.cell_parts.specs.Building.{groups_in, groups_from}
-use Rattle.cell_parts.proofs.Distinct.{nil_parts}
-use Rattle.cell_parts.proofs.GroupRules.{IsSoundReading, sound_reading}
+use Rattle.cell_attributes.specs.declared.state_readings.StateReading.{StateReading}
+use Rattle.cell_attributes.specs.Groups.{inner_of, inner_groups, is_state}
+use Rattle.cell_attributes.specs.TextFaults.{malformed_in, unknown_in, coupled_in}
+use Rattle.cell_attributes.specs.Vocabulary.{Vocabulary}
+use Rattle.cell_attributes.specs.StateReadings.{state_reading}
+use Rattle.cell_attributes.specs.Building.{groups_in, groups_from}
+use Rattle.cell_attributes.proofs.Distinct.{nil_parts}
+use Rattle.cell_attributes.proofs.GroupRules.{IsSoundReading, sound_reading}
 use Rattle.bus_texts.specs.declared.bus_types.BusType.{BusType}
 use Rattle.bus_texts.specs.declared.vectors.Vector.{Vector}
 use Rattle.bus_texts.specs.Vectors.{Bank, is_called, is_bank, bank_of, pin_vectors, positions}

@@ -8,8 +8,8 @@ use Rattle.cell_machine.specs.declared.groups.StateGroup.{StateGroup}
 use Rattle.cell_machine.specs.Names.{has}
 use Rattle.cell_machine.specs.CellRules.{is_ascending, is_input_pin, is_support, control_names, data_names, names_support, is_kind, is_group}
 use Rattle.cell_machine.proofs.CellFacts.{list_all-implied, has-all, input-below}
-use Rattle.cell_parts.specs.StateReadings.{pins_among}
-use Rattle.cell_parts.proofs.Members.{all_from, in_passes, stand_in, placed_in, in_placed, placed_ascend, in_filter, filter_in, filter_all, all_both}
+use Rattle.cell_attributes.specs.StateReadings.{pins_among}
+use Rattle.cell_attributes.proofs.Members.{all_from, in_passes, stand_in, placed_in, in_placed, placed_ascend, in_filter, filter_in, filter_all, all_both}
 use Rattle.bank_machines.specs.BankStates.{state_of_kind}
 
 -- ascending lists of the same numbers are equal

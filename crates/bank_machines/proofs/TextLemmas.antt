@@ -31,12 +31,12 @@ use Rattle.bus_texts.specs.Texts.{Becomes, Missing, becomes, replaced_by, is_mis
 use Rattle.bus_texts.specs.Vectors.{member_name, has_name, vector_named}
 use Rattle.bus_texts.proofs.RewrittenTexts.{identifier_word, symbols_replaced}
 use Rattle.bus_texts.proofs.RunningTexts.{is_stray, stray_unread, running_unread}
-use Rattle.cell_parts.specs.declared.texts.Scope.{Scope}
-use Rattle.cell_parts.specs.declared.texts.Text.{Text}
-use Rattle.cell_parts.specs.declared.texts.Text.TheVariants as text
-use Rattle.cell_parts.specs.declared.vocabulary.Class.{Class}
-use Rattle.cell_parts.specs.Texts.{unknown_at, has_unknown, has_coupled, judged_tree, judged, is_coupled, use_of, use_at, class_at, coupled_at}
-use Rattle.cell_parts.proofs.TextNames.{IsSound}
+use Rattle.cell_attributes.specs.declared.texts.Scope.{Scope}
+use Rattle.cell_attributes.specs.declared.texts.Text.{Text}
+use Rattle.cell_attributes.specs.declared.texts.Text.TheVariants as text
+use Rattle.cell_attributes.specs.declared.vocabulary.Class.{Class}
+use Rattle.cell_attributes.specs.Texts.{unknown_at, has_unknown, has_coupled, judged_tree, judged, is_coupled, use_of, use_at, class_at, coupled_at}
+use Rattle.cell_attributes.proofs.TextNames.{IsSound}
 use Rattle.bank_machines.specs.BankTexts.{other_symbols, CellNames, number_in_cell, bit_name, name_as, is_name_part, symbol_at, symbols_from, tree_or, number_at, numbers_at, function_at}
 use Rattle.bank_machines.proofs.PartFacts.{IsWritten, IsPart, are_parts}
 

@@ -8,11 +8,11 @@ use Rattle.bool_functions.specs.declared.tree.Node.{Node}
 use Rattle.bool_functions.specs.declared.tree.Node.TheVariants as tree
 use Rattle.cell_machine.specs.declared.groups.StateGroup.{StateGroup}
 use Rattle.cell_machine.specs.declared.outputs.OutputPin.{OutputPin}
-use Rattle.cell_parts.specs.declared.texts.Scope.TheVariants as scope
-use Rattle.cell_parts.specs.Pins.{pins_of}
-use Rattle.cell_parts.specs.Texts.{text_as}
-use Rattle.cell_parts.specs.Vocabulary.{Vocabulary, vocabulary}
-use Rattle.cell_parts.specs.Building.{function_of}
+use Rattle.cell_attributes.specs.declared.texts.Scope.TheVariants as scope
+use Rattle.cell_attributes.specs.Pins.{pins_of}
+use Rattle.cell_attributes.specs.Texts.{text_as}
+use Rattle.cell_attributes.specs.Vocabulary.{Vocabulary, vocabulary}
+use Rattle.cell_attributes.specs.Building.{function_of}
 use Rattle.three_state_cells.specs.Outputs.{three_state_of, is_three_state}
 use Rattle.three_state_cells.specs.CoreGroups.{enable_function, core_group}
 use Rattle.bus_texts.specs.declared.bus_types.BusType.{BusType}

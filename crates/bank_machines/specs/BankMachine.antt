@@ -12,9 +12,9 @@ use Rattle.cell_machine.specs.CellData.{CellData}
 use Rattle.cell_machine.specs.History.{inputs_after}
 use Rattle.cell_machine.specs.CellTrace.{inputs_of, NamedGroup, named_from, state_after, output_value, reports_of, delay_at}
 use Rattle.cell_machine.specs.Lines.{Line, shown_line, trace}
-use Rattle.cell_parts.specs.Pins.{pins_of}
-use Rattle.cell_parts.specs.Vocabulary.{vocabulary}
-use Rattle.cell_parts.specs.CellLaws.{numbers_of}
+use Rattle.cell_attributes.specs.Pins.{pins_of}
+use Rattle.cell_attributes.specs.Vocabulary.{vocabulary}
+use Rattle.cell_attributes.specs.CellLaws.{numbers_of}
 use Rattle.bus_texts.specs.declared.bus_types.BusType.{BusType}
 use Rattle.bus_texts.specs.Vectors.{cell_vectors}
 use Rattle.bank_cells.specs.Expanded.{expanded}

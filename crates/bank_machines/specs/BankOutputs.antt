@@ -11,12 +11,12 @@ use Rattle.bool_functions.specs.declared.tree.Node.{Node}
 use Rattle.bool_functions.specs.declared.tree.Node.TheVariants as tree
 use Rattle.cell_machine.specs.declared.groups.StateGroup.{StateGroup}
 use Rattle.cell_machine.specs.declared.outputs.OutputPin.{OutputPin}
-use Rattle.cell_parts.specs.Groups.{is_pin}
-use Rattle.cell_parts.specs.Pins.{direction_of}
-use Rattle.cell_parts.specs.Scans.{is_output_group}
-use Rattle.cell_parts.specs.Vocabulary.{Vocabulary}
-use Rattle.cell_parts.specs.Outputs.{pin_text}
-use Rattle.cell_parts.specs.Building.{function_of, sources_of}
+use Rattle.cell_attributes.specs.Groups.{is_pin}
+use Rattle.cell_attributes.specs.Pins.{direction_of}
+use Rattle.cell_attributes.specs.Scans.{is_output_group}
+use Rattle.cell_attributes.specs.Vocabulary.{Vocabulary}
+use Rattle.cell_attributes.specs.Outputs.{pin_text}
+use Rattle.cell_attributes.specs.Building.{function_of, sources_of}
 use Rattle.bus_texts.specs.declared.bus_types.BusType.{BusType}
 use Rattle.bus_texts.specs.declared.vectors.Vector.{Vector}
 use Rattle.bus_texts.specs.Vectors.{pin_vectors}

@@ -13,11 +13,11 @@ use Rattle.cell_machine.specs.declared.groups.GroupKind.{GroupKind}
 use Rattle.cell_machine.specs.declared.groups.GroupKind.TheVariants as kind
 use Rattle.cell_machine.specs.declared.groups.StateGroup.{StateGroup}
 use Rattle.cell_machine.specs.CellRules.{control_names, data_names}
-use Rattle.cell_parts.specs.Groups.{is_state}
-use Rattle.cell_parts.specs.States.{first_both, second_both}
-use Rattle.cell_parts.specs.Vocabulary.{Vocabulary}
-use Rattle.cell_parts.specs.StateReadings.{pins_among, state_reading}
-use Rattle.cell_parts.specs.Building.{groups_in}
+use Rattle.cell_attributes.specs.Groups.{is_state}
+use Rattle.cell_attributes.specs.States.{first_both, second_both}
+use Rattle.cell_attributes.specs.Vocabulary.{Vocabulary}
+use Rattle.cell_attributes.specs.StateReadings.{pins_among, state_reading}
+use Rattle.cell_attributes.specs.Building.{groups_in}
 use Rattle.bus_texts.specs.Vectors.{Bank, is_called, is_bank, bank_of, positions}
 use Rattle.bank_machines.specs.BankTexts.{CellNames, function_if, function_or}
 

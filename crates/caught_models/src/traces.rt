@@ -2,12 +2,11 @@
 ghost use Rattle.std.specs.Prelude.{◌≡◌, [], Ok, IfOk, is_some};
 ghost use Rattle.cell_machine.specs.History.{IsProperFrom};
 ghost use Rattle.stimulus.specs.DriveLines.{lines_along};
-ghost use Rattle.section_runs.specs.Differences.{first_difference as first_difference_of};
+ghost use Rattle.stimulus.specs.Differences.{first_difference as first_difference_of};
 
 use cell_machine::Change;
-use section_runs::first_difference;
+use stimulus::{TraceSim, first_difference};
 use std::alloc::AllocError;
-use stimulus::TraceSim;
 
 /// Two simulators.
 #[derive(Drop)]

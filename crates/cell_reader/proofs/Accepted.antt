@@ -5,31 +5,31 @@ use Rattle.liberty_groups.specs.declared.tree.Group.{Group}
 use Rattle.cell_machine.specs.CellRules.{is_name}
 use Rattle.cell_machine.proofs.RuleLemmas.{cell_of_rules}
 use Rattle.timing_arcs.specs.declared.subject.Subject.{Subject}
-use Rattle.cell_parts.specs.Groups.{cell_name, state_groups}
-use Rattle.cell_parts.specs.Pins.{pins_of, owners_of}
-use Rattle.cell_parts.specs.Declarations.{declared_of, known_cell, clashes_after, bad_cell_name, bad_name_in}
-use Rattle.cell_parts.specs.Vocabulary.{vocabulary}
-use Rattle.cell_parts.specs.StateReadings.{state_reading}
-use Rattle.cell_parts.specs.Texts.{malformed_at, unknown_at}
-use Rattle.cell_parts.specs.TextFaults.{malformed_in, unknown_in}
-use Rattle.cell_parts.specs.CellLaws.{readings_of, texts_of, numbers_of, groups_of, outputs_of, CellMeetsNone}
-use Rattle.cell_parts.specs.Limits.{first_past, state_at, wide_output}
+use Rattle.cell_attributes.specs.Groups.{cell_name, state_groups}
+use Rattle.cell_attributes.specs.Pins.{pins_of, owners_of}
+use Rattle.cell_attributes.specs.Declarations.{declared_of, known_cell, clashes_after, bad_cell_name, bad_name_in}
+use Rattle.cell_attributes.specs.Vocabulary.{vocabulary}
+use Rattle.cell_attributes.specs.StateReadings.{state_reading}
+use Rattle.cell_attributes.specs.Texts.{malformed_at, unknown_at}
+use Rattle.cell_attributes.specs.TextFaults.{malformed_in, unknown_in}
+use Rattle.cell_attributes.specs.CellLaws.{readings_of, texts_of, numbers_of, groups_of, outputs_of, CellMeetsNone}
+use Rattle.cell_attributes.specs.Limits.{first_past, state_at, wide_output}
 use Rattle.cell_reader.specs.Written.{wide_support_of}
 use Rattle.cell_machine.specs.Delay.{least}
 use Rattle.cell_timings.specs.PinTimings.{check_at_in, arc_at_in, wide_in}
 use Rattle.cell_reader.specs.CellTexts.{subject_of}
 use Rattle.cell_reader.specs.Refusals.{reasons_of, refusal_of, timing_answers, checks_of, arcs_of}
 use Rattle.cell_reader.specs.Laws.{AcceptedMeetsNone, AcceptedPinsAreSound, AcceptedStatesAreFew, AcceptedCellsAreSound}
-use Rattle.cell_parts.proofs.Distinct.{nil_parts}
-use Rattle.cell_parts.proofs.PinRules.{within_limit, pins_are_sound}
-use Rattle.cell_parts.proofs.GroupCount.{group_count}
+use Rattle.cell_attributes.proofs.Distinct.{nil_parts}
+use Rattle.cell_attributes.proofs.PinRules.{within_limit, pins_are_sound}
+use Rattle.cell_attributes.proofs.GroupCount.{group_count}
 use Rattle.cell_reader.proofs.Refused.{all_unmet, least_none}
 use Rattle.cell_reader.proofs.AllPlaces.{check_at_all, arc_at_all, wide_all}
 use Rattle.cell_reader.proofs.Decides.{all_read, coupled_told_is, supports_told_are, wide_supports_told_are}
 use Rattle.cell_reader.proofs.PartCounts.{IsWithinLimits, within_limits}
 use Rattle.cell_timings.proofs.TimingRules.{checks_rules, arcs_rules, arcs_apart}
-use Rattle.cell_parts.proofs.CellGroups.{groups_keep_rules}
-use Rattle.cell_parts.proofs.CellOutputs.{outputs_keep_rules}
+use Rattle.cell_attributes.proofs.CellGroups.{groups_keep_rules}
+use Rattle.cell_attributes.proofs.CellOutputs.{outputs_keep_rules}
 
 pub accepted_meets_none : AcceptedMeetsNone
 accepted_meets_none pins earlier cell h = all_unmet (reasons_of pins earlier cell) h

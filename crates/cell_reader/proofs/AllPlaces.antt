@@ -8,7 +8,7 @@ use Rattle.timing_arcs.specs.declared.subject.Subject.{Subject}
 use Rattle.timing_arcs.specs.declared.subject.PinTiming.{PinTiming}
 use Rattle.cell_machine.specs.Delay.{lesser, least}
 use Rattle.timing_arcs.specs.Timing.{unless_at, reading_answer, timing_of, malformed_at, unknown_names_at, own_conditions_at, numbers_at, wide_at, check_at_of}
-use Rattle.cell_parts.proofs.Distinct.{nil_parts}
+use Rattle.cell_attributes.proofs.Distinct.{nil_parts}
 use Rattle.cell_machine.proofs.LeastLemmas.{least_append}
 use Rattle.cell_reader.specs.Written.{own_conditions_of, wide_conditions_of}
 use Rattle.cell_reader.proofs.AsWritten.{own_conditions_same, wide_conditions_same}

@@ -20,18 +20,18 @@ use Rattle.liberty_groups.specs.Attributes.{Attribute, attribute_of, place_of}
 use Rattle.timing_arcs.specs.RelatedPins.{inputs_of, is_read}
 use Rattle.timing_arcs.specs.Conditions.{constant_or, condition_as, condition_in, condition_of, has_unknown as has_unknown_name, named_pins, names_one, is_wide}
 use Rattle.timing_arcs.specs.Timing.{timing_groups, unknown_related_in, unknown_condition_in, unknown_in as unknown_timing_in, own_in as own_told, wide_in as wide_told, unknown_names_at, own_conditions_at, wide_at}
-use Rattle.cell_parts.specs.declared.texts.Scope.{Scope}
-use Rattle.cell_parts.specs.declared.texts.Scope.TheVariants as scope
-use Rattle.cell_parts.specs.declared.state_readings.StateReading.{StateReading}
-use Rattle.cell_parts.specs.declared.texts.Text.TheVariants as text
-use Rattle.cell_parts.specs.States.{arguments_of, is_table}
-use Rattle.cell_parts.specs.Vocabulary.{Vocabulary}
-use Rattle.cell_parts.specs.Texts.{use_at, is_coupled, has_unknown, has_coupled, judged, text_as, unknown_at, coupled_at, text_support}
-use Rattle.cell_parts.specs.TextFaults.{unknown_in, coupled_in}
-use Rattle.cell_parts.specs.StateReadings.{data_name, control_name, holds_state, input_words, numbers_of, own_scope, pins_among, reading_of_table, reading_of_texts, state_reading}
-use Rattle.cell_parts.specs.Limits.{no_support_in, wide_support_in}
-use Rattle.cell_parts.proofs.Distinct.{nil_parts}
-use Rattle.cell_parts.proofs.GroupRules.{none_in}
+use Rattle.cell_attributes.specs.declared.texts.Scope.{Scope}
+use Rattle.cell_attributes.specs.declared.texts.Scope.TheVariants as scope
+use Rattle.cell_attributes.specs.declared.state_readings.StateReading.{StateReading}
+use Rattle.cell_attributes.specs.declared.texts.Text.TheVariants as text
+use Rattle.cell_attributes.specs.States.{arguments_of, is_table}
+use Rattle.cell_attributes.specs.Vocabulary.{Vocabulary}
+use Rattle.cell_attributes.specs.Texts.{use_at, is_coupled, has_unknown, has_coupled, judged, text_as, unknown_at, coupled_at, text_support}
+use Rattle.cell_attributes.specs.TextFaults.{unknown_in, coupled_in}
+use Rattle.cell_attributes.specs.StateReadings.{data_name, control_name, holds_state, input_words, numbers_of, own_scope, pins_among, reading_of_table, reading_of_texts, state_reading}
+use Rattle.cell_attributes.specs.Limits.{no_support_in, wide_support_in}
+use Rattle.cell_attributes.proofs.Distinct.{nil_parts}
+use Rattle.cell_attributes.proofs.GroupRules.{none_in}
 use Rattle.cell_reader.specs.Written.{numbers_read, count_read, own_written, own_in, own_conditions_of, wide_written, wide_in, wide_conditions_of, coupled_written, coupled_texts, coupled_of, names_in_text, names_in_texts, written_support, no_support_of, wide_support_of}
 
 -- Conditions.

@@ -5,16 +5,16 @@ use Rattle.liberty_groups.specs.declared.tree.Group.{Group}
 use Rattle.timing_arcs.specs.declared.subject.Subject.{Subject}
 use Rattle.cell_machine.specs.Delay.{lesser, least}
 use Rattle.timing_arcs.specs.Timing.{malformed_at as malformed_timing_at, unknown_names_at, check_at_of}
-use Rattle.cell_parts.specs.Groups.{state_groups}
-use Rattle.cell_parts.specs.Pins.{pins_of, owners_of}
-use Rattle.cell_parts.specs.Vocabulary.{vocabulary}
-use Rattle.cell_parts.specs.Scans.{no_functions}
-use Rattle.cell_parts.specs.Declarations.{bad_names}
-use Rattle.cell_parts.specs.Texts.{malformed_at, unknown_at}
-use Rattle.cell_parts.specs.TextFaults.{malformed_in, unknown_in}
-use Rattle.cell_parts.specs.CellLaws.{readings_of, texts_of}
-use Rattle.cell_parts.specs.Limits.{first_past, place_of_group, state_at, no_support_in, wide_support_in}
-use Rattle.cell_parts.proofs.Distinct.{nil_parts}
+use Rattle.cell_attributes.specs.Groups.{state_groups}
+use Rattle.cell_attributes.specs.Pins.{pins_of, owners_of}
+use Rattle.cell_attributes.specs.Vocabulary.{vocabulary}
+use Rattle.cell_attributes.specs.Scans.{no_functions}
+use Rattle.cell_attributes.specs.Declarations.{bad_names}
+use Rattle.cell_attributes.specs.Texts.{malformed_at, unknown_at}
+use Rattle.cell_attributes.specs.TextFaults.{malformed_in, unknown_in}
+use Rattle.cell_attributes.specs.CellLaws.{readings_of, texts_of}
+use Rattle.cell_attributes.specs.Limits.{first_past, place_of_group, state_at, no_support_in, wide_support_in}
+use Rattle.cell_attributes.proofs.Distinct.{nil_parts}
 use Rattle.cell_machine.proofs.LeastLemmas.{least_append}
 use Rattle.cell_refusals.specs.declared.refusal.Reason.{Reason}
 use Rattle.cell_refusals.specs.declared.refusal.Reason.TheVariants as reason

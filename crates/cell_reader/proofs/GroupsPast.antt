@@ -4,7 +4,7 @@ use Rattle.std.specs.Prelude.{slice_get, option_map}
 use Rattle.std.proofs.lemmas.Option.{slice_get-map}
 use Rattle.cell_machine.specs.Delay.{least}
 use Rattle.liberty_groups.specs.declared.tree.Group.{Group}
-use Rattle.cell_parts.specs.Limits.{first_past, place_of_group}
+use Rattle.cell_attributes.specs.Limits.{first_past, place_of_group}
 
 is_there : {A : Type 0} (xs : List A) (i : ℕ) (d : A) → i < length xs → slice_get xs i ≡ Some (get_or xs i d)
 is_there [] i d within = absurd (omega arith)

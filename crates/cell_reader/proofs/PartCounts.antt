@@ -6,21 +6,21 @@ use Rattle.std.proofs.lemmas.List.{length-map}
 use Rattle.liberty_groups.specs.declared.tree.Group.{Group}
 use Rattle.timing_arcs.specs.declared.subject.Subject.{Subject}
 use Rattle.timing_arcs.specs.Timing.{check_at_of}
-use Rattle.cell_parts.specs.declared.vocabulary.Class.{Class}
-use Rattle.cell_parts.specs.Groups.{pin_groups, state_groups}
-use Rattle.cell_parts.specs.Pins.{pins_of, owners_of}
-use Rattle.cell_parts.specs.States.{StateName, states_in, states_of}
-use Rattle.cell_parts.specs.Declarations.{bad_names}
-use Rattle.cell_parts.specs.Vocabulary.{Vocabulary, vocabulary, vocabulary_of, Entry}
-use Rattle.cell_parts.specs.StateReadings.{state_reading}
-use Rattle.cell_parts.specs.Building.{FitsReading, numbers_from, cell_numbers}
-use Rattle.cell_parts.specs.CellLaws.{readings_of, numbers_of, groups_of}
-use Rattle.cell_parts.specs.Limits.{first_past, place_of_group, place_of_state, state_at}
-use Rattle.cell_parts.proofs.Distinct.{nil_parts}
-use Rattle.cell_parts.proofs.PinRules.{within_limit, owners_count}
-use Rattle.cell_parts.proofs.Fits.{readings_fit}
-use Rattle.cell_parts.proofs.GroupCount.{group_count}
-use Rattle.cell_parts.proofs.Turns.{count_shown}
+use Rattle.cell_attributes.specs.declared.vocabulary.Class.{Class}
+use Rattle.cell_attributes.specs.Groups.{pin_groups, state_groups}
+use Rattle.cell_attributes.specs.Pins.{pins_of, owners_of}
+use Rattle.cell_attributes.specs.States.{StateName, states_in, states_of}
+use Rattle.cell_attributes.specs.Declarations.{bad_names}
+use Rattle.cell_attributes.specs.Vocabulary.{Vocabulary, vocabulary, vocabulary_of, Entry}
+use Rattle.cell_attributes.specs.StateReadings.{state_reading}
+use Rattle.cell_attributes.specs.Building.{FitsReading, numbers_from, cell_numbers}
+use Rattle.cell_attributes.specs.CellLaws.{readings_of, numbers_of, groups_of}
+use Rattle.cell_attributes.specs.Limits.{first_past, place_of_group, place_of_state, state_at}
+use Rattle.cell_attributes.proofs.Distinct.{nil_parts}
+use Rattle.cell_attributes.proofs.PinRules.{within_limit, owners_count}
+use Rattle.cell_attributes.proofs.Fits.{readings_fit}
+use Rattle.cell_attributes.proofs.GroupCount.{group_count}
+use Rattle.cell_attributes.proofs.Turns.{count_shown}
 use Rattle.cell_timings.specs.PinTimings.{arc_at_of}
 use Rattle.cell_reader.specs.Written.{no_support_of}
 use Rattle.cell_reader.specs.Refusals.{limits, timing_places, middle_reasons, first_refusal}

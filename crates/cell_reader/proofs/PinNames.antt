@@ -9,8 +9,8 @@ use Rattle.bool_functions.specs.NameList.{number_of, Adds}
 use Rattle.bool_functions.proofs.NameLists.{position-none}
 use Rattle.cell_machine.specs.declared.pins.Pin.{Pin}
 use Rattle.cell_machine.specs.CellRules.{are_distinct}
-use Rattle.cell_parts.specs.Pins.{pin_names}
-use Rattle.cell_parts.proofs.Distinct.{bytes_unlike}
+use Rattle.cell_attributes.specs.Pins.{pin_names}
+use Rattle.cell_attributes.proofs.Distinct.{bytes_unlike}
 
 last_of_or : (a b c : Bool) → IsTrue (not (a || (b || c))) → b ≡ false
 last_of_or true b c h = absurd cc

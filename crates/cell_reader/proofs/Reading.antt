@@ -12,13 +12,13 @@ use Rattle.cell_machine.specs.declared.arcs.Arc.{Arc}
 use Rattle.cell_machine.specs.CellRules.{are_distinct, is_cell, AreApart}
 use Rattle.timing_arcs.specs.declared.subject.Subject.{Subject}
 use Rattle.cell_machine.specs.Delay.{least}
-use Rattle.cell_parts.specs.Groups.{inner_groups, cell_name}
-use Rattle.cell_parts.specs.Pins.{pin_names, pins_of, owners_of}
-use Rattle.cell_parts.specs.Declarations.{declared_of, clashes_after, known_cell}
-use Rattle.cell_parts.specs.Vocabulary.{Vocabulary, vocabulary}
-use Rattle.cell_parts.specs.Building.{outputs_from}
-use Rattle.cell_parts.specs.CellLaws.{numbers_of, groups_of, outputs_of}
-use Rattle.cell_parts.proofs.Distinct.{nil_parts, pins_are_distinct}
+use Rattle.cell_attributes.specs.Groups.{inner_groups, cell_name}
+use Rattle.cell_attributes.specs.Pins.{pin_names, pins_of, owners_of}
+use Rattle.cell_attributes.specs.Declarations.{declared_of, clashes_after, known_cell}
+use Rattle.cell_attributes.specs.Vocabulary.{Vocabulary, vocabulary}
+use Rattle.cell_attributes.specs.Building.{outputs_from}
+use Rattle.cell_attributes.specs.CellLaws.{numbers_of, groups_of, outputs_of}
+use Rattle.cell_attributes.proofs.Distinct.{nil_parts, pins_are_distinct}
 use Rattle.cell_refusals.specs.declared.refusal.Refusal.{Refusal}
 use Rattle.cell_refusals.specs.declared.refusal.Reason.TheVariants as reason
 use Rattle.cell_reader.specs.CellTexts.{subject_of, IsUnmet}

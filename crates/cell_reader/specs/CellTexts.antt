@@ -5,12 +5,12 @@ use Rattle.liberty_groups.specs.declared.tree.Group.{Group}
 use Rattle.cell_machine.specs.declared.pins.Pin.{Pin}
 use Rattle.cell_machine.specs.declared.cells.Cell.{Cell}
 use Rattle.timing_arcs.specs.declared.subject.Subject.{Subject}
-use Rattle.cell_parts.specs.Groups.{cell_name}
-use Rattle.cell_parts.specs.Pins.{pin_names, pins_of}
+use Rattle.cell_attributes.specs.Groups.{cell_name}
+use Rattle.cell_attributes.specs.Pins.{pin_names, pins_of}
 use Rattle.cell_refusals.specs.declared.refusal.Refusal.{Refusal}
 use Rattle.cell_reader.specs.declared.fault.CellFault.{CellFault}
 use Rattle.cell_reader.specs.declared.fault.CellFault.TheVariants as fault
-use Rattle.cell_parts.specs.CellLaws.{groups_of, outputs_of}
+use Rattle.cell_attributes.specs.CellLaws.{groups_of, outputs_of}
 use Rattle.cell_reader.specs.Refusals.{checks_of, arcs_of, early_reasons, first_refusal, refusal_of}
 
 -- The pins of a cell, with the time unit of its library.

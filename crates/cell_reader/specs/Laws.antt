@@ -4,10 +4,10 @@ use Rattle.liberty_text.specs.declared.time.Unit.{Unit}
 use Rattle.liberty_groups.specs.declared.tree.Group.{Group}
 use Rattle.cell_machine.specs.CellRules.{is_name, are_pins, is_cell, AreApart}
 use Rattle.timing_arcs.specs.declared.subject.Subject.{Subject}
-use Rattle.cell_parts.specs.Groups.{cell_name}
-use Rattle.cell_parts.specs.Pins.{pins_of}
+use Rattle.cell_attributes.specs.Groups.{cell_name}
+use Rattle.cell_attributes.specs.Pins.{pins_of}
 use Rattle.cell_reader.specs.CellTexts.{subject_of}
-use Rattle.cell_parts.specs.CellLaws.{groups_of, outputs_of}
+use Rattle.cell_attributes.specs.CellLaws.{groups_of, outputs_of}
 use Rattle.cell_reader.specs.Refusals.{Met, reasons_of, refusal_of, checks_of, arcs_of}
 
 -- none of these reasons is met anywhere

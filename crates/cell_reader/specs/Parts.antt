@@ -2,17 +2,17 @@
 use Rattle.std.specs.Prelude.{◌≡◌, map}
 use Rattle.liberty_groups.specs.declared.tree.Group.{Group}
 use Rattle.timing_arcs.specs.declared.subject.Subject.{Subject}
-use Rattle.cell_parts.specs.Groups.{inner_groups, pin_groups, state_groups}
-use Rattle.cell_parts.specs.Declarations.{declared_of}
-use Rattle.cell_parts.specs.Pins.{pins_of, owners_of}
-use Rattle.cell_parts.specs.States.{states_of}
-use Rattle.cell_parts.specs.Vocabulary.{vocabulary}
-use Rattle.cell_parts.specs.Shown.{shown_name, shown_state, shown_vocabulary}
+use Rattle.cell_attributes.specs.Groups.{inner_groups, pin_groups, state_groups}
+use Rattle.cell_attributes.specs.Declarations.{declared_of}
+use Rattle.cell_attributes.specs.Pins.{pins_of, owners_of}
+use Rattle.cell_attributes.specs.States.{states_of}
+use Rattle.cell_attributes.specs.Vocabulary.{vocabulary}
+use Rattle.cell_attributes.specs.Shown.{shown_name, shown_state, shown_vocabulary}
 use Rattle.cell_reader.specs.declared.cell_groups.CellGroups.{CellGroups}
 use Rattle.cell_reader.specs.declared.parts.Parts.{Parts}
 use Rattle.cell_reader.specs.declared.numbered.Numbered.{Numbered}
 use Rattle.cell_reader.specs.CellTexts.{subject_of}
-use Rattle.cell_parts.specs.CellLaws.{readings_of, texts_of, numbers_of, groups_of}
+use Rattle.cell_attributes.specs.CellLaws.{readings_of, texts_of, numbers_of, groups_of}
 use Rattle.cell_timings.specs.Held.{AreHeld}
 
 -- The groups are those of this cell.

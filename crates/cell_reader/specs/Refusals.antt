@@ -9,18 +9,18 @@ use Rattle.cell_refusals.specs.declared.refusal.Reason.TheVariants as reason
 use Rattle.cell_refusals.specs.declared.refusal.Refusal.{Refusal}
 pub use Rattle.cell_refusals.specs.Reasons.{Met, met, refused_or, first_refusal}
 use Rattle.cell_timings.specs.declared.left_out.LeftOut.{LeftOut}
-use Rattle.cell_parts.specs.declared.texts.Text.{Text}
-use Rattle.cell_parts.specs.declared.state_readings.StateReading.{StateReading}
-use Rattle.cell_parts.specs.Groups.{state_groups}
-use Rattle.cell_parts.specs.Pins.{pins_of, owners_of}
-use Rattle.cell_parts.specs.Scans.{directions, three_states, banks, left_out_states, clear_presets, no_functions}
-use Rattle.cell_parts.specs.Declarations.{duplicates, bad_names}
-use Rattle.cell_parts.specs.Vocabulary.{vocabulary}
-use Rattle.cell_parts.specs.Texts.{malformed_at, unknown_at}
-use Rattle.cell_parts.specs.TextFaults.{malformed_in, unknown_in}
+use Rattle.cell_attributes.specs.declared.texts.Text.{Text}
+use Rattle.cell_attributes.specs.declared.state_readings.StateReading.{StateReading}
+use Rattle.cell_attributes.specs.Groups.{state_groups}
+use Rattle.cell_attributes.specs.Pins.{pins_of, owners_of}
+use Rattle.cell_attributes.specs.Scans.{directions, three_states, banks, left_out_states, clear_presets, no_functions}
+use Rattle.cell_attributes.specs.Declarations.{duplicates, bad_names}
+use Rattle.cell_attributes.specs.Vocabulary.{vocabulary}
+use Rattle.cell_attributes.specs.Texts.{malformed_at, unknown_at}
+use Rattle.cell_attributes.specs.TextFaults.{malformed_in, unknown_in}
 use Rattle.cell_timings.specs.PinTimings.{Answer, answers_from, places_from, arc_at_of, checks_in, arcs_in, left_out_from}
-use Rattle.cell_parts.specs.CellLaws.{readings_of, texts_of, numbers_of, groups_of}
-use Rattle.cell_parts.specs.Limits.{first_past, place_of_group, state_at, wide_output}
+use Rattle.cell_attributes.specs.CellLaws.{readings_of, texts_of, numbers_of, groups_of}
+use Rattle.cell_attributes.specs.Limits.{first_past, place_of_group, state_at, wide_output}
 use Rattle.cell_reader.specs.Written.{coupled_of, own_conditions_of, wide_conditions_of, no_support_of, wide_support_of}
 
 -- What reading the timing of each pin answers, where `pins` are the cell's pins with the time unit of the library.

@@ -7,16 +7,16 @@ use Rattle.cell_reader.specs.declared.limits.WrongSupport.{WrongSupport}
 use Rattle.cell_reader.specs.declared.limits.WrongSupport.TheVariants as support
 use Rattle.cell_reader.specs.declared.text_faults.WrongText.{WrongText}
 use Rattle.cell_reader.specs.declared.text_faults.WrongText.TheVariants as wrong
-use Rattle.cell_parts.specs.declared.texts.Text.{Text}
-use Rattle.cell_parts.specs.declared.state_readings.StateReading.{StateReading}
-use Rattle.cell_parts.specs.Groups.{state_groups}
-use Rattle.cell_parts.specs.Pins.{owners_of}
-use Rattle.cell_parts.specs.Scans.{no_functions}
-use Rattle.cell_parts.specs.Declarations.{bad_names}
-use Rattle.cell_parts.specs.Texts.{malformed_at, unknown_at, coupled_at}
-use Rattle.cell_parts.specs.TextFaults.{malformed_in, unknown_in, coupled_in}
-use Rattle.cell_parts.specs.CellLaws.{readings_of, texts_of}
-use Rattle.cell_parts.specs.Limits.{first_past, place_of_group, state_at, no_support_in, wide_support_in}
+use Rattle.cell_attributes.specs.declared.texts.Text.{Text}
+use Rattle.cell_attributes.specs.declared.state_readings.StateReading.{StateReading}
+use Rattle.cell_attributes.specs.Groups.{state_groups}
+use Rattle.cell_attributes.specs.Pins.{owners_of}
+use Rattle.cell_attributes.specs.Scans.{no_functions}
+use Rattle.cell_attributes.specs.Declarations.{bad_names}
+use Rattle.cell_attributes.specs.Texts.{malformed_at, unknown_at, coupled_at}
+use Rattle.cell_attributes.specs.TextFaults.{malformed_in, unknown_in, coupled_in}
+use Rattle.cell_attributes.specs.CellLaws.{readings_of, texts_of}
+use Rattle.cell_attributes.specs.Limits.{first_past, place_of_group, state_at, no_support_in, wide_support_in}
 use Rattle.cell_refusals.specs.declared.refusal.Reason.TheVariants as reason
 use Rattle.cell_timings.specs.PinTimings.{Answer, malformed_timing, unknown_timing, own_timing, number_timing, check_at_in, arc_at_in}
 use Rattle.cell_reader.specs.Refusals.{Met, met, timing_answers}

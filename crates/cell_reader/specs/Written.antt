@@ -14,13 +14,13 @@ use Rattle.timing_arcs.specs.declared.subject.Subject.{Subject}
 use Rattle.liberty_groups.specs.Attributes.{Attribute, attribute_of}
 use Rattle.timing_arcs.specs.RelatedPins.{inputs_of, is_read}
 use Rattle.timing_arcs.specs.Timing.{timing_groups}
-use Rattle.cell_parts.specs.declared.texts.Scope.{Scope}
-use Rattle.cell_parts.specs.declared.texts.Scope.TheVariants as scope
-use Rattle.cell_parts.specs.States.{arguments_of, is_table}
-use Rattle.cell_parts.specs.Vocabulary.{Vocabulary}
-use Rattle.cell_parts.specs.Texts.{use_at, is_coupled}
-use Rattle.cell_parts.specs.TextFaults.{coupled_in}
-use Rattle.cell_parts.specs.StateReadings.{data_name, control_name, holds_state, own_scope, input_words, pins_among, numbers_of, reading_of_table}
+use Rattle.cell_attributes.specs.declared.texts.Scope.{Scope}
+use Rattle.cell_attributes.specs.declared.texts.Scope.TheVariants as scope
+use Rattle.cell_attributes.specs.States.{arguments_of, is_table}
+use Rattle.cell_attributes.specs.Vocabulary.{Vocabulary}
+use Rattle.cell_attributes.specs.Texts.{use_at, is_coupled}
+use Rattle.cell_attributes.specs.TextFaults.{coupled_in}
+use Rattle.cell_attributes.specs.StateReadings.{data_name, control_name, holds_state, own_scope, input_words, pins_among, numbers_of, reading_of_table}
 
 -- The numbers that the names of a text have among these: where all of them have one, those of its tree, ascending; else those
 -- of the names that have one. A text that does not read as a function text, or is too long, has no names.

@@ -2,9 +2,9 @@
 ghost use Rattle.std.specs.Prelude.{IfOk};
 ghost use Rattle.cell_reader.specs.Parts.{AreGroups};
 
-use cell_parts::declarations::{Declared, declared_of};
-use cell_parts::groups::{inner_groups, pins_among, states_among};
-use cell_parts::held::both_made;
+use cell_attributes::declarations::{Declared, declared_of};
+use cell_attributes::groups::{inner_groups, pins_among, states_among};
+use cell_attributes::held::both_made;
 use liberty_groups::Group;
 use std::alloc::{AllocError, Global};
 

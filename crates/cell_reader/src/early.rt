@@ -1,10 +1,10 @@
 //! The refusals that are tried before any text is read.
 ghost use Rattle.std.specs.Prelude.{◌≡◌, IfOk, map};
 ghost use Rattle.cell_machine.specs.Delay.{least};
-ghost use Rattle.cell_parts.specs.Groups.{pin_groups, state_groups};
-ghost use Rattle.cell_parts.specs.Scans.{left_out_states as left_out_states_of};
-ghost use Rattle.cell_parts.specs.Declarations.{declared_of, duplicates as duplicates_of};
-ghost use Rattle.cell_parts.specs.Shown.{shown_name};
+ghost use Rattle.cell_attributes.specs.Groups.{pin_groups, state_groups};
+ghost use Rattle.cell_attributes.specs.Scans.{left_out_states as left_out_states_of};
+ghost use Rattle.cell_attributes.specs.Declarations.{declared_of, duplicates as duplicates_of};
+ghost use Rattle.cell_attributes.specs.Shown.{shown_name};
 ghost use Rattle.cell_reader.specs.Refusals.{first_refusal, early_reasons};
 ghost use Rattle.cell_reader.specs.Parts.{AreGroups};
 
@@ -12,7 +12,7 @@ use crate::cell_groups::CellGroups;
 use crate::limits::known_cell;
 use crate::scans::{BadDirections, BankGroups, ClearPresets, LeftOutStates, ThreeStates};
 use bool_functions::Names;
-use cell_parts::declarations::{Declared, first_clash};
+use cell_attributes::declarations::{Declared, first_clash};
 use cell_machine::least::lesser;
 use cell_refusals::{Reason, Refusal, least_among_held, refused_or};
 use liberty_groups::Group;

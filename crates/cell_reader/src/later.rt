@@ -1,7 +1,7 @@
 //! The refusals that are tried after the texts are read.
 ghost use Rattle.std.specs.Prelude.{◌≡◌, IfOk};
 ghost use Rattle.cell_machine.specs.Delay.{least};
-ghost use Rattle.cell_parts.specs.Declarations.{bad_names as bad_names_of};
+ghost use Rattle.cell_attributes.specs.Declarations.{bad_names as bad_names_of};
 ghost use Rattle.cell_reader.specs.Refusals.{middle_reasons, first_refusal};
 ghost use Rattle.cell_reader.specs.Told.{malformed_told, unknown_told, limits_told, told_reasons};
 ghost use Rattle.cell_reader.specs.Parts.{subject_in, AreParts};
@@ -10,9 +10,9 @@ use crate::limits::{WrongSupport, bad_cell_name, first_group_past, first_past, s
 use crate::parts::Parts;
 use crate::scans::NoFunctions;
 use crate::text_faults::WrongText;
-use cell_parts::declarations::first_bad_name;
+use cell_attributes::declarations::first_bad_name;
 use cell_machine::least::lesser;
-use cell_parts::limits::{MOST_ARCS, MOST_CHECKS, MOST_PINS, MOST_STATES};
+use cell_attributes::limits::{MOST_ARCS, MOST_CHECKS, MOST_PINS, MOST_STATES};
 use cell_refusals::{Reason, Refusal, least_among, least_among_held, refused_or};
 use cell_timings::{WrongTiming, made_offsets};
 use std::alloc::{AllocError, Global};

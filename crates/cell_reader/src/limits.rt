@@ -1,17 +1,17 @@
 //! The limits of a cell. Each answers the least offset at which one is passed.
 ghost use Rattle.std.specs.Prelude.{◌≡◌, ◌++◌, OnOk, IfOk, map, flat_map};
 ghost use Rattle.cell_machine.specs.Delay.{least};
-ghost use Rattle.cell_parts.specs.Declarations.{bad_cell_name as bad_cell_name_of, known_cell as known_cell_of};
-ghost use Rattle.cell_parts.specs.Limits.{first_past as first_past_of, place_of_group, place_of_state as place_of_state_in, state_at};
-ghost use Rattle.cell_parts.specs.Shown.{shown_state};
+ghost use Rattle.cell_attributes.specs.Declarations.{bad_cell_name as bad_cell_name_of, known_cell as known_cell_of};
+ghost use Rattle.cell_attributes.specs.Limits.{first_past as first_past_of, place_of_group, place_of_state as place_of_state_in, state_at};
+ghost use Rattle.cell_attributes.specs.Shown.{shown_state};
 ghost use Rattle.cell_reader.specs.Told.{wrong_support_in};
 
 use bool_functions::Names;
-use cell_parts::declarations::is_name;
-use cell_parts::groups::cell_name;
-use cell_parts::limits::MOST_STATE_PINS;
-use cell_parts::state_readings::StateReading;
-use cell_parts::states::{StateName, states_in};
+use cell_attributes::declarations::is_name;
+use cell_attributes::groups::cell_name;
+use cell_attributes::limits::MOST_STATE_PINS;
+use cell_attributes::state_readings::StateReading;
+use cell_attributes::states::{StateName, states_in};
 use cell_refusals::Scan;
 use liberty_groups::Group;
 use std::alloc::{AllocError, Global};
@@ -98,7 +98,7 @@ pub(crate) enum WrongSupport {
 impl Scan<StateReading> for WrongSupport {
     ghost places = { wrong_support_in };
 
-    #[tactic(auto, unfolding(cell_parts::specs::Limits::no_support_in, cell_parts::specs::Limits::wide_support_in))]
+    #[tactic(auto, unfolding(cell_attributes::specs::Limits::no_support_in, cell_attributes::specs::Limits::wide_support_in))]
     fn least_in(&self, reading: &StateReading) -> Option<usize> {
         let pins = reading.support.len();
         let is_wrong = match self {

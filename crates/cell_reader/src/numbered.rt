@@ -1,21 +1,21 @@
 //! The names of a cell by their numbers in it, and its states over them.
 ghost use Rattle.std.specs.Prelude.{◌≡◌, ◌≤◌, IfOk, None, Option, flat_map, length};
 ghost use Rattle.cell_machine.specs.Delay.{least};
-ghost use Rattle.cell_parts.specs.Groups.{state_groups as state_groups_of};
-ghost use Rattle.cell_parts.specs.Pins.{pins_of};
-ghost use Rattle.cell_parts.specs.Vocabulary.{vocabulary};
+ghost use Rattle.cell_attributes.specs.Groups.{state_groups as state_groups_of};
+ghost use Rattle.cell_attributes.specs.Pins.{pins_of};
+ghost use Rattle.cell_attributes.specs.Vocabulary.{vocabulary};
 ghost use Rattle.cell_reader.specs.Written.{wide_conditions_of, wide_support_of};
 ghost use Rattle.cell_reader.specs.Refusals.{timing_places, middle_reasons, first_refusal, udp_inputs as udp_inputs_of};
-ghost use Rattle.cell_parts.specs.CellLaws.{numbers_of, groups_of};
-ghost use Rattle.cell_parts.specs.Shown.{shown_vocabulary};
-ghost use Rattle.cell_logic.specs.Within.{IsWithin};
+ghost use Rattle.cell_attributes.specs.CellLaws.{numbers_of, groups_of};
+ghost use Rattle.cell_attributes.specs.Shown.{shown_vocabulary};
+ghost use Rattle.cell_functions.specs.Within.{IsWithin};
 ghost use Rattle.cell_reader.specs.Parts.{subject_in, AreParts, AreNumbered};
 
 use crate::limits::WrongSupport;
 use crate::parts::Parts;
-use cell_logic::cell_numbers::cell_numbers;
-use cell_logic::output_pins::OutputReader;
-use cell_logic::state_groups::state_groups;
+use cell_functions::cell_numbers::cell_numbers;
+use cell_functions::output_pins::OutputReader;
+use cell_functions::state_groups::state_groups;
 use cell_machine::StateGroup;
 use cell_machine::least::lesser;
 use cell_refusals::least_among;

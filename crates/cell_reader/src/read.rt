@@ -1,7 +1,7 @@
 //! A cell's group to the cell.
 ghost use Rattle.std.specs.Prelude.{◌≡◌, IfOk, IfErr, None, Option, List};
-ghost use Rattle.cell_parts.specs.Groups.{cell_name as cell_name_of};
-ghost use Rattle.cell_parts.specs.CellLaws.{outputs_of};
+ghost use Rattle.cell_attributes.specs.Groups.{cell_name as cell_name_of};
+ghost use Rattle.cell_attributes.specs.CellLaws.{outputs_of};
 ghost use Rattle.cell_reader.specs.CellTexts.{subject_of, IsCellOf, IsEarlyUnmet, IsUnmet, Tells};
 ghost use Rattle.cell_reader.specs.Refusals.{first_refusal, later_reasons, refusal_of, left_out_of as left_out_of_cell};
 ghost use Rattle.cell_reader.specs.Parts.{subject_in, AreParts, AreNumbered};
@@ -14,7 +14,7 @@ use crate::numbered::{Numbered, number_names, udp_inputs};
 use crate::parts::{Parts, read_parts};
 use bool_functions::Names;
 use cell_machine::{Cell, OutputPin};
-use cell_parts::groups::cell_name;
+use cell_attributes::groups::cell_name;
 use cell_refusals::{Reason, Refusal};
 use cell_timings::{LeftOut, cell_timing, left_out_of};
 use liberty_groups::Group;

@@ -1,14 +1,14 @@
 //! The refusals that are seen without the names of a cell, in each of its groups.
 ghost use Rattle.std.specs.Prelude.{◌≡◌, ◌++◌};
 ghost use Rattle.cell_machine.specs.Delay.{least};
-ghost use Rattle.cell_parts.specs.Groups.{offsets_of};
-ghost use Rattle.cell_parts.specs.Scans.{direction_in as direction_in_of, three_state_in as three_state_in_of, bank_in as bank_in_of, left_out_in as left_out_in_of, first_both_in as first_both_in_of, second_both_in as second_both_in_of, clear_preset_in as clear_preset_in_of, no_function_in as no_function_in_of};
+ghost use Rattle.cell_attributes.specs.Groups.{offsets_of};
+ghost use Rattle.cell_attributes.specs.Scans.{direction_in as direction_in_of, three_state_in as three_state_in_of, bank_in as bank_in_of, left_out_in as left_out_in_of, first_both_in as first_both_in_of, second_both_in as second_both_in_of, clear_preset_in as clear_preset_in_of, no_function_in as no_function_in_of};
 
 use cell_machine::{Both, Direction};
-use cell_parts::groups::{is_bank, is_called, is_missing};
+use cell_attributes::groups::{is_bank, is_called, is_missing};
 use cell_machine::least::lesser;
-use cell_parts::pins::{direction_named, direction_of};
-use cell_parts::states::both_named;
+use cell_attributes::pins::{direction_named, direction_of};
+use cell_attributes::states::both_named;
 use cell_refusals::Scan;
 use liberty_groups::{Group, last_attribute, simple_attribute};
 
@@ -32,7 +32,7 @@ pub(crate) struct BadDirections;
 impl Scan<Group> for BadDirections {
     ghost places = { λ _. direction_in_of };
 
-    #[tactic(auto, unfolding(cell_parts::specs::Scans::direction_in))]
+    #[tactic(auto, unfolding(cell_attributes::specs::Scans::direction_in))]
     fn least_in(&self, pin: &Group) -> Option<usize> {
         match last_attribute(pin, b"direction") {
             None => Some(pin.at),
@@ -50,7 +50,7 @@ pub(crate) struct ThreeStates;
 impl Scan<Group> for ThreeStates {
     ghost places = { λ _. three_state_in_of };
 
-    #[tactic(auto, unfolding(cell_parts::specs::Scans::three_state_in))]
+    #[tactic(auto, unfolding(cell_attributes::specs::Scans::three_state_in))]
     fn least_in(&self, pin: &Group) -> Option<usize> {
         first_offset(pin, b"three_state")
     }
@@ -62,7 +62,7 @@ pub(crate) struct BankGroups;
 impl Scan<Group> for BankGroups {
     ghost places = { λ _. bank_in_of };
 
-    #[tactic(auto, unfolding(cell_parts::specs::Scans::bank_in))]
+    #[tactic(auto, unfolding(cell_attributes::specs::Scans::bank_in))]
     fn least_in(&self, group: &Group) -> Option<usize> {
         if is_bank(group) { Some(group.at) } else { None }
     }
@@ -74,7 +74,7 @@ pub(crate) struct LeftOutStates;
 impl Scan<Group> for LeftOutStates {
     ghost places = { λ _. left_out_in_of };
 
-    #[tactic(auto, unfolding(cell_parts::specs::Scans::left_out_in), using(cell_machine::proofs::LeastLemmas::least_append))]
+    #[tactic(auto, unfolding(cell_attributes::specs::Scans::left_out_in), using(cell_machine::proofs::LeastLemmas::least_append))]
     fn least_in(&self, group: &Group) -> Option<usize> {
         let clocked = first_offset(group, b"clocked_on_also");
         let enable = first_offset(group, b"enable_also");
@@ -96,7 +96,7 @@ macro_rules! bad_both {
 }
 
 /// Where `clear_preset_var1` has a value that it may not have.
-#[tactic(auto, unfolding(cell_parts::specs::Scans::first_both_in))]
+#[tactic(auto, unfolding(cell_attributes::specs::Scans::first_both_in))]
 fn first_both_in(group: &Group) -> Option<usize>
     ensures { result ≡ least (first_both_in_of group.now) }
 {
@@ -104,7 +104,7 @@ fn first_both_in(group: &Group) -> Option<usize>
 }
 
 /// Where `clear_preset_var2` has a value that it may not have.
-#[tactic(auto, unfolding(cell_parts::specs::Scans::second_both_in))]
+#[tactic(auto, unfolding(cell_attributes::specs::Scans::second_both_in))]
 fn second_both_in(group: &Group) -> Option<usize>
     ensures { result ≡ least (second_both_in_of group.now) }
 {
@@ -117,7 +117,7 @@ pub(crate) struct ClearPresets;
 impl Scan<Group> for ClearPresets {
     ghost places = { λ _. clear_preset_in_of };
 
-    #[tactic(auto, unfolding(cell_parts::specs::Scans::clear_preset_in), using(cell_machine::proofs::LeastLemmas::least_append))]
+    #[tactic(auto, unfolding(cell_attributes::specs::Scans::clear_preset_in), using(cell_machine::proofs::LeastLemmas::least_append))]
     fn least_in(&self, group: &Group) -> Option<usize> {
         if is_called(group, b"statetable") {
             return None;
@@ -132,7 +132,7 @@ pub(crate) struct NoFunctions;
 impl Scan<Group> for NoFunctions {
     ghost places = { λ _. no_function_in_of };
 
-    #[tactic(auto, unfolding(cell_parts::specs::Scans::no_function_in))]
+    #[tactic(auto, unfolding(cell_attributes::specs::Scans::no_function_in))]
     fn least_in(&self, pin: &Group) -> Option<usize> {
         if direction_of(pin) == Some(Direction::Output)
             && is_missing(pin, b"function")

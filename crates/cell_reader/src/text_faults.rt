@@ -3,8 +3,8 @@ ghost use Rattle.std.specs.Prelude.{◌≡◌};
 ghost use Rattle.cell_reader.specs.Told.{wrong_in, wrong_at};
 
 use cell_machine::least::lesser;
-use cell_parts::state_readings::StateReading;
-use cell_parts::texts::Text;
+use cell_attributes::state_readings::StateReading;
+use cell_attributes::texts::Text;
 use cell_refusals::Scan;
 
 /// What is wrong with a text of a cell.
@@ -34,7 +34,7 @@ macro_rules! least_of {
 impl Scan<StateReading> for WrongText {
     ghost places = { wrong_in };
 
-    #[tactic(auto, unfolding(cell_parts::specs::TextFaults::malformed_in, cell_parts::specs::TextFaults::unknown_in, cell_parts::specs::TextFaults::coupled_in), using(cell_machine::proofs::LeastLemmas::least_append, cell_machine::proofs::LeastLemmas::least_option))]
+    #[tactic(auto, unfolding(cell_attributes::specs::TextFaults::malformed_in, cell_attributes::specs::TextFaults::unknown_in, cell_attributes::specs::TextFaults::coupled_in), using(cell_machine::proofs::LeastLemmas::least_append, cell_machine::proofs::LeastLemmas::least_option))]
     fn least_in(&self, reading: &StateReading) -> Option<usize> {
         match self {
             WrongText::Malformed => least_of!(reading, malformed),

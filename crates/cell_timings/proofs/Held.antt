@@ -10,8 +10,8 @@ use Rattle.timing_arcs.specs.declared.subject.Room.{Room}
 use Rattle.timing_arcs.specs.declared.subject.PinTiming.{PinTiming}
 use Rattle.timing_arcs.specs.declared.fault.TimingFault.{TimingFault}
 use Rattle.timing_arcs.specs.Timing.{reading_answer, held_answer}
-use Rattle.cell_parts.specs.Limits.{first_past}
-use Rattle.cell_parts.proofs.PinRules.{within_limit}
+use Rattle.cell_attributes.specs.Limits.{first_past}
+use Rattle.cell_attributes.proofs.PinRules.{within_limit}
 use Rattle.cell_timings.specs.PinTimings.{Answer, subject_at, answers_from, malformed_timing, unknown_timing, own_timing, number_timing, checks_in, arcs_in, check_at_in, arc_at_in, wide_in, left_out_in, left_out_from}
 use Rattle.cell_timings.specs.Held.{cell_room, left_room, held_from, AreHeld}
 use Rattle.cell_timings.proofs.TimingRules.{check_count, arc_count, check_counts, arc_counts}

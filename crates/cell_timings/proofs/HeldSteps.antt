@@ -3,7 +3,7 @@ use Rattle.std.proofs.Common.{◌≡◌, ℕ, suc, ◌+◌, ◌<◌, List, [], �
 use Rattle.std.specs.Prelude.{flat_map, Option, Some, None}
 use Rattle.std.proofs.lemmas.List.{drop_more}
 use Rattle.liberty_groups.specs.declared.tree.Value.{Value}
-use Rattle.cell_parts.specs.Pins.{owner_as, owners_in}
+use Rattle.cell_attributes.specs.Pins.{owner_as, owners_in}
 use Rattle.liberty_groups.specs.declared.tree.Group.{Group}
 use Rattle.timing_arcs.specs.declared.subject.Subject.{Subject}
 use Rattle.timing_arcs.specs.declared.subject.Room.{Room}

@@ -12,9 +12,9 @@ use Rattle.cell_machine.specs.CellRules.{is_check, is_arc, is_in_order, are_chec
 use Rattle.timing_arcs.specs.declared.subject.Subject.{Subject}
 use Rattle.timing_arcs.specs.Timing.{reading_answer}
 use Rattle.timing_arcs.proofs.LawLemmas.{checks_are_sound, arcs_are_sound, arcs_end_here, arcs_are_apart, timings_are_placed}
-use Rattle.cell_parts.specs.Limits.{first_past}
-use Rattle.cell_parts.proofs.Distinct.{nil_parts}
-use Rattle.cell_parts.proofs.PinRules.{within_limit}
+use Rattle.cell_attributes.specs.Limits.{first_past}
+use Rattle.cell_attributes.proofs.Distinct.{nil_parts}
+use Rattle.cell_attributes.proofs.PinRules.{within_limit}
 use Rattle.cell_timings.specs.PinTimings.{Answer, subject_at, answers_from, checks_in, arcs_in, check_at_in, arc_at_in, wide_in}
 
 no_wide : (wide : Option ℕ) → option_map_or (λ at. at ∷ []) wide [] ≡ [] → wide ≡ None

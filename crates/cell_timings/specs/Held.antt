@@ -6,7 +6,7 @@ use Rattle.timing_arcs.specs.declared.subject.Room.{Room}
 use Rattle.timing_arcs.specs.declared.timing_texts.TimingTexts.{TimingTexts}
 use Rattle.timing_arcs.specs.Timing.{reading_answer, held_answer}
 use Rattle.timing_arcs.specs.TimingTexts.{AreTexts}
-use Rattle.cell_parts.specs.Limits.{first_past}
+use Rattle.cell_attributes.specs.Limits.{first_past}
 use Rattle.cell_timings.specs.PinTimings.{Answer, subject_at, answers_from, malformed_timing, unknown_timing, own_timing, number_timing, checks_in, arcs_in, check_at_in, arc_at_in, wide_in, left_out_from}
 
 -- the room for the timing of a cell with so many pins: one more than the limits

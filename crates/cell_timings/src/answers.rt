@@ -1,10 +1,10 @@
 //! The timing of the pins of a cell.
 ghost use Rattle.std.specs.Prelude.{◌≡◌, [], ◌∷◌, ◌++◌, IfOk, OnOk, length, map, flat_map};
 ghost use Rattle.timing_arcs.specs.Timing.{reading_answer, held_answer};
-ghost use Rattle.cell_parts.specs.Pins.{owners_in};
+ghost use Rattle.cell_attributes.specs.Pins.{owners_in};
 ghost use Rattle.cell_timings.specs.Held.{cell_room, left_room, next_answer, room_after, held_from, AreSharedTexts};
 
-use cell_parts::limits::{MOST_ARCS, MOST_CHECKS, MOST_PINS};
+use cell_attributes::limits::{MOST_ARCS, MOST_CHECKS, MOST_PINS};
 use liberty_groups::Group;
 use std::alloc::{AllocError, Global};
 use timing_arcs::{PinTiming, Room, Subject, TimingFault, TimingTexts, read_timing};

@@ -1,8 +1,8 @@
 -- The texts of a cell's models: that of its core, and behind it that of its three-state drivers.
 use Rattle.std.proofs.Common.{◌≡◌, true, false, ℕ, List, [], ◌++◌, Result, Ok, Err, IsErr, sym, ap, subst, ◌∙◌, refl}
 use Rattle.text_io.specs.Desk.{DeskState}
-use Rattle.command_outcomes.specs.Written.{in_verilog, in_vital, wrote_all, Writes}
-use Rattle.command_outcomes.proofs.WrittenLaws.{wrote_all-nothing, all_stops, all_goes_on}
+use Rattle.run_outcome.specs.Written.{in_verilog, in_vital, wrote_all, Writes}
+use Rattle.run_outcome.proofs.WrittenLaws.{wrote_all-nothing, all_stops, all_goes_on}
 use Rattle.three_state_cells.specs.DrivenCells.{DrivenData, may_float}
 use Rattle.generated_drivers.specs.Generated.{verilog_driver_of, vital_driver_of}
 use Rattle.verilog_drivers.specs.DriverText as verilog

@@ -5,8 +5,8 @@ use Rattle.text_io.specs.declared.slots.OutSlot.TheVariants.{Report}
 use Rattle.text_io.specs.Desk.{DeskState, wrote, WritesText}
 use Rattle.liberty_groups.specs.declared.tree.Group.{Group}
 use Rattle.three_state_cells.specs.DrivenCells.{DrivenData}
-use Rattle.command_outcomes.specs.Written.{in_report, wrote_all, Writes}
-use Rattle.command_outcomes.proofs.WrittenLaws.{wrote_all-nothing, report_stops, report_whole}
+use Rattle.run_outcome.specs.Written.{in_report, wrote_all, Writes}
+use Rattle.run_outcome.proofs.WrittenLaws.{wrote_all-nothing, report_stops, report_whole}
 use Rattle.scan_cells.specs.declared.answers.Agreement.{Agreement}
 use Rattle.scan_cells.specs.TestGroup.{test_of}
 use Rattle.scan_cells.specs.TestLines.{test_line}

@@ -22,7 +22,7 @@ use Rattle.scan_cells.specs.Comparison.{agreement}
 use Rattle.scan_cells.specs.TestLines.{test_line}
 use Rattle.library_report.specs.CellLines.{accepted_line}
 use Rattle.library_report.specs.LeftOutLines.{left_out_lines}
-use Rattle.command_outcomes.specs.Written.{Written, in_verilog, in_vital, in_report, joined}
+use Rattle.run_outcome.specs.Written.{Written, in_verilog, in_vital, in_report, joined}
 
 -- both model files are bound
 pub record ModelsAreBound (s : DeskState) : Type 0 where

@@ -2,7 +2,7 @@
 ghost use Rattle.text_io.specs.declared.slots.OutSlot.TheVariants.{Report};
 ghost use Rattle.text_io.specs.Desk.{HasCause, StopsWithCause, WritesText};
 ghost use Rattle.three_state_cells.specs.DrivenCells.{driven_data_of};
-ghost use Rattle.command_outcomes.specs.Written.{Writes};
+ghost use Rattle.run_outcome.specs.Written.{Writes};
 ghost use Rattle.cell_translation.specs.Cells.{ModelsAreBound, accepted_lines, accepted_written};
 
 use crate::models::write_models;

@@ -11,7 +11,7 @@ ghost use Rattle.vital_models.specs.Generated.{entity_of};
 ghost use Rattle.vhdl_writer.specs.Entity.{entity_text};
 ghost use Rattle.verilog_drivers.specs.DriverText as verilog;
 ghost use Rattle.vhdl_drivers.specs.DriverText as vhdl;
-ghost use Rattle.command_outcomes.specs.Written.{Writes, in_verilog, in_vital};
+ghost use Rattle.run_outcome.specs.Written.{Writes, in_verilog, in_vital};
 ghost use Rattle.cell_translation.specs.Cells.{ModelsAreBound, core_entity_name, verilog_drivers_text, model_text, vital_drivers_text, vital_text, models_written};
 
 use cell_machine::Cell;
@@ -24,7 +24,7 @@ use three_state_cells::DrivenCell;
 use verilog_drivers::write_driver as write_verilog_driver;
 use verilog_writer::write_model;
 use vhdl_drivers::write_driver as write_vital_driver;
-use vhdl_names::numbered_name;
+use vhdl_tokens::numbered_name;
 use vhdl_writer::write_entity;
 use vital_models::{VEntity, vital_model};
 

@@ -3,7 +3,7 @@ ghost use Rattle.std.specs.Prelude.{◌≡◌, IfOk};
 ghost use Rattle.text_io.specs.declared.slots.OutSlot.TheVariants.{Report};
 ghost use Rattle.text_io.specs.Desk.{HasCause, StopsWithCause, WritesText};
 ghost use Rattle.three_state_cells.specs.DrivenCells.{driven_data_of};
-ghost use Rattle.command_outcomes.specs.Written.{Writes, in_report};
+ghost use Rattle.run_outcome.specs.Written.{Writes, in_report};
 ghost use Rattle.scan_cells.specs.TestLines.{digit as digit_of, agreement_text, test_line};
 ghost use Rattle.cell_translation.specs.Cells.{found_of_test, test_lines};
 
@@ -11,8 +11,7 @@ use crate::models::may_float;
 use liberty_groups::Group;
 use scan_cells::{Agreement, agrees, functional_cell, test_of};
 use std::alloc::{AllocError, Global};
-use text_io::{Desk, Failed, Line, OutSlot, Stop};
-use text_parts::{Bytes, Decimal, Part, Put, parts, write_part};
+use text_io::{Bytes, Decimal, Desk, Failed, Line, OutSlot, Part, Put, Stop, parts, write_part};
 use three_state_cells::DrivenCell;
 
 /// A state as a digit.

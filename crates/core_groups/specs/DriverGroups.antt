@@ -7,7 +7,7 @@ use Rattle.liberty_groups.specs.declared.tree.Item.TheVariants as item
 use Rattle.liberty_groups.specs.declared.tree.Group.{Group, roll-Group}
 use Rattle.liberty_groups.specs.Attributes.{attribute_of}
 use Rattle.timing_arcs.specs.Timing.{timing_groups}
-use Rattle.cell_parts.specs.Declarations.{says}
+use Rattle.cell_attributes.specs.Declarations.{says}
 
 -- whether this is the type of a timing group
 abbrev pub has_type : List ℕ → Group → Bool

@@ -3,9 +3,9 @@ use Rattle.std.specs.Prelude.{◌≡◌, ℕ, ◌+◌, ◌<◌, ◌^◌, Bool, �
 use Rattle.std.specs.Prelude.{Option, is_some, if◌then◌else◌}
 use Rattle.liberty_groups.specs.declared.tree.Group.{Group}
 use Rattle.liberty_groups.specs.Attributes.{Attribute, attribute_of}
-use Rattle.cell_parts.specs.Groups.{is_pin, pin_groups}
-use Rattle.cell_parts.specs.Pins.{direction_of, owners_in, owners_of}
-use Rattle.cell_parts.specs.Scans.{is_output_group}
+use Rattle.cell_attributes.specs.Groups.{is_pin, pin_groups}
+use Rattle.cell_attributes.specs.Pins.{direction_of, owners_in, owners_of}
+use Rattle.cell_attributes.specs.Scans.{is_output_group}
 use Rattle.core_groups.specs.declared.outputs.ThreeStateOutput.{ThreeStateOutput as HeldOutput}
 use Rattle.core_groups.specs.declared.outputs.CellPins.{CellPins}
 

@@ -8,7 +8,7 @@ ghost use Rattle.core_groups.specs.DriverGroups.{driver_timing as driver_timing_
 ghost use Rattle.core_groups.specs.DriverGroups.{driver_pin as driver_pin_of};
 
 use crate::copies::with_items;
-use cell_parts::groups::is_missing;
+use cell_attributes::groups::is_missing;
 use liberty_groups::{Group, Item, copy_item, copy_items, inner_group, last_attribute};
 use sqlite_items::Items;
 use std::alloc::{AllocError, Global};

@@ -12,7 +12,7 @@ use bool_functions::{FunctionFault, read_free};
 use liberty_groups::{Attribute, Group, Item, Value, copy_bytes, last_attribute};
 use sqlite_items::Items;
 use std::alloc::{AllocError, Global};
-use vhdl_names::numbered_name;
+use vhdl_tokens::numbered_name;
 
 /// Whether a text is a function text by itself.
 fn reads_alone(alloc: Global, text: &[u8]) -> Result<bool, AllocError>

@@ -5,10 +5,10 @@ pub use Rattle.driver_sections.specs as driver_sections
 pub use Rattle.section_outlines.specs as section_outlines
 pub use Rattle.sectioned_texts.specs as sectioned_texts
 pub use Rattle.specify_blocks.specs as specify_blocks
-pub use Rattle.token_spans.specs as token_spans
+pub use Rattle.lexer.specs as lexer
 pub use Rattle.verilog_drivers.specs as verilog_drivers
 pub use Rattle.verilog_tokens.specs as verilog_tokens
 pub use Rattle.vhdl_drivers.specs as vhdl_drivers
-pub use Rattle.vhdl_text.specs as vhdl_text
+pub use Rattle.vhdl_grammar.specs as vhdl_grammar
 pub use Rattle.vhdl_tokens.specs as vhdl_tokens
 pub use Rattle.vital_models.specs as vital_models

@@ -4,7 +4,7 @@ use Rattle.std.specs.Prelude.{[], ◌∷◌, codes}
 use Rattle.vhdl_tokens.specs.Tokens.{lexis}
 use Rattle.vhdl_tokens.specs.Spelling.{is_same}
 use Rattle.vital_models.specs.declared.model.VEntity.{VEntity}
-use Rattle.vhdl_text.specs.VhdlText.{vhdl_text}
+use Rattle.vhdl_grammar.specs.VhdlText.{vhdl_text}
 use Rattle.section_outlines.specs.VhdlMarks.{vhdl_marks}
 use Rattle.vhdl_drivers.specs.DriverSections.{section_text}
 use Rattle.sectioned_texts.specs.DrivenModels.{SectionLanguage}

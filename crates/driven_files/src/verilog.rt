@@ -8,7 +8,7 @@ use sectioned_texts::SectionLanguage;
 use specify_blocks::VModule;
 use sqlite_items::Items;
 use std::alloc::{AllocError, Global};
-use token_spans::Span;
+use lexer::Span;
 use udp_tables::ModelFault;
 use verilog_drivers::{VerilogDrivers, read_driver};
 use verilog_reader::read_models;

@@ -5,7 +5,7 @@ use driver_sections::{Ending, Marks, all_ends, find_sections};
 use sectioned_texts::SectionLanguage;
 use sqlite_items::Items;
 use std::alloc::{AllocError, Global};
-use token_spans::Span;
+use lexer::Span;
 use udp_tables::ModelFault;
 use vhdl_drivers::{VitalDrivers, read_driver};
 use vhdl_reader::read_entities;

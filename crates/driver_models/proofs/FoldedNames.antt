@@ -8,8 +8,8 @@ use Rattle.std.proofs.lemmas.List.Folds.{list_any-append}
 use Rattle.std.proofs.lemmas.Slice.Eq.{bytes_eq-Decides}
 use Rattle.bool_functions.specs.NameList.{number_of, Adds}
 use Rattle.bool_functions.proofs.NameLists.{list_any-map, position-none, position-some}
-use Rattle.rule_readers.proofs.Tests.{there, not_there}
-use Rattle.rule_readers.specs.Words.{is_among}
+use Rattle.grammar_reader.proofs.Tests.{there, not_there}
+use Rattle.grammar_reader.specs.Words.{is_among}
 use Rattle.driver_models.specs.Cores.{Core, HaveSame, ports_at, core_ports}
 
 -- there is a place where the test holds exactly where it holds of one

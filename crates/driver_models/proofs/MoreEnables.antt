@@ -1,8 +1,8 @@
 -- The wires to enables, one behind the other.
 use Rattle.std.proofs.Common.{◌≡◌, ℕ, suc, ◌+◌, ◌-◌, ◌<◌, Bool, List, Ok, codes, ap, ◌∙◌, arith}
 use Rattle.grammar_rules.specs.Reading.{Outcome, and_then, read}
-use Rattle.rule_readers.specs.declared.refusal.Refusal.{Refusal}
-use Rattle.rule_readers.specs.Words.{expect, this_name}
+use Rattle.grammar_reader.specs.declared.refusal.Refusal.{Refusal}
+use Rattle.grammar_reader.specs.Words.{expect, this_name}
 use Rattle.driver_models.specs.Terminals.{enable_name, more_enables}
 
 -- one more of them

@@ -1,7 +1,7 @@
 -- Where a driver may stand. (IEEE 1364-2005, 3.12, name spaces, and 12.1.2, instances; IEEE 1076-1993, 10.3 and 9.6; that a driver has a
 -- core in its file is this project's rule.)
 use Rattle.std.specs.Prelude.{◌≡◌, ℕ, Bool, true, false, List, length}
-use Rattle.rule_readers.specs.Words.{is_among}
+use Rattle.grammar_reader.specs.Words.{is_among}
 use Rattle.driver_models.specs.declared.model.DriverModel.{DriverModel}
 use Rattle.driver_models.specs.Models.{IsSound}
 use Rattle.driver_models.specs.Cores.{Core, core_ports, fits}

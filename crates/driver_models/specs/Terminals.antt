@@ -3,7 +3,7 @@
 -- 4.3.2.2, positional association.)
 use Rattle.std.specs.Prelude.{ℕ, zero, suc, ◌+◌, Bool, true, false, nat_eq, if◌then◌else◌, List, [], ◌∷◌, ◌++◌, length, Option, Some, None, codes}
 use Rattle.grammar_rules.specs.Rule as r
-use Rattle.rule_readers.specs.Words.{Grammar, ◌>>=◌, expect, begins, known, this_name, is_among}
+use Rattle.grammar_reader.specs.Words.{Grammar, ◌>>=◌, expect, begins, known, this_name, is_among}
 use Rattle.udp_tables.specs.declared.models.VPort.{VPort}
 use Rattle.driver_models.specs.declared.terminals.Terminals.{Terminals}
 use Rattle.driver_models.specs.Wires.{numbered}

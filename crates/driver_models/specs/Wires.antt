@@ -2,8 +2,8 @@
 -- enables, each numbered from 1. (IEEE 1364-2005, 3.3; IEEE 1076-1993, 4.3.1.2; the names and their order are this project's form.)
 use Rattle.std.specs.Prelude.{ℕ, ◌+◌, Bool, ◌&&◌, nat_eq, nat_lt, if◌then◌else◌, List, ◌++◌, Option, Some, None, decimal}
 use Rattle.grammar_rules.specs.Rule as r
-use Rattle.rule_readers.specs.Words.{Grammar, ◌>>=◌, expect, begins, known, go_on_where}
-use Rattle.part_readers.specs.Rests.{with_end}
+use Rattle.grammar_reader.specs.Words.{Grammar, ◌>>=◌, expect, begins, known, go_on_where}
+use Rattle.grammar_reader.specs.Rests.{with_end}
 use Rattle.driver_models.specs.declared.wires.Wires.{Wires}
 
 -- the name of a word with a number

@@ -2,8 +2,8 @@
 ghost use Rattle.std.specs.Prelude.{◌≡◌, not, ℕ, [], ◌∷◌, ◌++◌, List, true, map, length, Option, IfOk};
 ghost use Rattle.std.specs.List.{list_all};
 ghost use Rattle.std.specs.Option.{option_map};
-ghost use Rattle.rule_readers.specs.Reading.{read, Reads};
-ghost use Rattle.rule_readers.specs.Words.{known};
+ghost use Rattle.grammar_reader.specs.Reading.{read, Reads};
+ghost use Rattle.grammar_reader.specs.Words.{known};
 ghost use Rattle.udp_tables.specs.declared.models.VPort.{VPort as Port};
 ghost use Rattle.driver_models.specs.Models.{are_core_ports};
 ghost use Rattle.driver_models.specs.Cores as spec;
@@ -11,7 +11,7 @@ ghost use Rattle.driver_models.specs.Found.{core_of, AreFound, with_first};
 
 use crate::language::DriverLanguage;
 use bool_functions::Names;
-use rule_readers::{Cursor, Read, Refusal, Stop};
+use grammar_reader::{Cursor, Read, Refusal, Stop};
 use sqlite_items::Items;
 use std::alloc::{AllocError, Global};
 use std::marker::{Model, PhantomData};

@@ -1,6 +1,6 @@
 //! Names that are taken in a file.
 ghost use Rattle.std.specs.Prelude.{◌≡◌, [], ◌∷◌, ◌++◌, true, IfOk};
-ghost use Rattle.rule_readers.specs.Words.{is_among};
+ghost use Rattle.grammar_reader.specs.Words.{is_among};
 ghost use Rattle.driver_models.specs.Cores.{HaveSame};
 
 use crate::language::DriverLanguage;

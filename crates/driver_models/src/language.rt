@@ -2,7 +2,7 @@
 ghost use Rattle.std.specs.Prelude.{◌≡◌, true, IfOk};
 ghost use Rattle.std.specs.Str.{bytes_eq};
 
-use rule_readers::Language;
+use grammar_reader::Language;
 use std::alloc::{AllocError, Global};
 
 /// A language of drivers: the words of which the names of wires are made, and what names are folded to, so that two are the same

@@ -1,10 +1,10 @@
 //! The ends of a path.
 ghost use Rattle.std.specs.Prelude.{◌≡◌, nat_eq, position};
-ghost use Rattle.rule_readers.specs.Reading.{read, Reads};
-ghost use Rattle.rule_readers.specs.Words.{known};
+ghost use Rattle.grammar_reader.specs.Reading.{read, Reads};
+ghost use Rattle.grammar_reader.specs.Words.{known};
 ghost use Rattle.driver_models.specs.PathEnds as spec;
 
-use rule_readers::{Cursor, Language, Read};
+use grammar_reader::{Cursor, Language, Read};
 use udp_tables::VPort;
 
 /// The number of the input of a name, among the inputs.

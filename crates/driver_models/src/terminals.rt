@@ -1,18 +1,18 @@
 //! The terminals of the instance of a core.
 ghost use Rattle.std.specs.Prelude.{◌≡◌, true, IfOk};
-ghost use Rattle.rule_readers.specs.Reading.{read, Reads};
-ghost use Rattle.rule_readers.specs.Words.{this_name, known};
+ghost use Rattle.grammar_reader.specs.Reading.{read, Reads};
+ghost use Rattle.grammar_reader.specs.Words.{this_name, known};
 ghost use Rattle.driver_models.specs.Terminals as spec;
 ghost use Rattle.driver_models.specs.Wires.{numbered};
 
 use crate::known_names::KnownNames;
 use crate::language::DriverLanguage;
 use crate::wires::{is_numbered, number_behind};
-use rule_readers::{Cursor, Read, Refusal, Stop};
+use grammar_reader::{Cursor, Read, Refusal, Stop};
 use sqlite_items::Items;
 use std::alloc::{AllocError, Global};
 use udp_tables::VPort;
-use vhdl_names::numbered_name;
+use vhdl_tokens::numbered_name;
 
 /// The terminals that are read: how many outputs there are, and which of them are driven.
 #[derive(Drop)]
@@ -195,7 +195,7 @@ impl<L: DriverLanguage> Wired<L> {
     }
 
     /// No further terminal.
-    #[tactic(auto, using(rule_readers::proofs::Repeats::choose_begun, rule_readers::proofs::Repeats::choose_other), unfolding(crate::specs::Terminals::no_terminal))]
+    #[tactic(auto, using(grammar_reader::proofs::Repeats::choose_begun, grammar_reader::proofs::Repeats::choose_other), unfolding(crate::specs::Terminals::no_terminal))]
     fn no_terminal(&self, cursor: &mut Cursor<'_, L>) -> Read<()>
         ensures { Reads (read (spec.no_terminal L.is_name L.is_same L.value L.enable self.now.count) cursor.old) result cursor.new }
     {

@@ -1,14 +1,13 @@
 //! The declarations of the wires of a driver.
 ghost use Rattle.std.specs.Prelude.{◌≡◌, ◌+◌, map, IfOk};
-ghost use Rattle.rule_readers.specs.Words.{known};
-ghost use Rattle.rule_readers.specs.Reading.{read, Reads};
+ghost use Rattle.grammar_reader.specs.Words.{known};
+ghost use Rattle.grammar_reader.specs.Reading.{read, Reads};
 ghost use Rattle.driver_models.specs.Wires as spec;
 
 use crate::language::DriverLanguage;
-use part_readers::{RepeatedPart, while_next, with_end};
-use rule_readers::{Cursor, Language, Read};
+use grammar_reader::{Cursor, Language, Read, RepeatedPart, while_next, with_end};
 use std::alloc::{AllocError, Global};
-use vhdl_names::numbered_name;
+use vhdl_tokens::numbered_name;
 
 /// How many wires are declared: to the inputs of buffers, and to their enables.
 #[derive(Clone, Copy)]
@@ -88,7 +87,7 @@ impl<L: DriverLanguage> RepeatedPart<L> for DeclaredWire<'_> {
     type Found = Wires;
 
     ghost use Rattle.std.specs.Prelude.{map};
-    ghost use Rattle.rule_readers.specs.Reading.{read};
+    ghost use Rattle.grammar_reader.specs.Reading.{read};
     ghost use Rattle.driver_models.specs.Wires as spec;
 
     ghost reading = { λ wire found s. read (spec.declared_wire L.is_name L.is_same L.value L.enable (map (λ word. word.now) wire.tail.now) found) s };

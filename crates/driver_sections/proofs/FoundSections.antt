@@ -1,7 +1,7 @@
 -- The sections of a text by its next token.
 use Rattle.std.proofs.Common.{◌≡◌, ℕ, suc, ◌+◌, ◌-◌, ◌≤◌, ◌<◌, ◌⊎◌, inl, inr, Bool, true, false, if◌then◌else◌, List, [], ◌∷◌, length, take, drop, slice_range, refl, sym, ap, subst, ◌∙◌, arith}
 use Rattle.std.proofs.lemmas.List.{drop_all}
-use Rattle.token_spans.specs.declared.span.Span.{Span}
+use Rattle.lexer.specs.declared.span.Span.{Span}
 use Rattle.driver_sections.specs.Fronts.{behind_gap, IsNext, HasNoNext, tokens_at}
 use Rattle.driver_sections.specs.Marks.{Vocabulary, Marks, are_next}
 use Rattle.driver_sections.specs.Sections.{section_length, begins_section, at_token, at_front, sections_from}

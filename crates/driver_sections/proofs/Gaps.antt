@@ -1,7 +1,7 @@
 -- Separators one behind the other.
 use Rattle.std.proofs.Common.{◌≡◌, ℕ, zero, suc, ◌+◌, ◌≤◌, ◌<◌, List, ◌∷◌, length, drop, get_or, refl, sym, ap, subst, ◌∙◌, arith, add-one, drop-cons}
 use Rattle.std.proofs.lemmas.List.{drop_all, drop-drop}
-use Rattle.token_spans.specs.Tokens.{Lexis}
+use Rattle.lexer.specs.Tokens.{Lexis}
 use Rattle.driver_sections.specs.Fronts.{in_gap, gap_length, behind_gap}
 
 -- the bytes from an offset on: the one there, and those behind it

@@ -1,9 +1,9 @@
 -- The tokens of a text by the next one.
 use Rattle.std.proofs.Common.{◌≡◌, ℕ, zero, suc, ◌+◌, ◌-◌, ◌≤◌, ◌<◌, ◌⊎◌, inl, inr, Bool, List, [], ◌∷◌, length, take, drop, Option, refl, sym, ap, subst, ◌∙◌, arith}
 use Rattle.std.proofs.lemmas.List.{drop_all}
-use Rattle.token_spans.specs.Tokens.{Token, Lexis, scan, at_front, after}
-use Rattle.token_spans.specs.declared.span.Span.{Span}
-use Rattle.token_spans.specs.Spans.{token_of}
+use Rattle.lexer.specs.Tokens.{Token, Lexis, scan, at_front, after}
+use Rattle.lexer.specs.declared.span.Span.{Span}
+use Rattle.lexer.specs.Spans.{token_of}
 use Rattle.driver_sections.specs.Fronts.{behind_gap, IsNext, HasNoNext, tokens_from, tokens_at}
 use Rattle.driver_sections.proofs.Gaps.{cons}
 use Rattle.driver_sections.proofs.Walks.{passed, to_next}

@@ -1,9 +1,9 @@
 -- Words and ends of parts, by the next token.
 use Rattle.std.proofs.Common.{◌≡◌, ℕ, ◌+◌, ◌-◌, ◌≤◌, ◌<◌, Bool, true, false, ◌||◌, List, [], ◌∷◌, length, map, get_or, Bor, drop, slice_range, refl, sym, ap, ◌∙◌, arith, length-drop}
 use Rattle.std.proofs.lemmas.List.{length-take-le, drop_more}
-use Rattle.token_spans.specs.Tokens.{Lexis}
-use Rattle.token_spans.specs.declared.span.Span.{Span}
-use Rattle.token_spans.specs.Spans.{token_of}
+use Rattle.lexer.specs.Tokens.{Lexis}
+use Rattle.lexer.specs.declared.span.Span.{Span}
+use Rattle.lexer.specs.Spans.{token_of}
 use Rattle.driver_sections.specs.Marks.{Ending, are_next, behind, ends}
 use Rattle.driver_sections.specs.Fronts.{IsNext, HasNoNext, tokens_from, tokens_at}
 use Rattle.driver_sections.proofs.NextTokens.{with_next, without_next}

@@ -1,7 +1,7 @@
 -- Sections one behind the other, and spaces in their places.
 use Rattle.std.proofs.Common.{◌≡◌, ℕ, suc, ◌+◌, ◌-◌, ◌≤◌, ◌<◌, List, [], ◌∷◌, ◌++◌, length, drop, get_or, replicate, ap, subst, ◌∙◌, arith, append_assoc}
 use Rattle.std.proofs.lemmas.List.{drop_more}
-use Rattle.token_spans.specs.declared.span.Span.{Span}
+use Rattle.lexer.specs.declared.span.Span.{Span}
 use Rattle.driver_sections.specs.Sections.{StandApart}
 
 -- one more item, while there are some left

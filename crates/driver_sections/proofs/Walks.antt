@@ -1,6 +1,6 @@
 -- Functions that go over the bytes of a text from left to right, separator by separator.
 use Rattle.std.proofs.Common.{◌≡◌, ℕ, zero, suc, ◌+◌, ◌≤◌, List, [], ◌∷◌, length, drop, refl, ap, ◌∙◌, arith}
-use Rattle.token_spans.specs.Tokens.{Lexis}
+use Rattle.lexer.specs.Tokens.{Lexis}
 use Rattle.driver_sections.specs.Fronts.{in_gap, gap_length, behind_gap}
 use Rattle.driver_sections.proofs.Gaps.{cons, dropped_twice}
 

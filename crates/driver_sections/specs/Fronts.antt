@@ -1,8 +1,8 @@
 -- The next token of a text from an offset on that stands outside a token.
 use Rattle.std.specs.Prelude.{◌≡◌, ◌<◌, ◌≤◌, ◌⊎◌, ℕ, zero, suc, ◌+◌, Bool, List, [], ◌∷◌, length, drop, slice_range}
-use Rattle.token_spans.specs.Tokens.{Token, Lexis, scan}
-use Rattle.token_spans.specs.Spans.{token_of}
-use Rattle.token_spans.specs.declared.span.Span.{Span}
+use Rattle.lexer.specs.Tokens.{Token, Lexis, scan}
+use Rattle.lexer.specs.Spans.{token_of}
+use Rattle.lexer.specs.declared.span.Span.{Span}
 
 abbrev pub in_gap : (ℕ → ℕ) → ℕ → ℕ
 in_gap rest zero = 0

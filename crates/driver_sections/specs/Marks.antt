@@ -1,6 +1,6 @@
 -- How parts of a text are marked in a language: by the words that begin them, and by those that end them.
 use Rattle.std.specs.Prelude.{ℕ, ◌+◌, Bool, true, false, ◌&&◌, ◌||◌, if◌then◌else◌, List, [], ◌∷◌, length}
-use Rattle.token_spans.specs.Tokens.{Token, Lexis}
+use Rattle.lexer.specs.Tokens.{Token, Lexis}
 
 -- which bytes are tokens of a language, and which token stands for a word
 pub record Vocabulary : Type 0 where

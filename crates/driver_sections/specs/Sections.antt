@@ -1,8 +1,8 @@
 -- The sections of a text. A section may stand wherever a blank may, and the tokens around it are those of the text without it; its
 -- own tokens are those of its bytes alone. (That a file of models may hold sections, and how they are marked, is this project's rule.)
 use Rattle.std.specs.Prelude.{ℕ, zero, suc, ◌+◌, ◌-◌, ◌≤◌, Bool, false, if◌then◌else◌, List, [], ◌∷◌, ◌++◌, length, take, drop, replicate, slice_get, slice_range, unwrap_or}
-use Rattle.token_spans.specs.Tokens.{scan, scan_of}
-use Rattle.token_spans.specs.declared.span.Span.{Span}
+use Rattle.lexer.specs.Tokens.{scan, scan_of}
+use Rattle.lexer.specs.declared.span.Span.{Span}
 use Rattle.driver_sections.specs.Marks.{Vocabulary, Marks, are_next, ends}
 
 -- How many bytes of a section stand at the front of these, where one begins. Without an end it goes on to the end of the text.

@@ -3,7 +3,7 @@ ghost use Rattle.std.specs.Prelude.{◌≡◌, ◌++◌, length, replicate, IfOk
 ghost use Rattle.driver_sections.specs.Sections.{blanked, StandApart};
 
 use std::alloc::{AllocError, Global};
-use token_spans::Span;
+use lexer::Span;
 
 /// Appends so many spaces.
 #[tactic(auto, using(crate::proofs::Spaces::one_less))]

@@ -1,6 +1,6 @@
 //! Where parts of a text end.
 ghost use Rattle.std.specs.Prelude.{◌≡◌, ◌<◌, ◌≤◌, [], ◌∷◌, length, false, IfOk, IfSome, None};
-ghost use Rattle.token_spans.specs.Tokens.{scan_of};
+ghost use Rattle.lexer.specs.Tokens.{scan_of};
 ghost use Rattle.driver_sections.specs.Fronts.{tokens_from};
 ghost use Rattle.driver_sections.specs.Marks.{ends};
 ghost use Rattle.driver_sections.specs.Told.{ending_of};
@@ -8,9 +8,9 @@ ghost use Rattle.driver_sections.specs.Told.{ending_of};
 use crate::fronts::next_token;
 use crate::marks::Ending;
 use crate::words::are_next;
-use rule_readers::Language;
+use grammar_reader::Language;
 use std::alloc::{AllocError, Global};
-use token_spans::TokenState;
+use lexer::TokenState;
 
 /// A place of a text outside a token, and what the tokens before it say of those behind.
 #[derive(Clone, Copy)]

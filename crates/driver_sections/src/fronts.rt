@@ -2,7 +2,7 @@
 ghost use Rattle.std.specs.Prelude.{◌≡◌, ◌+◌, ◌<◌, ◌≤◌, length, drop, IfSome, None};
 ghost use Rattle.driver_sections.specs.Fronts.{behind_gap, IsNext, HasNoNext};
 
-use token_spans::{Lexicon, Span, TokenState};
+use lexer::{Lexicon, Span, TokenState};
 
 /// The offset behind the separators that stand in a text from an offset on.
 #[inline(always)]

@@ -1,6 +1,6 @@
 //! The sections of a text.
 ghost use Rattle.std.specs.Prelude.{◌≡◌, ◌+◌, ◌<◌, ◌≤◌, length, drop, IfOk};
-ghost use Rattle.token_spans.specs.Spans.{LieInside};
+ghost use Rattle.lexer.specs.Spans.{LieInside};
 ghost use Rattle.driver_sections.specs.Marks.{vocabulary};
 ghost use Rattle.driver_sections.specs.Sections.{section_length, sections, StandApart};
 ghost use Rattle.driver_sections.specs.Told.{marks_of};
@@ -9,9 +9,9 @@ use crate::ends::{Place, behind_part};
 use crate::fronts::next_token;
 use crate::marks::Marks;
 use crate::words::are_next;
-use rule_readers::Language;
+use grammar_reader::Language;
 use std::alloc::{AllocError, Global};
-use token_spans::{Span, TokenState};
+use lexer::{Span, TokenState};
 
 /// How many bytes of a section stand at the front of these, where one begins.
 fn section_length<'a, L: Language, S: TokenState<'a>>(bytes: &'a [u8], marks: &Marks) -> usize

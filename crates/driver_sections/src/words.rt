@@ -4,8 +4,8 @@ ghost use Rattle.driver_sections.specs.Fronts.{tokens_from, tokens_at};
 ghost use Rattle.driver_sections.specs.Marks.{are_next};
 
 use crate::fronts::next_token;
-use rule_readers::Language;
-use token_spans::{Span, TokenState};
+use grammar_reader::Language;
+use lexer::{Span, TokenState};
 
 /// Whether the tokens from an offset on are these words.
 fn words_follow<'a, L: Language, S: TokenState<'a>>(

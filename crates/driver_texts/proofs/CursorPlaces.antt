@@ -5,13 +5,13 @@ use Rattle.std.proofs.Math.Seq.{drop-append_seam}
 use Rattle.grammar_rules.specs.Reading.{read}
 use Rattle.grammar_rules.proofs.Steps.{rest_of}
 use Rattle.grammar_rules.proofs.Places.{Suffix, suffix}
-use Rattle.token_spans.specs.declared.span.Span.{Span}
-use Rattle.token_spans.specs.Spans.{LieInside, spelled}
-use Rattle.rule_readers.specs.declared.refusal.Refusal.{Refusal}
-use Rattle.rule_readers.specs.declared.refusal.Stop.{Stop}
-use Rattle.rule_readers.specs.declared.refusal.Stop.TheVariants.{Memory, Refused}
-use Rattle.rule_readers.specs.Words.{Grammar}
-use Rattle.rule_readers.specs.Reading.{ReadsAs}
+use Rattle.lexer.specs.declared.span.Span.{Span}
+use Rattle.lexer.specs.Spans.{LieInside, spelled}
+use Rattle.grammar_reader.specs.declared.refusal.Refusal.{Refusal}
+use Rattle.grammar_reader.specs.declared.refusal.Stop.{Stop}
+use Rattle.grammar_reader.specs.declared.refusal.Stop.TheVariants.{Memory, Refused}
+use Rattle.grammar_reader.specs.Words.{Grammar}
+use Rattle.grammar_reader.specs.Reading.{ReadsAs}
 
 pub inside_drop : (text : List ℕ) (k : ℕ) (spans : List Span) → LieInside text spans → LieInside text (drop k spans)
 inside_drop text zero spans h = h

@@ -9,9 +9,9 @@ use Rattle.std.proofs.lemmas.List.Elements.{All-push}
 use Rattle.std.proofs.lemmas.Option.{slice_get_within}
 use Rattle.grammar_rules.specs.Rule as r
 use Rattle.grammar_rules.proofs.Promises.{Promises, token, gives, in_turn, keeps}
-use Rattle.rule_readers.specs.declared.refusal.Refusal.TheVariants.{Syntax, Undefined}
-use Rattle.rule_readers.specs.Words.{Grammar, allowed_by, known}
-use Rattle.rule_readers.proofs.Passing.{fits_if, fits_allowed, IsFound}
+use Rattle.grammar_reader.specs.declared.refusal.Refusal.TheVariants.{Syntax, Undefined}
+use Rattle.grammar_reader.specs.Words.{Grammar, allowed_by, known}
+use Rattle.grammar_reader.proofs.Passing.{fits_if, fits_allowed, IsFound}
 use Rattle.udp_tables.specs.declared.models.VPort.{VPort}
 use Rattle.cell_machine.specs.CellRules.{is_ascending}
 use Rattle.driver_models.specs.declared.terminals.Terminals.{Terminals}

@@ -3,10 +3,10 @@ use Rattle.std.proofs.Common.{◌≡◌, ℕ, zero, suc, ◌+◌, ◌≤◌, ◌
 use Rattle.std.proofs.lemmas.Bool.{and_parts, ltb-true}
 use Rattle.grammar_rules.specs.Rule as r
 use Rattle.grammar_rules.proofs.Promises.{Promises, token, gives, in_turn, many, keeps, weaker}
-use Rattle.rule_readers.specs.declared.refusal.Refusal.TheVariants.{Syntax, Twice}
-use Rattle.rule_readers.specs.Words.{Grammar, is_among, fresh, new_name, known, is_this, this_name}
-use Rattle.rule_readers.proofs.Passing.{fits_if, fits_unless, some_if}
-use Rattle.part_readers.specs.Rests.{with_end}
+use Rattle.grammar_reader.specs.declared.refusal.Refusal.TheVariants.{Syntax, Twice}
+use Rattle.grammar_reader.specs.Words.{Grammar, is_among, fresh, new_name, known, is_this, this_name}
+use Rattle.grammar_reader.proofs.Passing.{fits_if, fits_unless, some_if}
+use Rattle.grammar_reader.specs.Rests.{with_end}
 use Rattle.udp_tables.specs.declared.models.VPort.{VPort}
 use Rattle.driver_models.specs.declared.wires.Wires.{Wires}
 use Rattle.driver_models.specs.Cores.{Core, core_ports, fits, core_name}

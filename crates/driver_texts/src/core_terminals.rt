@@ -4,8 +4,7 @@ ghost use Rattle.driver_texts.specs.CoreTerminals.{terminal_by, next_terminal_te
 use crate::numbered_names::ListedNames;
 use crate::numbered_ports::{EachPort, PortText};
 use driver_models::DriverModel;
-use text_io::{Desk, Line, OutSlot};
-use text_parts::{Bytes, Decimal, Part, Put, parts};
+use text_io::{Bytes, Decimal, Desk, Line, OutSlot, Part, Put, parts};
 use udp_tables::VPort;
 
 /// What stands at the core for a port of this name: of a driven output the wire of this word with its number.

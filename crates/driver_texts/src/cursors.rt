@@ -1,9 +1,9 @@
 //! A cursor set to a place that another one of another language stands at.
 ghost use Rattle.std.specs.Prelude.{◌≡◌, ◌-◌, length, drop};
-ghost use Rattle.token_spans.specs.Spans.{LieInside, spelled};
+ghost use Rattle.lexer.specs.Spans.{LieInside, spelled};
 
-use rule_readers::{Cursor, Language};
-use token_spans::KeptSpan;
+use grammar_reader::{Cursor, Language};
+use lexer::KeptSpan;
 
 /// A cursor before the last tokens of a text, so many.
 pub fn cursor_before<'a, L: Language>(

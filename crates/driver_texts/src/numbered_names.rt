@@ -4,8 +4,7 @@ ghost use Rattle.std.specs.List.{flat_map};
 ghost use Rattle.driver_models.specs.Terminals.{all_numbered};
 ghost use Rattle.driver_texts.specs.NumberedNames.{listed_names_text};
 
-use text_io::{Desk, Line, OutSlot};
-use text_parts::{Bytes, Decimal, Part, Put, parts};
+use text_io::{Bytes, Decimal, Desk, Line, OutSlot, Part, Put, parts};
 
 /// The names of a word and the numbers from 1 up to a count, each between these bytes.
 #[derive(Drop)]

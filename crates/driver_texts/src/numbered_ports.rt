@@ -6,8 +6,7 @@ ghost use Rattle.text_io.specs.Desk.{is_bound, HasCause};
 ghost use Rattle.text_io.specs.Line.{PutsText};
 ghost use Rattle.driver_texts.specs.NumberedPorts.{is_driven_place, port_number, outputs_with, driven_with, numbered_ports};
 
-use text_io::{Desk, Line, OutSlot};
-use text_parts::{Part, Put};
+use text_io::{Desk, Line, OutSlot, Part, Put};
 use udp_tables::VPort;
 
 /// What stands before a port: how many outputs, and how many driven ones.

@@ -2,8 +2,8 @@
 use Rattle.std.proofs.Common.{◌≡◌, ◌≤◌, ℕ, zero, suc, ◌+◌, ◌-◌, Bool, true, false, ◌||◌, if◌then◌else◌, List, [], ◌∷◌, ◌++◌, take, drop, length, replicate, slice_get, slice_range, unwrap_or, Option, arith, length-append, length-drop}
 use Rattle.std.specs.List.{AllByRecursion}
 use Rattle.std.proofs.lemmas.List.{length-take, length-take-le, length-replicate}
-use Rattle.token_spans.specs.Tokens.{Token, Lexis, at_front, scan, scan_of}
-use Rattle.token_spans.specs.declared.span.Span.{Span}
+use Rattle.lexer.specs.Tokens.{Token, Lexis, at_front, scan, scan_of}
+use Rattle.lexer.specs.declared.span.Span.{Span}
 use Rattle.driver_sections.specs.Marks.{Vocabulary, Marks, Ending, are_next, behind, ends}
 use Rattle.driver_sections.specs.Sections.{section_length, begins_section, at_front as section_front, sections_from, sections, blanked_from, blanked, StandApart}
 use Rattle.driver_sections.proofs.Spaces.{in_order}

@@ -11,11 +11,11 @@ use Rattle.cell_machine.specs.declared.groups.StateGroup.{StateGroup}
 use Rattle.timing_arcs.specs.declared.subject.Subject.{Subject}
 use Rattle.timing_arcs.specs.Timing.{reading_answer}
 use Rattle.cell_reader.specs.PinTimings.{Answer, subject_at, answers_from, places_from, left_out_in, left_out_from}
-use Rattle.cell_parts.specs.Groups.{is_pin}
-use Rattle.cell_parts.specs.Pins.{owner_as, owners_in}
-use Rattle.cell_parts.specs.Vocabulary.{Vocabulary}
-use Rattle.cell_parts.specs.Building.{output_in, outputs_from}
-use Rattle.cell_parts.specs.Limits.{place_of_group}
+use Rattle.cell_attributes.specs.Groups.{is_pin}
+use Rattle.cell_attributes.specs.Pins.{owner_as, owners_in}
+use Rattle.cell_attributes.specs.Vocabulary.{Vocabulary}
+use Rattle.cell_attributes.specs.Building.{output_in, outputs_from}
+use Rattle.cell_attributes.specs.Limits.{place_of_group}
 use Rattle.core_groups.specs.Outputs.{is_three_state, outputs_from as floating_from}
 use Rattle.gathered_cells.proofs.Single.{single, same_at, same_answer, same_output, same_left_out_timing, same_floating, its_owner}
 use Rattle.gathered_cells.proofs.Lists.{apart, told, of_pins, of_pins_join, one_of, several_of, each_name}

@@ -9,10 +9,10 @@ use Rattle.liberty_groups.specs.declared.tree.Value.{Value}
 use Rattle.liberty_groups.specs.declared.tree.Group.{Group}
 use Rattle.cell_machine.specs.Delay.{least, lesser}
 use Rattle.cell_machine.proofs.LeastLemmas.{lesser_assoc}
-use Rattle.cell_parts.specs.Groups.{is_called, is_pin, is_state}
-use Rattle.cell_parts.specs.States.{states_in}
-use Rattle.cell_parts.specs.Scans.{bank_in}
-use Rattle.cell_parts.specs.Declarations.{Declared, declared_pin, declared_in, declared_state}
+use Rattle.cell_attributes.specs.Groups.{is_called, is_pin, is_state}
+use Rattle.cell_attributes.specs.States.{states_in}
+use Rattle.cell_attributes.specs.Scans.{bank_in}
+use Rattle.cell_attributes.specs.Declarations.{Declared, declared_pin, declared_in, declared_state}
 use Rattle.gathered_cells.proofs.Single.{single, is_one_pin, is_no_state, no_bank_in, its_declared}
 
 -- A pin group becomes one for each of its names.

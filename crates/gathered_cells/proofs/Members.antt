@@ -12,7 +12,7 @@ use Rattle.liberty_groups.specs.declared.tree.Item.TheOpen as layer
 use Rattle.liberty_groups.specs.declared.tree.Item.TheVariants as made
 use Rattle.liberty_groups.specs.declared.tree.Item.TheViews.{outs-Inner, out-roll-Group}
 use Rattle.liberty_groups.specs.declared.tree.Group.{Group, roll-Group, out-Group}
-use Rattle.cell_parts.specs.Groups.{is_called, inner_of, inner_groups}
+use Rattle.cell_attributes.specs.Groups.{is_called, inner_of, inner_groups}
 use Rattle.core_groups.specs.Outputs.{three_state_outputs}
 use Rattle.bus_texts.specs.declared.bus_types.BusType.{BusType}
 use Rattle.bus_texts.specs.declared.vectors.Vector.{Vector}

@@ -14,21 +14,21 @@ use Rattle.cell_machine.specs.CellRules.{is_name}
 use Rattle.cell_machine.specs.Delay.{least, lesser}
 use Rattle.timing_arcs.specs.declared.subject.Subject.{Subject}
 use Rattle.timing_arcs.specs.Timing.{malformed_at as malformed_timing, unknown_names_at as unknown_timing, numbers_at as number_timing, check_at_of}
-use Rattle.cell_parts.specs.declared.texts.Text.{Text}
-use Rattle.cell_parts.specs.declared.state_readings.StateReading.{StateReading}
-use Rattle.cell_parts.specs.Groups.{is_state, inner_groups, pin_groups, state_groups, first_argument}
-use Rattle.cell_parts.specs.Pins.{pin_as, pins_in, pins_of, owners_in, owners_of}
-use Rattle.cell_parts.specs.States.{states_in, states_of}
-use Rattle.cell_parts.specs.Scans.{direction_in, directions, three_state_in, three_states, bank_in, banks, left_out_in, left_out_states, clear_preset_in, clear_presets, no_function_in, no_functions}
-use Rattle.cell_parts.specs.Declarations.{Declared, declared_in, declared_of, clashes_after, duplicates, bad_name_in}
-use Rattle.cell_parts.specs.Vocabulary.{Entry, Vocabulary, firsts_after, state_entries, pin_entry, pin_entries, entry_names, entry_classes, entry_targets, vocabulary}
-use Rattle.cell_parts.specs.Texts.{malformed_at, unknown_at}
-use Rattle.cell_parts.specs.TextFaults.{malformed_in, unknown_in}
-use Rattle.cell_parts.specs.StateReadings.{state_reading}
-use Rattle.cell_parts.specs.Outputs.{pin_text}
-use Rattle.cell_parts.specs.Building.{cell_numbers, groups_from, outputs_from}
-use Rattle.cell_parts.specs.CellLaws.{texts_of, outputs_of}
-use Rattle.cell_parts.specs.Limits.{first_past, place_of_group, state_at, wide_output}
+use Rattle.cell_attributes.specs.declared.texts.Text.{Text}
+use Rattle.cell_attributes.specs.declared.state_readings.StateReading.{StateReading}
+use Rattle.cell_attributes.specs.Groups.{is_state, inner_groups, pin_groups, state_groups, first_argument}
+use Rattle.cell_attributes.specs.Pins.{pin_as, pins_in, pins_of, owners_in, owners_of}
+use Rattle.cell_attributes.specs.States.{states_in, states_of}
+use Rattle.cell_attributes.specs.Scans.{direction_in, directions, three_state_in, three_states, bank_in, banks, left_out_in, left_out_states, clear_preset_in, clear_presets, no_function_in, no_functions}
+use Rattle.cell_attributes.specs.Declarations.{Declared, declared_in, declared_of, clashes_after, duplicates, bad_name_in}
+use Rattle.cell_attributes.specs.Vocabulary.{Entry, Vocabulary, firsts_after, state_entries, pin_entry, pin_entries, entry_names, entry_classes, entry_targets, vocabulary}
+use Rattle.cell_attributes.specs.Texts.{malformed_at, unknown_at}
+use Rattle.cell_attributes.specs.TextFaults.{malformed_in, unknown_in}
+use Rattle.cell_attributes.specs.StateReadings.{state_reading}
+use Rattle.cell_attributes.specs.Outputs.{pin_text}
+use Rattle.cell_attributes.specs.Building.{cell_numbers, groups_from, outputs_from}
+use Rattle.cell_attributes.specs.CellLaws.{texts_of, outputs_of}
+use Rattle.cell_attributes.specs.Limits.{first_past, place_of_group, state_at, wide_output}
 use Rattle.cell_reader.specs.declared.refusal.Reason.{Reason}
 use Rattle.cell_reader.specs.declared.refusal.Reason.TheVariants as reason
 use Rattle.cell_reader.specs.declared.refusal.Refusal.{Refusal}

@@ -24,19 +24,19 @@ use Rattle.timing_arcs.specs.Merging.{merged, merged_at}
 use Rattle.timing_arcs.specs.Timing as timing
 use Rattle.cell_reader.specs.PinTimings.{Answer, arc_at_of, type_at, left_out_in}
 use Rattle.cell_reader.specs.Written as written
-use Rattle.cell_parts.specs.Vocabulary.{Entry, Vocabulary, is_bound, class_as, entry_with, pin_entry, pin_entries}
-use Rattle.cell_parts.specs.States.{StateName}
-use Rattle.cell_parts.specs.declared.vocabulary.Class.{Class}
-use Rattle.cell_parts.specs.declared.declarations.Role.TheVariants.{Bearer, Plain}
-use Rattle.cell_parts.specs.Declarations.{Declared, is_internal, says, declared_pin, declared_in, declared_state}
-use Rattle.cell_parts.specs.Groups.{is_pin, is_state, is_bank}
-use Rattle.cell_parts.specs.States.{states_in}
-use Rattle.cell_parts.specs.Vocabulary.{internal_class}
-use Rattle.cell_parts.specs.Pins.{direction_as, direction_of, pin_as, pins_in, owner_as, owners_in}
-use Rattle.cell_parts.specs.Scans.{place_or, place_unless, is_output_group, is_missing, direction_in, three_state_in, bank_in, left_out_in as statements_left_out, no_function_in}
-use Rattle.cell_parts.specs.Outputs.{node_as, output_with, pin_text_as, pin_text}
-use Rattle.cell_parts.specs.Building.{output_pin, output_in}
-use Rattle.cell_parts.specs.Limits.{wide_text, wide_output}
+use Rattle.cell_attributes.specs.Vocabulary.{Entry, Vocabulary, is_bound, class_as, entry_with, pin_entry, pin_entries}
+use Rattle.cell_attributes.specs.States.{StateName}
+use Rattle.cell_attributes.specs.declared.vocabulary.Class.{Class}
+use Rattle.cell_attributes.specs.declared.declarations.Role.TheVariants.{Bearer, Plain}
+use Rattle.cell_attributes.specs.Declarations.{Declared, is_internal, says, declared_pin, declared_in, declared_state}
+use Rattle.cell_attributes.specs.Groups.{is_pin, is_state, is_bank}
+use Rattle.cell_attributes.specs.States.{states_in}
+use Rattle.cell_attributes.specs.Vocabulary.{internal_class}
+use Rattle.cell_attributes.specs.Pins.{direction_as, direction_of, pin_as, pins_in, owner_as, owners_in}
+use Rattle.cell_attributes.specs.Scans.{place_or, place_unless, is_output_group, is_missing, direction_in, three_state_in, bank_in, left_out_in as statements_left_out, no_function_in}
+use Rattle.cell_attributes.specs.Outputs.{node_as, output_with, pin_text_as, pin_text}
+use Rattle.cell_attributes.specs.Building.{output_pin, output_in}
+use Rattle.cell_attributes.specs.Limits.{wide_text, wide_output}
 use Rattle.core_groups.specs.Outputs.{is_three_state}
 
 abbrev shape : Group → Value → Group-F Item Group

@@ -10,7 +10,7 @@ use Rattle.std.proofs.lemmas.List.Folds.{list_any-append}
 use Rattle.generated_drivers.specs.cell_machine.declared.pins.Pin.{Pin}
 use Rattle.generated_drivers.specs.cell_machine.CellRules.{are_distinct, HoldsRules}
 use Rattle.generated_drivers.proofs.cell_machine.RuleLemmas.{rules_of}
-use Rattle.generated_entities.proofs.library_cells.CellParts as parts
+use Rattle.generated_entities.proofs.generated_modules.CellParts as parts
 use Rattle.generated_drivers.specs.three_state_cells.DrivenCells.{DrivenData}
 use Rattle.generated_drivers.specs.three_state_cells.Drivers.{own_pins, last_pins}
 use Rattle.generated_drivers.specs.three_state_cells.Laws.{KeepsOutputs}

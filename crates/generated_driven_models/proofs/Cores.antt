@@ -13,9 +13,9 @@ use Rattle.generated_drivers.specs.cell_machine.CellData.{CellData}
 use Rattle.generated_drivers.specs.specify_blocks.Generated.{module_of}
 use Rattle.generated_drivers.specs.specify_blocks.WellFormed.{AreWellFormed}
 use Rattle.generated_drivers.specs.three_state_cells.DrivenCells.{DrivenData, core_name, may_float}
-use Rattle.generated_entities.specs.library_cells.Cells.{IsNumberedCell, names_of_cells, kept_names, AreCellsOfOneLibrary}
-use Rattle.generated_entities.proofs.library_cells.NameLists.{unlike, each_among, other_key}
-use Rattle.generated_entities.proofs.library_cells.KeptNames.{kept_tail, kept_apart}
+use Rattle.generated_entities.specs.generated_modules.Cells.{IsNumberedCell, names_of_cells, kept_names, AreCellsOfOneLibrary}
+use Rattle.generated_entities.proofs.generated_modules.NameLists.{unlike, each_among, other_key}
+use Rattle.generated_entities.proofs.generated_modules.KeptNames.{kept_tail, kept_apart}
 use Rattle.generated_modules.proofs.ModuleLists.{modules-well-formed}
 use Rattle.written_driven_models.specs.Texts.{models_of}
 use Rattle.generated_driven_models.specs.Library.{IsNumberedDriven, own_names, own_numbers, AreOfOneLibrary}

@@ -8,7 +8,7 @@ use Rattle.std.proofs.lemmas.List.{append_cancel_left}
 use Rattle.generated_drivers.specs.verilog_tokens.Kept.{is_kept_cell_name}
 use Rattle.generated_drivers.specs.specify_blocks.Names.{driver_name}
 use Rattle.generated_drivers.specs.three_state_cells.DrivenCells.{DrivenData, may_float}
-use Rattle.generated_entities.proofs.library_cells.NumberedNames.{decimal_digits, number_digits}
+use Rattle.generated_entities.proofs.generated_modules.NumberedNames.{decimal_digits, number_digits}
 use Rattle.generated_modules.proofs.GivenNames.{kept, not_given}
 use Rattle.generated_modules.proofs.PrimitiveNames.{primitive_front}
 use Rattle.generated_modules.proofs.Modules.{primitives_few}

@@ -22,7 +22,7 @@ use Rattle.generated_drivers.specs.driver_models.declared.model.DriverModel.{Dri
 use Rattle.generated_drivers.specs.driver_models.Cores.{Core, core_ports}
 use Rattle.written_driven_models.specs.verilog_drivers.WellFormed.{IsWellFormedDriver}
 use Rattle.generated_drivers.specs.three_state_cells.DrivenCells.{DrivenData, may_float}
-use Rattle.generated_entities.proofs.library_cells.NameLists.{unlike}
+use Rattle.generated_entities.proofs.generated_modules.NameLists.{unlike}
 use Rattle.generated_modules.proofs.ModuleLists.{IsOuter, outer_of}
 use Rattle.generated_modules.proofs.GivenNames.{given_apart}
 use Rattle.generated_drivers.specs.Generated.{verilog_driver_of}

@@ -6,8 +6,8 @@ use Rattle.std.specs.Str.{str_eq_ignore_ascii_case}
 use Rattle.std.proofs.lemmas.Bool.{and_parts, and_from, not-true, true≢false, eq-eqb}
 use Rattle.written_driven_models.proofs.trit_cubes.ListLemmas.{Among}
 use Rattle.generated_entities.specs.bool_functions.NameList.{number_of}
-use Rattle.generated_drivers.specs.vhdl_names.Words.{is_vhdl_word}
-use Rattle.generated_drivers.specs.vhdl_names.Kept.{is_identifier, is_free, begins, is_numbered, lowered}
+use Rattle.generated_drivers.specs.vhdl_tokens.Words.{is_vhdl_word}
+use Rattle.generated_drivers.specs.vhdl_tokens.Kept.{is_identifier, is_free, begins, is_numbered, lowered}
 use Rattle.generated_drivers.specs.vital_models.Kept.{is_kept_entity_name, is_kept_driver_name, entity_name, driver_name}
 use Rattle.generated_entities.proofs.Names.{unlike_lower, no_cell, cells_apart, kept}
 use Rattle.generated_entities.proofs.EntityLists.{kept_is_new}

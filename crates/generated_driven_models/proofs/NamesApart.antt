@@ -6,12 +6,12 @@ use Rattle.std.specs.Str.{str_eq_ignore_ascii_case}
 use Rattle.std.proofs.lemmas.Bool.{eq-eqb}
 use Rattle.std.proofs.lemmas.Map.Keys.{IsDistinct-cons, IsDistinct-head, IsDistinct-tail}
 use Rattle.written_driven_models.proofs.trit_cubes.ListLemmas.{Among, among-append, append-among_left, append-among_right}
-use Rattle.generated_drivers.specs.vhdl_names.Kept.{lowered}
+use Rattle.generated_drivers.specs.vhdl_tokens.Kept.{lowered}
 use Rattle.generated_drivers.specs.vital_models.Kept.{driver_name, entity_name}
 use Rattle.generated_drivers.specs.vital_models.declared.model.VEntity.{VEntity}
-use Rattle.written_driven_models.specs.vhdl_text.VhdlText.{entity_names}
-use Rattle.written_driven_models.specs.vhdl_text.WellFormed.{AreApart}
-use Rattle.generated_entities.proofs.library_cells.NameLists.{each_among, at_among, other_key}
+use Rattle.written_driven_models.specs.vhdl_grammar.VhdlText.{entity_names}
+use Rattle.written_driven_models.specs.vhdl_grammar.WellFormed.{AreApart}
+use Rattle.generated_entities.proofs.generated_modules.NameLists.{each_among, at_among, other_key}
 use Rattle.generated_drivers.specs.driver_models.declared.model.DriverModel.{DriverModel}
 use Rattle.generated_drivers.specs.three_state_cells.DrivenCells.{DrivenData, may_float}
 use Rattle.generated_drivers.specs.Generated.{vital_driver_of}

@@ -11,7 +11,7 @@ use Rattle.generated_drivers.specs.three_state_cells.Timing.{driver_of}
 use Rattle.generated_drivers.specs.three_state_cells.DrivenCells.{DrivenData, core_name, floating_of, data_by, driven_data}
 use Rattle.generated_drivers.proofs.three_state_cells.CoreDrivers.{drivers_are_of_cores}
 use Rattle.generated_drivers.proofs.three_state_cells.DriverLimits.{drivers_keep_limits}
-use Rattle.generated_entities.proofs.library_cells.KeptNames.{kept_distinct}
+use Rattle.generated_entities.proofs.generated_modules.KeptNames.{kept_distinct}
 use Rattle.generated_driven_models.specs.Library.{name_of_core, own_names}
 use Rattle.generated_driven_models.specs.Laws.{ReadCellsAreNumbered, DistinctCellsAreOfOneLibrary}
 

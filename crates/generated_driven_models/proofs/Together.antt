@@ -8,18 +8,18 @@ use Rattle.std.proofs.lemmas.List.Elements.{All-nil, All-cons, recursion_from_Al
 use Rattle.generated_drivers.specs.cell_machine.CellData.{CellData}
 use Rattle.generated_drivers.proofs.cell_machine.RuleLemmas.{rules_of}
 use Rattle.generated_drivers.proofs.cell_tables.CellParts.{Rules}
-use Rattle.generated_drivers.specs.vhdl_names.Kept.{lowered}
+use Rattle.generated_drivers.specs.vhdl_tokens.Kept.{lowered}
 use Rattle.written_driven_models.specs.vhdl_tokens.Spelling.{is_same}
 use Rattle.generated_drivers.specs.vital_models.declared.model.VEntity.{VEntity}
 use Rattle.generated_drivers.specs.vital_models.Generated.{entity_of}
-use Rattle.written_driven_models.specs.vhdl_text.VhdlText.{entity_names}
-use Rattle.written_driven_models.specs.vhdl_text.WellFormed.{IsEntityName, IsWellFormedEntity, AreApart, AreWellFormed}
-use Rattle.generated_entities.specs.library_cells.Cells.{IsNumberedCell}
+use Rattle.written_driven_models.specs.vhdl_grammar.VhdlText.{entity_names}
+use Rattle.written_driven_models.specs.vhdl_grammar.WellFormed.{IsEntityName, IsWellFormedEntity, AreApart, AreWellFormed}
+use Rattle.generated_entities.specs.generated_modules.Cells.{IsNumberedCell}
 use Rattle.generated_entities.proofs.Names.{IsGivenName, cell_number}
 use Rattle.generated_entities.proofs.Entities.{named_well_formed, entity-well-formed}
 use Rattle.generated_drivers.specs.driver_models.declared.model.DriverModel.{DriverModel}
 use Rattle.generated_drivers.specs.driver_models.Cores.{Core, ports_at, core_ports}
-use Rattle.written_driven_models.proofs.grammar_phrases.Places.{get_at, found_behind}
+use Rattle.written_driven_models.proofs.grammar_reader.ItemPlaces.{get_at, found_behind}
 use Rattle.generated_drivers.specs.three_state_cells.DrivenCells.{DrivenData, may_float}
 use Rattle.generated_drivers.specs.Generated.{vital_driver_of}
 use Rattle.generated_driven_models.specs.DriverLaws.{HasDrivers}

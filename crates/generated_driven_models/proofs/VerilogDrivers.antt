@@ -12,7 +12,7 @@ use Rattle.generated_drivers.specs.udp_tables.declared.models.VPort.{VPort}
 use Rattle.generated_drivers.specs.driver_models.Cores.{fits}
 use Rattle.generated_drivers.specs.driver_models.Terminals.{all_numbered}
 use Rattle.written_driven_models.specs.driver_texts.NumberedPorts.{numbered_ports, port_number, outputs_with, driven_with}
-use Rattle.written_driven_models.specs.rule_readers.Words.{is_among}
+use Rattle.written_driven_models.specs.grammar_reader.Words.{is_among}
 use Rattle.generated_drivers.specs.specify_blocks.Names.{driver_name}
 use Rattle.generated_drivers.specs.specify_blocks.Ports.{ports_of}
 use Rattle.generated_drivers.specs.specify_blocks.VerilogModules.{port_names}
@@ -20,8 +20,8 @@ use Rattle.generated_drivers.specs.specify_blocks.WellFormed.{IsName}
 use Rattle.generated_drivers.specs.verilog_tokens.Kept.{is_kept_cell_name}
 use Rattle.generated_drivers.specs.verilog_tokens.Tokens.{is_name_byte}
 use Rattle.generated_drivers.specs.verilog_tokens.Words.{is_verilog_word, verilog_words}
-use Rattle.generated_entities.proofs.library_cells.NameLists.{told_apart}
-use Rattle.generated_entities.proofs.library_cells.NumberedNames.{decimal_digits, number_in_name, lib_stem, cell_stem}
+use Rattle.generated_entities.proofs.generated_modules.NameLists.{told_apart}
+use Rattle.generated_entities.proofs.generated_modules.NumberedNames.{decimal_digits, number_in_name, lib_stem, cell_stem}
 use Rattle.generated_modules.proofs.GivenNames.{given_is_name, given_no_lib}
 use Rattle.generated_modules.proofs.InnerNames.{port_form, ports_are_named}
 use Rattle.written_driven_models.specs.verilog_drivers.DriverText.{data_word}

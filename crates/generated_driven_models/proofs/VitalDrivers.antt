@@ -8,14 +8,14 @@ use Rattle.std.proofs.lemmas.Bool.{and_parts, not-true, eqb-true}
 use Rattle.std.proofs.lemmas.List.Elements.{All-from_recursion}
 use Rattle.std.proofs.lemmas.Map.Keys.{IsDistinct-tail}
 use Rattle.generated_drivers.specs.driver_models.Cores.{fits}
-use Rattle.generated_drivers.specs.vhdl_names.Words.{is_reserved, is_used, vhdl_words, used_words}
+use Rattle.generated_drivers.specs.vhdl_tokens.Words.{is_reserved, is_used, vhdl_words, used_words}
 use Rattle.written_driven_models.specs.vhdl_tokens.Tokens.{is_name_byte}
 use Rattle.written_driven_models.specs.vhdl_tokens.Spelling.{is_same}
 use Rattle.generated_drivers.specs.vital_models.Kept.{is_kept_entity_name, is_kept_driver_name, driver_name}
 use Rattle.generated_drivers.specs.vital_models.Ports.{ports_of}
-use Rattle.written_driven_models.specs.vhdl_text.VhdlDeclarations.{port_names}
-use Rattle.written_driven_models.specs.vhdl_text.WellFormed.{IsEntityName, IsPortName}
-use Rattle.generated_entities.proofs.library_cells.NameLists.{each_among}
+use Rattle.written_driven_models.specs.vhdl_grammar.VhdlDeclarations.{port_names}
+use Rattle.written_driven_models.specs.vhdl_grammar.WellFormed.{IsEntityName, IsPortName}
+use Rattle.generated_entities.proofs.generated_modules.NameLists.{each_among}
 use Rattle.generated_entities.proofs.Names.{IsGivenName, kept, cell_number, decimal_number, number_digits}
 use Rattle.generated_entities.proofs.PortNames.{ports_are_named}
 use Rattle.generated_drivers.specs.Generated.{pins_of, vital_driver_of}

@@ -3,14 +3,14 @@ use Rattle.std.specs.Prelude.{◌≡◌, ℕ, ◌≤◌, false, List, ◌++◌, 
 use Rattle.std.specs.Str.{bytes_eq}
 use Rattle.liberty_text.specs.declared.time.Unit.{Unit}
 use Rattle.liberty_groups.specs.declared.tree.Group.{Group}
-use Rattle.generated_entities.specs.library_cells.Cells.{IsNumberedCell}
+use Rattle.generated_entities.specs.generated_modules.Cells.{IsNumberedCell}
 use Rattle.generated_drivers.specs.driver_models.Cores.{Core, core_ports}
 use Rattle.generated_drivers.specs.udp_tables.VerilogRules as verilog_rules
 use Rattle.generated_drivers.specs.specify_blocks.Names.{module_name}
 use Rattle.generated_drivers.specs.specify_blocks.Names as verilog_names
 use Rattle.generated_drivers.specs.specify_blocks.Generated.{module_of}
 use Rattle.written_driven_models.specs.vhdl_tokens.Spelling.{is_same}
-use Rattle.written_driven_models.specs.vhdl_text.VhdlRules as vhdl_rules
+use Rattle.written_driven_models.specs.vhdl_grammar.VhdlRules as vhdl_rules
 use Rattle.generated_drivers.specs.vital_models.Kept as vhdl_names
 use Rattle.generated_drivers.specs.vital_models.Generated.{entity_of}
 use Rattle.written_driven_models.specs.verilog_drivers.WellFormed as verilog

@@ -4,7 +4,7 @@ use Rattle.std.specs.List.{IsDistinct}
 use Rattle.liberty_text.specs.declared.time.Unit.{Unit}
 use Rattle.liberty_groups.specs.declared.tree.Group.{Group}
 use Rattle.generated_drivers.specs.three_state_cells.DrivenCells.{DrivenData, driven_data}
-use Rattle.generated_entities.specs.library_cells.Cells.{IsNumberedCell}
+use Rattle.generated_entities.specs.generated_modules.Cells.{IsNumberedCell}
 use Rattle.written_driven_models.specs.sectioned_texts.DrivenModels.{driven_models}
 use Rattle.written_driven_models.specs.Texts.{WrittenLanguage, WrittenModel, written_text, models_of, drivers_of}
 use Rattle.written_driven_models.specs.Laws.{WellFormedness, AreWellFormedDrivers}

@@ -7,13 +7,13 @@ pub use Rattle.generated_drivers.specs as generated_drivers
 pub use Rattle.generated_modules.specs as generated_modules
 pub use Rattle.liberty_groups.specs as liberty_groups
 pub use Rattle.liberty_text.specs as liberty_text
-pub use Rattle.generated_entities.specs.library_cells as library_cells
+pub use Rattle.generated_entities.specs.generated_modules as generated_modules
 pub use Rattle.generated_drivers.specs.specify_blocks as specify_blocks
 pub use Rattle.generated_drivers.specs.three_state_cells as three_state_cells
 pub use Rattle.written_driven_models.specs.verilog_drivers as verilog_drivers
 pub use Rattle.written_driven_models.specs.vhdl_drivers as vhdl_drivers
-pub use Rattle.generated_drivers.specs.vhdl_names as vhdl_names
-pub use Rattle.written_driven_models.specs.vhdl_text as vhdl_text
+pub use Rattle.generated_drivers.specs.vhdl_tokens as vhdl_tokens
+pub use Rattle.written_driven_models.specs.vhdl_grammar as vhdl_grammar
 pub use Rattle.written_driven_models.specs.vhdl_tokens as vhdl_tokens
 pub use Rattle.written_driven_models.specs.vhdl_writer as vhdl_writer
 pub use Rattle.generated_drivers.specs.vital_models as vital_models

@@ -5,7 +5,7 @@ use Rattle.std.specs.List.{IsDistinct}
 use Rattle.generated_drivers.specs.three_state_cells.Drivers.{IsDriverOf}
 use Rattle.generated_drivers.specs.three_state_cells.DrivenCells.{DrivenData, core_name, may_float}
 use Rattle.generated_drivers.specs.three_state_cells.Laws.{KeepsLimits}
-use Rattle.generated_entities.specs.library_cells.Cells.{IsNumberedCell, kept_names}
+use Rattle.generated_entities.specs.generated_modules.Cells.{IsNumberedCell, kept_names}
 
 -- What the core of a cell is called: as the cell, or where some outputs may float by the cell's number.
 abbrev pub name_of_core : DrivenData → List ℕ

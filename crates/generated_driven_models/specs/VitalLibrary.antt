@@ -1,7 +1,7 @@
 -- The entities of the cells of one library, and the models of their three-state drivers. (IEEE 1076-1993, 13.3.1: names are the
 -- same whatever the case of their letters; that a cell's name is kept where no model before it has it is this project's rule.)
 use Rattle.std.specs.Prelude.{ℕ, Bool, true, false, List, [], ◌∷◌, ◌++◌, codes, decimal, Some, None}
-use Rattle.generated_drivers.specs.vhdl_names.Kept.{lowered}
+use Rattle.generated_drivers.specs.vhdl_tokens.Kept.{lowered}
 use Rattle.generated_drivers.specs.vital_models.declared.model.VEntity.{VEntity}
 use Rattle.generated_drivers.specs.vital_models.Kept.{entity_name, driver_name}
 use Rattle.generated_drivers.specs.vital_models.Generated.{entity_of}

@@ -6,13 +6,13 @@ ghost use Rattle.three_state_cells.specs.Drivers.{own_pins};
 ghost use Rattle.generated_drivers.specs.Generated.{verilog_driver_of, vital_driver_of};
 
 use cell_machine::Pin;
-use cell_parts::held::both_made;
+use cell_attributes::held::both_made;
 use driver_models::DriverModel;
 use specify_blocks::{driver_name, module_name, verilog_ports};
 use sqlite_items::Items;
 use std::alloc::{AllocError, Global};
 use three_state_cells::DrivenCell;
-use vhdl_names::numbered_name;
+use vhdl_tokens::numbered_name;
 use vital_models::vital_ports;
 
 /// The pins of a cell: those of its core before the enables.

@@ -18,7 +18,7 @@ use Rattle.specify_blocks.proofs.OutputPins.{outputs_are_pins}
 use Rattle.udp_tables.specs.declared.timing_checks.TimingCheck.{TimingCheck}
 use Rattle.vital_models.specs.Generated.{condition_of, place_of, all_zero, gate_by, path_of, output_of, check_of, entity_of}
 use Rattle.specify_blocks.proofs.cell_tables.ConditionUses.{all-among}
-use Rattle.vhdl_text.specs.WellFormed.{conditions_of_check, conditions_of_gate, conditions_of_path, conditions_of_output, looked_up, looks_up_in_order}
+use Rattle.vhdl_grammar.specs.WellFormed.{conditions_of_check, conditions_of_gate, conditions_of_path, conditions_of_output, looked_up, looks_up_in_order}
 use Rattle.specify_blocks.proofs.cell_tables.CellParts.{Rules, arcs_hold}
 use Rattle.generated_entities.proofs.ListLemmas.{flat_flat, flat_map_map}
 use Rattle.generated_entities.proofs.LookedUp.{in_order}

@@ -17,9 +17,9 @@ use Rattle.udp_tables.specs.Conditions.{condition_list, conditions_beside, condi
 use Rattle.udp_tables.specs.declared.models.VPort.{VPort}
 use Rattle.vital_models.specs.Ports.{is_port, port_after, ports_after}
 use Rattle.vital_models.specs.Generated.{state_of, condition_of, path_of, paths_to, check_of, entity_of}
-use Rattle.vhdl_text.specs.WellFormed.{IsCount, part_count}
+use Rattle.vhdl_grammar.specs.WellFormed.{IsCount, part_count}
 use Rattle.specify_blocks.proofs.cell_tables.CellParts.{Rules}
-use Rattle.library_cells.proofs.CellParts.{few_pins, few_groups}
+use Rattle.generated_modules.proofs.CellParts.{few_pins, few_groups}
 
 -- Conditions.
 

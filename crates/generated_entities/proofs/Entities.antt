@@ -33,11 +33,11 @@ use Rattle.vital_models.specs.Ports.{ports_of, port_number}
 use Rattle.vital_models.specs.Generated.{has_violation, ports_at, state_of, states_of, condition_of, source_at, output_table, value_of_output, place_of, all_zero, gate_by, path_of, output_of, check_of, entity_of}
 use Rattle.specify_blocks.proofs.cell_tables.ConditionUses.{all-among, condition-over}
 use Rattle.vital_models.proofs.Soundness.{entity_is_sound}
-use Rattle.vhdl_text.specs.VhdlDeclarations.{port_names}
-use Rattle.vhdl_text.specs.WellFormed.{IsPortName, IsWrittenState, IsWrittenTruth, IsWrittenLookup, IsWrittenValue, IsNumber, names_condition, IsWrittenPath, IsWrittenOutput, IsWellFormedEntity}
+use Rattle.vhdl_grammar.specs.VhdlDeclarations.{port_names}
+use Rattle.vhdl_grammar.specs.WellFormed.{IsPortName, IsWrittenState, IsWrittenTruth, IsWrittenLookup, IsWrittenValue, IsNumber, names_condition, IsWrittenPath, IsWrittenOutput, IsWellFormedEntity}
 use Rattle.specify_blocks.proofs.cell_tables.CellParts.{Rules, outputs_hold, checks_hold, arcs_hold}
-use Rattle.library_cells.proofs.CellParts.{few_pins, group_support, arc_numbers, check_number}
-use Rattle.library_cells.proofs.Conditions.{condition_placed}
+use Rattle.generated_modules.proofs.CellParts.{few_pins, group_support, arc_numbers, check_number}
+use Rattle.generated_modules.proofs.Conditions.{condition_placed}
 use Rattle.generated_entities.specs.Laws.{EntityIsWellFormed}
 use Rattle.generated_entities.proofs.ListLemmas.{all_from}
 use Rattle.generated_entities.proofs.Tables.{rows_have_one_edge, states_have_rows, truths_have_rows}

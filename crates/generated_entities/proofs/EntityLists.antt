@@ -12,13 +12,13 @@ use Rattle.bool_functions.specs.NameList.{number_of}
 use Rattle.bool_functions.proofs.NameLists.{position-some}
 use Rattle.cell_machine.specs.CellData.{CellData}
 use Rattle.udp_tables.proofs.FirstLemmas.{found-any}
-use Rattle.vhdl_names.specs.Kept.{lowered}
+use Rattle.vhdl_tokens.specs.Kept.{lowered}
 use Rattle.vital_models.specs.Kept.{is_kept_entity_name, entity_name}
-use Rattle.vhdl_text.specs.VhdlText.{entity_names}
-use Rattle.vhdl_text.specs.WellFormed.{IsWellFormedEntity, AreApart}
-use Rattle.library_cells.specs.Cells.{IsNumberedCell, numbers_of_cells}
-use Rattle.library_cells.proofs.NameLists.{each_among, other_key}
-use Rattle.grammar_phrases.proofs.Places.{none_if}
+use Rattle.vhdl_grammar.specs.VhdlText.{entity_names}
+use Rattle.vhdl_grammar.specs.WellFormed.{IsWellFormedEntity, AreApart}
+use Rattle.generated_modules.specs.Cells.{IsNumberedCell, numbers_of_cells}
+use Rattle.generated_modules.proofs.NameLists.{each_among, other_key}
+use Rattle.grammar_reader.proofs.ItemPlaces.{none_if}
 use Rattle.generated_entities.specs.Library.{entity_behind, entities_behind}
 use Rattle.generated_entities.specs.Laws.{EntitiesAreWellFormed}
 use Rattle.generated_entities.proofs.Names.{unlike_lower, no_cell, cells_apart, kept}

@@ -9,4 +9,4 @@ pub mod Conditions
 pub mod Counts
 pub mod Entities
 pub mod EntityLists
-pub use Rattle.library_cells.proofs as library_cells
+pub use Rattle.generated_modules.proofs as generated_modules

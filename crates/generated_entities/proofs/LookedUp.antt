@@ -6,7 +6,7 @@ use Rattle.bool_functions.specs.declared.tree.Node.{Node}
 use Rattle.bool_functions.specs.SameTrees.{same_tree}
 use Rattle.bool_functions.proofs.SameTreeLemmas.{same_tree-refl}
 use Rattle.udp_tables.specs.Conditions.{added, added_all, condition_place}
-use Rattle.vhdl_text.specs.WellFormed.{looks_up_in_order}
+use Rattle.vhdl_grammar.specs.WellFormed.{looks_up_in_order}
 
 -- trees that are added stand behind those before them
 added_by : (trees : List Node) (f : Node) (b : Bool) → list_any (same_tree f) trees ≡ b → added trees f ≡ (if b then trees else trees ++ f ∷ [])

@@ -10,13 +10,13 @@ use Rattle.std.proofs.lemmas.Slice.Eq.{bytes_eq-Decides}
 use Rattle.std.proofs.lemmas.Str.Ascii.{lowercase_is}
 use Rattle.bool_functions.specs.NameList.{number_of}
 use Rattle.verilog_tokens.specs.Numbers as verilog
-use Rattle.vhdl_names.specs.Words.{is_vhdl_word, is_reserved, is_used, vhdl_words, used_words}
-use Rattle.vhdl_names.specs.Kept.{goes_on, is_identifier, is_number, begins, is_numbered, is_free, lowered}
+use Rattle.vhdl_tokens.specs.Words.{is_vhdl_word, is_reserved, is_used, vhdl_words, used_words}
+use Rattle.vhdl_tokens.specs.Kept.{goes_on, is_identifier, is_number, begins, is_numbered, is_free, lowered}
 use Rattle.vhdl_tokens.specs.Tokens.{is_name_byte}
 use Rattle.vital_models.specs.Kept.{is_kept_entity_name, entity_name}
-use Rattle.vhdl_text.specs.WellFormed.{is_spelled_as_name, IsEntityName, IsPortName}
-use Rattle.library_cells.proofs.NumberedNames.{decimal_digits}
-use Rattle.library_cells.proofs.NameLists.{all_weaker}
+use Rattle.vhdl_grammar.specs.WellFormed.{is_spelled_as_name, IsEntityName, IsPortName}
+use Rattle.generated_modules.proofs.NumberedNames.{decimal_digits}
+use Rattle.generated_modules.proofs.NameLists.{all_weaker}
 
 -- numbers in names
 pub decimal_number : (n : ℕ) → n < 2 ^ 64 → IsTrue (is_number (decimal n))

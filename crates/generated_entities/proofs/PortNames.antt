@@ -8,12 +8,12 @@ use Rattle.trit_cubes.proofs.ListLemmas.{Among, among-append, among-map}
 use Rattle.cell_machine.specs.declared.pins.Pin.{Pin}
 use Rattle.udp_tables.specs.declared.models.VPort.{VPort}
 use Rattle.udp_tables.specs.Ports.{is_port}
-use Rattle.vhdl_names.specs.Kept.{is_plain, is_free, is_numbered}
+use Rattle.vhdl_tokens.specs.Kept.{is_plain, is_free, is_numbered}
 use Rattle.vital_models.specs.Kept.{is_taken, is_kept_port_name, port_name}
 use Rattle.vital_models.specs.Ports.{port_after, ports_after, ports_of}
-use Rattle.vhdl_text.specs.VhdlDeclarations.{port_names}
-use Rattle.vhdl_text.specs.WellFormed.{IsPortName, AreApart}
-use Rattle.library_cells.proofs.NameLists.{none_passes}
+use Rattle.vhdl_grammar.specs.VhdlDeclarations.{port_names}
+use Rattle.vhdl_grammar.specs.WellFormed.{IsPortName, AreApart}
+use Rattle.generated_modules.proofs.NameLists.{none_passes}
 use Rattle.generated_entities.proofs.ListLemmas.{push_apart}
 use Rattle.generated_entities.proofs.Names.{pin_number, no_pin, pins_apart, IsGivenName, free}
 

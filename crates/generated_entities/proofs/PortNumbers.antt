@@ -13,7 +13,7 @@ use Rattle.cell_machine.specs.CellRules.{is_input_pin, is_source}
 use Rattle.specify_blocks.proofs.PortLemmas.{number-below}
 use Rattle.udp_tables.specs.Ports.{port_number}
 use Rattle.vital_models.specs.Generated.{ports_at, source_at}
-use Rattle.vhdl_text.specs.VhdlNames.{same_source}
+use Rattle.vhdl_grammar.specs.VhdlNames.{same_source}
 
 less_apart : (a b : ℕ) → a < b → nat_eq a b ≡ false
 less_apart a b h = ne_eqb a b (λ e. omega (arith, e, h))

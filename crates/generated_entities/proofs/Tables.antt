@@ -18,8 +18,8 @@ use Rattle.vital_models.specs.declared.table.Trits.{Trits}
 use Rattle.vital_models.specs.declared.table.Trits.TheVariants as trits
 use Rattle.vital_models.specs.declared.table.VStateRow.{VStateRow}
 use Rattle.vital_models.specs.Rows.{level_symbol, edge_symbol, truth_row, truth_rows, violated, level_row, violation_rows, steady_row, closing_row, edge_columns, edge_row, keep_row, compact_rows}
-use Rattle.vhdl_text.specs.VhdlTables.{is_edge}
-use Rattle.vhdl_text.specs.WellFormed.{HasOneEdge}
+use Rattle.vhdl_grammar.specs.VhdlTables.{is_edge}
+use Rattle.vhdl_grammar.specs.WellFormed.{HasOneEdge}
 use Rattle.generated_entities.proofs.ListLemmas.{all_from}
 
 -- how many edges there are

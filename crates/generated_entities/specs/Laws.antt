@@ -1,8 +1,8 @@
 -- Laws of the entities that are generated for cells.
 use Rattle.std.specs.Prelude.{ℕ, List}
 use Rattle.cell_machine.specs.CellData.{CellData}
-use Rattle.vhdl_text.specs.WellFormed.{IsWellFormedEntity, AreWellFormed}
-use Rattle.library_cells.specs.Cells.{IsNumberedCell, AreCellsOfOneLibrary}
+use Rattle.vhdl_grammar.specs.WellFormed.{IsWellFormedEntity, AreWellFormed}
+use Rattle.generated_modules.specs.Cells.{IsNumberedCell, AreCellsOfOneLibrary}
 use Rattle.generated_entities.specs.Library.{entity_behind, entities_of}
 
 -- the entity of data that keep the rules of cells is well formed, where its name is given behind these

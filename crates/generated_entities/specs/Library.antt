@@ -2,7 +2,7 @@
 -- cell's name is kept where no entity before it has it is this project's rule.)
 use Rattle.std.specs.Prelude.{ℕ, List, [], ◌∷◌, ◌++◌}
 use Rattle.cell_machine.specs.CellData.{CellData}
-use Rattle.vhdl_names.specs.Kept.{lowered}
+use Rattle.vhdl_tokens.specs.Kept.{lowered}
 use Rattle.vital_models.specs.declared.model.VEntity.{VEntity}
 use Rattle.vital_models.specs.Kept.{entity_name}
 use Rattle.vital_models.specs.Generated.{entity_of}

@@ -13,17 +13,17 @@ use Rattle.bool_functions.proofs.Elements.{contains_here, contains_later}
 use Rattle.bool_functions.proofs.NameLists.{position-some}
 use Rattle.cell_machine.specs.CellRules.{is_cell}
 use Rattle.cell_machine.specs.CellData.{CellData}
-use Rattle.cell_parts.specs.Groups.{cell_name}
-use Rattle.cell_parts.specs.Declarations.{declared_of, known_cell, clashes_after}
-use Rattle.cell_parts.proofs.Distinct.{nil_parts}
+use Rattle.cell_attributes.specs.Groups.{cell_name}
+use Rattle.cell_attributes.specs.Declarations.{declared_of, known_cell, clashes_after}
+use Rattle.cell_attributes.proofs.Distinct.{nil_parts}
 use Rattle.cell_reader.specs.CellTexts.{subject_of}
 use Rattle.cell_reader.proofs.Accepted.{accepted_meets_none, accepted_cells_are_sound}
 use Rattle.specify_blocks.proofs.ReadNames.{bytes_equivalence}
 use Rattle.generated_modules.specs.Accepted.{IsAccepted, AreAccepted}
-use Rattle.library_cells.specs.Cells.{IsNumberedCell, names_of_cells, numbers_of_cells, AreCellsOfOneLibrary}
+use Rattle.generated_modules.specs.Cells.{IsNumberedCell, names_of_cells, numbers_of_cells, AreCellsOfOneLibrary}
 use Rattle.generated_modules.specs.Laws.{AcceptedAreOfOneLibrary, AcceptedModulesAreWellFormed}
-use Rattle.library_cells.proofs.NameLists.{unlike, each_among}
-use Rattle.library_cells.proofs.KeptNames.{with_distinct_names}
+use Rattle.generated_modules.proofs.NameLists.{unlike, each_among}
+use Rattle.generated_modules.proofs.KeptNames.{with_distinct_names}
 use Rattle.generated_modules.proofs.ModuleLists.{modules-well-formed}
 
 -- the name of a cell that is not refused is none of those before it

@@ -8,7 +8,7 @@ use Rattle.verilog_tokens.specs.Numbers.{is_number}
 use Rattle.verilog_tokens.specs.Words.{is_verilog_word}
 use Rattle.verilog_tokens.specs.Kept.{is_identifier, is_numbered, is_kept_name}
 use Rattle.specify_blocks.specs.WellFormed.{IsName}
-use Rattle.library_cells.proofs.NumberedNames.{decimal_digits, IsStem, stem_name}
+use Rattle.generated_modules.proofs.NumberedNames.{decimal_digits, IsStem, stem_name}
 
 -- the name with this number: a library's where it is kept, and else a word and the number
 abbrev pub given_name : List ℕ → ℕ → List ℕ → List ℕ

@@ -16,8 +16,8 @@ use Rattle.specify_blocks.specs.Generated.{condition_count, module_of}
 use Rattle.specify_blocks.specs.VerilogModules.{port_names}
 use Rattle.specify_blocks.specs.WellFormed.{IsName, register_names, inner_names}
 use Rattle.specify_blocks.proofs.ReadNames.{AreNames, no_names, one_name}
-use Rattle.library_cells.proofs.NameLists.{unlike, told_apart, none_passes, join_names, cons_name}
-use Rattle.library_cells.proofs.NumberedNames.{lib_stem, pin_stem, numbered_names, numbered_form}
+use Rattle.generated_modules.proofs.NameLists.{unlike, told_apart, none_passes, join_names, cons_name}
+use Rattle.generated_modules.proofs.NumberedNames.{lib_stem, pin_stem, numbered_names, numbered_form}
 use Rattle.generated_modules.proofs.GivenNames.{given_apart, given_is_name, given_no_lib}
 
 -- the name of a pin

@@ -1,3 +1,8 @@
+pub mod NameLists
+pub mod KeptNames
+pub mod NumberedNames
+pub mod Conditions
+pub mod CellParts
 pub mod GivenNames
 pub mod InnerNames
 pub mod PrimitiveNames

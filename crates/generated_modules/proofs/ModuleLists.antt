@@ -16,11 +16,11 @@ use Rattle.specify_blocks.specs.Names.{module_name}
 use Rattle.specify_blocks.specs.Generated.{primitives_of, module_of}
 use Rattle.specify_blocks.specs.WellFormed.{IsWellFormedModule, udp_names, outer_names}
 use Rattle.specify_blocks.proofs.ReadNames.{AreNames, no_names, one_name}
-use Rattle.library_cells.specs.Cells.{IsNumberedCell, names_of_cells, numbers_of_cells, AreCellsOfOneLibrary}
+use Rattle.generated_modules.specs.Cells.{IsNumberedCell, names_of_cells, numbers_of_cells, AreCellsOfOneLibrary}
 use Rattle.generated_modules.specs.Laws.{ModulesAreWellFormed}
-use Rattle.library_cells.proofs.NameLists.{unlike, told_apart, other_key, join_names}
-use Rattle.library_cells.proofs.KeptNames.{kept_tail, kept_apart}
-use Rattle.library_cells.proofs.NumberedNames.{decimal_digits, number_digits, numbered_form}
+use Rattle.generated_modules.proofs.NameLists.{unlike, told_apart, other_key, join_names}
+use Rattle.generated_modules.proofs.KeptNames.{kept_tail, kept_apart}
+use Rattle.generated_modules.proofs.NumberedNames.{decimal_digits, number_digits, numbered_form}
 use Rattle.generated_modules.proofs.GivenNames.{given_apart, given_no_lib}
 use Rattle.generated_modules.proofs.PrimitiveNames.{primitive_front, primitives_named, primitives_are_named, primitive_count}
 use Rattle.generated_modules.proofs.Modules.{primitives_few, name_is_one, module_well_formed}

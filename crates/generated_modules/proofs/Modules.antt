@@ -27,17 +27,17 @@ use Rattle.specify_blocks.specs.Generated.{condition_count, output_primitives, g
 use Rattle.udp_tables.specs.declared.timing_checks.TimingCheck.{TimingCheck}
 use Rattle.specify_blocks.specs.WellFormed.{IsName, IsNumber, HasNumbers, IsWellFormedUdp, IsWellFormedModule}
 use Rattle.specify_blocks.proofs.Soundness.{module_is_sound}
-use Rattle.library_cells.specs.Cells.{IsNumberedCell}
+use Rattle.generated_modules.specs.Cells.{IsNumberedCell}
 use Rattle.generated_modules.specs.Laws.{ModuleIsWellFormed}
-use Rattle.library_cells.proofs.NumberedNames.{cell_stem}
+use Rattle.generated_modules.proofs.NumberedNames.{cell_stem}
 use Rattle.generated_modules.proofs.GivenNames.{given_is_name}
 use Rattle.generated_modules.proofs.InnerNames.{inner_are_named}
 use Rattle.generated_modules.proofs.PrimitiveNames.{primitive_is_name, primitive_count}
 use Rattle.generated_modules.proofs.Primitives.{function_well_formed, group_well_formed}
-use Rattle.library_cells.proofs.Conditions.{condition_placed, few_conditions}
+use Rattle.generated_modules.proofs.Conditions.{condition_placed, few_conditions}
 use Rattle.specify_blocks.proofs.cell_tables.OutputLemmas.{among-at}
 use Rattle.specify_blocks.proofs.cell_tables.CellParts.{Rules, outputs_hold, checks_hold, arcs_hold}
-use Rattle.library_cells.proofs.CellParts.{few_pins, distinct_pins, few_groups, group_support, few_sources, few_outputs, few_checks, few_arcs, arc_numbers, check_number}
+use Rattle.generated_modules.proofs.CellParts.{few_pins, distinct_pins, few_groups, group_support, few_sources, few_outputs, few_checks, few_arcs, arc_numbers, check_number}
 
 -- one for each number below another
 below_all : (P : Udp → Type 0) (f : ℕ → Udp) (n : ℕ) → ((i : ℕ) → i < n → P (f i)) → All P (each_below (λ i. f i ∷ []) n)

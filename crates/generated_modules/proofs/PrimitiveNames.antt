@@ -16,7 +16,7 @@ use Rattle.specify_blocks.specs.Names.{numbered}
 use Rattle.specify_blocks.specs.Generated.{condition_count, output_primitives, group_primitives, condition_primitives, primitives_of}
 use Rattle.specify_blocks.specs.WellFormed.{IsName, udp_names}
 use Rattle.specify_blocks.proofs.ReadNames.{AreNames}
-use Rattle.library_cells.proofs.NumberedNames.{number_in_name, decimal_digits, IsStem, lib_stem, stem_name, numbered_names}
+use Rattle.generated_modules.proofs.NumberedNames.{number_in_name, decimal_digits, IsStem, lib_stem, stem_name, numbered_names}
 
 -- the front of the names of a cell's primitives
 abbrev pub primitive_front : ℕ → List ℕ

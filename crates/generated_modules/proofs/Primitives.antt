@@ -22,8 +22,8 @@ use Rattle.specify_blocks.specs.Names.{numbered}
 use Rattle.specify_blocks.specs.Sound.{IsTable}
 use Rattle.specify_blocks.specs.WellFormed.{IsName, most_inputs_of, HasNoState, HasNoStates, IsWellFormedUdp}
 use Rattle.specify_blocks.proofs.ReadNames.{AreNames}
-use Rattle.library_cells.proofs.NameLists.{cons_name}
-use Rattle.library_cells.proofs.NumberedNames.{input_stem, numbered_names, numbered_form}
+use Rattle.generated_modules.proofs.NameLists.{cons_name}
+use Rattle.generated_modules.proofs.NumberedNames.{input_stem, numbered_names, numbered_form}
 
 -- ports
 

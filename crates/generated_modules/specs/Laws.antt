@@ -4,7 +4,7 @@ use Rattle.cell_machine.specs.CellData.{CellData}
 use Rattle.specify_blocks.specs.Generated.{module_of}
 use Rattle.specify_blocks.specs.WellFormed.{IsWellFormedModule, AreWellFormed}
 use Rattle.generated_modules.specs.Accepted.{AreAccepted}
-use Rattle.library_cells.specs.Cells.{IsNumberedCell, AreCellsOfOneLibrary}
+use Rattle.generated_modules.specs.Cells.{IsNumberedCell, AreCellsOfOneLibrary}
 
 -- the module of data that keep the rules of cells is well formed
 abbrev pub ModuleIsWellFormed : Type 0

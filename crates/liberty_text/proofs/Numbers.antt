@@ -5,7 +5,7 @@ use Rattle.std.proofs.Math.Seq.{drop-cons}
 use Rattle.std.proofs.lemmas.Bool.Decides.{nat_tests}
 use Rattle.std.proofs.lemmas.List.{length-append}
 use Rattle.std.proofs.Math.Nat.{pow-suc, pow-le-pow_right}
-use Rattle.token_spans.proofs.DigitLemmas.{digits_grow, digit_below, value_below}
+use Rattle.lexer.proofs.DigitLemmas.{digits_grow, digit_below, value_below}
 use Rattle.liberty_text.specs.Number.{digits_value, significant, AreDigits}
 
 -- digits behind digits

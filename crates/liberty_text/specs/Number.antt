@@ -3,8 +3,8 @@
 use Rattle.std.specs.Prelude.{◌≡◌, ◌⊎◌, ◌↔◌, ℕ, ◌+◌, ◌-◌, ◌*◌, ◌^◌, ◌<◌, ◌++◌, Bool, true, false, List, [], ◌∷◌, length, take, drop, Option, Some, None, Result, Ok, Err, if◌then◌else◌, ◌==◌, nat_lt, ◌&&◌, ◌||◌, ℤ, pos, neg_ℤ, ◌+ℤ◌, ◌-ℤ◌, ◌*ℤ◌}
 use Rattle.std.specs.Char.{is_ascii_digit}
 use Rattle.std.specs.List.{prefix_len}
-pub use Rattle.token_spans.specs.Numbers.{AreDigits}
-use Rattle.token_spans.specs.Numbers.{number_after}
+pub use Rattle.lexer.specs.Numbers.{AreDigits}
+use Rattle.lexer.specs.Numbers.{number_after}
 use Rattle.liberty_text.specs.declared.decimal.Fixed.{Fixed}
 use Rattle.liberty_text.specs.declared.decimal.NumberFault.{NumberFault}
 use Rattle.liberty_text.specs.declared.decimal.NumberFault.TheVariants.{NotNumber, TooManyDigits, TooLarge}

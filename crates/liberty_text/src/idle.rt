@@ -6,7 +6,7 @@ ghost use Rattle.liberty_text.specs.Idle.{is_blank, is_plain_in_word, is_plain_i
 use crate::class::{Class, class_of};
 use crate::scanner::Mode;
 use memchr::memchr2;
-use token_spans::{ByteClass, byte_table, run_length};
+use lexer::{ByteClass, byte_table, run_length};
 
 /// Spaces, tabs and carriage returns.
 struct Blank;

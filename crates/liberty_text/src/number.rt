@@ -4,7 +4,7 @@ ghost use Rattle.std.specs.Prelude.{◌≡◌, ◌+◌, ◌≤◌, ◌<◌, ◌^
 ghost use Rattle.liberty_text.specs.Number.{digit_run, sign_of, fraction_of, exponent_of, is_run, written_of, IsSpelled, significant, digits_value, signed, AreDigits, Written, fixed_with, fixed_of, IsFixedOf, IsNumberFaultOf};
 
 use crate::decimal::{Fixed, NumberFault};
-use token_spans::{Digit, number_after, run_length};
+use lexer::{Digit, number_after, run_length};
 
 /// A number as it is written, in bytes of its text.
 #[derive(Clone, Copy)]

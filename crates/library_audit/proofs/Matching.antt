@@ -7,22 +7,22 @@ use Rattle.std.proofs.lemmas.List.Elements.{All-nil, All-cons}
 use Rattle.std.proofs.lemmas.List.Folds.{list_any_none}
 use Rattle.cell_machine.specs.CellData.{CellData}
 use Rattle.three_state_cells.specs.DrivenCells.{may_float}
-use Rattle.library_items.specs.declared.ending.NotWhole.{NotWhole}
-use Rattle.library_items.specs.declared.ending.NotWhole.TheVariants as not_whole
-use Rattle.library_items.specs.LibraryCells.{CellEntry, Accepted, Refused}
-use Rattle.library_items.specs.Endings.{library_limit}
-use Rattle.library_items.specs.KeptCells.{library_cells_within}
+use Rattle.library_reader.specs.declared.ending.NotWhole.{NotWhole}
+use Rattle.library_reader.specs.declared.ending.NotWhole.TheVariants as not_whole
+use Rattle.library_reader.specs.LibraryCells.{CellEntry, Accepted, Refused}
+use Rattle.library_reader.specs.Endings.{library_limit}
+use Rattle.library_reader.specs.KeptCells.{library_cells_within}
 use Rattle.specify_blocks.specs.declared.model.VModule.{VModule}
 use Rattle.file_models.specs.declared.file_model.FileModel.{FileModel}
 use Rattle.udp_tables.specs.declared.models.ModelFault.{ModelFault}
-use Rattle.command_outcomes.specs.declared.status.Status.TheVariants as status
-use Rattle.command_outcomes.specs.Outcome.{Outcome}
-use Rattle.command_outcomes.specs.Status.{status_where}
-use Rattle.command_outcomes.specs.FileSteps.{answer_where, outcome_by}
-use Rattle.library_file.specs.LibraryAnswer.{answer_by}
+use Rattle.run_outcome.specs.declared.status.Status.TheVariants as status
+use Rattle.run_outcome.specs.Outcome.{Outcome}
+use Rattle.run_outcome.specs.Status.{status_where}
+use Rattle.run_outcome.specs.FileSteps.{answer_where, outcome_by}
+use Rattle.library_report.specs.LibraryAnswer.{answer_by}
 use Rattle.model_files.specs.Limits.{model_limit}
 use Rattle.model_files.specs.ModelAnswer.{long_model_stop, models_or_stop, models_in_text, model_answer}
-use Rattle.model_languages.specs.Verilog.{verilog, verilog_models}
+use Rattle.model_replay.specs.Verilog.{verilog, verilog_models}
 use Rattle.table_audit.specs.declared.verdicts.Verdict.{Verdict}
 use Rattle.table_audit.specs.declared.verdicts.Verdict.TheVariants as verdict
 use Rattle.table_audit.specs.Verdict.{verdict_of}

@@ -11,7 +11,7 @@ use Rattle.specify_blocks.specs.declared.model.VModule.{VModule}
 use Rattle.file_models.specs.declared.file_model.FileModel.{FileModel}
 use Rattle.specify_blocks.specs.Names.{module_name}
 use Rattle.model_files.specs.ModelNames.{model_names, AreNew, HaveOwnNames}
-use Rattle.model_languages.specs.Verilog.{verilog}
+use Rattle.model_replay.specs.Verilog.{verilog}
 use Rattle.table_audit.specs.declared.verdicts.Verdict.{Verdict}
 use Rattle.table_audit.specs.Verdict.{verdict_of}
 use Rattle.library_audit.specs.Audits.{module_in, module_at, module_for, verdict_beside, verdict_in}

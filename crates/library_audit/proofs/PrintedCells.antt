@@ -8,12 +8,12 @@ use Rattle.text_io.specs.declared.slots.OutSlot.TheVariants.{Report}
 use Rattle.text_io.specs.declared.stop.Stop.{Stop}
 use Rattle.text_io.specs.Desk.{DeskState, wrote}
 use Rattle.text_io.proofs.Wrote.{wrote_items}
-use Rattle.library_items.specs.declared.library_cell.LibraryCell.{LibraryCell}
-use Rattle.library_items.specs.LibraryCells.{described, all_described}
+use Rattle.library_reader.specs.declared.library_cell.LibraryCell.{LibraryCell}
+use Rattle.library_reader.specs.LibraryCells.{described, all_described}
 use Rattle.specify_blocks.specs.declared.model.VModule.{VModule}
 use Rattle.file_models.specs.declared.file_model.FileModel.{FileModel}
-use Rattle.section_runs.specs.Writes.{WritesTrace}
-use Rattle.section_runs.proofs.Runs.{part_of_item}
+use Rattle.stimulus.specs.Writes.{WritesTrace}
+use Rattle.stimulus.proofs.Runs.{part_of_item}
 use Rattle.library_audit.specs.Audits.{audit_text, audits_text, differs, any_differs}
 
 -- the line of a cell, and whether it differs

@@ -8,24 +8,24 @@ use Rattle.text_io.specs.declared.stop.Stop.{Stop}
 use Rattle.text_io.specs.declared.stop.Stop.TheVariants as stops
 use Rattle.text_io.specs.Plan.{plan}
 use Rattle.text_io.specs.Desk.{DeskState, Folder}
-use Rattle.library_items.specs.LibraryCells.{CellEntry}
+use Rattle.library_reader.specs.LibraryCells.{CellEntry}
 use Rattle.specify_blocks.specs.declared.model.VModule.{VModule}
 use Rattle.file_models.specs.declared.file_model.FileModel.{FileModel}
 use Rattle.specify_blocks.specs.Sound.{IsSound}
-use Rattle.section_runs.specs.Writes.{WritesTrace}
-use Rattle.command_outcomes.specs.declared.status.Status.{Status}
-use Rattle.command_outcomes.specs.declared.status.Status.TheVariants as status
-use Rattle.command_outcomes.specs.Status.{is_decided, status_where, compared_status}
-use Rattle.command_outcomes.specs.Binding.{Files, bytes_at}
-use Rattle.command_outcomes.specs.Outcome.{Outcome}
-use Rattle.command_outcomes.specs.Runs.{RunsAs}
-use Rattle.command_outcomes.specs.FileSteps.{FileIsTaken, FileEndsRun}
-use Rattle.command_outcomes.specs.FilesRead.{HasRead}
-use Rattle.command_outcomes.proofs.FileLaws.{words_before}
-use Rattle.command_outcomes.proofs.FilesReadLaws.{nothing_read, one_more, ends_there, stops_between, reports_all}
-use Rattle.library_file.specs.LibraryAnswer.{library_answer}
+use Rattle.stimulus.specs.Writes.{WritesTrace}
+use Rattle.run_outcome.specs.declared.status.Status.{Status}
+use Rattle.run_outcome.specs.declared.status.Status.TheVariants as status
+use Rattle.run_outcome.specs.Status.{is_decided, status_where, compared_status}
+use Rattle.run_outcome.specs.Binding.{Files, bytes_at}
+use Rattle.run_outcome.specs.Outcome.{Outcome}
+use Rattle.run_outcome.specs.Runs.{RunsAs}
+use Rattle.run_outcome.specs.FileSteps.{FileIsTaken, FileEndsRun}
+use Rattle.run_outcome.specs.FilesRead.{HasRead}
+use Rattle.run_outcome.proofs.FileLaws.{words_before}
+use Rattle.run_outcome.proofs.FilesReadLaws.{nothing_read, one_more, ends_there, stops_between, reports_all}
+use Rattle.library_report.specs.LibraryAnswer.{library_answer}
 use Rattle.model_files.specs.ModelAnswer.{model_answer}
-use Rattle.model_languages.specs.Verilog.{verilog}
+use Rattle.model_replay.specs.Verilog.{verilog}
 use Rattle.library_audit.specs.Audits.{audits_text, any_differs}
 use Rattle.library_audit.specs.Outcome.{audit_files, audits_outcome, behind_cells, audit_of}
 

@@ -1,12 +1,12 @@
 -- What can be compared is compared whole.
 use Rattle.std.proofs.Common.{◌≡◌, ℕ, List, Ok, ap, ◌∙◌}
-use Rattle.library_items.specs.LibraryCells.{CellEntry}
+use Rattle.library_reader.specs.LibraryCells.{CellEntry}
 use Rattle.specify_blocks.specs.declared.model.VModule.{VModule}
 use Rattle.file_models.specs.declared.file_model.FileModel.{FileModel}
-use Rattle.command_outcomes.specs.FileSteps.{outcome_by}
-use Rattle.library_file.specs.LibraryAnswer.{library_answer}
+use Rattle.run_outcome.specs.FileSteps.{outcome_by}
+use Rattle.library_report.specs.LibraryAnswer.{library_answer}
 use Rattle.model_files.specs.ModelAnswer.{model_answer}
-use Rattle.model_languages.specs.Verilog.{verilog}
+use Rattle.model_replay.specs.Verilog.{verilog}
 use Rattle.library_audit.specs.Outcome.{audits_outcome, behind_cells, audit_outcome}
 
 -- two files that are read

@@ -5,12 +5,12 @@ use Rattle.std.specs.List.{list_any}
 use Rattle.bool_functions.specs.NameList.{number_of}
 use Rattle.cell_machine.specs.CellData.{CellData}
 use Rattle.three_state_cells.specs.DrivenCells.{DrivenData, may_float}
-use Rattle.library_items.specs.LibraryCells.{CellEntry, Accepted, Refused}
+use Rattle.library_reader.specs.LibraryCells.{CellEntry, Accepted, Refused}
 use Rattle.specify_blocks.specs.declared.model.VModule.{VModule}
 use Rattle.specify_blocks.specs.Names.{module_name}
 use Rattle.file_models.specs.declared.file_model.FileModel.{FileModel}
 use Rattle.model_files.specs.ModelNames.{model_names}
-use Rattle.model_languages.specs.Verilog.{verilog}
+use Rattle.model_replay.specs.Verilog.{verilog}
 use Rattle.table_audit.specs.declared.verdicts.Verdict.{Verdict}
 use Rattle.table_audit.specs.declared.verdicts.Verdict.TheVariants as verdict
 use Rattle.table_audit.specs.Verdict.{verdict_of}

@@ -2,13 +2,13 @@
 use Rattle.std.specs.Prelude.{◌≡◌, ◌↔◌, ℕ, false, All, List, Some, Ok}
 use Rattle.cell_machine.specs.CellData.{CellData}
 use Rattle.three_state_cells.specs.DrivenCells.{DrivenData, may_float}
-use Rattle.library_items.specs.LibraryCells.{CellEntry, Accepted, Refused}
+use Rattle.library_reader.specs.LibraryCells.{CellEntry, Accepted, Refused}
 use Rattle.specify_blocks.specs.declared.model.VModule.{VModule}
 use Rattle.file_models.specs.declared.file_model.FileModel.{FileModel}
-use Rattle.command_outcomes.specs.declared.status.Status.TheVariants.{Done}
-use Rattle.library_file.specs.LibraryAnswer.{library_answer}
+use Rattle.run_outcome.specs.declared.status.Status.TheVariants.{Done}
+use Rattle.library_report.specs.LibraryAnswer.{library_answer}
 use Rattle.model_files.specs.ModelAnswer.{model_answer}
-use Rattle.model_languages.specs.Verilog.{verilog}
+use Rattle.model_replay.specs.Verilog.{verilog}
 use Rattle.table_audit.specs.declared.verdicts.Verdict.TheVariants.{Same}
 use Rattle.table_audit.specs.Matches.{Matches}
 use Rattle.library_audit.specs.Lines.{audit_line}

@@ -4,17 +4,17 @@ use Rattle.std.specs.Prelude.{ℕ, List, [], ◌∷◌}
 use Rattle.text_io.specs.declared.slots.InSlot.TheVariants.{Library, Verilog}
 use Rattle.text_io.specs.declared.slots.Slot.TheVariants.{Input}
 use Rattle.text_io.specs.Desk.{Folder}
-use Rattle.library_items.specs.LibraryCells.{CellEntry}
+use Rattle.library_reader.specs.LibraryCells.{CellEntry}
 use Rattle.specify_blocks.specs.declared.model.VModule.{VModule}
 use Rattle.file_models.specs.declared.file_model.FileModel.{FileModel}
-use Rattle.command_outcomes.specs.Status.{status_where}
-use Rattle.command_outcomes.specs.Written.{in_report}
-use Rattle.command_outcomes.specs.Binding.{Files, bytes_at}
-use Rattle.command_outcomes.specs.Outcome.{Outcome}
-use Rattle.command_outcomes.specs.FileSteps.{outcome_by}
-use Rattle.library_file.specs.LibraryAnswer.{library_answer}
+use Rattle.run_outcome.specs.Status.{status_where}
+use Rattle.run_outcome.specs.Written.{in_report}
+use Rattle.run_outcome.specs.Binding.{Files, bytes_at}
+use Rattle.run_outcome.specs.Outcome.{Outcome}
+use Rattle.run_outcome.specs.FileSteps.{outcome_by}
+use Rattle.library_report.specs.LibraryAnswer.{library_answer}
 use Rattle.model_files.specs.ModelAnswer.{model_answer}
-use Rattle.model_languages.specs.Verilog.{verilog}
+use Rattle.model_replay.specs.Verilog.{verilog}
 use Rattle.library_audit.specs.Audits.{audits_text, any_differs}
 
 -- the files of `audit`: the library and the Verilog file

@@ -1,13 +1,13 @@
 -- What stands once both files of a comparison are read.
 use Rattle.std.specs.Prelude.{◌≡◌, All}
 use Rattle.text_io.specs.Desk.{DeskState}
-use Rattle.library_items.specs.LibraryCells.{all_described}
+use Rattle.library_reader.specs.LibraryCells.{all_described}
 use Rattle.specify_blocks.specs.declared.model.VModule.{VModule}
 use Rattle.specify_blocks.specs.Sound.{IsSound}
 use Rattle.file_models.specs.declared.file_model.FileModel.{FileModel}
-use Rattle.command_outcomes.specs.FilesRead.{HasRead}
+use Rattle.run_outcome.specs.FilesRead.{HasRead}
 use Rattle.model_files.specs.ModelNames.{model_names}
-use Rattle.model_languages.specs.Verilog.{verilog}
+use Rattle.model_replay.specs.Verilog.{verilog}
 use Rattle.library_audit.specs.declared.modules.NamedModules.{NamedModules}
 use Rattle.library_audit.specs.declared.files.AuditFiles.{AuditFiles}
 use Rattle.library_audit.specs.Outcome.{audit_files, audit_of, audits_outcome}

@@ -1,10 +1,10 @@
 //! The lines of a library's cells, each beside its module.
 ghost use Rattle.std.specs.Prelude.{◌≡◌, IfOk};
 ghost use Rattle.text_io.specs.Desk.{StopsWithCause};
-ghost use Rattle.section_runs.specs.Writes.{WritesTrace};
+ghost use Rattle.stimulus.specs.Writes.{WritesTrace};
 ghost use Rattle.cell_machine.specs.CellData.{data_of};
 ghost use Rattle.three_state_cells.specs.DrivenCells.{driven_data_of};
-ghost use Rattle.library_items.specs.LibraryCells.{described, all_described};
+ghost use Rattle.library_reader.specs.LibraryCells.{described, all_described};
 ghost use Rattle.library_audit.specs.Lines.{audit_line};
 ghost use Rattle.library_audit.specs.Audits.{verdict_in, accepted_text, audit_text, audits_text, is_other as is_other_of, accepted_differs, differs, any_differs};
 ghost use Rattle.library_audit.specs.Reads.{AreReady};
@@ -12,7 +12,7 @@ ghost use Rattle.library_audit.specs.Reads.{AreReady};
 use crate::files::AuditFiles;
 use crate::lines::{write_audit, write_left_out};
 use crate::modules::NamedModules;
-use library_items::LibraryCell;
+use library_reader::LibraryCell;
 use std::alloc::Global;
 use table_audit::Verdict;
 use text_io::{Desk, Stop};

@@ -1,16 +1,16 @@
 //! The files of a comparison: the library and the Verilog file are read, or the run ends.
 ghost use Rattle.std.specs.Prelude.{◌≡◌, IfOk, IfErr, OnOk};
 ghost use Rattle.text_io.specs.Plan.{plan};
-ghost use Rattle.command_outcomes.specs.Runs.{RunsAs, StopsWithStatus};
+ghost use Rattle.run_outcome.specs.Runs.{RunsAs, StopsWithStatus};
 ghost use Rattle.library_audit.specs.Outcome.{audit_files, audit_of};
 ghost use Rattle.library_audit.specs.Reads.{ReadsFiles};
 
 use crate::modules::{NamedModules, names_of};
-use command_outcomes::Status;
-use library_file::read_library;
-use library_items::LibraryCell;
+use run_outcome::Status;
+use library_report::read_library;
+use library_reader::LibraryCell;
 use model_files::read_model_file;
-use model_languages::Verilog;
+use model_replay::Verilog;
 use sqlite_items::Items;
 use std::alloc::Global;
 use text_io::Desk;

@@ -5,8 +5,7 @@ ghost use Rattle.library_audit.specs.Lines.{shape_text, values_text, arguments_t
 
 use crate::words::{Known, Place, ShapeWord, TableWord, Value, Values};
 use table_audit::{Difference, ShapePart, Verdict};
-use text_io::{Desk, Failed, Line, OutSlot};
-use text_parts::{Bytes, Decimal, Part, Put, parts, write_part};
+use text_io::{Bytes, Decimal, Desk, Failed, Line, OutSlot, Part, Put, parts, write_part};
 use trit_cubes::Trit;
 
 /// Another shape: the first part that has one, and its number.

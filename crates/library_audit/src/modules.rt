@@ -2,7 +2,7 @@
 ghost use Rattle.std.specs.Prelude.{◌≡◌, IfOk};
 ghost use Rattle.cell_machine.specs.CellData.{data_of};
 ghost use Rattle.model_files.specs.ModelNames.{model_names, HaveOwnNames};
-ghost use Rattle.model_languages.specs.Verilog.{verilog};
+ghost use Rattle.model_replay.specs.Verilog.{verilog};
 
 use bool_functions::Names;
 use cell_machine::Cell;

@@ -1,12 +1,12 @@
 //! A run that compares a library with a Verilog file: both are read, and then the line of each accepted cell is printed.
 ghost use Rattle.std.specs.Prelude.{◌≡◌};
 ghost use Rattle.text_io.specs.Plan.{plan};
-ghost use Rattle.command_outcomes.specs.Runs.{RunsAs, StopsWithStatus};
+ghost use Rattle.run_outcome.specs.Runs.{RunsAs, StopsWithStatus};
 ghost use Rattle.library_audit.specs.Outcome.{audit_files, audit_of};
 
 use crate::audits::write_cells;
 use crate::files::read_files;
-use command_outcomes::{Status, compared_status};
+use run_outcome::{Status, compared_status};
 use std::alloc::Global;
 use text_io::Desk;
 

@@ -3,8 +3,7 @@ ghost use Rattle.std.specs.Prelude.{◌≡◌, flat_map};
 ghost use Rattle.library_audit.specs.Lines.{shape_word as shape_word_of, table_word as table_word_of, value_text as value_text_of, known_text as known_text_of, place_text, listed_value, listed_text};
 
 use table_audit::{AuditPart, ShapePart};
-use text_io::{Desk, Line, OutSlot};
-use text_parts::{Bytes, Decimal, Part, Put, parts};
+use text_io::{Bytes, Decimal, Desk, Line, OutSlot, Part, Put, parts};
 use trit_cubes::{Cube, Trit};
 
 /// What a module has of another shape than its cell.

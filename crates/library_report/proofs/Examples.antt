@@ -4,8 +4,8 @@ use Rattle.std.specs.Fmt.{digits}
 use Rattle.liberty_groups.specs.declared.fault.Expected.TheVariants as expected
 use Rattle.liberty_groups.specs.declared.fault.LibraryFault.TheVariants as fault
 use Rattle.cell_reader.specs.declared.refusal.Reason.TheVariants as reason
-use Rattle.command_outcomes.specs.Refusals.{refusal_text}
-use Rattle.library_items.specs.CellLines.{printed_name}
+use Rattle.run_outcome.specs.Refusals.{refusal_text}
+use Rattle.library_reader.specs.CellLines.{printed_name}
 use Rattle.library_report.specs.CellLines.{cell_text, accepted_line, refused_line, totals_line}
 use Rattle.library_report.specs.LeftOutLines.{left_out_line}
 use Rattle.library_report.specs.FaultLines.{library_fault_line}

@@ -2,7 +2,7 @@
 -- among all cells of the library.
 use Rattle.std.specs.Prelude.{ℕ, List, ◌++◌, codes, decimal}
 use Rattle.cell_reader.specs.declared.refusal.Refusal.{Refusal}
-use Rattle.library_items.specs.CellLines.{printed_name, refusal_line}
+use Rattle.library_reader.specs.CellLines.{printed_name, refusal_line}
 
 -- the front of a line on a cell: its number and its name
 unfoldable pub cell_text : ℕ → List ℕ → List ℕ

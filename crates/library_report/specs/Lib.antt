@@ -1,3 +1,4 @@
 pub mod CellLines
 pub mod LeftOutLines
 pub mod FaultLines
+pub mod LibraryAnswer

@@ -4,9 +4,8 @@ ghost use Rattle.text_io.specs.Desk.{HasCause, WritesText};
 ghost use Rattle.library_report.specs.CellLines.{cell_text, accepted_line, refused_line, totals_line};
 
 use cell_reader::Refusal;
-use library_items::{PrintedName, RefusalLine};
-use text_io::{Desk, Failed, Line, OutSlot};
-use text_parts::{Bytes, Decimal, Part, Put, parts, write_part};
+use library_reader::{PrintedName, RefusalLine};
+use text_io::{Bytes, Decimal, Desk, Failed, Line, OutSlot, Part, Put, parts, write_part};
 
 /// The front of a line on a cell: its number, and its name.
 #[derive(Drop)]

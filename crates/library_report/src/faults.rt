@@ -5,8 +5,7 @@ ghost use Rattle.library_report.specs.FaultLines.{library_fault_line, library_to
 
 use crate::fault_words::fault_text;
 use liberty_groups::LibraryFault;
-use text_io::{Desk, Failed, OutSlot, write_whole};
-use text_parts::{Bytes, Decimal, parts, write_part};
+use text_io::{Bytes, Decimal, Desk, Failed, OutSlot, parts, write_part, write_whole};
 
 /// Tells a text that is no library text, with the offset of its first fault, from 0. After `Failed`, which comes only
 /// where a write failed, a prefix of the line was appended.

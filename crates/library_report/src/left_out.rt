@@ -6,8 +6,7 @@ ghost use Rattle.library_report.specs.LeftOutLines.{left_out_group_line, left_ou
 
 use cell_machine::Pin;
 use cell_reader::LeftOut;
-use text_io::{Desk, Failed, Line, OutSlot, write_whole};
-use text_parts::{Bytes, Decimal, Each, ItemText, Part, Put, parts, write_part};
+use text_io::{Bytes, Decimal, Desk, Each, Failed, ItemText, Line, OutSlot, Part, Put, parts, write_part, write_whole};
 
 /// Lines on the timing groups that make nothing, of the cell with this number and these pins: the number, the name of the group's
 /// pin, and its type.

@@ -4,14 +4,14 @@ use Rattle.liberty_groups.specs.declared.tree.Group.{Group}
 use Rattle.cell_reader.specs.declared.refusal.Refusal.{Refusal}
 use Rattle.three_state_cells.specs.declared.driven_cell.DrivenCell.{DrivenCell}
 use Rattle.three_state_cells.specs.DrivenCells.{driven_data_of}
-use Rattle.cell_parts.specs.Groups.{cell_name}
+use Rattle.cell_attributes.specs.Groups.{cell_name}
 use Rattle.library_report.specs.CellLines.{refused_line}
-use Rattle.library_items.specs.declared.progress.Progress.{Progress}
-use Rattle.library_items.specs.Progress.{next_number, next_refusal, next_entity}
-use Rattle.library_items.specs.NextCells.{IsAcceptedNext, IsNext}
-use Rattle.library_items.specs.declared.next.NextCell.{NextCell}
-use Rattle.library_items.specs.declared.next.NextCell.TheVariants as next
-use Rattle.command_outcomes.specs.Written.{in_report}
+use Rattle.library_reader.specs.declared.progress.Progress.{Progress}
+use Rattle.library_reader.specs.Progress.{next_number, next_refusal, next_entity}
+use Rattle.library_reader.specs.NextCells.{IsAcceptedNext, IsNext}
+use Rattle.library_reader.specs.declared.next.NextCell.{NextCell}
+use Rattle.library_reader.specs.declared.next.NextCell.TheVariants as next
+use Rattle.run_outcome.specs.Written.{in_report}
 use Rattle.library_translation.specs.Cells.{accepted_written, written_by}
 
 -- the next cell, or why it is refused

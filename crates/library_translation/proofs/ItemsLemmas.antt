@@ -8,16 +8,16 @@ use Rattle.text_io.specs.Desk.{DeskState}
 use Rattle.cell_cursor.specs.declared.item.LibraryItem.{LibraryItem}
 use Rattle.cell_cursor.specs.Ends.{items_within}
 use Rattle.cell_cursor.specs.Given.{IsFrontOf}
-use Rattle.command_outcomes.specs.Written.{Written, IsPart}
-use Rattle.command_outcomes.proofs.WrittenLaws.{IsPart-front}
-use Rattle.library_items.specs.declared.progress.Progress.{Progress}
-use Rattle.library_items.specs.declared.ending.Ending.{Ending}
-use Rattle.library_items.specs.LibraryCells.{CellEntry}
-use Rattle.library_items.specs.Endings.{ending_of}
-use Rattle.library_items.specs.Progress.{no_progress, progress_after}
-use Rattle.library_items.specs.Folds.{AreBound, IsWholeFold, FoldsItems}
-use Rattle.library_items.proofs.Claims.{IfSome-map, IfOk-map}
-use Rattle.library_items.proofs.WrittenLemmas.{all-more}
+use Rattle.run_outcome.specs.Written.{Written, IsPart}
+use Rattle.run_outcome.proofs.WrittenLaws.{IsPart-front}
+use Rattle.library_reader.specs.declared.progress.Progress.{Progress}
+use Rattle.library_reader.specs.declared.ending.Ending.{Ending}
+use Rattle.library_reader.specs.LibraryCells.{CellEntry}
+use Rattle.library_reader.specs.Endings.{ending_of}
+use Rattle.library_reader.specs.Progress.{no_progress, progress_after}
+use Rattle.library_reader.specs.Folds.{AreBound, IsWholeFold, FoldsItems}
+use Rattle.library_reader.proofs.Claims.{IfSome-map, IfOk-map}
+use Rattle.library_reader.proofs.WrittenLemmas.{all-more}
 use Rattle.library_translation.specs.Cells.{ModelsAreBound, item_written, items_written}
 use Rattle.library_translation.specs.Library.{IsHandled, Handles}
 

@@ -5,14 +5,14 @@ use Rattle.text_io.specs.declared.outside.Failed.{Failed}
 use Rattle.text_io.specs.declared.slots.OutSlot.TheVariants.{Report, Faults}
 use Rattle.text_io.specs.Desk.{DeskState, wrote, WritesText}
 use Rattle.text_io.proofs.Wrote.{wrote-nil}
-use Rattle.command_outcomes.specs.declared.status.Status.{Status}
-use Rattle.library_items.specs.declared.progress.Progress.{Progress}
-use Rattle.library_items.specs.declared.ending.Ending.{Ending}
-use Rattle.command_outcomes.specs.Written.{in_report, wrote_all}
+use Rattle.run_outcome.specs.declared.status.Status.{Status}
+use Rattle.library_reader.specs.declared.progress.Progress.{Progress}
+use Rattle.library_reader.specs.declared.ending.Ending.{Ending}
+use Rattle.run_outcome.specs.Written.{in_report, wrote_all}
 use Rattle.library_translation.specs.Library.{last_line, fault_line, status_at, Finishes}
-use Rattle.command_outcomes.proofs.WrittenLaws.{wrote_all-nothing, wrote_all-report}
-use Rattle.command_outcomes.proofs.RunsLaws.{nothing}
-use Rattle.library_items.proofs.Claims.{IfOk-err}
+use Rattle.run_outcome.proofs.WrittenLaws.{wrote_all-nothing, wrote_all-report}
+use Rattle.run_outcome.proofs.RunsLaws.{nothing}
+use Rattle.library_reader.proofs.Claims.{IfOk-err}
 
 -- a stop within the last line
 pub last_stops : {S : Type 0} (old new : DeskState) (p : Progress) (end : Ending) (y : Failed) (r : Result Status Failed)

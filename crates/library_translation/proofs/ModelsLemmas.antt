@@ -1,10 +1,10 @@
 -- The cells that are written whole however a translation ends.
 use Rattle.std.proofs.Common.{ℕ, List, arith}
 use Rattle.verilog_writer.specs.Model.{prelude_text}
-use Rattle.command_outcomes.specs.Written.{Written, in_verilog, joined}
-use Rattle.command_outcomes.proofs.WrittenLaws.{IsPart-after, IsPart-front}
-use Rattle.library_items.specs.Progress.{no_progress}
-use Rattle.library_items.specs.WrittenItems.{HoldsCells}
+use Rattle.run_outcome.specs.Written.{Written, in_verilog, joined}
+use Rattle.run_outcome.proofs.WrittenLaws.{IsPart-after, IsPart-front}
+use Rattle.library_reader.specs.Progress.{no_progress}
+use Rattle.library_reader.specs.WrittenItems.{HoldsCells}
 use Rattle.library_translation.specs.Cells.{item_written}
 use Rattle.library_translation.specs.Models.{HoldsModels}
 

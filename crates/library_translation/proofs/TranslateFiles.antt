@@ -6,18 +6,18 @@ use Rattle.text_io.specs.declared.slots.InSlot.TheVariants.{Library}
 use Rattle.text_io.specs.declared.slots.OutSlot.TheVariants.{VerilogText, VitalText, Faults}
 use Rattle.text_io.specs.declared.slots.Slot.TheVariants.{Input, Output}
 use Rattle.text_io.specs.Desk.{DeskState, is_bound, opened, created, took, wrote, IsFileAt}
-use Rattle.command_outcomes.specs.declared.status.Status.{Status}
-use Rattle.command_outcomes.specs.declared.status.Status.TheVariants.{Outside}
-use Rattle.command_outcomes.specs.Status.{is_decided}
-use Rattle.command_outcomes.specs.Written.{Written, nothing_written, wrote_all}
-use Rattle.command_outcomes.specs.Outcome.{IsPartOf, IsAllOf}
-use Rattle.command_outcomes.specs.Binding.{Files, bound_state, AreNamed, Binds}
-use Rattle.command_outcomes.proofs.LibraryRunLaws.{ReadsLibrary, told, library_runs, unbound_runs}
+use Rattle.run_outcome.specs.declared.status.Status.{Status}
+use Rattle.run_outcome.specs.declared.status.Status.TheVariants.{Outside}
+use Rattle.run_outcome.specs.Status.{is_decided}
+use Rattle.run_outcome.specs.Written.{Written, nothing_written, wrote_all}
+use Rattle.run_outcome.specs.Outcome.{IsPartOf, IsAllOf}
+use Rattle.run_outcome.specs.Binding.{Files, bound_state, AreNamed, Binds}
+use Rattle.run_outcome.proofs.LibraryRunLaws.{ReadsLibrary, told, library_runs, unbound_runs}
 use Rattle.library_translation.specs.Library.{outcome_at, translate_outcome}
 use Rattle.library_translation.specs.Runs.{translate_files, translate_of, RunsTranslation}
 use Rattle.library_translation.specs.Models.{HoldsModels}
 use Rattle.library_translation.proofs.ModelsLemmas.{no_model_owed}
-use Rattle.library_items.proofs.Claims.{OnOk-err}
+use Rattle.library_reader.proofs.Claims.{OnOk-err}
 
 -- Binding.
 

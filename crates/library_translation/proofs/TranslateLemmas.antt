@@ -7,24 +7,24 @@ use Rattle.text_io.specs.Desk.{DeskState, took, wrote, IsPrefix, WritesText}
 use Rattle.text_io.proofs.Wrote.{wrote-nil}
 use Rattle.text_io.proofs.Took.{took-zero}
 use Rattle.verilog_writer.specs.Model.{prelude_text}
-use Rattle.command_outcomes.specs.declared.status.Status.{Status}
+use Rattle.run_outcome.specs.declared.status.Status.{Status}
 use Rattle.text_io.specs.declared.stop.Stop.{Stop}
-use Rattle.library_items.specs.declared.progress.Progress.{Progress}
+use Rattle.library_reader.specs.declared.progress.Progress.{Progress}
 use Rattle.cell_cursor.specs.declared.item.LibraryItem.{LibraryItem}
 use Rattle.cell_cursor.specs.Ends.{items_within}
-use Rattle.library_items.specs.declared.ending.Ending.{Ending}
-use Rattle.command_outcomes.specs.Written.{Written, in_verilog, in_report, joined, IsPart, wrote_all}
-use Rattle.library_items.specs.Progress.{no_progress, progress_after}
-use Rattle.library_items.specs.WrittenItems.{HoldsCells}
+use Rattle.library_reader.specs.declared.ending.Ending.{Ending}
+use Rattle.run_outcome.specs.Written.{Written, in_verilog, in_report, joined, IsPart, wrote_all}
+use Rattle.library_reader.specs.Progress.{no_progress, progress_after}
+use Rattle.library_reader.specs.WrittenItems.{HoldsCells}
 use Rattle.library_translation.specs.Cells.{item_written, items_written}
-use Rattle.command_outcomes.specs.Outcome.{IsPartOf, IsAllOf}
-use Rattle.library_items.specs.Endings.{library_limit}
+use Rattle.run_outcome.specs.Outcome.{IsPartOf, IsAllOf}
+use Rattle.library_reader.specs.Endings.{library_limit}
 use Rattle.library_translation.specs.Library.{last_line, fault_line, status_at, outcome_at, translate_outcome, IsHandled, Handles, IsFinished, Finishes, Translates}
 use Rattle.library_translation.specs.Models.{HoldsModels}
 use Rattle.library_translation.proofs.ModelsLemmas.{no_model_owed, behind_prelude, with_more}
-use Rattle.command_outcomes.proofs.WrittenLaws.{wrote_all-joined, wrote_all-verilog, took-wrote_all, IsPart-after, IsPart-front}
-use Rattle.command_outcomes.proofs.RunsLaws.{nothing}
-use Rattle.library_items.proofs.Claims.{IfSome-always, IfSome-map, IfOk-err}
+use Rattle.run_outcome.proofs.WrittenLaws.{wrote_all-joined, wrote_all-verilog, took-wrote_all, IsPart-after, IsPart-front}
+use Rattle.run_outcome.proofs.RunsLaws.{nothing}
+use Rattle.library_reader.proofs.Claims.{IfSome-always, IfSome-map, IfOk-err}
 
 prelude_part : (items : List LibraryItem) (end : Ending) (part : List ℕ) → IsPrefix part prelude_text
     → IsPartOf (in_verilog part) [] (outcome_at items end)

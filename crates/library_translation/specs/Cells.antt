@@ -2,14 +2,14 @@
 use Rattle.std.specs.Prelude.{List, Option, Some, None}
 use Rattle.liberty_groups.specs.declared.tree.Group.{Group}
 use Rattle.cell_reader.specs.declared.refusal.Refusal.{Refusal}
-use Rattle.cell_parts.specs.Groups.{cell_name}
+use Rattle.cell_attributes.specs.Groups.{cell_name}
 use Rattle.library_report.specs.CellLines.{refused_line}
 use Rattle.library_report.specs.LeftOutLines.{left_out_file_line}
-use Rattle.library_items.specs.declared.progress.Progress.{Progress}
+use Rattle.library_reader.specs.declared.progress.Progress.{Progress}
 use Rattle.cell_cursor.specs.declared.item.LibraryItem.{LibraryItem}
-use Rattle.command_outcomes.specs.Written.{Written, in_report}
-use Rattle.library_items.specs.Progress.{next_number, next_refusal, next_data, next_entity}
-use Rattle.library_items.specs.WrittenItems.{written_for, written_for_all}
+use Rattle.run_outcome.specs.Written.{Written, in_report}
+use Rattle.library_reader.specs.Progress.{next_number, next_refusal, next_data, next_entity}
+use Rattle.library_reader.specs.WrittenItems.{written_for, written_for_all}
 pub use Rattle.cell_translation.specs.Cells.{ModelsAreBound, found_of_test, lines_on_test, core_entity_name}
 unfoldable pub use Rattle.cell_translation.specs.Cells.{accepted_lines, test_lines, verilog_drivers_text, model_text}
 unfoldable pub use Rattle.cell_translation.specs.Cells.{vital_drivers_text, vital_text, models_written, accepted_written}

@@ -8,18 +8,18 @@ use Rattle.text_io.specs.Desk.{DeskState, took, wrote, IsPrefix}
 use Rattle.verilog_writer.specs.Model.{prelude_text}
 use Rattle.library_report.specs.CellLines.{totals_line}
 use Rattle.library_report.specs.FaultLines.{library_fault_line, library_too_long_line}
-use Rattle.command_outcomes.specs.declared.status.Status.{Status}
-use Rattle.command_outcomes.specs.declared.status.Status.TheVariants as status
+use Rattle.run_outcome.specs.declared.status.Status.{Status}
+use Rattle.run_outcome.specs.declared.status.Status.TheVariants as status
 use Rattle.text_io.specs.declared.stop.Stop.{Stop}
-use Rattle.library_items.specs.declared.progress.Progress.{Progress}
+use Rattle.library_reader.specs.declared.progress.Progress.{Progress}
 use Rattle.cell_cursor.specs.declared.item.LibraryItem.{LibraryItem}
-use Rattle.library_items.specs.declared.ending.Ending.{Ending}
-use Rattle.library_items.specs.declared.ending.Ending.TheVariants as ending
-use Rattle.command_outcomes.specs.Outcome.{Outcome, IsPartOf, IsAllOf}
-use Rattle.command_outcomes.specs.Written.{Written, in_verilog, in_report, joined, IsPart, wrote_all}
-use Rattle.library_items.specs.Progress.{no_progress, progress_after}
-use Rattle.library_items.specs.Endings.{library_limit, ending_of}
-use Rattle.library_items.specs.WrittenItems.{HoldsCells}
+use Rattle.library_reader.specs.declared.ending.Ending.{Ending}
+use Rattle.library_reader.specs.declared.ending.Ending.TheVariants as ending
+use Rattle.run_outcome.specs.Outcome.{Outcome, IsPartOf, IsAllOf}
+use Rattle.run_outcome.specs.Written.{Written, in_verilog, in_report, joined, IsPart, wrote_all}
+use Rattle.library_reader.specs.Progress.{no_progress, progress_after}
+use Rattle.library_reader.specs.Endings.{library_limit, ending_of}
+use Rattle.library_reader.specs.WrittenItems.{HoldsCells}
 use Rattle.library_translation.specs.Cells.{item_written, items_written}
 use Rattle.library_translation.specs.Models.{HoldsModels}
 

@@ -2,8 +2,8 @@
 use Rattle.std.specs.Prelude.{ℕ, ◌+◌, ◌≤◌, List, take}
 use Rattle.cell_cursor.specs.Given.{closed_items, most_beyond}
 use Rattle.verilog_writer.specs.Model.{prelude_text}
-use Rattle.command_outcomes.specs.Written.{Written, in_verilog, joined, IsPart}
-use Rattle.library_items.specs.Progress.{no_progress}
+use Rattle.run_outcome.specs.Written.{Written, in_verilog, joined, IsPart}
+use Rattle.library_reader.specs.Progress.{no_progress}
 use Rattle.library_translation.specs.Cells.{items_written}
 
 -- So many bytes of a library were taken: of each cell whose closing brace has 65,536 bytes or more of them behind it the outputs of a

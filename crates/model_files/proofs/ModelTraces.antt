@@ -5,8 +5,8 @@ use Rattle.text_io.specs.Desk.{DeskState}
 use Rattle.cell_machine.specs.declared.changes.Change.{Change}
 use Rattle.stimulus.specs.declared.ports.Ports.{Ports}
 use Rattle.stimulus.specs.DriveLines.{lines_along, DriveMachine}
-use Rattle.section_runs.specs.TraceText.{heading_text, trace_text}
-use Rattle.section_runs.specs.Writes.{WritesTrace}
+use Rattle.stimulus.specs.TraceText.{heading_text, trace_text}
+use Rattle.stimulus.specs.Writes.{WritesTrace}
 use Rattle.model_files.specs.Formats.{tag_of}
 use Rattle.model_files.specs.Languages.{Language, model_trace_text}
 

@@ -4,7 +4,7 @@ use Rattle.std.proofs.lemmas.Bool.Decides.{nat_tests}
 use Rattle.stimulus.specs.declared.sections.Section.{Section}
 use Rattle.stimulus.specs.PortEntries.{NamedCells, listed}
 use Rattle.stimulus.specs.Stimulus.{stimulus_of}
-use Rattle.command_outcomes.specs.FileSteps.{FileStop, FileAnswer, answer_where, answer_within}
+use Rattle.run_outcome.specs.FileSteps.{FileStop, FileAnswer, answer_where, answer_within}
 use Rattle.model_files.specs.Languages.{Language}
 use Rattle.model_files.specs.Limits.{model_limit, stimulus_limit}
 use Rattle.model_files.specs.ModelAnswer.{long_model_stop, models_or_stop, models_in_text, model_answer}

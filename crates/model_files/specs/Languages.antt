@@ -6,7 +6,7 @@ use Rattle.stimulus.specs.DriveLines.{lines_along, DriveMachine}
 use Rattle.udp_tables.specs.declared.models.ModelFault.{ModelFault}
 use Rattle.udp_tables.specs.declared.models.ModelFault.TheVariants as fault
 use Rattle.udp_tables.specs.declared.models.VPort.{VPort}
-use Rattle.section_runs.specs.TraceText.{heading_text, trace_text}
+use Rattle.stimulus.specs.TraceText.{heading_text, trace_text}
 use Rattle.model_files.specs.declared.format.ModelFormat.{ModelFormat}
 use Rattle.model_files.specs.Formats.{tag_of}
 

@@ -1,8 +1,8 @@
 -- What a file of models is read as, or how it ends a run. This project's rules.
 use Rattle.std.specs.Prelude.{List, Result, Ok, Err}
 use Rattle.udp_tables.specs.declared.models.ModelFault.{ModelFault}
-use Rattle.command_outcomes.specs.declared.status.Status.TheVariants as status
-use Rattle.command_outcomes.specs.FileSteps.{FileStop, FileAnswer, answer_within}
+use Rattle.run_outcome.specs.declared.status.Status.TheVariants as status
+use Rattle.run_outcome.specs.FileSteps.{FileStop, FileAnswer, answer_within}
 use Rattle.model_files.specs.declared.format.ModelFormat.{ModelFormat}
 use Rattle.model_files.specs.Languages.{Language}
 use Rattle.model_files.specs.Limits.{model_limit}

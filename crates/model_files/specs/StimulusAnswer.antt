@@ -6,8 +6,8 @@ use Rattle.stimulus.specs.declared.faults.StimulusFault.TheVariants as fault
 use Rattle.stimulus.specs.declared.sections.Section.{Section}
 use Rattle.stimulus.specs.PortEntries.{NamedCells, listed}
 use Rattle.stimulus.specs.Stimulus.{stimulus_of}
-use Rattle.command_outcomes.specs.declared.status.Status.TheVariants as status
-use Rattle.command_outcomes.specs.FileSteps.{FileStop, FileAnswer, answer_within}
+use Rattle.run_outcome.specs.declared.status.Status.TheVariants as status
+use Rattle.run_outcome.specs.FileSteps.{FileStop, FileAnswer, answer_within}
 use Rattle.model_files.specs.Limits.{stimulus_limit}
 use Rattle.model_files.specs.FaultLines.{stimulus_too_long_line}
 

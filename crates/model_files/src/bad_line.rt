@@ -1,8 +1,8 @@
 //! How a run ends at the first bad line of its stimulus.
-ghost use Rattle.command_outcomes.specs.FileSteps.{TellsStop, StopsWithStatus};
+ghost use Rattle.run_outcome.specs.FileSteps.{TellsStop, StopsWithStatus};
 ghost use Rattle.model_files.specs.StimulusAnswer.{LineStop};
 
-use command_outcomes::Status;
+use run_outcome::Status;
 use stimulus::Cause;
 use text_io::Desk;
 

@@ -7,8 +7,7 @@ ghost use Rattle.model_files.specs.FaultLines.{word_of_fault, model_fault_line, 
 
 use crate::format::ModelFormat;
 use stimulus::Cause;
-use text_io::{Desk, Failed, OutSlot, write_pieces, write_whole};
-use text_parts::{Bytes, Decimal, parts, write_part};
+use text_io::{Bytes, Decimal, Desk, Failed, OutSlot, parts, write_part, write_pieces, write_whole};
 use udp_tables::ModelFault;
 
 /// The word of a fault.

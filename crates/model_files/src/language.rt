@@ -2,7 +2,7 @@
 ghost use Rattle.std.specs.Prelude.{◌≡◌, ◌≤◌, [], All, length, Ok, IfOk, IfErr};
 ghost use Rattle.text_io.specs.Desk.{StopsWithCause};
 ghost use Rattle.cell_machine.specs.History.{IsProperFrom};
-ghost use Rattle.section_runs.specs.Writes.{WritesTrace};
+ghost use Rattle.stimulus.specs.Writes.{WritesTrace};
 ghost use Rattle.model_files.specs.Languages.{Language, IsFaultIn, model_trace_text};
 ghost use Rattle.model_files.specs.ModelNames.{HaveOwnNames};
 ghost use Rattle.model_files.specs.Limits.{model_limit};

@@ -2,7 +2,7 @@
 ghost use Rattle.std.specs.Prelude.{◌≡◌, ◌≤◌, ℕ, List, All, Contains, Ok, length, IfOk, IfErr, OnOk};
 ghost use Rattle.text_io.specs.declared.slots.Slot.TheVariants.{Input};
 ghost use Rattle.text_io.specs.Plan.{plan};
-ghost use Rattle.command_outcomes.specs.FileSteps.{FileIsTaken, FileEndsRun, TellsStop, EndsBy, answer_where, StopsWithStatus};
+ghost use Rattle.run_outcome.specs.FileSteps.{FileIsTaken, FileEndsRun, TellsStop, EndsBy, answer_where, StopsWithStatus};
 ghost use Rattle.model_files.specs.Formats.{slot_of};
 ghost use Rattle.model_files.specs.Limits.{model_limit};
 ghost use Rattle.model_files.specs.ModelNames.{HaveOwnNames};
@@ -12,7 +12,7 @@ use crate::faults::{write_model_fault, write_model_too_long};
 use crate::format::ModelFormat;
 use crate::language::ModelLanguage;
 use crate::limits::MODEL_LIMIT;
-use command_outcomes::{Status, ended};
+use run_outcome::{Status, ended};
 use std::alloc::Global;
 use text_io::{Desk, Taken, read_all};
 use udp_tables::ModelFault;

@@ -5,13 +5,13 @@ ghost use Rattle.text_io.specs.declared.slots.Slot.TheVariants.{Input};
 ghost use Rattle.text_io.specs.Plan.{plan};
 ghost use Rattle.stimulus.specs.PortEntries.{listed};
 ghost use Rattle.stimulus.specs.Stimulus.{stimulus_of};
-ghost use Rattle.command_outcomes.specs.FileSteps.{FileIsTaken, FileEndsRun, TellsStop, EndsBy, answer_where, StopsWithStatus};
+ghost use Rattle.run_outcome.specs.FileSteps.{FileIsTaken, FileEndsRun, TellsStop, EndsBy, answer_where, StopsWithStatus};
 ghost use Rattle.model_files.specs.StimulusAnswer.{long_stimulus_stop, sections_in_text, stimulus_answer};
 
 use crate::bad_line::BadLineStop;
 use crate::faults::write_stimulus_too_long;
 use crate::limits::STIMULUS_LIMIT;
-use command_outcomes::{Status, ended};
+use run_outcome::{Status, ended};
 use std::alloc::Global;
 use stimulus::{PortCatalog, Section, StimulusFault, read_stimulus};
 use text_io::{Desk, InSlot, Taken, read_all};

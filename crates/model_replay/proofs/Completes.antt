@@ -1,6 +1,6 @@
 -- What can be replayed is replayed whole.
 use Rattle.std.proofs.Common.{◌≡◌, ℕ, List, ap, ◌∙◌}
-use Rattle.command_outcomes.specs.FileSteps.{outcome_by}
+use Rattle.run_outcome.specs.FileSteps.{outcome_by}
 use Rattle.model_files.specs.Languages.{Language}
 use Rattle.model_files.proofs.WholeAnswers.{model_whole, stimulus_whole}
 use Rattle.model_replay.specs.ModelPorts.{models_named}

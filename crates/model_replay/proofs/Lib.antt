@@ -1,3 +1,13 @@
+mod NewNames
+mod PortCounts
+mod OwnPorts
+mod SameNames
+mod TextAnswers
+mod NamedDrivers
+mod VerilogDrivers
+mod VitalDrivers
+pub mod VerilogModels
+pub mod VitalModels
 mod Catalogs
 mod Sections
 mod SectionTexts

@@ -11,17 +11,17 @@ use Rattle.text_io.specs.Desk.{DeskState, Folder}
 use Rattle.stimulus.specs.declared.sections.Section.{Section}
 use Rattle.stimulus.specs.PortEntries.{NamedCells, listed}
 use Rattle.stimulus.specs.Stimulus.{stimulus_of}
-use Rattle.section_runs.specs.Writes.{WritesTrace}
-use Rattle.command_outcomes.specs.declared.status.Status.{Status}
-use Rattle.command_outcomes.specs.declared.status.Status.TheVariants as status
-use Rattle.command_outcomes.specs.Status.{is_decided, status_by}
-use Rattle.command_outcomes.specs.Binding.{Files, bytes_at}
-use Rattle.command_outcomes.specs.Outcome.{Outcome}
-use Rattle.command_outcomes.specs.Runs.{RunsAs}
-use Rattle.command_outcomes.specs.FileSteps.{FileIsTaken, FileEndsRun}
-use Rattle.command_outcomes.specs.FilesRead.{is_read_among, HasRead}
-use Rattle.command_outcomes.proofs.FileLaws.{words_before}
-use Rattle.command_outcomes.proofs.FilesReadLaws.{nothing_read, one_more, ends_there, stops_between, reports_all}
+use Rattle.stimulus.specs.Writes.{WritesTrace}
+use Rattle.run_outcome.specs.declared.status.Status.{Status}
+use Rattle.run_outcome.specs.declared.status.Status.TheVariants as status
+use Rattle.run_outcome.specs.Status.{is_decided, status_by}
+use Rattle.run_outcome.specs.Binding.{Files, bytes_at}
+use Rattle.run_outcome.specs.Outcome.{Outcome}
+use Rattle.run_outcome.specs.Runs.{RunsAs}
+use Rattle.run_outcome.specs.FileSteps.{FileIsTaken, FileEndsRun}
+use Rattle.run_outcome.specs.FilesRead.{is_read_among, HasRead}
+use Rattle.run_outcome.proofs.FileLaws.{words_before}
+use Rattle.run_outcome.proofs.FilesReadLaws.{nothing_read, one_more, ends_there, stops_between, reports_all}
 use Rattle.model_files.specs.declared.format.ModelFormat.{ModelFormat}
 use Rattle.model_files.specs.declared.format.ModelFormat.TheVariants as format
 use Rattle.model_files.specs.Formats.{slot_of}

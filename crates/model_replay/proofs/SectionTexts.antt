@@ -11,8 +11,8 @@ use Rattle.cell_machine.specs.History.{IsProperFrom}
 use Rattle.stimulus.specs.declared.ports.Ports.{Ports}
 use Rattle.stimulus.specs.declared.sections.Section.{Section}
 use Rattle.stimulus.specs.PortEntries.{NamedCells}
-use Rattle.section_runs.specs.Writes.{WritesTrace}
-use Rattle.section_runs.proofs.Runs.{part_of_item}
+use Rattle.stimulus.specs.Writes.{WritesTrace}
+use Rattle.stimulus.proofs.Runs.{part_of_item}
 use Rattle.model_files.specs.Languages.{Language, model_trace_text}
 use Rattle.model_replay.specs.ModelPorts.{ports_of, models_named}
 use Rattle.model_replay.specs.Outcome.{model_section, section_of, replayed_section_text, replayed_sections_text}

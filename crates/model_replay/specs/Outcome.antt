@@ -6,11 +6,11 @@ use Rattle.text_io.specs.declared.slots.Slot.TheVariants.{Input}
 use Rattle.text_io.specs.Desk.{Folder}
 use Rattle.cell_machine.specs.declared.changes.Change.{Change}
 use Rattle.stimulus.specs.declared.sections.Section.{Section}
-use Rattle.command_outcomes.specs.declared.status.Status.TheVariants as status
-use Rattle.command_outcomes.specs.Written.{in_report}
-use Rattle.command_outcomes.specs.Binding.{Files, bytes_at}
-use Rattle.command_outcomes.specs.Outcome.{Outcome}
-use Rattle.command_outcomes.specs.FileSteps.{outcome_by}
+use Rattle.run_outcome.specs.declared.status.Status.TheVariants as status
+use Rattle.run_outcome.specs.Written.{in_report}
+use Rattle.run_outcome.specs.Binding.{Files, bytes_at}
+use Rattle.run_outcome.specs.Outcome.{Outcome}
+use Rattle.run_outcome.specs.FileSteps.{outcome_by}
 use Rattle.model_files.specs.declared.format.ModelFormat.{ModelFormat}
 use Rattle.model_files.specs.Formats.{slot_of}
 use Rattle.model_files.specs.Languages.{Language, model_trace_text}

@@ -5,7 +5,7 @@ use Rattle.cell_machine.specs.History.{IsProperFrom}
 use Rattle.stimulus.specs.declared.sections.Section.{Section}
 use Rattle.stimulus.specs.PortEntries.{listed}
 use Rattle.stimulus.specs.Stimulus.{stimulus_of}
-use Rattle.command_outcomes.specs.FilesRead.{HasRead}
+use Rattle.run_outcome.specs.FilesRead.{HasRead}
 use Rattle.model_files.specs.Languages.{Language}
 use Rattle.model_files.specs.Limits.{model_limit}
 use Rattle.model_files.specs.ModelNames.{input_names, output_names}

@@ -1,3 +1,5 @@
+//! Verilog and VHDL as a run reads, names and runs their models. (IEEE 1364-2005; IEEE 1076-1993 and IEEE 1076.4-2000.) What their
+//! texts are, what their models are called, and what runs of them stands in `specs/`.
 //! Replaying a file of models under a stimulus: what it comes to, the models as the cells that a stimulus may name, its two files,
 //! and the sections that are printed. All of it holds of each language of models.
 #![tactic(auto)]
@@ -5,8 +7,20 @@
 mod bad_line;
 mod catalog;
 mod known;
+mod laws;
 mod printing;
 mod reading;
 mod run;
+mod starts;
+mod verilog;
+mod vital;
 
+pub use laws::{
+    entities_have_own_names, modules_have_own_names, plain_entities_read_as_before,
+    plain_modules_read_as_before, well_formed_entities_have_own_names,
+};
 pub use run::replay_models;
+pub use starts::{known_entity, known_module, start_entity, start_module};
+pub use table_interpreters::{EntityStart, ModuleStart};
+pub use verilog::Verilog;
+pub use vital::Vital;

@@ -1,7 +1,7 @@
 //! The sections of a replay: each is run on its model, and printed.
 ghost use Rattle.std.specs.Prelude.{◌≡◌, All, length, OnOk};
 ghost use Rattle.text_io.specs.Desk.{StopsWithCause};
-ghost use Rattle.section_runs.specs.Writes.{WritesTrace};
+ghost use Rattle.stimulus.specs.Writes.{WritesTrace};
 ghost use Rattle.model_replay.specs.ModelPorts.{models_named};
 ghost use Rattle.model_replay.specs.KnownModels.{AreStarts};
 ghost use Rattle.model_replay.specs.Outcome.{replayed_section_text, replayed_sections_text};

@@ -1,13 +1,13 @@
 //! The files of a replay: the models and the sections that are to be run.
 ghost use Rattle.std.specs.Prelude.{◌≡◌, IfOk, IfErr, OnOk};
 ghost use Rattle.text_io.specs.Plan.{plan};
-ghost use Rattle.command_outcomes.specs.Runs.{RunsAs, StopsWithStatus};
+ghost use Rattle.run_outcome.specs.Runs.{RunsAs, StopsWithStatus};
 ghost use Rattle.model_replay.specs.Outcome.{replay_files, replay_of};
 ghost use Rattle.model_replay.specs.Replays.{ReadsReplay};
 
 use crate::bad_line::ReplayStop;
 use crate::catalog::models_named;
-use command_outcomes::Status;
+use run_outcome::Status;
 use model_files::{ModelLanguage, read_model_file, read_stimulus_file};
 use sqlite_items::Items;
 use std::alloc::Global;

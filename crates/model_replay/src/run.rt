@@ -1,13 +1,13 @@
 //! Replaying a file of models: its files are read, and then its sections are run and printed.
 ghost use Rattle.std.specs.Prelude.{◌≡◌};
 ghost use Rattle.text_io.specs.Plan.{plan};
-ghost use Rattle.command_outcomes.specs.Status.{status_by};
-ghost use Rattle.command_outcomes.specs.Runs.{RunsAs, StopsWithStatus};
+ghost use Rattle.run_outcome.specs.Status.{status_by};
+ghost use Rattle.run_outcome.specs.Runs.{RunsAs, StopsWithStatus};
 ghost use Rattle.model_replay.specs.Outcome.{replay_files, replay_of};
 
 use crate::printing::write_replayed_sections;
 use crate::reading::read_replay;
-use command_outcomes::Status;
+use run_outcome::Status;
 use model_files::ModelLanguage;
 use std::alloc::Global;
 use text_io::{Desk, Stop};

@@ -4,7 +4,7 @@
 
 use std::process::ExitCode;
 use text_io::FileDesk;
-use wave_files::{Status, desk_words, open_closed_streams, program_words, run};
+use wave_reports::{Status, desk_words, open_closed_streams, program_words, run};
 
 /// Draws the waves of the report that the words after the program's name ask for. The exit code is that of the run's status; without
 /// memory for the words it is that of `Memory`, and where a word is not UTF-8 that of `Usage`. Want of memory is told on the standard

@@ -3,7 +3,7 @@ use Rattle.std.proofs.Common.{◌≡◌, true, length, Some}
 use Rattle.std.specs.List.{list_all}
 use Rattle.liberty_groups.specs.declared.tree.Group.{Group}
 use Rattle.cell_machine.specs.CellData.{CellData}
-use Rattle.cell_parts.specs.Pins.{owners_of}
+use Rattle.cell_attributes.specs.Pins.{owners_of}
 use Rattle.scan_cells.specs.declared.enables.Enable.{Enable}
 use Rattle.scan_cells.specs.Enables.{first_enable}
 use Rattle.scan_cells.specs.Views.{is_among, numbers_of, same_outline, StandsBeside}

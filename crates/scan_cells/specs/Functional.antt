@@ -4,9 +4,9 @@ use Rattle.std.specs.List.{list_all}
 use Rattle.std.specs.Option.{option_map}
 use Rattle.liberty_groups.specs.declared.tree.Group.{Group}
 use Rattle.cell_machine.specs.CellData.{CellData}
-use Rattle.cell_parts.specs.Groups.{cell_name}
-use Rattle.cell_parts.specs.Pins.{pins_of, owners_of}
-use Rattle.cell_parts.specs.CellLaws.{groups_of, outputs_of}
+use Rattle.cell_attributes.specs.Groups.{cell_name}
+use Rattle.cell_attributes.specs.Pins.{pins_of, owners_of}
+use Rattle.cell_attributes.specs.CellLaws.{groups_of, outputs_of}
 use Rattle.cell_reader.specs.CellTexts.{subject_of}
 use Rattle.cell_reader.specs.Refusals.{refusal_of, checks_of, arcs_of}
 use Rattle.scan_cells.specs.declared.enables.Enable.{Enable}

@@ -9,7 +9,7 @@ use Rattle.liberty_groups.specs.declared.tree.Item.TheOpen as layer
 use Rattle.liberty_groups.specs.declared.tree.Item.TheVariants as item
 use Rattle.liberty_groups.specs.declared.tree.Group.{Group, roll-Group}
 use Rattle.liberty_groups.specs.Attributes.{groups_named, first_of}
-use Rattle.cell_parts.specs.Groups.{inner_groups}
+use Rattle.cell_attributes.specs.Groups.{inner_groups}
 
 -- The test cell of a cell: of several `test_cell` groups the first. (This project's rule.)
 abbrev pub test_of : Group → Option Group

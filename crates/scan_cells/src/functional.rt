@@ -11,7 +11,7 @@ use crate::test_group::view_group;
 use crate::view_pins::{are_among, numbers_of, same_outline};
 use crate::views::View;
 use cell_machine::Cell;
-use cell_parts::held::held_with;
+use cell_attributes::held::held_with;
 use liberty_groups::Group;
 use sqlite_items::Items;
 use std::alloc::{AllocError, Global};

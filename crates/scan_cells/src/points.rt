@@ -9,7 +9,7 @@ ghost use Rattle.scan_cells.specs.Weights.{weight_of as weight_of_source, weighe
 use crate::places::place_of;
 use crate::views::View;
 use cell_machine::{Few, Source};
-use cell_parts::limits::MOST_OUTPUT_SOURCES;
+use cell_attributes::limits::MOST_OUTPUT_SOURCES;
 
 /// The number that place k weighs.
 pub fn weight(k: usize) -> u32

@@ -1,11 +1,11 @@
 -- Words that stand next, at any offset, and how long a section is at least.
 use Rattle.std.proofs.Common.{◌≡◌, ℕ, suc, ◌+◌, ◌<◌, Bool, true, false, ◌&&◌, ◌||◌, if◌then◌else◌, List, [], ◌∷◌, ◌++◌, length, Option, slice_get, unwrap_or, refl, ap, ◌∙◌, arith}
 use Rattle.std.proofs.Math.Seq.{take-append_seam}
-use Rattle.token_spans.specs.Tokens.{Token, Lexis, scan, scan_of, at_front, after, spellings}
-use Rattle.token_spans.specs.Places.{AreInOrder}
-use Rattle.token_spans.specs.Separators.{spelled}
-use Rattle.token_spans.proofs.Padding.{any_offset}
-use Rattle.token_spans.proofs.Standing.{stand_in_order}
+use Rattle.lexer.specs.Tokens.{Token, Lexis, scan, scan_of, at_front, after, spellings}
+use Rattle.lexer.specs.Places.{AreInOrder}
+use Rattle.lexer.specs.Separators.{spelled}
+use Rattle.lexer.proofs.Padding.{any_offset}
+use Rattle.lexer.proofs.Standing.{stand_in_order}
 use Rattle.driver_sections.specs.Marks.{Vocabulary, Marks, Ending, are_next, behind, ends}
 use Rattle.driver_sections.specs.Sections.{section_length, begins_section}
 use Rattle.section_outlines.specs.Marked.{tokens_with}

@@ -2,14 +2,14 @@
 use Rattle.std.proofs.Common.{◌≡◌, ℕ, zero, suc, Bool, true, false, List, [], ◌∷◌, ◌++◌, map, length, replicate, refl, sym, ap, ◌∙◌, flat_map, append_assoc}
 use Rattle.std.proofs.lemmas.List.{append-nil}
 use Rattle.std.specs.List.{AllByRecursion}
-use Rattle.token_spans.specs.Tokens.{Lexis, scan_of}
-use Rattle.token_spans.specs.Separators as separators
+use Rattle.lexer.specs.Tokens.{Lexis, scan_of}
+use Rattle.lexer.specs.Separators as separators
 use Rattle.driver_sections.specs.Marks.{Vocabulary, Marks}
 use Rattle.driver_sections.specs.Sections.{section_length, begins_section, sections, blanked, text_of}
-use Rattle.grammar_phrases.proofs.Fronts.{Front, Anything, each}
-use Rattle.grammar_phrases.proofs.Passages.{Barred, Passes, at_end, separator}
-use Rattle.grammar_phrases.proofs.Spelling.{SpellsBy, all_found, barred_less, behind}
-use Rattle.grammar_phrases.proofs.Spelling as spelling
+use Rattle.grammar_reader.proofs.Fronts.{Front, Anything, each}
+use Rattle.grammar_reader.proofs.Passages.{Barred, Passes, at_end, separator}
+use Rattle.grammar_reader.proofs.Spelling.{SpellsBy, all_found, barred_less, behind}
+use Rattle.grammar_reader.proofs.Spelling as spelling
 use Rattle.section_outlines.specs.Marked.{begins}
 use Rattle.section_outlines.specs.Outline.{Outline, outline}
 use Rattle.section_outlines.proofs.SectionsOutline.{outline_is}

@@ -1,11 +1,11 @@
 -- What the outline of a text is, and where its parts end, by its separators and its tokens.
 use Rattle.std.proofs.Common.{◌≡◌, ℕ, suc, ◌+◌, ◌-◌, Bool, true, false, if◌then◌else◌, List, [], ◌∷◌, ◌++◌, length, take, Option, slice_get, unwrap_or, refl, sym, ap, ◌∙◌, arith, length-append}
 use Rattle.std.proofs.Math.Seq.{take-append_seam}
-use Rattle.token_spans.specs.Tokens.{Token, scan}
+use Rattle.lexer.specs.Tokens.{Token, scan}
 use Rattle.driver_sections.specs.Marks.{Vocabulary, Marks, are_next, ends}
 use Rattle.driver_sections.specs.Sections.{section_length, begins_section}
-use Rattle.grammar_phrases.proofs.Fronts.{Front}
-use Rattle.grammar_phrases.proofs.Passages.{Passes, at_end, separator, token, behind_part}
+use Rattle.grammar_reader.proofs.Fronts.{Front}
+use Rattle.grammar_reader.proofs.Passages.{Passes, at_end, separator, token, behind_part}
 use Rattle.section_outlines.specs.Marked.{begins, ends_next}
 use Rattle.section_outlines.specs.Outline.{with_bytes, with_section, at_front, outline}
 use Rattle.section_outlines.proofs.Offsets.{behind_pair, words_at}

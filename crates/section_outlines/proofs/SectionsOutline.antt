@@ -2,7 +2,7 @@
 use Rattle.std.proofs.Common.{◌≡◌, ℕ, zero, suc, ◌+◌, ◌-◌, ◌≤◌, ◌<◌, Bool, true, false, if◌then◌else◌, List, [], ◌∷◌, ◌++◌, map, take, drop, replicate, slice_range, refl, sym, ap, subst, ◌∙◌, arith, append_assoc}
 use Rattle.std.proofs.lemmas.List.{take-append-drop, drop-drop}
 use Rattle.std.proofs.Math.Seq.{take-add}
-use Rattle.token_spans.specs.declared.span.Span.{Span}
+use Rattle.lexer.specs.declared.span.Span.{Span}
 use Rattle.driver_sections.specs.Marks.{Vocabulary, Marks}
 use Rattle.driver_sections.specs.Sections.{section_length, begins_section, sections_from, sections, blanked_from, blanked, text_of}
 use Rattle.driver_sections.specs.Sections as sections

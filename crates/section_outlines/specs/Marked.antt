@@ -1,6 +1,6 @@
 -- Where sections begin and end, by a token and by the bytes behind it. (How sections are marked is this project's rule.)
 use Rattle.std.specs.Prelude.{ℕ, Bool, ◌||◌, List, ◌∷◌}
-use Rattle.token_spans.specs.Tokens.{Token, Lexis, scan}
+use Rattle.lexer.specs.Tokens.{Token, Lexis, scan}
 use Rattle.driver_sections.specs.Marks.{Vocabulary, Marks, are_next}
 
 -- a token, by the flag before it, and the tokens of the bytes behind it

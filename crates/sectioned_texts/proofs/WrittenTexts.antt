@@ -3,7 +3,7 @@ use Rattle.std.proofs.Common.{◌≡◌, ℕ, List, [], ◌∷◌, ◌++◌, map
 use Rattle.std.proofs.lemmas.List.{append-nil}
 use Rattle.std.specs.Result.{result_map_both}
 use Rattle.stimulus.specs.Judged.{and_then}
-use Rattle.token_spans.specs.declared.span.Span.{Span}
+use Rattle.lexer.specs.declared.span.Span.{Span}
 use Rattle.udp_tables.specs.declared.models.ModelFault.{ModelFault}
 use Rattle.driver_models.specs.declared.model.DriverModel.{DriverModel}
 use Rattle.driver_sections.specs.Sections.{sections, text_of}

@@ -3,8 +3,8 @@
 use Rattle.std.specs.Prelude.{ℕ, ◌+◌, ◌==◌, Bool, false, ◌&&◌, ◌||◌, nat_le, nat_lt, if◌then◌else◌, List, [], ◌∷◌, ◌++◌, map, flat_map, reverse, take, Result, Ok, Err}
 use Rattle.std.specs.List.{filter}
 use Rattle.std.specs.Result.{result_map_both, result_unwrap_or}
-use Rattle.token_spans.specs.Tokens.{scan_of}
-use Rattle.token_spans.specs.declared.span.Span.{Span}
+use Rattle.lexer.specs.Tokens.{scan_of}
+use Rattle.lexer.specs.declared.span.Span.{Span}
 use Rattle.stimulus.specs.Judged.{and_then}
 use Rattle.udp_tables.specs.declared.models.ModelFault.{ModelFault}
 use Rattle.udp_tables.specs.declared.models.ModelFault.TheVariants as fault

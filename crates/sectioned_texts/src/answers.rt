@@ -7,7 +7,7 @@ use crate::faults::fault_behind;
 use crate::language::SectionLanguage;
 use driver_models::{Cores, DriverModel, KnownNames};
 use std::alloc::{AllocError, Global};
-use token_spans::Span;
+use lexer::Span;
 use udp_tables::ModelFault;
 
 /// What a part of a text is read as, or its fault. The `AllocError` comes only where memory is wanting.

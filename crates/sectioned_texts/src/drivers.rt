@@ -1,7 +1,7 @@
 //! The drivers that the sections of a text hold.
 ghost use Rattle.std.specs.Prelude.{◌≡◌, [], ◌∷◌, ◌++◌, map, IfOk};
 ghost use Rattle.std.specs.Result.{result_map_both};
-ghost use Rattle.token_spans.specs.Spans.{LieInside};
+ghost use Rattle.lexer.specs.Spans.{LieInside};
 ghost use Rattle.sectioned_texts.specs.DrivenModels as spec;
 
 use crate::answers::{Answer, section_driver, with_answer};
@@ -10,7 +10,7 @@ use crate::scope::{cores_of, taken_names};
 use driver_models::{Cores, DriverLanguage, DriverModel, KnownNames};
 use sqlite_items::Items;
 use std::alloc::{AllocError, Global};
-use token_spans::Span;
+use lexer::Span;
 
 /// These names with that of a driver, which stands behind these drivers then.
 fn with_driver<D: DriverLanguage>(

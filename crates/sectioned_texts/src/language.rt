@@ -1,7 +1,7 @@
 //! What a reader of texts with sections needs to know of a language.
 ghost use Rattle.std.specs.Prelude.{◌≡◌, false, length, Ok, IfOk, IfErr};
-ghost use Rattle.token_spans.specs.Tokens.{scan_of};
-ghost use Rattle.token_spans.specs.Spans.{LieInside};
+ghost use Rattle.lexer.specs.Tokens.{scan_of};
+ghost use Rattle.lexer.specs.Spans.{LieInside};
 ghost use Rattle.driver_models.specs.Found.{core_of};
 ghost use Rattle.driver_sections.specs.Marks.{ends};
 ghost use Rattle.driver_sections.specs.Sections.{sections, StandApart};
@@ -12,7 +12,7 @@ ghost use Rattle.sectioned_texts.specs.DrivenModels as spec;
 use driver_models::{Core, Cores, DriverLanguage, DriverModel, KnownNames};
 use sqlite_items::Items;
 use std::alloc::{AllocError, Global};
-use token_spans::Span;
+use lexer::Span;
 use udp_tables::ModelFault;
 
 /// A language of models, and of sections that hold drivers. An `AllocError`, and the fault `Memory`, come only where memory is wanting.

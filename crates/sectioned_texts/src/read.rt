@@ -1,6 +1,6 @@
 //! A text to its models and drivers, or to its fault.
 ghost use Rattle.std.specs.Prelude.{◌≡◌, Ok, Err, IfOk, IfErr};
-ghost use Rattle.token_spans.specs.Spans.{LieInside};
+ghost use Rattle.lexer.specs.Spans.{LieInside};
 ghost use Rattle.driver_sections.specs.Sections.{sections};
 ghost use Rattle.sectioned_texts.specs.Drivers.{AllMayStand};
 ghost use Rattle.sectioned_texts.specs.Faults.{IsFaultIn};
@@ -15,7 +15,7 @@ use crate::language::SectionLanguage;
 use driver_sections::blanked;
 use sqlite_items::Items;
 use std::alloc::{AllocError, Global};
-use token_spans::Span;
+use lexer::Span;
 use udp_tables::ModelFault;
 
 /// The models and the drivers of a text with these sections, whose rest is the text of these models, or the fault of a section.

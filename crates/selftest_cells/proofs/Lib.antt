@@ -1,3 +1,7 @@
+pub mod Writable
+pub mod LibraryText
+pub mod CellTexts
+pub mod ReadingLemmas
 pub mod ProperChanges
 pub mod AlteredLists
 pub mod SoundModules

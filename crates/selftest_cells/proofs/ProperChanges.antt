@@ -3,7 +3,7 @@ use Rattle.std.proofs.Common.{◌≡◌, ℕ, zero, suc, ◌<◌, ◌/◌, List,
 use Rattle.std.proofs.Math.Nat.{mod-lt}
 use Rattle.cell_machine.specs.declared.changes.Change.{Change}
 use Rattle.cell_machine.specs.History.{ComesAfter, IsProperFrom}
-use Rattle.selftest_library.specs.Draws.{next}
+use Rattle.selftest_cells.specs.Draws.{next}
 use Rattle.selftest_cells.specs.Changes.{number_before, time_before, change_at, first_changes, changes_of, ChangesAreProper}
 
 -- the history after changes that go on from another

@@ -5,7 +5,7 @@ use Rattle.trit_cubes.specs.declared.trits.Trit.{Trit}
 use Rattle.trit_cubes.specs.declared.trits.Trit.TheVariants.{Zero, One, Unknown}
 use Rattle.cell_machine.specs.declared.changes.Change.{Change}
 use Rattle.cell_machine.specs.History.{IsProperFrom}
-use Rattle.selftest_library.specs.Draws.{next, pick}
+use Rattle.selftest_cells.specs.Draws.{next, pick}
 
 -- the last number that is taken for the changes before this one, where the numbers begin behind k
 abbrev pub number_before : ℕ → ℕ → ℕ

@@ -3,7 +3,7 @@ ghost use Rattle.std.specs.Prelude.{◌≡◌, ◌<◌, IfOk};
 ghost use Rattle.selftest_cells.specs.Changes.{value_of, changes_of, ChangesAreProper};
 
 use cell_machine::Change;
-use selftest_library::{next, pick};
+use crate::{next, pick};
 use sqlite_items::Items;
 use std::alloc::{AllocError, Global};
 use trit_cubes::Trit;

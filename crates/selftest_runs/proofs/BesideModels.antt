@@ -29,7 +29,7 @@ use Rattle.model_traces.proofs.ModelAgreement.{generated-modules, generated-enti
 use Rattle.stimulus.specs.DriveLines.{drive_machine}
 use Rattle.stimulus.specs.DriveSized.{drive_machine_sized}
 use Rattle.stimulus.proofs.DriveTraces.{drive_lines}
-use Rattle.section_runs.specs.Differences.{first_difference, NoDifferenceIsEqual}
+use Rattle.stimulus.specs.Differences.{first_difference, NoDifferenceIsEqual}
 use Rattle.selftest_cells.specs.Damage.{alter_first, damaged_output, damaged_by, damaged_module, damaged_entity, DamagedModulesAreSound, DamagedEntitiesAreSound}
 use Rattle.caught_models.specs.Caught.{is_caught}
 

@@ -6,17 +6,17 @@ use Rattle.liberty_groups.specs.declared.tree.Group.{Group}
 use Rattle.cell_reader.specs.declared.refusal.Refusal.{Refusal}
 use Rattle.three_state_cells.specs.declared.driven_cell.DrivenCell.{DrivenCell}
 use Rattle.three_state_cells.specs.DrivenCells.{driven_data_of}
-use Rattle.library_items.specs.LibraryCells.{CellEntry}
-use Rattle.library_items.specs.declared.ending.Ending.{Ending}
-use Rattle.library_items.specs.declared.progress.Progress.{Progress}
-use Rattle.library_items.specs.Endings.{library_limit}
-use Rattle.library_items.specs.Folds.{FoldsCells}
-use Rattle.library_items.specs.KeptCells.{kept_by, next_entry}
-use Rattle.library_items.specs.declared.next.NextCell.{NextCell}
-use Rattle.library_items.specs.declared.next.NextCell.TheVariants as next
-use Rattle.library_items.specs.NextCells.{IsAcceptedNext, IsNext}
-use Rattle.library_items.specs.Progress.{next_refusal}
-use Rattle.library_items.proofs.Claims.{IfSome-each}
+use Rattle.library_reader.specs.LibraryCells.{CellEntry}
+use Rattle.library_reader.specs.declared.ending.Ending.{Ending}
+use Rattle.library_reader.specs.declared.progress.Progress.{Progress}
+use Rattle.library_reader.specs.Endings.{library_limit}
+use Rattle.library_reader.specs.Folds.{FoldsCells}
+use Rattle.library_reader.specs.KeptCells.{kept_by, next_entry}
+use Rattle.library_reader.specs.declared.next.NextCell.{NextCell}
+use Rattle.library_reader.specs.declared.next.NextCell.TheVariants as next
+use Rattle.library_reader.specs.NextCells.{IsAcceptedNext, IsNext}
+use Rattle.library_reader.specs.Progress.{next_refusal}
+use Rattle.library_reader.proofs.Claims.{IfSome-each}
 use Rattle.selftest_runs.specs.declared.counts.Counts.{Counts}
 use Rattle.selftest_runs.specs.Counts.{no_counts, plus}
 use Rattle.selftest_runs.specs.LibraryCounts.{driven_counts, counted_next, counted, all_counts, library_counts, CountsCells}

@@ -9,11 +9,11 @@ use Rattle.text_io.specs.Desk.{DeskState, wrote}
 use Rattle.cell_machine.specs.CellData.{CellData}
 use Rattle.vital_models.specs.declared.model.VEntity.{VEntity}
 use Rattle.vital_models.specs.Generated.{entity_of}
-use Rattle.vhdl_text.specs.WellFormed.{IsWellFormedEntity, AreWellFormed}
+use Rattle.vhdl_grammar.specs.WellFormed.{IsWellFormedEntity, AreWellFormed}
 use Rattle.vhdl_writer.specs.Entity.{entity_text}
 use Rattle.written_entities.specs.Laws.{entities_text}
 use Rattle.generated_entities.specs.Laws.{EntityIsWellFormed}
-use Rattle.library_cells.specs.Cells.{IsNumberedCell}
+use Rattle.generated_modules.specs.Cells.{IsNumberedCell}
 use Rattle.selftest_runs.specs.EntityNames.{IsNameOfEntity}
 use Rattle.selftest_runs.specs.KeptTexts.{keeps_text}
 use Rattle.selftest_runs.proofs.KeptTextLemmas.{told}

@@ -12,7 +12,7 @@ use Rattle.specify_blocks.specs.WellFormed.{AreWellFormed}
 use Rattle.verilog_writer.specs.Model.{prelude_text, module_text}
 use Rattle.written_modules.specs.Laws.{modules_text}
 use Rattle.generated_modules.specs.Laws.{ModulesAreWellFormed}
-use Rattle.library_cells.specs.Cells.{IsNumberedCell}
+use Rattle.generated_modules.specs.Cells.{IsNumberedCell}
 use Rattle.selftest_runs.specs.KeptTexts.{keeps_text}
 use Rattle.selftest_runs.proofs.KeptTextLemmas.{told}
 use Rattle.selftest_runs.proofs.NamesAlone.{one_cell}

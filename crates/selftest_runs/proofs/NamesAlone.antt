@@ -8,10 +8,10 @@ use Rattle.cell_machine.specs.CellRules.{is_cell}
 use Rattle.cell_machine.specs.CellData.{CellData}
 use Rattle.vital_models.specs.Kept.{entity_name, driver_name}
 use Rattle.three_state_cells.specs.DrivenCells.{DrivenData, driven_data_of}
-use Rattle.library_items.specs.LibraryCells.{vital_name}
-use Rattle.library_items.specs.Progress.{next_entity}
-use Rattle.library_cells.specs.Cells.{IsNumberedCell, AreCellsOfOneLibrary}
-use Rattle.library_cells.proofs.KeptNames.{with_distinct_names}
+use Rattle.library_reader.specs.LibraryCells.{vital_name}
+use Rattle.library_reader.specs.Progress.{next_entity}
+use Rattle.generated_modules.specs.Cells.{IsNumberedCell, AreCellsOfOneLibrary}
+use Rattle.generated_modules.proofs.KeptNames.{with_distinct_names}
 use Rattle.selftest_runs.specs.EntityNames.{IsNameWherePlain, NextCellsHaveEntityNames}
 
 -- the name of a cell's VITAL model behind models with these names

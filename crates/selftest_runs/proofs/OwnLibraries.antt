@@ -4,8 +4,8 @@ use Rattle.text_io.specs.declared.slots.InSlot.TheVariants.{Library}
 use Rattle.text_io.specs.declared.slots.Slot.TheVariants.{Input}
 use Rattle.text_io.specs.Desk.{DeskState, is_bound}
 use Rattle.text_io.specs.declared.stop.Stop.{Stop}
-use Rattle.selftest_library.specs.Library.{library_text}
-use Rattle.selftest_library.specs.Reading.{reads_library}
+use Rattle.selftest_cells.specs.Library.{library_text}
+use Rattle.selftest_cells.specs.Reading.{reads_library}
 use Rattle.selftest_runs.specs.declared.counts.Counts.{Counts}
 use Rattle.selftest_runs.specs.LibraryCounts.{library_counts, CountsCells}
 use Rattle.selftest_runs.specs.OwnCounts.{own_counts}

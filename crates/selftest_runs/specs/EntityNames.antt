@@ -5,8 +5,8 @@ use Rattle.cell_machine.specs.CellData.{CellData}
 use Rattle.three_state_cells.specs.declared.driven_cell.DrivenCell.{DrivenCell}
 use Rattle.three_state_cells.specs.DrivenCells.{DrivenData, driven_data_of, may_float}
 use Rattle.vital_models.specs.Kept.{entity_name}
-use Rattle.library_items.specs.declared.progress.Progress.{Progress}
-use Rattle.library_items.specs.NextCells.{IsAcceptedNext}
+use Rattle.library_reader.specs.declared.progress.Progress.{Progress}
+use Rattle.library_reader.specs.NextCells.{IsAcceptedNext}
 
 -- a name that an entity of the cell has, behind entities with these names in lower case
 pub record IsNameOfEntity (cell : CellData) (name : List ℕ) : Type 0 where

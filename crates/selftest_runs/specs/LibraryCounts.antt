@@ -4,13 +4,13 @@ use Rattle.text_io.specs.declared.slots.InSlot.TheVariants.{Library}
 use Rattle.text_io.specs.Desk.{DeskState, took}
 use Rattle.text_io.specs.declared.stop.Stop.{Stop}
 use Rattle.three_state_cells.specs.DrivenCells.{DrivenData, driven_data_of, may_float}
-use Rattle.library_items.specs.declared.next.NextCell.{NextCell}
-use Rattle.library_items.specs.declared.next.NextCell.TheVariants as next
-use Rattle.library_items.specs.LibraryCells.{CellEntry, Accepted, Refused}
+use Rattle.library_reader.specs.declared.next.NextCell.{NextCell}
+use Rattle.library_reader.specs.declared.next.NextCell.TheVariants as next
+use Rattle.library_reader.specs.LibraryCells.{CellEntry, Accepted, Refused}
 use Rattle.cell_cursor.specs.Ends.{items_within}
-use Rattle.library_items.specs.Endings.{library_limit}
-use Rattle.library_items.specs.Progress.{no_progress}
-use Rattle.library_items.specs.KeptCells.{kept_cells}
+use Rattle.library_reader.specs.Endings.{library_limit}
+use Rattle.library_reader.specs.Progress.{no_progress}
+use Rattle.library_reader.specs.KeptCells.{kept_cells}
 use Rattle.selftest_runs.specs.declared.counts.Counts.{Counts}
 use Rattle.selftest_runs.specs.Counts.{no_counts, plus}
 use Rattle.selftest_runs.specs.CellCounts.{cell_counts}

@@ -1,6 +1,6 @@
 -- What is counted of the library that a run makes for itself. This project's rules.
 use Rattle.std.specs.Prelude.{ℕ}
-use Rattle.selftest_library.specs.Library.{library_text}
+use Rattle.selftest_cells.specs.Library.{library_text}
 use Rattle.selftest_runs.specs.declared.counts.Counts.{Counts}
 use Rattle.selftest_runs.specs.LibraryCounts.{library_counts}
 

@@ -3,7 +3,7 @@
 ghost use Rattle.std.specs.Prelude.{◌≡◌, [], ◌∷◌, IfOk};
 ghost use Rattle.cell_machine.specs.CellData.{data_of};
 ghost use Rattle.vital_models.specs.Generated.{entity_of};
-ghost use Rattle.vhdl_text.specs.WellFormed.{AreWellFormed};
+ghost use Rattle.vhdl_grammar.specs.WellFormed.{AreWellFormed};
 ghost use Rattle.written_entities.specs.Laws.{entities_text};
 ghost use Rattle.selftest_runs.specs.EntityNames.{IsNameOfEntity};
 

@@ -3,15 +3,15 @@ ghost use Rattle.std.specs.Prelude.{◌≡◌, IfOk, IsTrue};
 ghost use Rattle.text_io.specs.declared.slots.Slot.TheVariants.{Input};
 ghost use Rattle.text_io.specs.declared.slots.InSlot.TheVariants.{Library};
 ghost use Rattle.text_io.specs.Desk.{is_bound, StopsWithCause};
-ghost use Rattle.library_items.specs.declared.progress.Progress.{Progress};
-ghost use Rattle.library_items.specs.Folds.{IsNumberedNext};
+ghost use Rattle.library_reader.specs.declared.progress.Progress.{Progress};
+ghost use Rattle.library_reader.specs.Folds.{IsNumberedNext};
 ghost use Rattle.selftest_runs.specs.LibraryCounts.{counted_next, all_counts, CountsCells};
 
 use crate::cells::count_driven;
 use crate::counts::Counts;
 use crate::laws::next_cells_have_entity_names;
 use liberty_groups::Group;
-use library_items::{CellFold, NextCell, fold_cells};
+use library_reader::{CellFold, NextCell, fold_cells};
 use std::alloc::{AllocError, Global};
 use text_io::{Desk, Stop};
 

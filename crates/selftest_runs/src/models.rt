@@ -16,7 +16,7 @@ use crate::module_texts::module_read_back;
 use caught_models::{is_entity_caught, is_module_caught};
 use cell_machine::{Cell, Change};
 use model_traces::models_agree;
-use section_runs::no_difference_is_equal;
+use stimulus::no_difference_is_equal;
 use selftest_cells::{
     damaged_entities_are_sound, damaged_entity, damaged_module, damaged_modules_are_sound,
 };

@@ -2,7 +2,7 @@
 
 ghost use Rattle.std.specs.Prelude.{◌<◌, ◌^◌};
 ghost use Rattle.cell_machine.specs.CellData.{data_of};
-ghost use Rattle.library_cells.specs.Cells.{IsNumberedCell};
+ghost use Rattle.generated_modules.specs.Cells.{IsNumberedCell};
 
 use cell_machine::Cell;
 

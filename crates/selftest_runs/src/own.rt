@@ -4,7 +4,7 @@ ghost use Rattle.selftest_runs.specs.OwnCounts.{own_counts};
 
 use crate::counts::Counts;
 use crate::library::count_cells;
-use selftest_library::OwnLibrary;
+use selftest_cells::OwnLibrary;
 use std::alloc::{AllocError, Global};
 
 /// What is counted of the first so many test cells, of which each is made, read and run in its turn. An `Err` comes only where

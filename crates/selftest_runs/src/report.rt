@@ -6,8 +6,7 @@ ghost use Rattle.selftest_runs.specs.Report.{report_text};
 
 use crate::counts::Counts;
 use selftest_cells::CHANGES_EACH;
-use text_io::{Desk, Failed, OutSlot};
-use text_parts::{Bytes, Decimal, parts, write_part};
+use text_io::{Bytes, Decimal, Desk, Failed, OutSlot, parts, write_part};
 
 /// Appends to the report the five lines of a run on so many cells, of which this was counted. After `Failed`, which comes only where
 /// a write failed, a prefix of them was appended. It takes no memory.

@@ -1,7 +1,7 @@
 -- How a simulation ends at a bad line.
 use Rattle.stimulus.specs.declared.faults.Cause.{Cause}
 use Rattle.stimulus.specs.declared.faults.Cause.TheVariants as cause
-use Rattle.command_outcomes.proofs.FailureLaws.{IsPlain}
+use Rattle.run_outcome.proofs.FailureLaws.{IsPlain}
 use Rattle.simulation_catalog.specs.FaultLines.{cause_status}
 
 -- no call failed, and the words have a reading

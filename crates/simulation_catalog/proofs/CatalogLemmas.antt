@@ -2,7 +2,7 @@
 use Rattle.std.proofs.Common.{◌≡◌, ◌<◌, ℕ, ◌+◌, true, is_some, List, [], ◌∷◌, ◌++◌, map, take, get_or, length, Option, Some, None, Result, Ok, Err, IfOk, refl, sym, ap, ◌∙◌}
 use Rattle.bool_functions.specs.NameList.{number_of, AreDistinct}
 use Rattle.file_models.specs.declared.file_model.FileModel.{FileModel}
-use Rattle.library_items.specs.LibraryCells.{CellEntry, name_of, cell_names}
+use Rattle.library_reader.specs.LibraryCells.{CellEntry, name_of, cell_names}
 use Rattle.specify_blocks.specs.declared.model.VModule.{VModule}
 use Rattle.vital_models.specs.declared.model.VEntity.{VEntity}
 use Rattle.stimulus.specs.declared.ports.Ports.{Ports}

@@ -5,9 +5,9 @@ use Rattle.std.proofs.lemmas.List.{length-map, get_or-map}
 use Rattle.std.proofs.lemmas.List.Elements.{All-cons, All-nil}
 use Rattle.three_state_cells.specs.DrivenCells.{driven_data_of}
 use Rattle.generated_drivers.proofs.Fitting.{driver_of_cell}
-use Rattle.library_items.specs.declared.library_cell.LibraryCell.{LibraryCell}
-use Rattle.library_items.specs.declared.library_cell.LibraryCell.TheVariants as kept
-use Rattle.library_items.specs.LibraryCells.{Accepted, Refused, described, all_described}
+use Rattle.library_reader.specs.declared.library_cell.LibraryCell.{LibraryCell}
+use Rattle.library_reader.specs.declared.library_cell.LibraryCell.TheVariants as kept
+use Rattle.library_reader.specs.LibraryCells.{Accepted, Refused, described, all_described}
 use Rattle.simulation_catalog.specs.Sections.{HasData, DescribedAreCells}
 use Rattle.simulation_catalog.specs.Generated.{KeepsRules, DescribedKeepRules}
 

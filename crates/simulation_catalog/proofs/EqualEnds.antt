@@ -4,7 +4,7 @@ use Rattle.std.specs.Prelude.{◌≢◌, slice_get, All}
 use Rattle.std.specs.Option.{option_map}
 use Rattle.std.proofs.lemmas.List.{length-map}
 use Rattle.file_models.specs.declared.file_model.FileModel.{FileModel}
-use Rattle.library_items.specs.LibraryCells.{CellEntry, Accepted, Refused, name_of, cell_names}
+use Rattle.library_reader.specs.LibraryCells.{CellEntry, Accepted, Refused, name_of, cell_names}
 use Rattle.specify_blocks.specs.declared.model.VModule.{VModule}
 use Rattle.vital_models.specs.declared.model.VEntity.{VEntity}
 use Rattle.stimulus.specs.declared.catalog.CellFound.{CellFound}
@@ -23,8 +23,8 @@ use Rattle.stimulus.specs.PortEntries.{listed, entry_of_cell}
 use Rattle.stimulus.specs.Stimulus.{stimulus_of}
 use Rattle.stimulus.proofs.BadLines.{causes_name_answers}
 use Rattle.stimulus.proofs.Entries.{no_cell, some_cell}
-use Rattle.command_outcomes.specs.declared.status.Status.TheVariants as status
-use Rattle.command_outcomes.specs.FileSteps.{FileStop, answer_where}
+use Rattle.run_outcome.specs.declared.status.Status.TheVariants as status
+use Rattle.run_outcome.specs.FileSteps.{FileStop, answer_where}
 use Rattle.model_files.specs.Limits.{stimulus_limit}
 use Rattle.model_files.specs.StimulusAnswer.{long_stimulus_stop, stimulus_fault_stop, sections_or_stop, sections_in_text}
 use Rattle.simulation_catalog.specs.NamedModels.{NamedModels, named_models}

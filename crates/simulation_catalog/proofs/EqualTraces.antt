@@ -5,7 +5,7 @@ use Rattle.std.proofs.lemmas.List.Folds.{list_any_none}
 use Rattle.file_models.specs.declared.file_model.FileModel.{FileModel}
 use Rattle.file_models.specs.FileModels.{machine_by}
 use Rattle.cell_machine.specs.History.{IsProperFrom}
-use Rattle.library_items.specs.LibraryCells.{CellEntry, Accepted}
+use Rattle.library_reader.specs.LibraryCells.{CellEntry, Accepted}
 use Rattle.specify_blocks.specs.declared.model.VModule.{VModule}
 use Rattle.vital_models.specs.declared.model.VEntity.{VEntity}
 use Rattle.model_traces.specs.ModuleTrace.{module_machine}
@@ -13,9 +13,9 @@ use Rattle.model_traces.specs.EntityTrace.{entity_machine}
 use Rattle.stimulus.specs.declared.sections.Section.{Section}
 use Rattle.stimulus.specs.PortEntries.{listed}
 use Rattle.stimulus.specs.Stimulus.{stimulus_of}
-use Rattle.section_runs.specs.TraceText.{heading_text}
-use Rattle.section_runs.specs.Comparison.{compared_text, first_unlike, verdict_text}
-use Rattle.section_runs.proofs.ThreeTraces.{none_unlike}
+use Rattle.stimulus.specs.TraceText.{heading_text}
+use Rattle.stimulus.specs.Comparison.{compared_text, first_unlike, verdict_text}
+use Rattle.stimulus.proofs.ThreeTraces.{none_unlike}
 use Rattle.simulation_catalog.specs.NamedModels.{named_models}
 use Rattle.simulation_catalog.specs.Comparisons.{Compared, cell_machine, lines_of, compared_at, compared_section, section_by, differs_by, differs}
 use Rattle.simulation_catalog.specs.Sections.{CanBeCompared}

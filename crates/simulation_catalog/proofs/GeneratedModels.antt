@@ -14,7 +14,7 @@ use Rattle.generated_drivers.specs.Generated.{pins_of, verilog_driver_of, vital_
 use Rattle.generated_drivers.proofs.PortDirections.{verilog_directions, vital_directions}
 use Rattle.file_models.specs.declared.file_model.FileModel.{FileModel}
 use Rattle.file_models.specs.FileModels.{plain_model}
-use Rattle.library_items.specs.LibraryCells.{CellEntry}
+use Rattle.library_reader.specs.LibraryCells.{CellEntry}
 use Rattle.udp_tables.specs.declared.models.VPort.{VPort}
 use Rattle.specify_blocks.specs.declared.model.VModule.{VModule}
 use Rattle.specify_blocks.specs.Generated.{module_of}
@@ -23,7 +23,7 @@ use Rattle.specify_blocks.specs.Ports as ports_in_verilog
 use Rattle.specify_blocks.specs.Sound as sound_modules
 use Rattle.specify_blocks.proofs.Soundness.{module_is_sound}
 use Rattle.specify_blocks.proofs.ReadNames.{bytes_equivalence}
-use Rattle.vhdl_names.specs.Kept.{lowered}
+use Rattle.vhdl_tokens.specs.Kept.{lowered}
 use Rattle.vital_models.specs.declared.model.VEntity.{VEntity}
 use Rattle.vital_models.specs.Ports as ports_in_vital
 use Rattle.vital_models.specs.Sound as sound_entities
@@ -34,7 +34,7 @@ use Rattle.model_traces.specs.PortNumbers.{output_ports}
 use Rattle.model_traces.specs.ModuleFits as fitting_modules
 use Rattle.model_traces.proofs.FitLemmas.{fit-length}
 use Rattle.model_traces.proofs.ModelAgreement.{generated-modules, generated-entities, models-agree}
-use Rattle.section_runs.specs.Differences.{same_fact}
+use Rattle.stimulus.specs.Differences.{same_fact}
 use Rattle.simulation_catalog.specs.declared.same_ports.Spelling.{Spelling}
 use Rattle.simulation_catalog.specs.declared.same_ports.Spelling.TheVariants.{Exact, AnyCase}
 use Rattle.simulation_catalog.specs.SamePorts.{same_name, same_port, same_ports}

@@ -24,7 +24,7 @@ use Rattle.generated_drivers.proofs.Fitting.{fits}
 use Rattle.file_models.specs.declared.file_model.FileModel.{FileModel}
 use Rattle.file_models.specs.FileModels.{machine_by, plain_model}
 use Rattle.stimulus.specs.DriveLines.{lines_along}
-use Rattle.library_items.specs.LibraryCells.{CellEntry, Accepted, Refused}
+use Rattle.library_reader.specs.LibraryCells.{CellEntry, Accepted, Refused}
 use Rattle.simulation_catalog.specs.CellModels.{CellModels, cores, over_core, cell_drivers, drivers, all_models, cell_model}
 use Rattle.simulation_catalog.specs.Comparisons.{cell_machine}
 use Rattle.simulation_catalog.specs.Sections.{RunsByPorts}

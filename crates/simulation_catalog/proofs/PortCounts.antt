@@ -29,8 +29,8 @@ use Rattle.model_traces.specs.ModuleTrace.{module_machine}
 use Rattle.model_traces.specs.EntityTrace.{entity_machine}
 use Rattle.model_files.specs.ModelNames.{input_names, output_names}
 use Rattle.stimulus.specs.declared.ports.Standing.{Standing}
-use Rattle.section_runs.specs.Comparison.{HavePorts}
-use Rattle.section_runs.specs.Differences.{same_fact}
+use Rattle.stimulus.specs.Comparison.{HavePorts}
+use Rattle.stimulus.specs.Differences.{same_fact}
 use Rattle.simulation_catalog.specs.declared.same_ports.Spelling.{Spelling}
 use Rattle.simulation_catalog.specs.declared.same_ports.Spelling.TheVariants.{Exact, AnyCase}
 use Rattle.simulation_catalog.specs.PinNames.{pin_names, named_ports}

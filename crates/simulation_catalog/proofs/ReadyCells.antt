@@ -8,12 +8,12 @@ use Rattle.three_state_cells.specs.DrivenCells.{DrivenData}
 use Rattle.generated_drivers.specs.Generated.{pins_of}
 use Rattle.file_models.specs.declared.file_model.FileModel.{FileModel}
 use Rattle.file_models.specs.FileModels.{machine_by}
-use Rattle.library_items.specs.LibraryCells.{CellEntry, Accepted, Refused, name_of, cell_names, all_described}
+use Rattle.library_reader.specs.LibraryCells.{CellEntry, Accepted, Refused, name_of, cell_names, all_described}
 use Rattle.udp_tables.specs.declared.models.VPort.{VPort}
 use Rattle.specify_blocks.specs.declared.model.VModule.{VModule}
 use Rattle.specify_blocks.specs.Ports as in_verilog
 use Rattle.specify_blocks.specs.Sound as modules_of
-use Rattle.vhdl_names.specs.Kept.{lowered}
+use Rattle.vhdl_tokens.specs.Kept.{lowered}
 use Rattle.vital_models.specs.declared.model.VEntity.{VEntity}
 use Rattle.vital_models.specs.Ports as in_vital
 use Rattle.vital_models.specs.Sound as entities_of

@@ -4,7 +4,7 @@ use Rattle.bool_functions.specs.NameList.{AreDistinct}
 use Rattle.three_state_cells.specs.DrivenCells.{DrivenData}
 use Rattle.generated_drivers.specs.Generated.{pins_of}
 use Rattle.file_models.specs.declared.file_model.FileModel.{FileModel}
-use Rattle.library_items.specs.LibraryCells.{CellEntry, Accepted, Refused, cell_names}
+use Rattle.library_reader.specs.LibraryCells.{CellEntry, Accepted, Refused, cell_names}
 use Rattle.specify_blocks.specs.declared.model.VModule.{VModule}
 use Rattle.vital_models.specs.declared.model.VEntity.{VEntity}
 use Rattle.stimulus.specs.declared.ports.Ports.{Ports}

@@ -6,7 +6,7 @@ use Rattle.driver_models.specs.Cores.{Core}
 use Rattle.three_state_cells.specs.DrivenCells.{DrivenData, may_float}
 use Rattle.file_models.specs.declared.file_model.FileModel.{FileModel}
 use Rattle.file_models.specs.FileModels.{plain_model, driver_over}
-use Rattle.library_items.specs.LibraryCells.{CellEntry, Accepted, Refused}
+use Rattle.library_reader.specs.LibraryCells.{CellEntry, Accepted, Refused}
 
 -- The models of a cell in a language, where the cell's VITAL model is called so: that of its core, and that of its drivers; and a model as
 -- one that may be a core.

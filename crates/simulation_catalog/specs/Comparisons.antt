@@ -8,7 +8,7 @@ use Rattle.file_models.specs.declared.file_model.FileModel.{FileModel}
 use Rattle.file_models.specs.FileModels.{machine_by}
 use Rattle.driven_traces.specs.DrivenLines.{driven_machine}
 use Rattle.cell_machine.specs.CellTrace.{cell_machine_of}
-use Rattle.library_items.specs.LibraryCells.{CellEntry, Accepted, Refused}
+use Rattle.library_reader.specs.LibraryCells.{CellEntry, Accepted, Refused}
 use Rattle.specify_blocks.specs.declared.model.VModule.{VModule}
 use Rattle.vital_models.specs.declared.model.VEntity.{VEntity}
 use Rattle.model_traces.specs.ModuleTrace.{module_machine}
@@ -16,8 +16,8 @@ use Rattle.model_traces.specs.EntityTrace.{entity_machine}
 use Rattle.stimulus.specs.declared.ports.Ports.{Ports}
 use Rattle.stimulus.specs.declared.sections.Section.{Section}
 use Rattle.stimulus.specs.DriveLines.{DriveMachine}
-use Rattle.section_runs.specs.TraceText.{heading_text}
-use Rattle.section_runs.specs.Comparison.{Lines, three_lines, compared_text, first_unlike, verdict_text}
+use Rattle.stimulus.specs.TraceText.{heading_text}
+use Rattle.stimulus.specs.Comparison.{Lines, three_lines, compared_text, first_unlike, verdict_text}
 use Rattle.simulation_catalog.specs.declared.numbers.ModelNumbers.{ModelNumbers}
 use Rattle.simulation_catalog.specs.NamedModels.{NamedModels, named_models}
 use Rattle.simulation_catalog.specs.Catalog.{ports_in, numbers_in}

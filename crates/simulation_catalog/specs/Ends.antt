@@ -1,13 +1,13 @@
 -- What a simulation comes to behind its four files. (This project's rule.)
 use Rattle.std.specs.Prelude.{List, [], if◌then◌else◌}
-use Rattle.library_items.specs.LibraryCells.{CellEntry}
+use Rattle.library_reader.specs.LibraryCells.{CellEntry}
 use Rattle.specify_blocks.specs.declared.model.VModule.{VModule}
 use Rattle.vital_models.specs.declared.model.VEntity.{VEntity}
 use Rattle.file_models.specs.declared.file_model.FileModel.{FileModel}
 use Rattle.stimulus.specs.declared.sections.Section.{Section}
-use Rattle.command_outcomes.specs.declared.status.Status.TheVariants as status
-use Rattle.command_outcomes.specs.Written.{in_report}
-use Rattle.command_outcomes.specs.Outcome.{Outcome}
+use Rattle.run_outcome.specs.declared.status.Status.TheVariants as status
+use Rattle.run_outcome.specs.Written.{in_report}
+use Rattle.run_outcome.specs.Outcome.{Outcome}
 use Rattle.simulation_catalog.specs.Comparisons.{sections_text, any_differs}
 
 -- by the sections of the stimulus; all four files are bound then

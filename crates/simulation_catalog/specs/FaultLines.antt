@@ -2,12 +2,12 @@
 use Rattle.std.specs.Prelude.{ℕ, List, [], ◌++◌, codes, Option, Some, None, slice_get}
 use Rattle.std.specs.Option.{option_map_or}
 use Rattle.cell_reader.specs.declared.refusal.Refusal.{Refusal}
-use Rattle.library_items.specs.LibraryCells.{CellEntry, Accepted, Refused, name_of}
+use Rattle.library_reader.specs.LibraryCells.{CellEntry, Accepted, Refused, name_of}
 use Rattle.stimulus.specs.declared.faults.Cause.{Cause}
 use Rattle.stimulus.specs.declared.faults.Cause.TheVariants as cause
-use Rattle.library_items.specs.CellLines.{printed_name, refusal_line}
-use Rattle.command_outcomes.specs.declared.status.Status.{Status}
-use Rattle.command_outcomes.specs.declared.status.Status.TheVariants as status
+use Rattle.library_reader.specs.CellLines.{printed_name, refusal_line}
+use Rattle.run_outcome.specs.declared.status.Status.{Status}
+use Rattle.run_outcome.specs.declared.status.Status.TheVariants as status
 use Rattle.model_files.specs.FaultLines.{stimulus_fault_line}
 use Rattle.model_files.specs.StimulusAnswer.{LineStop}
 

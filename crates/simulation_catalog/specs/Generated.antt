@@ -9,8 +9,8 @@ use Rattle.three_state_cells.specs.Drivers.{IsDriverOf}
 use Rattle.generated_drivers.specs.Generated.{verilog_driver_of, vital_driver_of}
 use Rattle.file_models.specs.declared.file_model.FileModel.{FileModel}
 use Rattle.file_models.specs.FileModels.{machine_by}
-use Rattle.library_items.specs.declared.library_cell.LibraryCell.{LibraryCell}
-use Rattle.library_items.specs.LibraryCells.{CellEntry, Accepted, Refused, all_described}
+use Rattle.library_reader.specs.declared.library_cell.LibraryCell.{LibraryCell}
+use Rattle.library_reader.specs.LibraryCells.{CellEntry, Accepted, Refused, all_described}
 use Rattle.specify_blocks.specs.declared.model.VModule.{VModule}
 use Rattle.specify_blocks.specs.Generated.{module_of}
 use Rattle.vital_models.specs.declared.model.VEntity.{VEntity}
@@ -22,10 +22,10 @@ use Rattle.stimulus.specs.declared.sections.Section.{Section}
 use Rattle.stimulus.specs.DriveLines.{lines_along}
 use Rattle.stimulus.specs.PortEntries.{listed}
 use Rattle.stimulus.specs.Stimulus.{stimulus_of}
-use Rattle.section_runs.specs.TraceText.{heading_text}
-use Rattle.section_runs.specs.Comparison.{compared_text, first_unlike, verdict_text}
-use Rattle.command_outcomes.specs.declared.status.Status.TheVariants as status
-use Rattle.command_outcomes.specs.FileSteps.{FileStop}
+use Rattle.stimulus.specs.TraceText.{heading_text}
+use Rattle.stimulus.specs.Comparison.{compared_text, first_unlike, verdict_text}
+use Rattle.run_outcome.specs.declared.status.Status.TheVariants as status
+use Rattle.run_outcome.specs.FileSteps.{FileStop}
 use Rattle.model_files.specs.StimulusAnswer.{stimulus_answer}
 use Rattle.simulation_catalog.specs.declared.numbers.ModelNumbers.{ModelNumbers}
 use Rattle.simulation_catalog.specs.CellModels.{CellModels, cores, drivers, all_models, cell_model}

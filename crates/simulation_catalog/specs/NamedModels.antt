@@ -8,7 +8,7 @@ use Rattle.udp_tables.specs.declared.models.VPort.{VPort}
 use Rattle.specify_blocks.specs.declared.model.VModule.{VModule}
 use Rattle.specify_blocks.specs.Names.{module_name, driver_name}
 use Rattle.specify_blocks.specs.Ports as verilog
-use Rattle.vhdl_names.specs.Kept.{lowered}
+use Rattle.vhdl_tokens.specs.Kept.{lowered}
 use Rattle.vital_models.specs.declared.model.VEntity.{VEntity}
 use Rattle.vital_models.specs.Ports as vital
 use Rattle.three_state_cells.specs.DrivenCells.{DrivenData, may_float}

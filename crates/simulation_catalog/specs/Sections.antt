@@ -6,9 +6,9 @@ use Rattle.file_models.specs.declared.file_model.FileModel.{FileModel}
 use Rattle.file_models.specs.FileModels.{machine_by, IsRunnable}
 use Rattle.cell_machine.specs.History.{IsProperFrom}
 use Rattle.cell_machine.specs.Lines.{Machine}
-use Rattle.library_items.specs.declared.library_cell.LibraryCell.{LibraryCell}
-use Rattle.library_items.specs.declared.library_cell.LibraryCell.TheVariants as kept
-use Rattle.library_items.specs.LibraryCells.{CellEntry, Accepted, all_described}
+use Rattle.library_reader.specs.declared.library_cell.LibraryCell.{LibraryCell}
+use Rattle.library_reader.specs.declared.library_cell.LibraryCell.TheVariants as kept
+use Rattle.library_reader.specs.LibraryCells.{CellEntry, Accepted, all_described}
 use Rattle.specify_blocks.specs.declared.model.VModule.{VModule}
 use Rattle.specify_blocks.specs.Sound as modules_of
 use Rattle.vital_models.specs.declared.model.VEntity.{VEntity}
@@ -19,7 +19,7 @@ use Rattle.stimulus.specs.declared.ports.Ports.{Ports}
 use Rattle.stimulus.specs.declared.sections.Section.{Section}
 use Rattle.stimulus.specs.PortEntries.{listed}
 use Rattle.stimulus.specs.Stimulus.{stimulus_of}
-use Rattle.section_runs.specs.Comparison.{HavePorts}
+use Rattle.stimulus.specs.Comparison.{HavePorts}
 use Rattle.model_files.specs.ModelNames.{input_names, output_names}
 use Rattle.simulation_catalog.specs.declared.numbers.ModelNumbers.{ModelNumbers}
 use Rattle.simulation_catalog.specs.Catalog.{cells_named, simulated_of}

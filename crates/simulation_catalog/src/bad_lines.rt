@@ -3,16 +3,15 @@ ghost use Rattle.std.specs.Prelude.{◌≡◌, []};
 ghost use Rattle.std.specs.Option.{option_copied, option_map, option_map_or};
 ghost use Rattle.text_io.specs.declared.slots.OutSlot.TheVariants.{Faults};
 ghost use Rattle.text_io.specs.Desk.{HasCause, WritesText};
-ghost use Rattle.library_items.specs.LibraryCells.{described, all_described, name_of};
+ghost use Rattle.library_reader.specs.LibraryCells.{described, all_described, name_of};
 ghost use Rattle.simulation_catalog.specs.FaultLines.{refused_cell_line, verilog_ports_line, vital_ports_line, refused_line_by, cause_line, cause_status as cause_status_of, cause_stop};
 
 use cell_reader::Refusal;
-use command_outcomes::{Status, ended};
-use library_items::{LibraryCell, PrintedName, RefusalLine};
+use run_outcome::{Status, ended};
+use library_reader::{LibraryCell, PrintedName, RefusalLine};
 use model_files::{BadLineStop, write_stimulus_fault};
 use stimulus::Cause;
-use text_io::{Desk, Failed, OutSlot, write_pieces};
-use text_parts::{Bytes, parts, write_part};
+use text_io::{Bytes, Desk, Failed, OutSlot, parts, write_part, write_pieces};
 
 /// How a simulation of these cells ends at the first bad line of its stimulus.
 #[derive(Drop)]

@@ -1,7 +1,7 @@
 //! The cells of a library as those that a stimulus may name, with the models of each.
 ghost use Rattle.std.specs.Prelude.{◌≡◌, [], IfOk};
 ghost use Rattle.bool_functions.specs.NameList.{AreDistinct};
-ghost use Rattle.library_items.specs.LibraryCells.{described, all_described, cell_names};
+ghost use Rattle.library_reader.specs.LibraryCells.{described, all_described, cell_names};
 ghost use Rattle.simulation_catalog.specs.NamedModels.{shown};
 ghost use Rattle.simulation_catalog.specs.Catalog.{ports_in, numbers_in, simulated_in, simulated_of, HaveOwnNames};
 
@@ -11,7 +11,7 @@ use crate::pin_names::named_ports;
 use bool_functions::Names;
 use file_models::FileModel;
 use generated_drivers::own_pins;
-use library_items::LibraryCell;
+use library_reader::LibraryCell;
 use specify_blocks::VModule;
 use sqlite_items::Items;
 use std::alloc::{AllocError, Global};

@@ -1,10 +1,10 @@
 //! Ports that a file has and those that it should have.
 ghost use Rattle.std.specs.Prelude.{◌≡◌, ◌<◌, length};
-ghost use Rattle.section_runs.specs.Differences.{same_fact};
+ghost use Rattle.stimulus.specs.Differences.{same_fact};
 ghost use Rattle.simulation_catalog.specs.SamePorts.{same_name, same_port, same_ports};
 
 use udp_tables::VPort;
-use vhdl_names::is_same;
+use vhdl_tokens::is_same_name;
 
 /// When two names are the same.
 #[derive(Clone, Copy)]
@@ -22,7 +22,7 @@ impl Spelling {
     {
         match self {
             Spelling::Exact => one == other,
-            Spelling::AnyCase => is_same(one, other),
+            Spelling::AnyCase => is_same_name(one, other),
         }
     }
 

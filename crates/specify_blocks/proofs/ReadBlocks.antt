@@ -6,7 +6,7 @@ use Rattle.std.specs.List.{position}
 use Rattle.std.proofs.lemmas.Bool.{and_from, eq-eqb}
 use Rattle.std.proofs.lemmas.List.Elements.{All-push}
 use Rattle.verilog_tokens.specs.Numbers.{number_of}
-use Rattle.token_spans.proofs.DigitLemmas.{number_below}
+use Rattle.lexer.proofs.DigitLemmas.{number_below}
 use Rattle.grammar_rules.proofs.Promises.{Promises, gives, in_turn, many, choice, weaker}
 use Rattle.cell_machine.specs.declared.checks.CheckKind.{CheckKind}
 use Rattle.cell_machine.specs.declared.checks.CheckKind.TheVariants as check_kind
@@ -20,7 +20,7 @@ use Rattle.specify_blocks.specs.declared.model.VModule.{VModule}
 use Rattle.specify_blocks.specs.Nets.{is_output_port, is_value}
 use Rattle.udp_tables.specs.Ports.{is_input_port}
 use Rattle.specify_blocks.specs.Sound.{is_gate, IsPath, is_enabling, IsCheck}
-use Rattle.rule_readers.specs.Words.{is_this}
+use Rattle.grammar_reader.specs.Words.{is_this}
 use Rattle.specify_blocks.specs.VerilogBlocks.{a_number, kept, port_of, an_input, an_output, a_condition, if_gate, ifnone_gate, gate_by, path_gate, path, next_path, paths, edge_of, an_event, an_edge_event, condition_name, condition, check_end, ordered_check, turned_check, opposite, width_check, period_check, check_of_kind, check, next_check, checks, with_block, block, specify}
 use Rattle.specify_blocks.specs.WellFormed.{IsNumber, HasNumbers}
 use Rattle.specify_blocks.proofs.ReadNames.{IsSpelled, some_if, known_values, values, behind, surely}

@@ -21,7 +21,7 @@ use Rattle.specify_blocks.specs.declared.model.VModule.{VModule}
 use Rattle.specify_blocks.specs.Nets.{same_net, are_apart, is_sequential, is_driven, holds_state, net_driven, feeds_state, feeds_value, drivers}
 use Rattle.specify_blocks.specs.Sound.{IsPrimitive, IsInstance, AreInstances}
 use Rattle.verilog_tokens.specs.Tokens.{is_name}
-use Rattle.rule_readers.specs.declared.refusal.Refusal.TheVariants.{Syntax, Width, Undefined, Twice}
+use Rattle.grammar_reader.specs.declared.refusal.Refusal.TheVariants.{Syntax, Width, Undefined, Twice}
 use Rattle.specify_blocks.specs.VerilogModules.{net_of, terminal_by, terminal, may_drive, is_driven_already, driven_terminal, may_feed, feeding_terminal, next_input, more_inputs, input_count, with_instance, call, constant, primitive_number, of_primitive, begins_instance, one_instance, instances}
 use Rattle.specify_blocks.proofs.InstanceLemmas.{drivers-cons, drivers-append, are-append}
 use Rattle.specify_blocks.proofs.ReadNames.{IsSpelled, fits_if, fits_unless, where_holds, behind}

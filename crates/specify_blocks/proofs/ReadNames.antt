@@ -16,10 +16,10 @@ use Rattle.grammar_rules.specs.Rule.{Verdict, Fits, Foul}
 use Rattle.grammar_rules.specs.Rule as r
 use Rattle.grammar_rules.proofs.Promises.{Promises, token, gives, in_turn, keeps}
 use Rattle.verilog_tokens.specs.Tokens.{is_name}
-use Rattle.rule_readers.specs.declared.refusal.Refusal.{Refusal}
-use Rattle.rule_readers.specs.declared.refusal.Refusal.TheVariants.{Syntax, Undefined, Twice}
-pub use Rattle.rule_readers.proofs.Passing.{fits_if, fits_unless, fits_where, some_if, fits_allowed, IsFound}
-use Rattle.rule_readers.specs.Words.{Grammar, go_on_where, allowed_by, valued, fresh}
+use Rattle.grammar_reader.specs.declared.refusal.Refusal.{Refusal}
+use Rattle.grammar_reader.specs.declared.refusal.Refusal.TheVariants.{Syntax, Undefined, Twice}
+pub use Rattle.grammar_reader.proofs.Passing.{fits_if, fits_unless, fits_where, some_if, fits_allowed, IsFound}
+use Rattle.grammar_reader.specs.Words.{Grammar, go_on_where, allowed_by, valued, fresh}
 use Rattle.udp_tables.specs.VerilogRules.{expect_where, any_name, is_among, new_name, known}
 use Rattle.specify_blocks.specs.WellFormed.{IsName, AreApart}
 

@@ -18,8 +18,8 @@ use Rattle.udp_tables.specs.declared.table.UdpRow.{UdpRow}
 use Rattle.udp_tables.specs.declared.table.Udp.{Udp}
 use Rattle.udp_tables.specs.Primitive.{is_level}
 use Rattle.std.specs.Str.{bytes_eq}
-use Rattle.rule_readers.specs.declared.refusal.Refusal.{Refusal}
-use Rattle.rule_readers.specs.declared.refusal.Refusal.TheVariants.{Syntax, TwoEdges, Width}
+use Rattle.grammar_reader.specs.declared.refusal.Refusal.{Refusal}
+use Rattle.grammar_reader.specs.declared.refusal.Refusal.TheVariants.{Syntax, TwoEdges, Width}
 use Rattle.udp_tables.specs.VerilogRules.{begins_where}
 use Rattle.udp_tables.specs.VerilogPrimitives.{Header, most_inputs, most_inputs_with_state, next_input, more_inputs, header, declared_state, register, level_by, change_by, next_by, symbol, begins_change, begins_entry, entry_by, entry_after, has_change, next_entry, more_entries, state_and_next, output_level, row_end, row, next_row, table, primitive}
 use Rattle.specify_blocks.specs.Sound.{IsTable}

@@ -22,7 +22,7 @@ use Rattle.udp_tables.specs.declared.timing_checks.TimingCheck.{TimingCheck}
 use Rattle.specify_blocks.specs.declared.model.VModule.{VModule}
 use Rattle.specify_blocks.specs.Nets.{is_output_port, is_driven, drivers}
 use Rattle.specify_blocks.specs.Sound.{is_gate, IsPath, is_enabling, IsCheck}
-use Rattle.rule_readers.specs.declared.refusal.Refusal.TheVariants.{Undriven}
+use Rattle.grammar_reader.specs.declared.refusal.Refusal.TheVariants.{Undriven}
 use Rattle.specify_blocks.specs.VerilogModules.{output_nets, wire_nets, is_driven_already, are_all_driven}
 use Rattle.specify_blocks.specs.VerilogBlocks.{with_block}
 use Rattle.specify_blocks.specs.VerilogText.{Before, with_primitive, with_module, next_primitive, one_module, next_module, more_primitives, primitives_and_module, design_by, designs, file, IsVerilogText, text_tokens}

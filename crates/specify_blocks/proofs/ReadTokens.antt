@@ -7,7 +7,7 @@ use Rattle.std.proofs.lemmas.Bool.{and_parts, and_from, cases_Bool}
 use Rattle.std.proofs.lemmas.Bool.Decides.{nat_tests}
 use Rattle.verilog_tokens.specs.Kept.{is_name_byte}
 use Rattle.verilog_tokens.specs.Words.{is_verilog_word}
-use Rattle.token_spans.proofs.EachToken.{each_token}
+use Rattle.lexer.proofs.EachToken.{each_token}
 use Rattle.verilog_tokens.specs.Tokens.{is_one_of, is_symbol, is_mark, sign_length, number_length, word_length, begins_word, token_length, lexis}
 use Rattle.specify_blocks.specs.VerilogText.{text_tokens}
 use Rattle.specify_blocks.proofs.ReadNames.{IsSpelled}

@@ -1,7 +1,7 @@
 -- A text is modules or has a fault, as the definitions say and as the function of its bytes says.
 use Rattle.std.proofs.Common.{◌≡◌, ℕ, List, [], refl}
 use Rattle.grammar_rules.specs.Rule.{Takes}
-use Rattle.rule_readers.proofs.TextAnswers as answers
+use Rattle.grammar_reader.proofs.TextAnswers as answers
 use Rattle.udp_tables.proofs.ModelFaultPlaces.{place_of_fault}
 use Rattle.specify_blocks.specs.declared.model.VModule.{VModule}
 use Rattle.specify_blocks.specs.VerilogText.{file, language, IsVerilogAnswer, verilog_text}

@@ -19,9 +19,9 @@ use Rattle.udp_tables.specs.declared.timing_checks.TimingCheck.{TimingCheck}
 use Rattle.specify_blocks.specs.declared.model.VModule.{VModule}
 use Rattle.specify_blocks.specs.Nets.{is_output_port, is_value}
 use Rattle.udp_tables.specs.Ports.{is_input_port}
-use Rattle.rule_readers.specs.declared.refusal.Refusal.{Refusal}
-use Rattle.rule_readers.specs.declared.refusal.Refusal.TheVariants.{Syntax, Unequal}
-use Rattle.rule_readers.specs.Words.{Grammar, ◌>>=◌, begins_by, begins_as, valued}
+use Rattle.grammar_reader.specs.declared.refusal.Refusal.{Refusal}
+use Rattle.grammar_reader.specs.declared.refusal.Refusal.TheVariants.{Syntax, Unequal}
+use Rattle.grammar_reader.specs.Words.{Grammar, ◌>>=◌, begins_by, begins_as, valued}
 use Rattle.udp_tables.specs.VerilogRules.{expect, begins, known, this_name}
 use Rattle.specify_blocks.specs.VerilogModules.{port_name}
 

@@ -15,9 +15,9 @@ use Rattle.specify_blocks.specs.declared.model.Instance.TheVariants as instance
 use Rattle.specify_blocks.specs.declared.model.VModule.{VModule}
 use Rattle.specify_blocks.specs.Nets.{same_net, is_sequential, is_driven, holds_state, feeds_state, feeds_value, drivers}
 use Rattle.verilog_tokens.specs.Tokens.{is_name}
-use Rattle.rule_readers.specs.declared.refusal.Refusal.{Refusal}
-use Rattle.rule_readers.specs.declared.refusal.Refusal.TheVariants.{Width, Undefined, Twice}
-use Rattle.rule_readers.specs.Words.{Grammar, ◌>>=◌, go_on_where, valued}
+use Rattle.grammar_reader.specs.declared.refusal.Refusal.{Refusal}
+use Rattle.grammar_reader.specs.declared.refusal.Refusal.TheVariants.{Width, Undefined, Twice}
+use Rattle.grammar_reader.specs.Words.{Grammar, ◌>>=◌, go_on_where, valued}
 use Rattle.udp_tables.specs.VerilogRules.{expect, expect_where, begins, named, new_name, known, this_name, place_from}
 
 -- the port's name

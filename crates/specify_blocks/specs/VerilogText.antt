@@ -7,10 +7,10 @@ use Rattle.udp_tables.specs.declared.table.Udp.{Udp}
 use Rattle.udp_tables.specs.declared.models.ModelFault.{ModelFault}
 use Rattle.specify_blocks.specs.declared.model.VModule.{VModule}
 use Rattle.verilog_tokens.specs.Tokens.{lexis}
-use Rattle.rule_readers.specs.declared.refusal.Refusal.TheVariants.{Syntax, Undriven}
-use Rattle.rule_readers.specs.Texts.{Texts, IsText, IsFault, text}
-use Rattle.rule_readers.specs.Texts as texts
-use Rattle.rule_readers.specs.Words.{Grammar, ◌>>=◌, begins_by}
+use Rattle.grammar_reader.specs.declared.refusal.Refusal.TheVariants.{Syntax, Undriven}
+use Rattle.grammar_reader.specs.Texts.{Texts, IsText, IsFault, text}
+use Rattle.grammar_reader.specs.Texts as texts
+use Rattle.grammar_reader.specs.Words.{Grammar, ◌>>=◌, begins_by}
 use Rattle.udp_tables.specs.ModelFaults.{model_faults}
 use Rattle.udp_tables.specs.VerilogRules.{expect, expect_where, begins, new_name}
 use Rattle.udp_tables.specs.VerilogPrimitives.{primitive}

@@ -8,3 +8,7 @@ pub mod Entries
 pub mod Properness
 pub mod BadLines
 pub mod PlainLines
+pub mod Runs
+pub mod Compared
+pub mod ThreeTraces
+pub mod AlikeLines

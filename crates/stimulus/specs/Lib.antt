@@ -14,3 +14,7 @@ pub mod DriveSized
 pub mod TraceLine
 pub mod Laws
 pub mod NextLine
+pub mod TraceText
+pub mod Writes
+pub mod Differences
+pub mod Comparison

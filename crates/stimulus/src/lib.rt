@@ -1,16 +1,22 @@
 //! Stimulus files: the changes that a simulator is given, section by section, and the lines of a trace that it shows.
+//! A section of a stimulus run by simulators: the lines of a trace, printed to the report, and where two traces differ.
 #![tactic(auto)]
 
 mod catalog;
+mod comparison;
 mod context;
+mod differences;
 mod drives;
 mod faults;
+mod heading;
 mod judged;
 mod laws;
 mod lines;
 mod next_line;
 mod ports;
+mod printing;
 mod read;
+mod section;
 mod sections;
 mod times;
 mod trace;
@@ -18,8 +24,11 @@ mod trace_sim;
 mod written;
 
 pub use catalog::{Catalog, CellFound, PinFound};
+pub use comparison::{Three, none_unlike_is_equal, write_comparison, write_verdict};
+pub use differences::{first_difference, no_difference_is_equal, same_line};
 pub use drives::Drive;
 pub use faults::{Cause, StimulusFault};
+pub use heading::write_heading;
 pub use judged::MAX_CHANGES;
 pub use laws::{
     causes_name_answers, drive_lines_show_traces, equal_lines_are_equal_traces, ports_are_inputs,
@@ -27,6 +36,7 @@ pub use laws::{
 };
 pub use ports::{PortCatalog, Ports, Standing};
 pub use read::read_stimulus;
+pub use section::write_section;
 pub use sections::Section;
 pub use trace::{append_trace_line, trace_line};
 pub use trace_sim::TraceSim;

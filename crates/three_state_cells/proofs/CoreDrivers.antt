@@ -25,10 +25,10 @@ use Rattle.cell_machine.proofs.RuleLemmas.{cell_rules}
 use Rattle.cell_machine.proofs.TimingFacts.{input_number-below}
 use Rattle.driven_traces.specs.declared.drivers.Driver.{Driver}
 use Rattle.driven_traces.specs.Drivers.{IsPathOf, IsSound, plain}
-use Rattle.cell_parts.proofs.Turns.{count_shown}
-use Rattle.cell_parts.specs.Groups.{is_pin, cell_name, pin_groups}
-use Rattle.cell_parts.specs.Scans.{is_output_group}
-use Rattle.cell_parts.specs.Pins.{direction_of, pin_as, pins_in, pins_of, owner_as, owners_in, owners_of}
+use Rattle.cell_attributes.proofs.Turns.{count_shown}
+use Rattle.cell_attributes.specs.Groups.{is_pin, cell_name, pin_groups}
+use Rattle.cell_attributes.specs.Scans.{is_output_group}
+use Rattle.cell_attributes.specs.Pins.{direction_of, pin_as, pins_in, pins_of, owner_as, owners_in, owners_of}
 use Rattle.timing_arcs.specs.declared.subject.Subject.{Subject}
 use Rattle.cell_reader.specs.PinTimings.{subject_at, arcs_in}
 use Rattle.cell_reader.specs.CellTexts.{subject_of}

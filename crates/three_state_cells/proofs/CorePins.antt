@@ -15,9 +15,9 @@ use Rattle.liberty_groups.specs.Attributes.{Attribute, simple_named, attributes_
 use Rattle.cell_machine.specs.declared.pins.Direction.{Direction}
 use Rattle.cell_machine.specs.declared.pins.Direction.TheVariants.{Input, Output}
 use Rattle.cell_machine.specs.declared.pins.Pin.{Pin}
-use Rattle.cell_parts.specs.Groups.{inner_of, inner_groups, is_pin}
-use Rattle.cell_parts.specs.Scans.{is_output_group}
-use Rattle.cell_parts.specs.Pins.{direction_as, direction_of, pins_in, pins_of, owners_of}
+use Rattle.cell_attributes.specs.Groups.{inner_of, inner_groups, is_pin}
+use Rattle.cell_attributes.specs.Scans.{is_output_group}
+use Rattle.cell_attributes.specs.Pins.{direction_as, direction_of, pins_in, pins_of, owners_of}
 use Rattle.core_groups.specs.Outputs.{ThreeStateOutput, three_state_of, is_three_state, outputs_from, three_state_outputs}
 use Rattle.core_groups.specs.CoreGroups.{stays_in_core, core_pin, core_statement_as, core_statement, one_value, enable_function, enable_statements, enable_pin, enable_pin_of, enable_pins, core_group}
 use Rattle.three_state_cells.specs.Laws.{enable_output, enable_outputs, CorePinsAre}

@@ -7,8 +7,8 @@ use Rattle.liberty_groups.specs.declared.tree.Group.{Group}
 use Rattle.cell_machine.specs.declared.cells.Cell.{Cell}
 use Rattle.cell_machine.specs.declared.pins.Pin.{Pin}
 use Rattle.cell_machine.specs.CellData.{CellData, data_of}
-use Rattle.cell_parts.specs.Groups.{cell_name, pin_groups}
-use Rattle.cell_parts.specs.Pins.{pins_of}
+use Rattle.cell_attributes.specs.Groups.{cell_name, pin_groups}
+use Rattle.cell_attributes.specs.Pins.{pins_of}
 use Rattle.cell_reader.specs.declared.left_out.LeftOut.{LeftOut}
 use Rattle.cell_reader.specs.declared.read.ReadCell.{ReadCell}
 use Rattle.cell_reader.specs.CellTexts.{subject_of, IsCellOf}

@@ -7,9 +7,9 @@ use Rattle.timing_arcs.specs.declared.subject.Subject.{Subject}
 use Rattle.timing_arcs.specs.Timing.{unknown_names_at, numbers_at}
 use Rattle.cell_machine.specs.Delay.{least}
 use Rattle.cell_machine.specs.CellRules.{are_distinct}
-use Rattle.cell_parts.specs.Pins.{pin_names, pins_of}
-use Rattle.cell_parts.specs.Scans.{directions, three_states, banks, left_out_states, clear_presets}
-use Rattle.cell_parts.specs.Declarations.{duplicates}
+use Rattle.cell_attributes.specs.Pins.{pin_names, pins_of}
+use Rattle.cell_attributes.specs.Scans.{directions, three_states, banks, left_out_states, clear_presets}
+use Rattle.cell_attributes.specs.Declarations.{duplicates}
 use Rattle.cell_reader.specs.declared.refusal.Reason.{Reason}
 use Rattle.cell_reader.specs.declared.refusal.Reason.TheVariants as reason
 use Rattle.cell_reader.specs.declared.refusal.Refusal.{Refusal}

@@ -9,7 +9,7 @@ use Rattle.std.proofs.lemmas.List.Elements.{All-nil, All-cons, All-append}
 use Rattle.cell_machine.specs.declared.pins.Pin.{Pin}
 use Rattle.cell_machine.specs.declared.arcs.Arc.{Arc}
 use Rattle.cell_machine.specs.CellRules.{longest_time, is_in_order, is_input_pin, is_output_pin, is_condition, is_arc}
-use Rattle.cell_parts.proofs.Turns.{count_shown}
+use Rattle.cell_attributes.proofs.Turns.{count_shown}
 use Rattle.timing_arcs.specs.declared.subject.Subject.{Subject}
 use Rattle.cell_reader.specs.PinTimings.{subject_at, arcs_in}
 use Rattle.cell_reader.specs.CellTexts.{subject_of}

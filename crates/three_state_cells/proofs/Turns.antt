@@ -6,7 +6,7 @@ use Rattle.std.proofs.lemmas.List.{drop_more, length-map}
 use Rattle.liberty_groups.specs.declared.tree.Group.{Group}
 use Rattle.cell_machine.specs.declared.pins.Pin.{Pin}
 use Rattle.cell_machine.specs.Inputs.{is_input_at, input_number}
-use Rattle.cell_parts.specs.Pins.{owners_in}
+use Rattle.cell_attributes.specs.Pins.{owners_in}
 use Rattle.timing_arcs.specs.declared.subject.Subject.{Subject}
 use Rattle.cell_reader.specs.declared.left_out.LeftOut.{LeftOut}
 use Rattle.cell_reader.specs.declared.refusal.Refusal.{Refusal}

@@ -4,9 +4,9 @@ use Rattle.liberty_text.specs.declared.time.Unit.{Unit}
 use Rattle.liberty_groups.specs.declared.tree.Group.{Group}
 use Rattle.cell_machine.specs.CellData.{CellData, data_of}
 use Rattle.cell_machine.specs.CellTrace.{inputs_of}
-use Rattle.cell_parts.specs.Groups.{cell_name}
-use Rattle.cell_parts.specs.Pins.{pins_of}
-use Rattle.cell_parts.specs.CellLaws.{groups_of, outputs_of}
+use Rattle.cell_attributes.specs.Groups.{cell_name}
+use Rattle.cell_attributes.specs.Pins.{pins_of}
+use Rattle.cell_attributes.specs.CellLaws.{groups_of, outputs_of}
 use Rattle.cell_reader.specs.declared.left_out.LeftOut.{LeftOut}
 use Rattle.cell_reader.specs.CellTexts.{subject_of}
 use Rattle.cell_reader.specs.Refusals.{checks_of, arcs_of, left_out_of}

@@ -6,7 +6,7 @@ use Rattle.cell_machine.specs.declared.pins.Pin.{Pin}
 use Rattle.cell_machine.specs.declared.pins.Direction.TheVariants.{Output}
 use Rattle.cell_machine.specs.CellData.{CellData}
 use Rattle.cell_machine.specs.CellRules.{longest_time, is_in_order, are_outputs}
-use Rattle.cell_parts.specs.Pins.{pins_of}
+use Rattle.cell_attributes.specs.Pins.{pins_of}
 use Rattle.driven_traces.specs.declared.delays.DrivePath.{DrivePath}
 use Rattle.driven_traces.specs.declared.drivers.Driver.{Driver}
 use Rattle.core_groups.specs.Outputs.{ThreeStateOutput, three_state_outputs}

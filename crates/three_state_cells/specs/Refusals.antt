@@ -6,7 +6,7 @@ use Rattle.liberty_groups.specs.declared.tree.Group.{Group}
 use Rattle.timing_arcs.specs.declared.subject.Subject.{Subject}
 use Rattle.timing_arcs.specs.declared.fault.TimingFault.TheVariants as fault
 use Rattle.timing_arcs.specs.Timing.{unknown_names_at, numbers_at}
-use Rattle.cell_parts.specs.Groups.{pin_groups}
+use Rattle.cell_attributes.specs.Groups.{pin_groups}
 use Rattle.cell_reader.specs.declared.refusal.Reason.TheVariants as reason
 use Rattle.cell_reader.specs.declared.refusal.Refusal.{Refusal}
 use Rattle.cell_reader.specs.ReasonWords.{number_of_reason}

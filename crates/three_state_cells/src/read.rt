@@ -3,7 +3,7 @@ ghost use Rattle.std.specs.Prelude.{◌≡◌, IfOk, IfErr, IsTrue, None, Some, 
 ghost use Rattle.cell_machine.specs.CellData.{data_of};
 ghost use Rattle.cell_machine.specs.CellRules.{is_name};
 ghost use Rattle.cell_machine.specs.CellTrace.{inputs_of};
-ghost use Rattle.cell_parts.specs.Pins.{pins_of as pins_of_group};
+ghost use Rattle.cell_attributes.specs.Pins.{pins_of as pins_of_group};
 ghost use Rattle.cell_reader.specs.CellTexts.{subject_of as subject_of_cell, Tells, IsCellOf, IsEarlyUnmet};
 ghost use Rattle.cell_reader.specs.Refusals.{left_out_of as left_out_of_cell, refusal_of};
 ghost use Rattle.driven_traces.specs.Drivers.{plain};
@@ -21,9 +21,9 @@ use crate::drivers::{Drivers, drivers_of, input_number};
 use crate::left_out::in_pin_order;
 use bool_functions::Names;
 use cell_machine::{Cell, Pin};
-use cell_parts::groups::{inner_groups, pins_among};
-use cell_parts::held::{held_with, kept_unless};
-use cell_parts::pins::pins_of;
+use cell_attributes::groups::{inner_groups, pins_among};
+use cell_attributes::held::{held_with, kept_unless};
+use cell_attributes::pins::pins_of;
 use cell_reader::{CellFault, LeftOut, ReadCell, Reason, Refusal, names_of, read_cell};
 use core_groups::{CellPins, core_group};
 use driven_traces::Driver;
@@ -32,7 +32,7 @@ use liberty_text::Unit;
 use sqlite_items::Items;
 use std::alloc::{AllocError, Global};
 use timing_arcs::Subject;
-use vhdl_names::numbered_name;
+use vhdl_tokens::numbered_name;
 
 /// The pins of a cell.
 fn cell_pins(alloc: Global, cell: &Group) -> Result<Items<Pin>, AllocError>

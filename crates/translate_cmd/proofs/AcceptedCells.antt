@@ -9,29 +9,29 @@ use Rattle.std.proofs.lemmas.List.Elements.{Contains-append_left, Contains-appen
 use Rattle.std.proofs.lemmas.Map.Views.{Contains-from_any}
 use Rattle.std.proofs.lemmas.Simd.{map-map}
 use Rattle.std.proofs.lemmas.Slice.Eq.{bytes_eq-Decides}
-use Rattle.model_simulation.specs.file_models.bool_functions.NameList.{number_of}
-use Rattle.model_simulation.proofs.file_models.bool_functions.Elements.{contains_here, contains_cases}
-use Rattle.model_simulation.proofs.file_models.bool_functions.NameLists.{position-none}
+use Rattle.library_simulation.specs.file_models.bool_functions.NameList.{number_of}
+use Rattle.library_simulation.proofs.file_models.bool_functions.Elements.{contains_here, contains_cases}
+use Rattle.library_simulation.proofs.file_models.bool_functions.NameLists.{position-none}
 use Rattle.generated_driven_models.specs.liberty_groups.declared.tree.Group.{Group}
-use Rattle.model_simulation.specs.file_models.cell_machine.CellData.{CellData}
-use Rattle.cell_parts.specs.Groups.{cell_name}
+use Rattle.library_simulation.specs.file_models.cell_machine.CellData.{CellData}
+use Rattle.cell_attributes.specs.Groups.{cell_name}
 use Rattle.cell_reader.specs.declared.refusal.Refusal.{Refusal}
 use Rattle.cell_cursor.specs.declared.item.LibraryItem.{LibraryItem}
 use Rattle.cell_cursor.specs.declared.item.LibraryItem.TheVariants as item
 use Rattle.cell_cursor.specs.Ends.{items_within}
 use Rattle.cell_cursor.proofs.Ascending.{items_few}
 use Rattle.generated_driven_models.specs.three_state_cells.DrivenCells.{DrivenData}
-use Rattle.generated_driven_models.specs.library_cells.Cells.{kept_names}
+use Rattle.generated_driven_models.specs.generated_modules.Cells.{kept_names}
 use Rattle.generated_driven_models.specs.generated_modules.Accepted.{IsAccepted, AreAccepted, described}
 use Rattle.generated_driven_models.proofs.generated_modules.AcceptedCells.{accepted-of-one-library}
 use Rattle.generated_driven_models.specs.Library.{IsNumberedDriven, AreOfOneLibrary}
 use Rattle.generated_driven_models.proofs.ModuleDrivers.{well-formed-together}
 use Rattle.generated_driven_models.proofs.Together.{well_formed_together}
-use Rattle.model_simulation.specs.library_items.declared.progress.Progress.{Progress}
-use Rattle.model_simulation.specs.library_items.Progress.{no_progress, next_number, next_bits, names_with, next_refusal}
-use Rattle.model_simulation.specs.library_items.Progress.{next_data, next_entity, entity_by, after_cell}
-use Rattle.model_simulation.specs.library_items.Endings.{library_limit}
-use Rattle.model_simulation.proofs.library_items.CellLemmas.{next_name, bits_unrefused}
+use Rattle.library_simulation.specs.library_reader.declared.progress.Progress.{Progress}
+use Rattle.library_simulation.specs.library_reader.Progress.{no_progress, next_number, next_bits, names_with, next_refusal}
+use Rattle.library_simulation.specs.library_reader.Progress.{next_data, next_entity, entity_by, after_cell}
+use Rattle.library_simulation.specs.library_reader.Endings.{library_limit}
+use Rattle.library_simulation.proofs.library_reader.CellLemmas.{next_name, bits_unrefused}
 use Rattle.translate_cmd.specs.TranslatedModels.{cells_by, accepted_cells, cells_in}
 use Rattle.translate_cmd.specs.TranslatedLaws.{ModulesAreWellFormed, EntitiesAreWellFormed}
 use Rattle.translate_cmd.proofs.ReadCells.{under_own_name, its_core, its_number, is_numbered}

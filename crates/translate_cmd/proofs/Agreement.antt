@@ -2,44 +2,44 @@
 use Rattle.std.proofs.Common.{◌≡◌, ℕ, Bool, true, false, List, [], length, nat_lt, ◌⊎◌, inl, inr, refl, sym, ap, subst, ◌∙◌}
 use Rattle.std.proofs.Common.{Result, Ok, Err}
 use Rattle.std.specs.Prelude.{◌≢◌, IfErr}
-use Rattle.model_simulation.specs.library_items.LibraryCells.{CellEntry}
-use Rattle.model_simulation.specs.file_models.udp_tables.declared.models.ModelFault.{ModelFault}
-use Rattle.model_simulation.specs.file_models.stimulus.declared.faults.StimulusFault.{StimulusFault}
-use Rattle.model_simulation.specs.file_models.stimulus.declared.faults.StimulusFault.TheVariants as fault
-use Rattle.model_simulation.specs.file_models.stimulus.declared.sections.Section.{Section}
-use Rattle.model_simulation.specs.file_models.stimulus.PortEntries.{NamedCells, listed}
-use Rattle.model_simulation.specs.file_models.stimulus.Stimulus.{stimulus_of}
-use Rattle.command_outcomes.specs.declared.status.Status.TheVariants as status
-use Rattle.command_outcomes.specs.Written.{nothing_written, in_report}
-use Rattle.command_outcomes.specs.Outcome.{Outcome}
-use Rattle.command_outcomes.specs.FileSteps.{FileStop, answer_where, outcome_by}
-use Rattle.model_simulation.specs.model_files.Languages.{Language}
-use Rattle.model_simulation.specs.model_files.ModelAnswer.{long_model_stop, models_or_stop, models_in_text, model_answer}
-use Rattle.model_simulation.specs.model_files.StimulusAnswer.{long_stimulus_stop, sections_or_stop, sections_in_text}
-use Rattle.model_simulation.specs.model_files.StimulusAnswer.{stimulus_answer}
-use Rattle.model_simulation.specs.model_files.Limits.{model_limit, stimulus_limit}
-use Rattle.model_simulation.specs.Verilog.{verilog}
-use Rattle.model_simulation.specs.Vital.{vital}
+use Rattle.library_simulation.specs.library_reader.LibraryCells.{CellEntry}
+use Rattle.library_simulation.specs.file_models.udp_tables.declared.models.ModelFault.{ModelFault}
+use Rattle.library_simulation.specs.file_models.stimulus.declared.faults.StimulusFault.{StimulusFault}
+use Rattle.library_simulation.specs.file_models.stimulus.declared.faults.StimulusFault.TheVariants as fault
+use Rattle.library_simulation.specs.file_models.stimulus.declared.sections.Section.{Section}
+use Rattle.library_simulation.specs.file_models.stimulus.PortEntries.{NamedCells, listed}
+use Rattle.library_simulation.specs.file_models.stimulus.Stimulus.{stimulus_of}
+use Rattle.run_outcome.specs.declared.status.Status.TheVariants as status
+use Rattle.run_outcome.specs.Written.{nothing_written, in_report}
+use Rattle.run_outcome.specs.Outcome.{Outcome}
+use Rattle.run_outcome.specs.FileSteps.{FileStop, answer_where, outcome_by}
+use Rattle.library_simulation.specs.model_files.Languages.{Language}
+use Rattle.library_simulation.specs.model_files.ModelAnswer.{long_model_stop, models_or_stop, models_in_text, model_answer}
+use Rattle.library_simulation.specs.model_files.StimulusAnswer.{long_stimulus_stop, sections_or_stop, sections_in_text}
+use Rattle.library_simulation.specs.model_files.StimulusAnswer.{stimulus_answer}
+use Rattle.library_simulation.specs.model_files.Limits.{model_limit, stimulus_limit}
+use Rattle.library_simulation.specs.Verilog.{verilog}
+use Rattle.library_simulation.specs.Vital.{vital}
 use Rattle.generated_driven_models.specs.vital_models.declared.model.VEntity.{VEntity}
-use Rattle.generated_driven_models.specs.vhdl_text.WellFormed.{AreApart}
-use Rattle.model_simulation.specs.file_models.declared.file_model.FileModel.{FileModel}
-use Rattle.model_simulation.specs.model_files.ModelNames.{model_names}
-use Rattle.model_simulation.proofs.VerilogModels.{own_names}
-use Rattle.model_simulation.proofs.VitalModels.{own_names_beside}
-use Rattle.model_simulation.specs.simulation_catalog.Comparisons.{sections_text}
-use Rattle.model_simulation.specs.simulation_catalog.Generated.{modules_of, entities_of, HaveOwnModels, EndsEqual}
-use Rattle.model_simulation.specs.simulation_catalog.FaultLines.{cause_stop}
-use Rattle.model_simulation.specs.simulation_catalog.Ends.{sections_outcome}
-use Rattle.model_simulation.proofs.simulation_catalog.EqualEnds.{bad_line_stops, never_model_or_differ}
-use Rattle.model_simulation.specs.library_items.declared.ending.Ending.{Ending}
-use Rattle.model_simulation.specs.library_items.declared.ending.Ending.TheVariants as ending
-use Rattle.model_simulation.specs.library_items.declared.ending.NotWhole.TheVariants as not_whole
-use Rattle.model_simulation.specs.library_items.Endings.{library_limit, ending_of}
-use Rattle.model_simulation.specs.library_items.KeptCells.{cells_by}
+use Rattle.generated_driven_models.specs.vhdl_grammar.WellFormed.{AreApart}
+use Rattle.library_simulation.specs.file_models.declared.file_model.FileModel.{FileModel}
+use Rattle.library_simulation.specs.model_files.ModelNames.{model_names}
+use Rattle.library_simulation.proofs.VerilogModels.{own_names}
+use Rattle.library_simulation.proofs.VitalModels.{own_names_beside}
+use Rattle.library_simulation.specs.simulation_catalog.Comparisons.{sections_text}
+use Rattle.library_simulation.specs.simulation_catalog.Generated.{modules_of, entities_of, HaveOwnModels, EndsEqual}
+use Rattle.library_simulation.specs.simulation_catalog.FaultLines.{cause_stop}
+use Rattle.library_simulation.specs.simulation_catalog.Ends.{sections_outcome}
+use Rattle.library_simulation.proofs.simulation_catalog.EqualEnds.{bad_line_stops, never_model_or_differ}
+use Rattle.library_simulation.specs.library_reader.declared.ending.Ending.{Ending}
+use Rattle.library_simulation.specs.library_reader.declared.ending.Ending.TheVariants as ending
+use Rattle.library_simulation.specs.library_reader.declared.ending.NotWhole.TheVariants as not_whole
+use Rattle.library_simulation.specs.library_reader.Endings.{library_limit, ending_of}
+use Rattle.library_simulation.specs.library_reader.KeptCells.{cells_by}
 use Rattle.library_translation.specs.Library.{translate_outcome}
-use Rattle.model_simulation.specs.library_file.LibraryAnswer.{library_answer, answer_by, library_stop}
-use Rattle.model_simulation.specs.Simulate.{behind_cells, behind_modules, behind_entities}
-use Rattle.model_simulation.proofs.OwnNames.{modules_apart, entities_apart}
+use Rattle.library_simulation.specs.library_report.LibraryAnswer.{library_answer, answer_by, library_stop}
+use Rattle.library_simulation.specs.Simulate.{behind_cells, behind_modules, behind_entities}
+use Rattle.library_simulation.proofs.OwnNames.{modules_apart, entities_apart}
 use Rattle.translate_cmd.specs.Agreement.{own_catalog, Agrees, OwnModelsAgree}
 use Rattle.translate_cmd.proofs.KeptRules.{kept_rules}
 use Rattle.translate_cmd.proofs.KeptCells.{cells_of}

@@ -4,19 +4,19 @@ use Rattle.text_io.specs.declared.file_commands.FileCommand.TheVariants.{Simulat
 use Rattle.text_io.specs.declared.slots.OutSlot.TheVariants.{Report, Faults}
 use Rattle.text_io.specs.Desk.{DeskState, Folder, wrote}
 use Rattle.text_io.proofs.Wrote.{wrote-nil}
-use Rattle.command_outcomes.specs.declared.status.Status.{Status}
-use Rattle.command_outcomes.specs.declared.status.Status.TheVariants as status
-use Rattle.command_outcomes.specs.Status.{is_decided}
-use Rattle.command_outcomes.specs.Written.{Written, in_report, wrote_all}
-use Rattle.command_outcomes.specs.Binding.{Files, bound_state, AreNamed, took_all, Tells, bytes_at}
-use Rattle.command_outcomes.specs.Outcome.{Outcome}
-use Rattle.command_outcomes.specs.Runs.{RunsAs}
-use Rattle.command_outcomes.proofs.WrittenLaws.{wrote_all-report}
+use Rattle.run_outcome.specs.declared.status.Status.{Status}
+use Rattle.run_outcome.specs.declared.status.Status.TheVariants as status
+use Rattle.run_outcome.specs.Status.{is_decided}
+use Rattle.run_outcome.specs.Written.{Written, in_report, wrote_all}
+use Rattle.run_outcome.specs.Binding.{Files, bound_state, AreNamed, took_all, Tells, bytes_at}
+use Rattle.run_outcome.specs.Outcome.{Outcome}
+use Rattle.run_outcome.specs.Runs.{RunsAs}
+use Rattle.run_outcome.proofs.WrittenLaws.{wrote_all-report}
 use Rattle.command_words.specs.declared.commands.Command.{Command}
 use Rattle.command_words.specs.declared.commands.Command.TheVariants as command
 use Rattle.command_words.specs.Reading.{reading}
 use Rattle.library_translation.specs.Library.{translate_outcome}
-use Rattle.model_simulation.specs.Simulate.{simulate_files, simulate_outcome, simulate_of}
+use Rattle.library_simulation.specs.Simulate.{simulate_files, simulate_outcome, simulate_of}
 use Rattle.translate_cmd.specs.Outcome.{files_of, outcome_of}
 use Rattle.translate_cmd.specs.Runs.{Runs}
 use Rattle.translate_cmd.specs.Agreement.{Agrees, ReportsAllEqual}

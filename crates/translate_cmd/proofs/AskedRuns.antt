@@ -5,9 +5,9 @@ use Rattle.text_io.specs.declared.file_commands.FileCommand.TheVariants.{Transla
 use Rattle.text_io.specs.declared.slots.InSlot.TheVariants.{Library}
 use Rattle.text_io.specs.Desk.{DeskState, Folder}
 use Rattle.text_io.specs.Plan.{plan, planned_files}
-use Rattle.command_outcomes.specs.declared.status.Status.{Status}
-use Rattle.command_outcomes.specs.Binding.{Tells, bytes_at}
-use Rattle.command_outcomes.specs.Runs.{RunsAs}
+use Rattle.run_outcome.specs.declared.status.Status.{Status}
+use Rattle.run_outcome.specs.Binding.{Tells, bytes_at}
+use Rattle.run_outcome.specs.Runs.{RunsAs}
 use Rattle.command_words.specs.declared.commands.Command.{Command}
 use Rattle.command_words.specs.declared.commands.Command.TheVariants as command
 use Rattle.command_words.specs.Reading.{reading}

@@ -3,9 +3,9 @@
 use Rattle.std.proofs.Common.{◌≡◌, sym, subst, ◌∙◌}
 use Rattle.text_io.specs.declared.file_commands.FileCommand.TheVariants.{Audit}
 use Rattle.text_io.specs.Desk.{DeskState}
-use Rattle.command_outcomes.specs.declared.status.Status.{Status}
-use Rattle.command_outcomes.specs.Binding.{bytes_at}
-use Rattle.command_outcomes.specs.Runs.{RunsAs}
+use Rattle.run_outcome.specs.declared.status.Status.{Status}
+use Rattle.run_outcome.specs.Binding.{bytes_at}
+use Rattle.run_outcome.specs.Runs.{RunsAs}
 use Rattle.command_words.specs.declared.commands.Command.{Command}
 use Rattle.command_words.specs.declared.commands.Command.TheVariants as command
 use Rattle.command_words.specs.Reading.{reading}

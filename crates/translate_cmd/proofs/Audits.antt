@@ -4,32 +4,32 @@ use Rattle.std.proofs.Common.{◌≡◌, ℕ, Bool, true, false, List, length, n
 use Rattle.std.proofs.Common.{subst, if◌then◌else◌}
 use Rattle.std.specs.Prelude.{All, IsTrue, slice_get}
 use Rattle.std.specs.Option.{option_and_then}
-use Rattle.model_simulation.specs.file_models.bool_functions.NameList.{number_of}
-use Rattle.model_simulation.specs.file_models.cell_machine.CellData.{CellData}
-use Rattle.model_simulation.specs.file_models.cell_machine.CellRules.{is_cell}
+use Rattle.library_simulation.specs.file_models.bool_functions.NameList.{number_of}
+use Rattle.library_simulation.specs.file_models.cell_machine.CellData.{CellData}
+use Rattle.library_simulation.specs.file_models.cell_machine.CellRules.{is_cell}
 use Rattle.generated_driven_models.specs.specify_blocks.declared.model.VModule.{VModule}
 use Rattle.generated_driven_models.specs.specify_blocks.Names.{module_name}
 use Rattle.generated_driven_models.specs.specify_blocks.Sound.{IsSound}
-use Rattle.model_simulation.specs.file_models.udp_tables.declared.models.ModelFault.{ModelFault}
+use Rattle.library_simulation.specs.file_models.udp_tables.declared.models.ModelFault.{ModelFault}
 use Rattle.model_traces.specs.Agreement.{FittingModulesAgree}
 use Rattle.audited_modules.specs.Laws.{MatchingModulesFit}
-use Rattle.model_simulation.specs.library_items.LibraryCells.{CellEntry, Accepted, Refused}
-use Rattle.model_simulation.specs.library_items.declared.ending.Ending.{Ending}
-use Rattle.model_simulation.specs.library_items.declared.ending.Ending.TheVariants as ending
-use Rattle.model_simulation.specs.library_items.Endings.{library_limit, ending_of}
-use Rattle.model_simulation.specs.library_items.KeptCells.{cells_by}
-use Rattle.model_simulation.specs.library_file.LibraryAnswer.{answer_by, library_answer}
-use Rattle.model_simulation.specs.model_files.Limits.{model_limit}
-use Rattle.model_simulation.specs.model_files.ModelNames.{model_names}
-use Rattle.model_simulation.specs.model_files.ModelAnswer.{long_model_stop, models_or_stop, models_in_text, model_answer}
-use Rattle.command_outcomes.specs.FileSteps.{answer_where}
-use Rattle.model_simulation.specs.file_models.declared.file_model.FileModel.{FileModel}
-use Rattle.model_simulation.specs.file_models.FileModels.{IsRunnable}
+use Rattle.library_simulation.specs.library_reader.LibraryCells.{CellEntry, Accepted, Refused}
+use Rattle.library_simulation.specs.library_reader.declared.ending.Ending.{Ending}
+use Rattle.library_simulation.specs.library_reader.declared.ending.Ending.TheVariants as ending
+use Rattle.library_simulation.specs.library_reader.Endings.{library_limit, ending_of}
+use Rattle.library_simulation.specs.library_reader.KeptCells.{cells_by}
+use Rattle.library_simulation.specs.library_report.LibraryAnswer.{answer_by, library_answer}
+use Rattle.library_simulation.specs.model_files.Limits.{model_limit}
+use Rattle.library_simulation.specs.model_files.ModelNames.{model_names}
+use Rattle.library_simulation.specs.model_files.ModelAnswer.{long_model_stop, models_or_stop, models_in_text, model_answer}
+use Rattle.run_outcome.specs.FileSteps.{answer_where}
+use Rattle.library_simulation.specs.file_models.declared.file_model.FileModel.{FileModel}
+use Rattle.library_simulation.specs.file_models.FileModels.{IsRunnable}
 use Rattle.model_traces.specs.ModuleTrace.{module_machine}
-use Rattle.model_simulation.specs.Verilog.{verilog, verilog_models}
-use Rattle.model_simulation.proofs.VerilogModels.{own_names}
-use Rattle.model_simulation.specs.simulation_catalog.Generated.{KeepsRules}
-use Rattle.model_simulation.proofs.simulation_catalog.ReadyCells.{all_at}
+use Rattle.library_simulation.specs.Verilog.{verilog, verilog_models}
+use Rattle.library_simulation.proofs.VerilogModels.{own_names}
+use Rattle.library_simulation.specs.simulation_catalog.Generated.{KeepsRules}
+use Rattle.library_simulation.proofs.simulation_catalog.ReadyCells.{all_at}
 use Rattle.library_audit.specs.Audits.{module_in, module_at, module_for}
 use Rattle.library_audit.specs.Laws.{HasMatch, HasMatchOrIsLeftOut, SameLineIsMatch, AllMatch, DoneIsMatch}
 use Rattle.translate_cmd.specs.Audits.{AgreesWithModule, AgreesWhereSame, AgreesOrIsLeftOut, AllAgree, AuditedCellsAgree}

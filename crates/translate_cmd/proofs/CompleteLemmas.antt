@@ -11,42 +11,42 @@ use Rattle.text_io.specs.Plan.{planned_files}
 use Rattle.text_io.proofs.Wrote.{wrote-nil}
 use Rattle.cell_cursor.specs.Ends.{items_within, end_within}
 use Rattle.cell_cursor.specs.declared.item.LibraryItem.{LibraryItem}
-use Rattle.command_outcomes.specs.declared.status.Status.{Status}
-use Rattle.command_outcomes.specs.declared.status.Status.TheVariants as status
-use Rattle.model_simulation.specs.library_items.declared.ending.Ending.{Ending}
-use Rattle.model_simulation.specs.library_items.declared.ending.Ending.TheVariants as ending
+use Rattle.run_outcome.specs.declared.status.Status.{Status}
+use Rattle.run_outcome.specs.declared.status.Status.TheVariants as status
+use Rattle.library_simulation.specs.library_reader.declared.ending.Ending.{Ending}
+use Rattle.library_simulation.specs.library_reader.declared.ending.Ending.TheVariants as ending
 use Rattle.command_words.specs.declared.commands.Command.{Command}
 use Rattle.command_words.specs.declared.commands.Command.TheVariants as command
-use Rattle.command_outcomes.specs.Status.{is_decided}
+use Rattle.run_outcome.specs.Status.{is_decided}
 use Rattle.command_words.specs.Reading.{reading}
-use Rattle.command_outcomes.specs.Written.{Written, wrote_all}
-use Rattle.command_outcomes.specs.Outcome.{Outcome}
-use Rattle.command_outcomes.specs.Binding.{Files, bound_state, AreNamed, took_all, Tells, bytes_at}
-use Rattle.model_simulation.specs.library_items.Endings.{library_limit, ending_of}
+use Rattle.run_outcome.specs.Written.{Written, wrote_all}
+use Rattle.run_outcome.specs.Outcome.{Outcome}
+use Rattle.run_outcome.specs.Binding.{Files, bound_state, AreNamed, took_all, Tells, bytes_at}
+use Rattle.library_simulation.specs.library_reader.Endings.{library_limit, ending_of}
 use Rattle.library_translation.specs.Library.{outcome_at}
 use Rattle.translate_cmd.specs.Outcome.{files_of, file_outcome, outcome_of, outcome}
 use Rattle.translate_cmd.specs.Runs.{Runs}
 use Rattle.translate_cmd.specs.Complete.{IsWholeLibrary, CanBeSimulated, CanBeAudited, FilesCanBeDone, CanBeDone, IsAllDone}
 use Rattle.translate_cmd.specs.Complete.{Completes}
-use Rattle.model_simulation.specs.library_items.KeptCells.{kept_cells, cells_by}
-use Rattle.model_simulation.specs.library_items.Progress.{no_progress}
-use Rattle.model_simulation.specs.simulation_catalog.Catalog.{cells_named}
-use Rattle.model_simulation.specs.simulation_catalog.Comparisons.{any_differs}
-use Rattle.model_simulation.specs.simulation_catalog.Ends.{sections_outcome}
-use Rattle.model_simulation.specs.library_file.LibraryAnswer.{answer_by}
-use Rattle.model_simulation.specs.Simulate.{simulate_files, simulate_outcome}
-use Rattle.model_simulation.proofs.model_files.WholeAnswers.{model_whole, stimulus_whole}
-use Rattle.model_simulation.proofs.WholeSimulations.{simulated_whole}
+use Rattle.library_simulation.specs.library_reader.KeptCells.{kept_cells, cells_by}
+use Rattle.library_simulation.specs.library_reader.Progress.{no_progress}
+use Rattle.library_simulation.specs.simulation_catalog.Catalog.{cells_named}
+use Rattle.library_simulation.specs.simulation_catalog.Comparisons.{any_differs}
+use Rattle.library_simulation.specs.simulation_catalog.Ends.{sections_outcome}
+use Rattle.library_simulation.specs.library_report.LibraryAnswer.{answer_by}
+use Rattle.library_simulation.specs.Simulate.{simulate_files, simulate_outcome}
+use Rattle.library_simulation.proofs.model_files.WholeAnswers.{model_whole, stimulus_whole}
+use Rattle.library_simulation.proofs.WholeSimulations.{simulated_whole}
 use Rattle.library_audit.specs.Audits as audits
 use Rattle.library_audit.specs.Outcome.{audit_files, audit_outcome, audits_outcome}
 use Rattle.library_audit.proofs.WholeAudits.{audited_whole}
-use Rattle.model_simulation.specs.simulation_catalog.FaultLines.{cause_stop}
-use Rattle.model_simulation.specs.model_files.Languages.{Language}
+use Rattle.library_simulation.specs.simulation_catalog.FaultLines.{cause_stop}
+use Rattle.library_simulation.specs.model_files.Languages.{Language}
 use Rattle.model_replay.specs.Outcome.{replay_files, replay_outcome}
 use Rattle.model_replay.specs.Complete.{CanBeReplayed}
 use Rattle.model_replay.proofs.Completes.{replayed_whole}
-use Rattle.model_simulation.specs.Verilog.{verilog}
-use Rattle.model_simulation.specs.Vital.{vital}
+use Rattle.library_simulation.specs.Verilog.{verilog}
+use Rattle.library_simulation.specs.Vital.{vital}
 
 -- how a status came about
 pub decided_or : (s : Status) → (s ≡ status.Outside) ⊎ ((s ≡ status.Memory) ⊎ IsTrue (is_decided s))

@@ -4,11 +4,11 @@ use Rattle.std.proofs.Common.{arith, append_assoc, Some, slice_get}
 use Rattle.std.specs.List.{AllByRecursion, list_any}
 use Rattle.std.specs.Option.{option_and_then}
 use Rattle.std.proofs.lemmas.List.{map-append, length-map}
-use Rattle.model_simulation.specs.file_models.driver_models.Cores.{Core, core_number}
-use Rattle.generated_driven_models.proofs.grammar_phrases.Places.{get_at, found_behind}
-use Rattle.model_simulation.specs.file_models.sectioned_texts.DrivenModels.{SectionLanguage}
-use Rattle.model_simulation.specs.file_models.FileModels.{core_named}
-use Rattle.model_simulation.proofs.file_models.DistinctNames.{core_name_of}
+use Rattle.library_simulation.specs.file_models.driver_models.Cores.{Core, core_number}
+use Rattle.generated_driven_models.proofs.grammar_reader.ItemPlaces.{get_at, found_behind}
+use Rattle.library_simulation.specs.file_models.sectioned_texts.DrivenModels.{SectionLanguage}
+use Rattle.library_simulation.specs.file_models.FileModels.{core_named}
+use Rattle.library_simulation.proofs.file_models.DistinctNames.{core_name_of}
 
 module _ {M : Type 0} (l : SectionLanguage M) where
   abbrev pub own_names : List M → List (List ℕ)

@@ -7,37 +7,37 @@ use Rattle.std.proofs.lemmas.List.Elements.{recursion_from_All}
 use Rattle.generated_driven_models.specs.specify_blocks.declared.model.VModule.{VModule}
 use Rattle.generated_driven_models.specs.specify_blocks.Generated.{module_of}
 use Rattle.generated_driven_models.specs.specify_blocks.WellFormed as verilog_rules
-use Rattle.generated_driven_models.specs.vhdl_names.Kept.{lowered}
+use Rattle.generated_driven_models.specs.vhdl_tokens.Kept.{lowered}
 use Rattle.generated_driven_models.specs.vital_models.declared.model.VEntity.{VEntity}
 use Rattle.generated_driven_models.specs.vital_models.Generated.{entity_of}
 use Rattle.generated_driven_models.specs.vhdl_tokens.Spelling.{is_same}
-use Rattle.generated_driven_models.specs.vhdl_text.WellFormed as vital_rules
-use Rattle.generated_driven_models.proofs.grammar_phrases.Places.{same_bytes, at_place}
+use Rattle.generated_driven_models.specs.vhdl_grammar.WellFormed as vital_rules
+use Rattle.generated_driven_models.proofs.grammar_reader.ItemPlaces.{same_bytes, at_place}
 use Rattle.generated_driven_models.proofs.written_modules.NameReading as module_names
 use Rattle.generated_driven_models.proofs.written_entities.Names.{IsNamed, entity_named, same_self}
 use Rattle.generated_driven_models.proofs.written_entities.NameReading as entity_names
-use Rattle.model_simulation.specs.file_models.driver_models.declared.model.DriverModel.{DriverModel}
+use Rattle.library_simulation.specs.file_models.driver_models.declared.model.DriverModel.{DriverModel}
 use Rattle.generated_driven_models.specs.three_state_cells.DrivenCells.{DrivenData, may_float}
 use Rattle.generated_driven_models.specs.generated_drivers.Generated.{verilog_driver_of, vital_driver_of}
-use Rattle.model_simulation.specs.file_models.sectioned_texts.DrivenModels.{SectionLanguage}
-use Rattle.model_simulation.specs.file_models.sectioned_texts.declared.driven_models.DrivenModels.{DrivenModels}
+use Rattle.library_simulation.specs.file_models.sectioned_texts.DrivenModels.{SectionLanguage}
+use Rattle.library_simulation.specs.file_models.sectioned_texts.declared.driven_models.DrivenModels.{DrivenModels}
 use Rattle.generated_driven_models.specs.written_driven_models.driven_files.Verilog.{verilog_sections}
 use Rattle.generated_driven_models.specs.written_driven_models.driven_files.Vital.{vital_sections}
 use Rattle.generated_driven_models.specs.written_driven_models.Texts.{models_of, driver_in, drivers_of}
 use Rattle.generated_driven_models.specs.VerilogLibrary.{driven_modules_of}
 use Rattle.generated_driven_models.specs.VitalLibrary.{model_name, driven_entity, driven_entities_behind}
-use Rattle.model_simulation.proofs.VerilogModels.{modules_apart}
-use Rattle.model_simulation.specs.file_models.declared.file_model.FileModel.{FileModel}
-use Rattle.model_simulation.specs.file_models.FileModels.{over_core, driver_over, core_named, over_its_core, own_model}
-use Rattle.model_simulation.specs.file_models.FileModels.{file_models}
-use Rattle.model_simulation.proofs.file_models.DistinctNames.{core_name_of}
+use Rattle.library_simulation.proofs.VerilogModels.{modules_apart}
+use Rattle.library_simulation.specs.file_models.declared.file_model.FileModel.{FileModel}
+use Rattle.library_simulation.specs.file_models.FileModels.{over_core, driver_over, core_named, over_its_core, own_model}
+use Rattle.library_simulation.specs.file_models.FileModels.{file_models}
+use Rattle.library_simulation.proofs.file_models.DistinctNames.{core_name_of}
 use Rattle.library_translation.specs.Library.{translate_outcome}
-use Rattle.model_simulation.specs.Verilog.{verilog}
-use Rattle.model_simulation.specs.Vital.{vital}
-use Rattle.model_simulation.specs.library_items.LibraryCells.{CellEntry, Accepted, Refused}
-use Rattle.model_simulation.specs.simulation_catalog.CellModels.{CellModels, cores, drivers}
-use Rattle.model_simulation.specs.simulation_catalog.Generated.{core_entity, in_verilog, in_vital, core_modules, modules_of}
-use Rattle.model_simulation.specs.simulation_catalog.Generated.{core_entities, entities_of}
+use Rattle.library_simulation.specs.Verilog.{verilog}
+use Rattle.library_simulation.specs.Vital.{vital}
+use Rattle.library_simulation.specs.library_reader.LibraryCells.{CellEntry, Accepted, Refused}
+use Rattle.library_simulation.specs.simulation_catalog.CellModels.{CellModels, cores, drivers}
+use Rattle.library_simulation.specs.simulation_catalog.Generated.{core_entity, in_verilog, in_vital, core_modules, modules_of}
+use Rattle.library_simulation.specs.simulation_catalog.Generated.{core_entities, entities_of}
 use Rattle.translate_cmd.specs.TranslatedModels.{verilog_in, vital_in}
 use Rattle.translate_cmd.proofs.AcceptedCells.{modules-well-formed, entities-well-formed}
 use Rattle.translate_cmd.proofs.ReadBack.{libraries-read-back}

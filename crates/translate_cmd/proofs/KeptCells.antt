@@ -2,23 +2,23 @@
 -- it is kept.
 use Rattle.std.proofs.Common.{◌≡◌, ℕ, Bool, true, false, List, [], ◌∷◌, ◌++◌, refl, ap, subst, Option, Some, None, is_some}
 use Rattle.std.proofs.Common.{if◌then◌else◌}
-use Rattle.model_simulation.specs.file_models.bool_functions.NameList.{number_of}
+use Rattle.library_simulation.specs.file_models.bool_functions.NameList.{number_of}
 use Rattle.generated_driven_models.specs.liberty_groups.declared.tree.Group.{Group}
-use Rattle.cell_parts.specs.Groups.{cell_name}
+use Rattle.cell_attributes.specs.Groups.{cell_name}
 use Rattle.cell_reader.specs.declared.refusal.Refusal.{Refusal}
 use Rattle.cell_cursor.specs.declared.item.LibraryItem.{LibraryItem}
 use Rattle.cell_cursor.specs.declared.item.LibraryItem.TheVariants as item
 use Rattle.cell_cursor.specs.Ends.{items_within}
-use Rattle.generated_driven_models.specs.vhdl_names.Kept.{lowered}
+use Rattle.generated_driven_models.specs.vhdl_tokens.Kept.{lowered}
 use Rattle.generated_driven_models.specs.three_state_cells.DrivenCells.{DrivenData, may_float}
 use Rattle.generated_driven_models.specs.VitalLibrary.{model_name}
-use Rattle.model_simulation.specs.library_items.LibraryCells.{CellEntry, Accepted, Refused}
-use Rattle.model_simulation.specs.library_items.declared.progress.Progress.{Progress}
-use Rattle.model_simulation.specs.library_items.Progress.{no_progress, next_bits, next_refusal, next_data, next_entity, entity_by}
-use Rattle.model_simulation.specs.library_items.Progress.{after_cell, after_item}
-use Rattle.model_simulation.specs.library_items.KeptCells.{kept_by, kept_cells}
-use Rattle.model_simulation.specs.library_items.Endings.{library_limit}
-use Rattle.model_simulation.proofs.library_items.CellLemmas.{bits_name, bits_unrefused}
+use Rattle.library_simulation.specs.library_reader.LibraryCells.{CellEntry, Accepted, Refused}
+use Rattle.library_simulation.specs.library_reader.declared.progress.Progress.{Progress}
+use Rattle.library_simulation.specs.library_reader.Progress.{no_progress, next_bits, next_refusal, next_data, next_entity, entity_by}
+use Rattle.library_simulation.specs.library_reader.Progress.{after_cell, after_item}
+use Rattle.library_simulation.specs.library_reader.KeptCells.{kept_by, kept_cells}
+use Rattle.library_simulation.specs.library_reader.Endings.{library_limit}
+use Rattle.library_simulation.proofs.library_reader.CellLemmas.{bits_name, bits_unrefused}
 use Rattle.translate_cmd.specs.TranslatedModels.{cells_by, accepted_cells, cells_in}
 use Rattle.translate_cmd.proofs.ReadCells.{name_is_new}
 use Rattle.translate_cmd.proofs.EntityNames.{AreAlike, alike_with, its_entity}

@@ -6,27 +6,27 @@ use Rattle.std.specs.Prelude.{◌≢◌, All, slice_get, slice_index_or}
 use Rattle.std.specs.Option.{option_and_then}
 use Rattle.std.proofs.lemmas.Option.{slice_get-get_or}
 use Rattle.generated_driven_models.specs.three_state_cells.DrivenCells.{DrivenData, may_float}
-use Rattle.model_simulation.specs.library_items.LibraryCells.{CellEntry, Accepted, Refused}
-use Rattle.model_simulation.specs.library_items.declared.ending.Ending.{Ending}
-use Rattle.model_simulation.specs.library_items.declared.ending.Ending.TheVariants as ending
-use Rattle.model_simulation.specs.library_items.Endings.{library_limit, ending_of}
-use Rattle.model_simulation.specs.library_items.KeptCells.{cells_by}
-use Rattle.model_simulation.specs.library_file.LibraryAnswer.{answer_by, library_answer}
+use Rattle.library_simulation.specs.library_reader.LibraryCells.{CellEntry, Accepted, Refused}
+use Rattle.library_simulation.specs.library_reader.declared.ending.Ending.{Ending}
+use Rattle.library_simulation.specs.library_reader.declared.ending.Ending.TheVariants as ending
+use Rattle.library_simulation.specs.library_reader.Endings.{library_limit, ending_of}
+use Rattle.library_simulation.specs.library_reader.KeptCells.{cells_by}
+use Rattle.library_simulation.specs.library_report.LibraryAnswer.{answer_by, library_answer}
 use Rattle.library_translation.specs.Library.{translate_outcome}
 use Rattle.generated_driven_models.specs.specify_blocks.declared.model.VModule.{VModule}
 use Rattle.generated_driven_models.specs.specify_blocks.Generated.{module_of}
-use Rattle.command_outcomes.specs.declared.status.Status.TheVariants as status
-use Rattle.command_outcomes.specs.Outcome.{Outcome}
-use Rattle.command_outcomes.specs.FileSteps.{FileStop, outcome_by}
-use Rattle.model_simulation.specs.file_models.declared.file_model.FileModel.{FileModel}
-use Rattle.model_simulation.specs.file_models.FileModels.{plain_model}
-use Rattle.model_simulation.specs.model_files.ModelAnswer.{model_answer}
-use Rattle.model_simulation.specs.Verilog.{verilog}
+use Rattle.run_outcome.specs.declared.status.Status.TheVariants as status
+use Rattle.run_outcome.specs.Outcome.{Outcome}
+use Rattle.run_outcome.specs.FileSteps.{FileStop, outcome_by}
+use Rattle.library_simulation.specs.file_models.declared.file_model.FileModel.{FileModel}
+use Rattle.library_simulation.specs.file_models.FileModels.{plain_model}
+use Rattle.library_simulation.specs.model_files.ModelAnswer.{model_answer}
+use Rattle.library_simulation.specs.Verilog.{verilog}
 use Rattle.audited_modules.specs.Laws.{GeneratedModulesMatch}
-use Rattle.model_simulation.specs.simulation_catalog.CellModels.{over_core}
-use Rattle.model_simulation.specs.simulation_catalog.Generated.{in_verilog, own_verilog, modules_of, KeepsCellRules, KeepsRules}
-use Rattle.model_simulation.specs.simulation_catalog.Generated.{HaveOwnModels}
-use Rattle.model_simulation.proofs.simulation_catalog.GeneratedModels.{own_number, accepted_are_ready}
+use Rattle.library_simulation.specs.simulation_catalog.CellModels.{over_core}
+use Rattle.library_simulation.specs.simulation_catalog.Generated.{in_verilog, own_verilog, modules_of, KeepsCellRules, KeepsRules}
+use Rattle.library_simulation.specs.simulation_catalog.Generated.{HaveOwnModels}
+use Rattle.library_simulation.proofs.simulation_catalog.GeneratedModels.{own_number, accepted_are_ready}
 use Rattle.library_audit.specs.Lines.{audit_line, left_out_line}
 use Rattle.library_audit.specs.Audits.{module_in, module_at, module_for, verdict_in, accepted_text}
 use Rattle.library_audit.specs.Outcome.{audits_outcome, behind_cells, audit_outcome}

@@ -2,14 +2,14 @@
 use Rattle.std.proofs.Common.{◌≡◌, ℕ, Bool, true, false, List, if◌then◌else◌, sym, ap, subst}
 use Rattle.std.specs.Prelude.{◌≢◌}
 use Rattle.text_io.specs.Desk.{Folder}
-use Rattle.command_outcomes.specs.declared.status.Status.{Status}
-use Rattle.command_outcomes.specs.declared.status.Status.TheVariants as status
-use Rattle.command_outcomes.specs.Binding.{bytes_at}
-use Rattle.command_outcomes.specs.Outcome.{Outcome}
+use Rattle.run_outcome.specs.declared.status.Status.{Status}
+use Rattle.run_outcome.specs.declared.status.Status.TheVariants as status
+use Rattle.run_outcome.specs.Binding.{bytes_at}
+use Rattle.run_outcome.specs.Outcome.{Outcome}
 use Rattle.library_translation.specs.Library.{translate_outcome}
-use Rattle.model_simulation.specs.simulation_catalog.Comparisons.{any_differs}
-use Rattle.model_simulation.specs.simulation_catalog.Generated.{modules_of, entities_of}
-use Rattle.model_simulation.specs.Simulate.{simulate_outcome, simulate_of}
+use Rattle.library_simulation.specs.simulation_catalog.Comparisons.{any_differs}
+use Rattle.library_simulation.specs.simulation_catalog.Generated.{modules_of, entities_of}
+use Rattle.library_simulation.specs.Simulate.{simulate_outcome, simulate_of}
 use Rattle.translate_cmd.specs.Complete.{CanBeSimulated}
 use Rattle.translate_cmd.specs.Agreement.{own_simulation, IsWithoutFault}
 use Rattle.translate_cmd.specs.AgreementRuns.{NameOwnModels}

@@ -1,6 +1,6 @@
 -- The Verilog and the VHDL of a library read back.
 use Rattle.std.proofs.Common.{◌≡◌, ℕ, List, [], Ok, sym, subst}
-use Rattle.model_simulation.specs.file_models.sectioned_texts.DrivenModels.{driven_models}
+use Rattle.library_simulation.specs.file_models.sectioned_texts.DrivenModels.{driven_models}
 use Rattle.generated_driven_models.specs.written_driven_models.driven_files.Verilog.{verilog_sections}
 use Rattle.generated_driven_models.specs.written_driven_models.driven_files.Vital.{vital_sections}
 use Rattle.generated_driven_models.specs.written_driven_models.Laws.{HoldsApart}

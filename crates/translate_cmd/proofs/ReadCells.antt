@@ -1,16 +1,16 @@
 -- What is read of a cell that nothing refuses: its core is a cell without Z that nothing refuses, under a name of its own.
 use Rattle.std.proofs.Common.{◌≡◌, ℕ, ◌^◌, ◌<◌, Bool, true, false, List, [], ◌∷◌, ◌++◌, map, refl, sym, ap, subst, ◌∙◌, Option}
 use Rattle.std.proofs.Common.{Some, None, is_some, if◌then◌else◌}
-use Rattle.model_simulation.specs.file_models.bool_functions.NameList.{number_of}
+use Rattle.library_simulation.specs.file_models.bool_functions.NameList.{number_of}
 use Rattle.generated_driven_models.specs.liberty_text.declared.time.Unit.{Unit}
 use Rattle.generated_driven_models.specs.liberty_groups.declared.tree.Item.{Item}
 use Rattle.generated_driven_models.specs.liberty_groups.declared.tree.Item.TheOpen.{Group-F}
 use Rattle.generated_driven_models.specs.liberty_groups.declared.tree.Item.TheViews.{out-roll-Group}
 use Rattle.generated_driven_models.specs.liberty_groups.declared.tree.Group.{Group}
-use Rattle.model_simulation.specs.file_models.cell_machine.CellData.{CellData}
-use Rattle.cell_parts.specs.Groups.{first_argument, cell_name}
-use Rattle.cell_parts.specs.Declarations.{declared_of, known_cell, clashes_after}
-use Rattle.cell_parts.proofs.Distinct.{nil_parts}
+use Rattle.library_simulation.specs.file_models.cell_machine.CellData.{CellData}
+use Rattle.cell_attributes.specs.Groups.{first_argument, cell_name}
+use Rattle.cell_attributes.specs.Declarations.{declared_of, known_cell, clashes_after}
+use Rattle.cell_attributes.proofs.Distinct.{nil_parts}
 use Rattle.cell_reader.specs.declared.refusal.Refusal.{Refusal}
 use Rattle.cell_reader.specs.CellTexts.{subject_of}
 use Rattle.cell_reader.specs.Refusals.{refusal_of}
@@ -20,7 +20,7 @@ use Rattle.generated_driven_models.specs.three_state_cells.CoreGroups.{core_stat
 use Rattle.generated_driven_models.specs.three_state_cells.Refusals.{first_of_two, floating_refusal, refusal_by, driven_refusal}
 use Rattle.generated_driven_models.specs.three_state_cells.DrivenCells.{DrivenData, core_name, floating_of, data_by, driven_data}
 use Rattle.generated_driven_models.proofs.three_state_cells.CoreNames.{core_name_is_name, renamed_keeps_rules}
-use Rattle.generated_driven_models.specs.library_cells.Cells.{IsNumberedCell}
+use Rattle.generated_driven_models.specs.generated_modules.Cells.{IsNumberedCell}
 use Rattle.generated_driven_models.specs.generated_modules.Accepted.{described}
 use Rattle.generated_driven_models.specs.Library.{IsNumberedDriven}
 use Rattle.generated_driven_models.proofs.ReadCells.{read-cells-numbered}

@@ -4,18 +4,18 @@ use Rattle.text_io.specs.declared.slots.InSlot.TheVariants.{Library}
 use Rattle.text_io.specs.declared.outside.Failed.{Failed}
 use Rattle.text_io.specs.declared.slots.OutSlot.TheVariants.{Report, Faults}
 use Rattle.text_io.specs.Desk.{DeskState, WritesText}
-use Rattle.model_simulation.specs.file_models.udp_tables.declared.table.Udp.{Udp}
+use Rattle.library_simulation.specs.file_models.udp_tables.declared.table.Udp.{Udp}
 use Rattle.verilog_writer.specs.Primitive.{primitive_text}
 use Rattle.selftest_runs.specs.declared.counts.Counts.{Counts}
 use Rattle.selftest_runs.specs.OwnCounts.{own_counts}
 use Rattle.selftest_runs.specs.Report.{report_text}
-use Rattle.command_outcomes.specs.declared.status.Status.{Status}
-use Rattle.command_outcomes.specs.declared.status.Status.TheVariants.{Done, Usage, Outside, Memory}
-use Rattle.command_outcomes.proofs.RunsLaws.{RunsUnread, report_runs, faults_runs, nothing_runs as did_nothing}
+use Rattle.run_outcome.specs.declared.status.Status.{Status}
+use Rattle.run_outcome.specs.declared.status.Status.TheVariants.{Done, Usage, Outside, Memory}
+use Rattle.run_outcome.proofs.RunsLaws.{RunsUnread, report_runs, faults_runs, nothing_runs as did_nothing}
 use Rattle.command_words.specs.declared.commands.Command.TheVariants as command
 use Rattle.command_words.specs.Reading.{reading}
 use Rattle.translate_cmd.specs.Outcome.{files_of, outcome, outcome_of}
-use Rattle.command_outcomes.specs.Binding.{bytes_at}
+use Rattle.run_outcome.specs.Binding.{bytes_at}
 use Rattle.library_translation.specs.Models.{HoldsModels}
 use Rattle.translate_cmd.specs.Runs.{Runs}
 use Rattle.library_translation.proofs.ModelsLemmas.{no_model_owed}

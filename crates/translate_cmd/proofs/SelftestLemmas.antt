@@ -1,8 +1,8 @@
 -- A run on test cells is done, a call failed, or there was no memory.
 use Rattle.std.proofs.Common.{◌≡◌, ℕ, [], inl, inr, ap, ◌∙◌}
 use Rattle.text_io.specs.Desk.{DeskState, Folder}
-use Rattle.command_outcomes.specs.declared.status.Status.{Status}
-use Rattle.command_outcomes.specs.Binding.{Tells}
+use Rattle.run_outcome.specs.declared.status.Status.{Status}
+use Rattle.run_outcome.specs.Binding.{Tells}
 use Rattle.command_words.specs.declared.commands.Command.{Command}
 use Rattle.command_words.specs.declared.commands.Command.TheVariants as command
 use Rattle.command_words.specs.Reading.{reading}

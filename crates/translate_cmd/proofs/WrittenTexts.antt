@@ -4,12 +4,12 @@ use Rattle.std.proofs.Common.{None, if◌then◌else◌}
 use Rattle.std.specs.List.{flat_map}
 use Rattle.std.proofs.lemmas.List.{append-nil}
 use Rattle.generated_driven_models.specs.liberty_groups.declared.tree.Group.{Group}
-use Rattle.cell_parts.specs.Groups.{cell_name}
+use Rattle.cell_attributes.specs.Groups.{cell_name}
 use Rattle.cell_reader.specs.declared.refusal.Refusal.{Refusal}
 use Rattle.cell_cursor.specs.declared.item.LibraryItem.{LibraryItem}
 use Rattle.cell_cursor.specs.declared.item.LibraryItem.TheVariants as item
 use Rattle.cell_cursor.specs.Ends.{items_within}
-use Rattle.generated_driven_models.specs.vhdl_names.Kept.{lowered}
+use Rattle.generated_driven_models.specs.vhdl_tokens.Kept.{lowered}
 use Rattle.generated_driven_models.specs.specify_blocks.Generated.{module_of}
 use Rattle.verilog_writer.specs.Model.{prelude_text, module_text}
 use Rattle.generated_driven_models.specs.verilog_drivers.DriverText as verilog
@@ -23,11 +23,11 @@ use Rattle.generated_driven_models.specs.written_driven_models.Verilog.{written_
 use Rattle.generated_driven_models.specs.written_driven_models.Vital.{written_vital}
 use Rattle.generated_driven_models.specs.VerilogLibrary.{driven_module_of, driven_modules_of}
 use Rattle.generated_driven_models.specs.VitalLibrary.{model_name, driven_entity, driven_entities_behind}
-use Rattle.command_outcomes.specs.Written.{Written, joined}
-use Rattle.model_simulation.specs.library_items.declared.progress.Progress.{Progress}
-use Rattle.model_simulation.specs.library_items.Progress.{no_progress, next_refusal, next_data, next_entity, entity_by}
-use Rattle.model_simulation.specs.library_items.Progress.{after_cell, after_item}
-use Rattle.model_simulation.specs.library_items.Endings.{library_limit}
+use Rattle.run_outcome.specs.Written.{Written, joined}
+use Rattle.library_simulation.specs.library_reader.declared.progress.Progress.{Progress}
+use Rattle.library_simulation.specs.library_reader.Progress.{no_progress, next_refusal, next_data, next_entity, entity_by}
+use Rattle.library_simulation.specs.library_reader.Progress.{after_cell, after_item}
+use Rattle.library_simulation.specs.library_reader.Endings.{library_limit}
 use Rattle.library_translation.specs.Cells.{verilog_drivers_text, model_text, vital_drivers_text, vital_text, models_written}
 use Rattle.library_translation.specs.Cells.{accepted_written, written_by, items_written}
 use Rattle.library_translation.specs.Library.{outcome_at}

@@ -1,25 +1,25 @@
 -- A library simulated with the models that translating it writes: what it comes to. This project's promise.
 use Rattle.std.specs.Prelude.{◌≡◌, ◌≢◌, ◌≤◌, ℕ, List, [], length, Ok, All}
 use Rattle.cell_cursor.specs.Ends.{items_within}
-use Rattle.model_simulation.specs.library_items.LibraryCells.{CellEntry}
-use Rattle.model_simulation.specs.file_models.stimulus.declared.sections.Section.{Section}
-use Rattle.model_simulation.specs.file_models.stimulus.PortEntries.{NamedCells, listed}
-use Rattle.model_simulation.specs.file_models.stimulus.Stimulus.{stimulus_of}
-use Rattle.command_outcomes.specs.declared.status.Status.TheVariants as status
-use Rattle.command_outcomes.specs.Written.{in_report}
-use Rattle.command_outcomes.specs.Outcome.{Outcome}
-use Rattle.model_simulation.specs.simulation_catalog.Catalog.{cells_named}
-use Rattle.model_simulation.specs.simulation_catalog.Comparisons.{sections_text}
-use Rattle.model_simulation.specs.simulation_catalog.Generated.{modules_of, entities_of, SaysEqual}
-use Rattle.model_simulation.specs.simulation_catalog.FaultLines.{cause_stop}
-use Rattle.model_simulation.specs.model_files.StimulusAnswer.{stimulus_answer}
-use Rattle.model_simulation.specs.library_items.Endings.{library_limit}
-use Rattle.model_simulation.specs.library_items.KeptCells.{kept_cells}
-use Rattle.model_simulation.specs.library_items.Progress.{no_progress}
+use Rattle.library_simulation.specs.library_reader.LibraryCells.{CellEntry}
+use Rattle.library_simulation.specs.file_models.stimulus.declared.sections.Section.{Section}
+use Rattle.library_simulation.specs.file_models.stimulus.PortEntries.{NamedCells, listed}
+use Rattle.library_simulation.specs.file_models.stimulus.Stimulus.{stimulus_of}
+use Rattle.run_outcome.specs.declared.status.Status.TheVariants as status
+use Rattle.run_outcome.specs.Written.{in_report}
+use Rattle.run_outcome.specs.Outcome.{Outcome}
+use Rattle.library_simulation.specs.simulation_catalog.Catalog.{cells_named}
+use Rattle.library_simulation.specs.simulation_catalog.Comparisons.{sections_text}
+use Rattle.library_simulation.specs.simulation_catalog.Generated.{modules_of, entities_of, SaysEqual}
+use Rattle.library_simulation.specs.simulation_catalog.FaultLines.{cause_stop}
+use Rattle.library_simulation.specs.model_files.StimulusAnswer.{stimulus_answer}
+use Rattle.library_simulation.specs.library_reader.Endings.{library_limit}
+use Rattle.library_simulation.specs.library_reader.KeptCells.{kept_cells}
+use Rattle.library_simulation.specs.library_reader.Progress.{no_progress}
 use Rattle.library_translation.specs.Library.{translate_outcome}
-use Rattle.model_simulation.specs.model_files.Limits.{model_limit, stimulus_limit}
-use Rattle.model_simulation.specs.library_file.LibraryAnswer.{library_answer}
-use Rattle.model_simulation.specs.Simulate.{simulate_outcome}
+use Rattle.library_simulation.specs.model_files.Limits.{model_limit, stimulus_limit}
+use Rattle.library_simulation.specs.library_report.LibraryAnswer.{library_answer}
+use Rattle.library_simulation.specs.Simulate.{simulate_outcome}
 use Rattle.translate_cmd.specs.Complete.{IsWholeLibrary}
 
 -- the cells of a library beside the models that are generated for them

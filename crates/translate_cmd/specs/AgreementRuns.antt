@@ -4,13 +4,13 @@ use Rattle.text_io.specs.declared.file_commands.FileCommand.TheVariants.{Simulat
 use Rattle.text_io.specs.declared.slots.InSlot.{InSlot}
 use Rattle.text_io.specs.declared.slots.OutSlot.TheVariants.{Report}
 use Rattle.text_io.specs.Desk.{DeskState, Folder, wrote}
-use Rattle.command_outcomes.specs.declared.status.Status.{Status}
-use Rattle.command_outcomes.specs.declared.status.Status.TheVariants as status
-use Rattle.command_outcomes.specs.Binding.{bound_state, AreNamed, took_all, Tells, bytes_at}
+use Rattle.run_outcome.specs.declared.status.Status.{Status}
+use Rattle.run_outcome.specs.declared.status.Status.TheVariants as status
+use Rattle.run_outcome.specs.Binding.{bound_state, AreNamed, took_all, Tells, bytes_at}
 use Rattle.command_words.specs.declared.commands.Command.TheVariants as command
 use Rattle.command_words.specs.Reading.{reading}
 use Rattle.library_translation.specs.Library.{translate_outcome}
-use Rattle.model_simulation.specs.Simulate.{simulate_files}
+use Rattle.library_simulation.specs.Simulate.{simulate_files}
 use Rattle.translate_cmd.specs.Agreement.{SaysAllEqual, IsWithoutFault}
 
 -- the files of models that these words name hold the Verilog and the VHDL that translating the library that they name writes

@@ -2,10 +2,10 @@
 use Rattle.std.specs.Prelude.{◌≡◌, ◌↔◌, ℕ, List, IsTrue}
 use Rattle.text_io.specs.declared.file_commands.FileCommand.TheVariants.{Audit}
 use Rattle.text_io.specs.Desk.{DeskState, Folder}
-use Rattle.command_outcomes.specs.declared.status.Status.{Status}
-use Rattle.command_outcomes.specs.declared.status.Status.TheVariants.{Done}
-use Rattle.command_outcomes.specs.Status.{is_decided}
-use Rattle.command_outcomes.specs.Binding.{Tells, bytes_at}
+use Rattle.run_outcome.specs.declared.status.Status.{Status}
+use Rattle.run_outcome.specs.declared.status.Status.TheVariants.{Done}
+use Rattle.run_outcome.specs.Status.{is_decided}
+use Rattle.run_outcome.specs.Binding.{Tells, bytes_at}
 use Rattle.command_words.specs.declared.commands.Command.TheVariants as command
 use Rattle.command_words.specs.Reading.{reading}
 use Rattle.library_audit.specs.Outcome.{audit_files}

@@ -1,22 +1,22 @@
 -- What a line `same` of a comparison of a library with a Verilog file promises. This project's promise.
 use Rattle.std.specs.Prelude.{◌≡◌, ◌≢◌, List, [], ℕ, false, All, Some, Ok, if◌then◌else◌}
-use Rattle.model_simulation.specs.file_models.cell_machine.declared.changes.Change.{Change}
-use Rattle.model_simulation.specs.file_models.cell_machine.CellData.{CellData}
-use Rattle.model_simulation.specs.file_models.cell_machine.History.{IsProper, IsProperFrom}
-use Rattle.model_simulation.specs.file_models.cell_machine.CellTrace.{inputs_of, states_after, cell_trace}
+use Rattle.library_simulation.specs.file_models.cell_machine.declared.changes.Change.{Change}
+use Rattle.library_simulation.specs.file_models.cell_machine.CellData.{CellData}
+use Rattle.library_simulation.specs.file_models.cell_machine.History.{IsProper, IsProperFrom}
+use Rattle.library_simulation.specs.file_models.cell_machine.CellTrace.{inputs_of, states_after, cell_trace}
 use Rattle.generated_driven_models.specs.specify_blocks.declared.model.VModule.{VModule}
 use Rattle.model_traces.specs.ModuleRun.{run_after}
 use Rattle.model_traces.specs.ModuleTrace.{module_trace}
 use Rattle.model_traces.specs.SequentialStates.{sequential_states}
 use Rattle.generated_driven_models.specs.three_state_cells.DrivenCells.{DrivenData, may_float}
-use Rattle.model_simulation.specs.file_models.declared.file_model.FileModel.{FileModel}
-use Rattle.model_simulation.specs.library_items.LibraryCells.{CellEntry, Accepted, Refused}
-use Rattle.command_outcomes.specs.declared.status.Status.TheVariants as status
-use Rattle.command_outcomes.specs.Outcome.{Outcome}
-use Rattle.model_simulation.specs.library_file.LibraryAnswer.{library_answer}
+use Rattle.library_simulation.specs.file_models.declared.file_model.FileModel.{FileModel}
+use Rattle.library_simulation.specs.library_reader.LibraryCells.{CellEntry, Accepted, Refused}
+use Rattle.run_outcome.specs.declared.status.Status.TheVariants as status
+use Rattle.run_outcome.specs.Outcome.{Outcome}
+use Rattle.library_simulation.specs.library_report.LibraryAnswer.{library_answer}
 use Rattle.library_translation.specs.Library.{translate_outcome}
-use Rattle.model_simulation.specs.model_files.ModelAnswer.{model_answer}
-use Rattle.model_simulation.specs.Verilog.{verilog}
+use Rattle.library_simulation.specs.model_files.ModelAnswer.{model_answer}
+use Rattle.library_simulation.specs.Verilog.{verilog}
 use Rattle.library_audit.specs.Lines.{left_out_line}
 use Rattle.library_audit.specs.Audits.{module_for, audit_text}
 use Rattle.library_audit.specs.Outcome.{audit_outcome}

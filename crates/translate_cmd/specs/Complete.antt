@@ -6,28 +6,28 @@ use Rattle.text_io.specs.declared.file_commands.FileCommand.{FileCommand}
 use Rattle.text_io.specs.declared.file_commands.FileCommand.TheVariants.{Translate, Simulate, ReplayVerilog, ReplayVital, Audit}
 use Rattle.text_io.specs.declared.slots.InSlot.{InSlot}
 use Rattle.text_io.specs.Desk.{DeskState, Folder}
-use Rattle.command_outcomes.specs.declared.status.Status.{Status}
-use Rattle.command_outcomes.specs.declared.status.Status.TheVariants as status
+use Rattle.run_outcome.specs.declared.status.Status.{Status}
+use Rattle.run_outcome.specs.declared.status.Status.TheVariants as status
 use Rattle.command_words.specs.declared.commands.Command.{Command}
 use Rattle.command_words.specs.declared.commands.Command.TheVariants as command
 use Rattle.command_words.specs.Reading.{reading}
-use Rattle.command_outcomes.specs.Written.{wrote_all}
-use Rattle.command_outcomes.specs.Binding.{bound_state, AreNamed, took_all, Tells, bytes_at}
+use Rattle.run_outcome.specs.Written.{wrote_all}
+use Rattle.run_outcome.specs.Binding.{bound_state, AreNamed, took_all, Tells, bytes_at}
 use Rattle.model_replay.specs.Complete.{CanBeReplayed}
-use Rattle.model_simulation.specs.model_files.Limits.{model_limit, stimulus_limit}
+use Rattle.library_simulation.specs.model_files.Limits.{model_limit, stimulus_limit}
 use Rattle.cell_cursor.specs.Ends.{items_within}
 use Rattle.generated_driven_models.specs.specify_blocks.declared.model.VModule.{VModule}
 use Rattle.generated_driven_models.specs.vital_models.declared.model.VEntity.{VEntity}
-use Rattle.model_simulation.specs.file_models.declared.file_model.FileModel.{FileModel}
-use Rattle.model_simulation.specs.file_models.stimulus.declared.sections.Section.{Section}
-use Rattle.model_simulation.specs.file_models.stimulus.PortEntries.{listed}
-use Rattle.model_simulation.specs.file_models.stimulus.Stimulus.{stimulus_of}
-use Rattle.model_simulation.specs.library_items.KeptCells.{kept_cells}
-use Rattle.model_simulation.specs.library_items.Progress.{no_progress}
-use Rattle.model_simulation.specs.simulation_catalog.Catalog.{cells_named}
-use Rattle.model_simulation.specs.Verilog.{verilog}
-use Rattle.model_simulation.specs.Vital.{vital}
-use Rattle.model_simulation.specs.library_items.Endings.{library_limit}
+use Rattle.library_simulation.specs.file_models.declared.file_model.FileModel.{FileModel}
+use Rattle.library_simulation.specs.file_models.stimulus.declared.sections.Section.{Section}
+use Rattle.library_simulation.specs.file_models.stimulus.PortEntries.{listed}
+use Rattle.library_simulation.specs.file_models.stimulus.Stimulus.{stimulus_of}
+use Rattle.library_simulation.specs.library_reader.KeptCells.{kept_cells}
+use Rattle.library_simulation.specs.library_reader.Progress.{no_progress}
+use Rattle.library_simulation.specs.simulation_catalog.Catalog.{cells_named}
+use Rattle.library_simulation.specs.Verilog.{verilog}
+use Rattle.library_simulation.specs.Vital.{vital}
+use Rattle.library_simulation.specs.library_reader.Endings.{library_limit}
 use Rattle.translate_cmd.specs.Outcome.{files_of, outcome}
 
 -- a library within its limit, whose text is whole; its cells may be refused or not

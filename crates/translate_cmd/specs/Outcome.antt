@@ -5,20 +5,20 @@ use Rattle.text_io.specs.declared.file_commands.FileCommand.TheVariants.{Transla
 use Rattle.text_io.specs.Desk.{Folder}
 use Rattle.text_io.specs.Plan.{planned_files}
 use Rattle.verilog_writer.specs.Primitive.{primitive_text}
-use Rattle.command_outcomes.specs.declared.status.Status.TheVariants.{Done, Usage}
-use Rattle.command_outcomes.specs.Written.{nothing_written, in_report}
-use Rattle.command_outcomes.specs.Binding.{Files}
-use Rattle.command_outcomes.specs.Outcome.{Outcome}
+use Rattle.run_outcome.specs.declared.status.Status.TheVariants.{Done, Usage}
+use Rattle.run_outcome.specs.Written.{nothing_written, in_report}
+use Rattle.run_outcome.specs.Binding.{Files}
+use Rattle.run_outcome.specs.Outcome.{Outcome}
 use Rattle.model_replay.specs.Outcome.{replay_of}
-use Rattle.model_simulation.specs.Verilog.{verilog}
-use Rattle.model_simulation.specs.Vital.{vital}
+use Rattle.library_simulation.specs.Verilog.{verilog}
+use Rattle.library_simulation.specs.Vital.{vital}
 use Rattle.selftest_runs.specs.OwnCounts.{own_counts}
 use Rattle.selftest_runs.specs.Report.{report_text}
 use Rattle.command_words.specs.declared.commands.Command.{Command}
 use Rattle.command_words.specs.declared.commands.Command.TheVariants as command
 use Rattle.command_words.specs.Reading.{reading}
 use Rattle.library_translation.specs.Runs.{translate_of}
-use Rattle.model_simulation.specs.Simulate.{simulate_of}
+use Rattle.library_simulation.specs.Simulate.{simulate_of}
 use Rattle.library_audit.specs.Outcome.{audit_of}
 
 -- the files that a command names

@@ -3,9 +3,9 @@ use Rattle.std.specs.Prelude.{◌≡◌}
 use Rattle.text_io.specs.declared.file_commands.FileCommand.TheVariants.{Translate}
 use Rattle.text_io.specs.declared.slots.InSlot.TheVariants.{Library}
 use Rattle.text_io.specs.Desk.{DeskState, Folder}
-use Rattle.command_outcomes.specs.declared.status.Status.{Status}
-use Rattle.command_outcomes.specs.Binding.{Tells, bytes_at}
-use Rattle.command_outcomes.specs.Runs.{RunsAs}
+use Rattle.run_outcome.specs.declared.status.Status.{Status}
+use Rattle.run_outcome.specs.Binding.{Tells, bytes_at}
+use Rattle.run_outcome.specs.Runs.{RunsAs}
 use Rattle.command_words.specs.declared.commands.Command.TheVariants as command
 use Rattle.command_words.specs.Reading.{reading}
 use Rattle.library_translation.specs.Models.{HoldsModels}

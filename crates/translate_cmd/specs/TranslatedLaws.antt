@@ -1,8 +1,8 @@
 -- Laws of what `translate` writes.
 use Rattle.std.specs.Prelude.{◌≡◌, ℕ, List, [], Ok}
-use Rattle.model_simulation.specs.file_models.sectioned_texts.DrivenModels.{driven_models}
+use Rattle.library_simulation.specs.file_models.sectioned_texts.DrivenModels.{driven_models}
 use Rattle.generated_driven_models.specs.specify_blocks.WellFormed as modules
-use Rattle.generated_driven_models.specs.vhdl_text.WellFormed as entities
+use Rattle.generated_driven_models.specs.vhdl_grammar.WellFormed as entities
 use Rattle.generated_driven_models.specs.written_driven_models.driven_files.Verilog.{verilog_sections}
 use Rattle.generated_driven_models.specs.written_driven_models.driven_files.Vital.{vital_sections}
 use Rattle.generated_driven_models.specs.written_driven_models.Texts.{written_text}

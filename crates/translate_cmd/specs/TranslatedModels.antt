@@ -8,13 +8,13 @@ use Rattle.cell_cursor.specs.Ends.{items_within}
 use Rattle.generated_driven_models.specs.three_state_cells.DrivenCells.{DrivenData}
 use Rattle.generated_driven_models.specs.specify_blocks.declared.model.VModule.{VModule}
 use Rattle.generated_driven_models.specs.vital_models.declared.model.VEntity.{VEntity}
-use Rattle.model_simulation.specs.file_models.sectioned_texts.declared.driven_models.DrivenModels.{DrivenModels}
+use Rattle.library_simulation.specs.file_models.sectioned_texts.declared.driven_models.DrivenModels.{DrivenModels}
 use Rattle.generated_driven_models.specs.written_driven_models.Texts.{WrittenModel, models_of, drivers_of}
 use Rattle.generated_driven_models.specs.VerilogLibrary.{driven_modules_of}
 use Rattle.generated_driven_models.specs.VitalLibrary.{driven_entities_of}
-use Rattle.model_simulation.specs.library_items.declared.progress.Progress.{Progress}
-use Rattle.model_simulation.specs.library_items.Progress.{no_progress, next_refusal, next_data, after_item}
-use Rattle.model_simulation.specs.library_items.Endings.{library_limit}
+use Rattle.library_simulation.specs.library_reader.declared.progress.Progress.{Progress}
+use Rattle.library_simulation.specs.library_reader.Progress.{no_progress, next_refusal, next_data, after_item}
+use Rattle.library_simulation.specs.library_reader.Endings.{library_limit}
 
 -- the next cell, where nothing refuses it
 abbrev pub cells_by : Progress → Group → Option Refusal → List DrivenData

@@ -4,7 +4,7 @@ ghost use Rattle.std.specs.Prelude.{◌≡◌, ◌≤◌, ◌↔◌, IsTrue, if�
 ghost use Rattle.text_io.specs.Desk.{HasCause, Rose};
 ghost use Rattle.text_io.specs.Gate.{failures};
 ghost use Rattle.text_io.specs.Sure.{sure_state};
-ghost use Rattle.command_outcomes.specs.Status.{is_decided, is_unfailed};
+ghost use Rattle.run_outcome.specs.Status.{is_decided, is_unfailed};
 ghost use Rattle.command_words.specs.declared.commands.Command.TheVariants as command;
 ghost use Rattle.command_words.specs.Reading.{reading};
 ghost use Rattle.translate_cmd.specs.Runs.{Runs};
@@ -15,7 +15,7 @@ ghost use Rattle.translate_cmd.specs.AuditRuns.{DoneWhereAllMatch};
 
 use crate::commands::{selftest, work_on_files};
 use crate::laws::audited_cells_agree;
-use command_outcomes::{Status, ended};
+use run_outcome::{Status, ended};
 use command_words::{Command, Memory, asked};
 use library_audit::done_is_match;
 use std::alloc::Global;

@@ -1,15 +1,15 @@
 //! The commands that read files or make cells of their own, each over the words that ask for it.
 ghost use Rattle.std.specs.Prelude.{◌≡◌};
-ghost use Rattle.command_outcomes.specs.Runs.{StopsWithStatus};
+ghost use Rattle.run_outcome.specs.Runs.{StopsWithStatus};
 ghost use Rattle.command_words.specs.declared.commands.Command.TheVariants as command;
 ghost use Rattle.command_words.specs.Reading.{reading};
 ghost use Rattle.translate_cmd.specs.Runs.{Runs};
 
-use command_outcomes::{Status, ended};
+use run_outcome::{Status, ended};
 use library_audit::audit_library;
 use library_translation::translate_library;
 use model_replay::replay_models;
-use model_simulation::{Verilog, Vital, simulate_library};
+use library_simulation::{Verilog, Vital, simulate_library};
 use selftest_runs::{selftest_counts, write_report};
 use std::alloc::Global;
 use text_io::{Desk, FileCommand};

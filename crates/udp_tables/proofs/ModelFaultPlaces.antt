@@ -1,7 +1,7 @@
 -- The fault of a refusal at an offset stands there.
 use Rattle.std.proofs.Common.{◌≡◌, ℕ, refl}
-use Rattle.rule_readers.specs.declared.refusal.Refusal.{Refusal}
-use Rattle.rule_readers.specs.declared.refusal.Refusal.TheVariants as refusal
+use Rattle.grammar_reader.specs.declared.refusal.Refusal.{Refusal}
+use Rattle.grammar_reader.specs.declared.refusal.Refusal.TheVariants as refusal
 use Rattle.udp_tables.specs.ModelFaults.{fault_at, fault_place}
 
 pub place_of_fault : (k : Refusal) (at : ℕ) → fault_place (fault_at k at) ≡ at

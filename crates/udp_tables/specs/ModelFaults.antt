@@ -1,8 +1,8 @@
 -- The faults of texts of models, in each language: the fault of a refusal at an offset, and which of two faults counts.
 use Rattle.std.specs.Prelude.{ℕ}
-use Rattle.rule_readers.specs.declared.refusal.Refusal.{Refusal}
-use Rattle.rule_readers.specs.declared.refusal.Refusal.TheVariants as refusal
-use Rattle.rule_readers.specs.Texts.{Faults}
+use Rattle.grammar_reader.specs.declared.refusal.Refusal.{Refusal}
+use Rattle.grammar_reader.specs.declared.refusal.Refusal.TheVariants as refusal
+use Rattle.grammar_reader.specs.Texts.{Faults}
 use Rattle.udp_tables.specs.declared.models.ModelFault.{ModelFault}
 use Rattle.udp_tables.specs.declared.models.ModelFault.TheVariants as fault
 

@@ -14,9 +14,9 @@ use Rattle.udp_tables.specs.declared.table.Next.TheVariants as next
 use Rattle.udp_tables.specs.declared.table.UdpRow.{UdpRow}
 use Rattle.udp_tables.specs.declared.table.Udp.{Udp}
 use Rattle.udp_tables.specs.Primitive.{is_level}
-use Rattle.rule_readers.specs.declared.refusal.Refusal.{Refusal}
-use Rattle.rule_readers.specs.declared.refusal.Refusal.TheVariants.{Syntax, TwoEdges, Width}
-use Rattle.rule_readers.specs.Words.{Grammar, ◌>>=◌, go_on_where, valued}
+use Rattle.grammar_reader.specs.declared.refusal.Refusal.{Refusal}
+use Rattle.grammar_reader.specs.declared.refusal.Refusal.TheVariants.{Syntax, TwoEdges, Width}
+use Rattle.grammar_reader.specs.Words.{Grammar, ◌>>=◌, go_on_where, valued}
 use Rattle.udp_tables.specs.VerilogRules.{expect, expect_where, begins, begins_where, any_name, new_name, this_name}
 
 -- at least so many inputs are allowed of a primitive without a state and of one with a state (8.1: at least 10, and at least 9)

@@ -4,9 +4,9 @@ use Rattle.std.specs.Prelude.{ℕ, Bool, List, Option, drop}
 use Rattle.std.specs.List.{position_from}
 use Rattle.std.specs.Str.{bytes_eq}
 use Rattle.grammar_rules.specs.Rule.{Verdict}
-use Rattle.rule_readers.specs.declared.refusal.Refusal.{Refusal}
-use Rattle.rule_readers.specs.Words.{Grammar}
-use Rattle.rule_readers.specs.Words as words
+use Rattle.grammar_reader.specs.declared.refusal.Refusal.{Refusal}
+use Rattle.grammar_reader.specs.Words.{Grammar}
+use Rattle.grammar_reader.specs.Words as words
 use Rattle.verilog_tokens.specs.Tokens.{is_name}
 
 -- a token that must stand here

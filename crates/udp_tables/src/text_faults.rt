@@ -1,13 +1,13 @@
 //! The faults of texts of models, whatever their language.
 
 ghost use Rattle.std.specs.Prelude.{◌≡◌, length};
-ghost use Rattle.rule_readers.specs.Texts.{refusal_fault};
-ghost use Rattle.token_spans.specs.Spans.{tokens_of};
+ghost use Rattle.grammar_reader.specs.Texts.{refusal_fault};
+ghost use Rattle.lexer.specs.Spans.{tokens_of};
 ghost use Rattle.udp_tables.specs.ModelFaults.{fault_at, model_faults};
 
 use crate::models::ModelFault;
-use rule_readers::{Cursor, Language, Refusal};
-use token_spans::{KeptSpan, place_of};
+use grammar_reader::{Cursor, Language, Refusal};
+use lexer::{KeptSpan, place_of};
 
 /// The fault of a refusal at an offset.
 fn fault_at(refusal: Refusal, at: usize) -> ModelFault

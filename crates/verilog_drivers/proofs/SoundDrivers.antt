@@ -6,8 +6,8 @@ use Rattle.std.specs.Option.{option_and_then}
 use Rattle.std.proofs.lemmas.List.Elements.{All-push}
 use Rattle.std.proofs.lemmas.List.Quantifiers.{position-Some}
 use Rattle.grammar_rules.specs.Rule.{Takes}
-use Rattle.rule_readers.specs.Texts.{IsAnswer}
-use Rattle.rule_readers.proofs.TextAnswers as answers
+use Rattle.grammar_reader.specs.Texts.{IsAnswer}
+use Rattle.grammar_reader.proofs.TextAnswers as answers
 use Rattle.udp_tables.proofs.ModelFaultPlaces.{place_of_fault}
 use Rattle.specify_blocks.specs.VerilogText.{text_tokens}
 use Rattle.grammar_rules.proofs.Promises.{Promises, gives, in_turn, many, choice}

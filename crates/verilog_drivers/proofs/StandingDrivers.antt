@@ -2,7 +2,7 @@
 use Rattle.std.proofs.Common.{◌≡◌, ℕ, ◌≤◌, true, false, List, [], ◌∷◌, length, Ok, sym, subst, codes}
 use Rattle.std.specs.Str.{bytes_eq}
 use Rattle.grammar_rules.proofs.Promises.{Promises, gives, in_turn}
-use Rattle.rule_readers.specs.Words.{is_among}
+use Rattle.grammar_reader.specs.Words.{is_among}
 use Rattle.verilog_tokens.specs.Tokens.{is_name}
 use Rattle.specify_blocks.specs.VerilogText.{text_tokens}
 use Rattle.udp_tables.specs.declared.models.VPort.{VPort}

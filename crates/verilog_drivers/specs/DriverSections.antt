@@ -5,9 +5,9 @@ use Rattle.std.specs.Prelude.{ℕ, ◌+◌, ◌==◌, List, [], ◌∷◌, ◌++
 use Rattle.std.specs.Str.{bytes_eq}
 use Rattle.grammar_rules.specs.Rule.{Fits}
 use Rattle.grammar_rules.specs.Rule as r
-use Rattle.rule_readers.specs.declared.refusal.Refusal.TheVariants.{Syntax}
-use Rattle.rule_readers.specs.Words.{Grammar, ◌>>=◌, go_on_where, name_by}
-use Rattle.rule_readers.specs.Texts.{Texts, text}
+use Rattle.grammar_reader.specs.declared.refusal.Refusal.TheVariants.{Syntax}
+use Rattle.grammar_reader.specs.Words.{Grammar, ◌>>=◌, go_on_where, name_by}
+use Rattle.grammar_reader.specs.Texts.{Texts, text}
 use Rattle.verilog_tokens.specs.Tokens.{is_name, lexis}
 use Rattle.udp_tables.specs.declared.models.ModelFault.{ModelFault}
 use Rattle.udp_tables.specs.ModelFaults.{model_faults}

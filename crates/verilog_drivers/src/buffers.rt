@@ -2,8 +2,7 @@
 ghost use Rattle.verilog_drivers.specs.DriverText.{buffer_text};
 
 use driver_texts::PortText;
-use text_io::{Desk, Line, OutSlot};
-use text_parts::{Bytes, Decimal, Part, Put, parts};
+use text_io::{Bytes, Decimal, Desk, Line, OutSlot, Part, Put, parts};
 use udp_tables::VPort;
 
 /// Lines of buffers, one for each driven output.

@@ -1,12 +1,12 @@
 //! The wires of a driver and the instance of its core, by recursive descent. (IEEE 1364-2005, 3.3 and 12.1.2.)
 
-ghost use Rattle.rule_readers.specs.Reading.{read, Reads, ReadsAs};
+ghost use Rattle.grammar_reader.specs.Reading.{read, Reads, ReadsAs};
 ghost use Rattle.verilog_drivers.specs.DriverSections as spec;
 ghost use Rattle.verilog_drivers.specs.Sections.{call_of};
 
 use crate::language::{Cursor, VerilogDrivers};
 use driver_models::{Cores, core_name, core_terminals, declared_wires};
-use rule_readers::Read;
+use grammar_reader::Read;
 use sqlite_items::Items;
 use std::alloc::Global;
 use udp_tables::VPort;

@@ -1,21 +1,20 @@
 //! The paths of a driver, by recursive descent. (IEEE 1364-2005, 14.2 and 14.3.)
 
-ghost use Rattle.rule_readers.specs.Reading.{read, Reads};
+ghost use Rattle.grammar_reader.specs.Reading.{read, Reads};
 ghost use Rattle.specify_blocks.specs.VerilogBlocks.{a_number};
 ghost use Rattle.verilog_drivers.specs.DriverSections as spec;
 
 use crate::language::Cursor;
 use driven_traces::DrivePath;
 use driver_models::{path_from, path_to};
-use part_readers::with_end;
-use rule_readers::Read;
+use grammar_reader::{Read, with_end};
 use sqlite_items::Items;
 use std::alloc::Global;
 use udp_tables::VPort;
 use verilog_tokens::number_of;
 
 /// The number that stands next.
-#[tactic(auto, using(rule_readers::proofs::Values::valued_found), unfolding(specify_blocks::specs::VerilogBlocks::a_number))]
+#[tactic(auto, using(grammar_reader::proofs::Values::valued_found), unfolding(specify_blocks::specs::VerilogBlocks::a_number))]
 fn number(cursor: &mut Cursor) -> Read<u64>
     ensures { Reads (read a_number cursor.old) result cursor.new }
 {
@@ -47,7 +46,7 @@ fn drive_path(cursor: &mut Cursor, ports: &[VPort], drives: &[usize]) -> Read<Dr
 }
 
 /// The paths of a specify block, behind its word, and its end.
-#[tactic(auto, using(rule_readers::proofs::Repeats::turns), unfolding(crate::specs::DriverSections::drive_block, crate::specs::DriverSections::next_drive_path))]
+#[tactic(auto, using(grammar_reader::proofs::Repeats::turns), unfolding(crate::specs::DriverSections::drive_block, crate::specs::DriverSections::next_drive_path))]
 fn drive_block(
     cursor: &mut Cursor,
     alloc: Global,
@@ -68,7 +67,7 @@ fn drive_block(
 }
 
 /// The paths of a driver, where it has a specify block.
-#[tactic(auto, using(rule_readers::proofs::Repeats::choose_begun, rule_readers::proofs::Repeats::choose_other), unfolding(crate::specs::DriverSections::drive_paths))]
+#[tactic(auto, using(grammar_reader::proofs::Repeats::choose_begun, grammar_reader::proofs::Repeats::choose_other), unfolding(crate::specs::DriverSections::drive_paths))]
 pub(crate) fn drive_paths(
     cursor: &mut Cursor,
     alloc: Global,

@@ -3,15 +3,15 @@
 ghost use Rattle.std.specs.Prelude.{◌≡◌};
 
 use driver_models::DriverLanguage;
-use rule_readers::Language;
+use grammar_reader::Language;
 use std::alloc::{AllocError, Global};
-use udp_reader::Verilog;
+use verilog_udp_reader::Verilog;
 
 /// The spelling of Verilog, and the wires of drivers: two names are the same where their bytes are.
 pub struct VerilogDrivers;
 
 /// A cursor over the tokens of a section.
-pub(crate) type Cursor<'a> = rule_readers::Cursor<'a, VerilogDrivers>;
+pub(crate) type Cursor<'a> = grammar_reader::Cursor<'a, VerilogDrivers>;
 
 impl Language for VerilogDrivers {
     ghost use Rattle.std.specs.Str.{bytes_eq};

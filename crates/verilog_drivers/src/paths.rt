@@ -6,8 +6,7 @@ ghost use Rattle.verilog_drivers.specs.DriverText.{drive_path_text};
 use driven_traces::DrivePath;
 use driver_models::DriverModel;
 use driver_texts::{input_name, output_name};
-use text_io::{Desk, Line, OutSlot};
-use text_parts::{Bytes, ItemText, Part, Put, parts};
+use text_io::{Bytes, Desk, ItemText, Line, OutSlot, Part, Put, parts};
 use verilog_writer::PathDelays;
 
 /// The name of the driven output with a number, none where there is no such output.

@@ -1,14 +1,13 @@
 //! The ports of a driver, by recursive descent. (IEEE 1364-2005, 12.3.)
 
-ghost use Rattle.rule_readers.specs.Reading.{read, Reads};
+ghost use Rattle.grammar_reader.specs.Reading.{read, Reads};
 ghost use Rattle.verilog_drivers.specs.DriverSections as spec;
 
-use header_reader::{Inputs, module_inputs, module_outputs, some_ports};
-use part_readers::with_end;
-use rule_readers::{Read, Refusal, Stop};
+use verilog_header_reader::{Inputs, module_inputs, module_outputs, some_ports};
+use grammar_reader::{Read, Refusal, Stop, with_end};
 use sqlite_items::Items;
 use std::alloc::Global;
-use udp_reader::Cursor;
+use verilog_udp_reader::Cursor;
 use udp_tables::VPort;
 
 /// A place where a name stands next.

@@ -1,8 +1,8 @@
 //! The bytes of a section to a driver, or to their fault.
 
 ghost use Rattle.std.specs.Prelude.{◌≡◌, ◌-◌, length, drop, IfOk, IfErr, Ok};
-ghost use Rattle.token_spans.specs.Spans.{LieInside, spelled};
-ghost use Rattle.rule_readers.specs.Reading.{read, Reads};
+ghost use Rattle.lexer.specs.Spans.{LieInside, spelled};
+ghost use Rattle.grammar_reader.specs.Reading.{read, Reads};
 ghost use Rattle.driver_models.specs.Models.{IsSound};
 ghost use Rattle.verilog_drivers.specs.DriverSections as spec;
 ghost use Rattle.verilog_drivers.specs.Sections.{IsFaultOf};
@@ -11,9 +11,9 @@ use crate::language::{Cursor, VerilogDrivers};
 use crate::section::{section_front, section_rest};
 use driver_models::{Cores, DriverModel, KnownNames};
 use driver_texts::cursor_before;
-use rule_readers::{Read, Stop};
+use grammar_reader::{Read, Stop};
 use std::alloc::Global;
-use token_spans::{KeptSpan, Scan};
+use lexer::{KeptSpan, Scan};
 use udp_tables::{ModelFault, refusal_fault};
 use verilog_tokens::scan;
 
@@ -36,7 +36,7 @@ fn section<'a>(
     requires { LieInside text.now tokens.now }
     ensures { Reads (read (spec.section names.now cores.now) (spelled text.now tokens.now)) result.driver result.left }
 {
-    let mut before = udp_reader::Cursor::new(text, tokens);
+    let mut before = verilog_udp_reader::Cursor::new(text, tokens);
     let front = section_front(&mut before, alloc, names);
     let mut left = cursor_before::<VerilogDrivers>(text, tokens, before.left());
     match front {
@@ -52,7 +52,7 @@ fn section<'a>(
 }
 
 /// The driver of a section, where these names are taken and the models that may be cores are these, or its first fault.
-#[tactic(auto, unfolding(crate::specs::DriverSections::section_text), using(token_spans::proofs::Spelled::spelled))]
+#[tactic(auto, unfolding(crate::specs::DriverSections::section_text), using(lexer::proofs::Spelled::spelled))]
 fn driver_of_text(
     alloc: Global,
     text: &[u8],

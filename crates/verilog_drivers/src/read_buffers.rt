@@ -1,15 +1,14 @@
 //! The buffers of a driver, by recursive descent. (IEEE 1364-2005, 7.4.)
 
 ghost use Rattle.std.specs.Prelude.{◌<◌};
-ghost use Rattle.rule_readers.specs.Reading.{read, Reads};
+ghost use Rattle.grammar_reader.specs.Reading.{read, Reads};
 ghost use Rattle.verilog_drivers.specs.DriverSections as spec;
 
 use crate::language::{Cursor, VerilogDrivers};
-use part_readers::{RepeatedPart, while_next, with_end};
-use rule_readers::{Read, Stop};
+use grammar_reader::{Read, RepeatedPart, Stop, while_next, with_end};
 use sqlite_items::Items;
 use std::alloc::Global;
-use vhdl_names::numbered_name;
+use vhdl_tokens::numbered_name;
 
 /// The name of a word and a number.
 fn numbered(cursor: &mut Cursor, alloc: Global, word: &[u8], number: usize) -> Read<()>
@@ -42,7 +41,7 @@ struct Buffer<'a> {
 impl RepeatedPart<VerilogDrivers> for Buffer<'_> {
     type Found = usize;
 
-    ghost use Rattle.rule_readers.specs.Reading.{read};
+    ghost use Rattle.grammar_reader.specs.Reading.{read};
     ghost use Rattle.verilog_drivers.specs.DriverSections as spec;
 
     ghost reading = { λ buffer number s. read (spec.buffer buffer.outputs.now number) s };

@@ -2,8 +2,8 @@
 
 ghost use Rattle.std.specs.Prelude.{◌≡◌, IfOk};
 ghost use Rattle.udp_tables.specs.VerilogRules.{new_name};
-ghost use Rattle.token_spans.specs.Spans.{LieInside, spelled};
-ghost use Rattle.rule_readers.specs.Reading.{read, Reads, ReadsAs};
+ghost use Rattle.lexer.specs.Spans.{LieInside, spelled};
+ghost use Rattle.grammar_reader.specs.Reading.{read, Reads, ReadsAs};
 ghost use Rattle.verilog_drivers.specs.DriverSections as spec;
 ghost use Rattle.verilog_drivers.specs.Sections.{front_of, body_of};
 
@@ -15,7 +15,7 @@ use crate::read_buffers::buffers;
 use driven_traces::{DrivePath, Driver};
 use driver_models::{Cores, DriverModel, KnownNames};
 use driver_texts::{driven_names, input_count, output_count};
-use rule_readers::{Read, Refusal, Stop};
+use grammar_reader::{Read, Refusal, Stop};
 use sqlite_items::Items;
 use std::alloc::Global;
 use udp_tables::VPort;
@@ -36,7 +36,7 @@ pub(crate) struct SectionBody {
 
 /// The name of the driver, which is none of these.
 fn driver_name(
-    cursor: &mut udp_reader::Cursor,
+    cursor: &mut verilog_udp_reader::Cursor,
     alloc: Global,
     names: &KnownNames<VerilogDrivers>,
 ) -> Read<Items<u8>>
@@ -52,7 +52,7 @@ fn driver_name(
 /// What a section begins with, where these names are taken.
 #[tactic(auto, unfolding(crate::specs::DriverSections::section_front))]
 pub(crate) fn section_front(
-    cursor: &mut udp_reader::Cursor,
+    cursor: &mut verilog_udp_reader::Cursor,
     alloc: Global,
     names: &KnownNames<VerilogDrivers>,
 ) -> Read<SectionFront>

@@ -9,8 +9,7 @@ use crate::buffers::Buffers;
 use crate::paths::DrivePathLines;
 use driver_models::DriverModel;
 use driver_texts::{CoreTerminals, EachPort, NumberedNames};
-use text_io::{Desk, Failed, Line, OutSlot};
-use text_parts::{Bytes, Each, Part, Put, When, parts, write_part};
+use text_io::{Bytes, Desk, Each, Failed, Line, OutSlot, Part, Put, When, parts, write_part};
 use verilog_writer::{PortLines, Ports};
 
 /// Appends the text of a driver to the Verilog text, which is bound: a module of a cell (IEEE 1364-2005, 19.1) with its core and a

@@ -1,8 +1,8 @@
 -- What stands before a place of a text, as the grammar names it.
 use Rattle.std.specs.Prelude.{◌≡◌, ℕ, List, Err, codes}
 use Rattle.grammar_rules.specs.Rule as r
-use Rattle.rule_readers.specs.Words.{Grammar, ◌>>=◌}
-use Rattle.rule_readers.specs.declared.refusal.Refusal.TheVariants.{Undriven}
+use Rattle.grammar_reader.specs.Words.{Grammar, ◌>>=◌}
+use Rattle.grammar_reader.specs.declared.refusal.Refusal.TheVariants.{Undriven}
 use Rattle.udp_tables.specs.declared.models.ModelFault.{ModelFault}
 use Rattle.udp_tables.specs.declared.models.ModelFault.TheVariants as fault
 use Rattle.udp_tables.specs.VerilogRules.{expect_where}

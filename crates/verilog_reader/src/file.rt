@@ -3,19 +3,18 @@
 ghost use Rattle.std.specs.Prelude.{◌≡◌, [], ◌∷◌, ◌++◌, IfOk};
 ghost use Rattle.specify_blocks.specs.VerilogText as spec;
 ghost use Rattle.verilog_reader.specs.File.{before_of, modules_of, module_end};
-ghost use Rattle.rule_readers.specs.Reading.{read, Reads, ReadsAs};
+ghost use Rattle.grammar_reader.specs.Reading.{read, Reads, ReadsAs};
 
 use bool_functions::Names;
-use header_reader::module_declarations;
-use part_readers::where_read;
-use rule_readers::{Language, Read, Refusal, Stop};
+use verilog_header_reader::module_declarations;
+use grammar_reader::{Language, Read, Refusal, Stop, where_read};
 use specify_blocks::VModule;
-use specify_reader::nets::{Netlist, are_all_driven, module_instances};
-use specify_reader::specify;
+use crate::nets::{Netlist, are_all_driven, module_instances};
+use crate::specify;
 use sqlite_items::Items;
 use std::alloc::Global;
 use std::mem::replace;
-use udp_reader::{Cursor, Verilog, declare, primitive};
+use verilog_udp_reader::{Cursor, Verilog, declare, primitive};
 use udp_tables::Udp;
 
 /// What stands before a place of a text: the modules, the names of all primitives and modules, and the primitives behind the
@@ -56,7 +55,7 @@ fn next_primitive(cursor: &mut Cursor, alloc: Global, before: &mut Before) -> Re
 }
 
 /// Adds the primitives behind these.
-#[tactic(auto, unfolding(specify_blocks::specs::VerilogText::more_primitives), using(rule_readers::proofs::Repeats::turns))]
+#[tactic(auto, unfolding(specify_blocks::specs::VerilogText::more_primitives), using(grammar_reader::proofs::Repeats::turns))]
 fn more_primitives(cursor: &mut Cursor, alloc: Global, before: &mut Before) -> Read<()>
     ensures { ReadsAs (λ _. before_of before.new) (read (spec.more_primitives (before_of before.old)) cursor.old) result cursor.new }
 {
@@ -71,7 +70,7 @@ fn more_primitives(cursor: &mut Cursor, alloc: Global, before: &mut Before) -> R
 }
 
 /// The end of this module, all of whose outputs and wires are driven: the module alone.
-#[tactic(auto, unfolding(crate::specs::File::module_end), using(part_readers::proofs::WithRest::reads_rest))]
+#[tactic(auto, unfolding(crate::specs::File::module_end), using(grammar_reader::proofs::WithRest::reads_rest))]
 fn module_end(cursor: &mut Cursor, whole: Netlist) -> Read<VModule>
     ensures reads { Reads (read (module_end whole) cursor.old) result cursor.new }
     ensures same { IfOk result (λ model. model ≡ whole) }
@@ -132,7 +131,7 @@ fn design(cursor: &mut Cursor, alloc: Global, before: &mut Before, first: &[u8])
 }
 
 /// All primitives and modules of a text.
-#[tactic(auto, unfolding(specify_blocks::specs::VerilogText::designs), using(rule_readers::proofs::Repeats::turn, rule_readers::proofs::Choices::choose_by, rule_readers::proofs::Choices::choose_not_by))]
+#[tactic(auto, unfolding(specify_blocks::specs::VerilogText::designs), using(grammar_reader::proofs::Repeats::turn, grammar_reader::proofs::Choices::choose_by, grammar_reader::proofs::Choices::choose_not_by))]
 fn designs(cursor: &mut Cursor, alloc: Global) -> Read<Before>
     ensures { ReadsAs before_of (read spec.designs cursor.old) result cursor.new }
 {

@@ -2,7 +2,7 @@
 
 ghost use Rattle.std.specs.Prelude.{false};
 ghost use Rattle.verilog_tokens.specs.Separators.{Padded};
-ghost use Rattle.rule_readers.specs.TextLaws.{HaveSameValues, HasFaultAtFirstToken};
+ghost use Rattle.grammar_reader.specs.TextLaws.{HaveSameValues, HasFaultAtFirstToken};
 ghost use Rattle.specify_blocks.specs.VerilogText.{language, IsVerilogAnswer};
 
 /// A text is the text of one list of modules, or it has one fault, and not both.

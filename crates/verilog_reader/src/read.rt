@@ -4,20 +4,20 @@ ghost use Rattle.std.specs.Prelude.{◌≡◌, length, IfOk, IfErr, Ok};
 ghost use Rattle.grammar_rules.specs.Reading.{read};
 ghost use Rattle.specify_blocks.specs.VerilogText.{verilog_text, language};
 ghost use Rattle.specify_blocks.specs.WellFormed.{AreWellFormed};
-ghost use Rattle.token_spans.specs.Spans.{tokens_of, spelled};
+ghost use Rattle.lexer.specs.Spans.{tokens_of, spelled};
 ghost use Rattle.verilog_reader.specs.File.{IsFaultOf};
 
 use crate::file::{Before, file};
-use rule_readers::{Cursor, Stop};
+use grammar_reader::{Cursor, Stop};
 use specify_blocks::VModule;
 use std::alloc::Global;
-use token_spans::Scan;
-use udp_reader::Verilog;
+use lexer::Scan;
+use verilog_udp_reader::Verilog;
 use udp_tables::{ModelFault, refusal_fault};
 use verilog_tokens::scan;
 
 /// The modules of a Verilog text, or its first fault.
-#[tactic(auto, unfolding(specify_blocks::specs::VerilogText::verilog_text), using(token_spans::proofs::Spelled::spelled))]
+#[tactic(auto, unfolding(specify_blocks::specs::VerilogText::verilog_text), using(lexer::proofs::Spelled::spelled))]
 fn models_of(alloc: Global, text: &[u8]) -> Result<Vec<VModule>, ModelFault>
     ensures modules { IfOk result (λ found. verilog_text text.now ≡ Ok found.items) }
     ensures fault { IfErr result (λ e. IsFaultOf text.now e) }

@@ -5,7 +5,7 @@ use Rattle.std.specs.List.{prefix_len}
 use Rattle.verilog_tokens.specs.Tokens.{is_blank, begins_with, later, comment_rest, block_length, separator_length}
 use Rattle.verilog_tokens.specs.Cover.{IsSeparator, spelling}
 use Rattle.verilog_tokens.specs.Cover as cover
-use Rattle.token_spans.proofs.Covered.{AsSeparator, blank_here, line_here, Finds}
+use Rattle.lexer.proofs.Covered.{AsSeparator, blank_here, line_here, Finds}
 use Rattle.verilog_tokens.proofs.Longest.{token_here, token_least}
 
 some_is : (x y : ℕ) → Some x ≡ Some y → x ≡ y

@@ -1,6 +1,6 @@
 -- The laws of Verilog text.
-use Rattle.token_spans.specs.Laws.{Lawful}
-use Rattle.token_spans.proofs.LawfulTexts.{lawful}
+use Rattle.lexer.specs.Laws.{Lawful}
+use Rattle.lexer.proofs.LawfulTexts.{lawful}
 use Rattle.verilog_tokens.specs.Cover.{spelling}
 use Rattle.verilog_tokens.proofs.Covered.{finds}
 use Rattle.verilog_tokens.proofs.Padding.{lets}

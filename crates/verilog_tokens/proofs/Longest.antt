@@ -8,8 +8,8 @@ use Rattle.std.specs.List.{prefix_len, list_all}
 use Rattle.std.specs.Str.{bytes_eq}
 use Rattle.verilog_tokens.specs.Tokens.{is_name_byte, is_one_of, begins_with, token_length, word_length, number_length, sign_length, is_mark, is_symbol, begins_word}
 use Rattle.verilog_tokens.specs.Cover.{spells_number, spells_word, spells_sign, spells_token}
-use Rattle.token_spans.specs.Cover.{is_nothing}
-use Rattle.token_spans.proofs.Runs.{run_at, run_least, Spelled, spelled_as, nothing_here, nothing_least}
+use Rattle.lexer.specs.Cover.{is_nothing}
+use Rattle.lexer.proofs.Runs.{run_at, run_least, Spelled, spelled_as, nothing_here, nothing_least}
 
 word_here : (b : ℕ) (s : List ℕ) (m : ℕ) → word_length (b ∷ s) ≡ suc m → (spells_word b (take m s) ≡ true) × (m ≤ length s)
 word_here b s m e = by (is_one_of (codes "$`") b) refl e

@@ -2,9 +2,9 @@
 use Rattle.std.proofs.Common.{◌≡◌, inl, inr, ℕ, suc, ◌+◌, Bool, true, false, ◌&&◌, ◌==◌, if◌then◌else◌, List, [], ◌∷◌, ◌++◌, length, Option, Some, None, unwrap_or, refl, sym, ap, ◌∙◌, arith, append_assoc, length-append}
 use Rattle.verilog_tokens.specs.Tokens.{is_blank, later, comment_rest, separator_length, token_length, is_open_after, lexis, scan}
 use Rattle.verilog_tokens.specs.Separators.{IsComment, Padded, spelled, HaveSameTokens}
-pub use Rattle.token_spans.proofs.Padding.{Found, word_before}
-use Rattle.token_spans.proofs.Padding.{Lets}
-use Rattle.token_spans.proofs.Padding as padding
+pub use Rattle.lexer.proofs.Padding.{Found, word_before}
+use Rattle.lexer.proofs.Padding.{Lets}
+use Rattle.lexer.proofs.Padding as padding
 use Rattle.verilog_tokens.proofs.Stays.{token_stays}
 use Rattle.verilog_tokens.proofs.TokenFirst.{no_separator}
 

@@ -2,9 +2,9 @@
 use Rattle.std.proofs.Common.{◌≡◌, ℕ, suc, ◌+◌, Bool, true, false, ◌&&◌, ◌||◌, if◌then◌else◌, List, ◌∷◌, ◌++◌, length, refl, sym, ◌∙◌, arith, codes}
 use Rattle.std.specs.Char.{is_ascii_alphabetic, is_ascii_digit}
 use Rattle.std.specs.List.{prefix_len}
-use Rattle.token_spans.specs.Tokens.{decimal_length}
+use Rattle.lexer.specs.Tokens.{decimal_length}
 use Rattle.verilog_tokens.specs.Tokens.{is_blank, is_name_byte, is_one_of, begins_with, token_length, word_length, number_length, sign_length, is_mark, is_symbol, begins_word}
-use Rattle.token_spans.proofs.Alike.{blanks, no_name_byte, Alike, behind, decimal_stays, run_ends, begins_not, begins_still}
+use Rattle.lexer.proofs.Alike.{blanks, no_name_byte, Alike, behind, decimal_stays, run_ends, begins_not, begins_still}
 
 no_letter : (c : ℕ) → is_blank c ≡ true → is_ascii_alphabetic c ≡ false
 no_letter c b = blanks c b is_ascii_alphabetic refl refl refl

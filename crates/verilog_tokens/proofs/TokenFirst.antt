@@ -2,7 +2,7 @@
 use Rattle.std.proofs.Common.{◌≡◌, ◌<◌, ℕ, Bool, true, false, ◌||◌, nat_eq, List, [], ◌∷◌, refl, subst, arith, codes}
 use Rattle.std.proofs.lemmas.Bool.{eqb-true}
 use Rattle.verilog_tokens.specs.Tokens.{is_blank, begins_with, separator_length, token_length}
-use Rattle.token_spans.proofs.Alike.{blanks}
+use Rattle.lexer.proofs.Alike.{blanks}
 
 at_blank : (t : Bool) (b : ℕ) (s : List ℕ) → is_blank b ≡ true → token_length t (b ∷ s) ≡ 0
 at_blank true b s e = blanks b e (λ c. token_length true (c ∷ s)) refl refl refl

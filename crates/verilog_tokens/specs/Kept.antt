@@ -2,7 +2,7 @@
 use Rattle.std.specs.Prelude.{ℕ, Bool, false, not, ◌&&◌, ◌||◌, ◌==◌, List, [], ◌∷◌, codes, drop, length, nat_eq}
 use Rattle.std.specs.Char.{is_ascii_alphabetic}
 use Rattle.std.specs.List.{list_all, starts_with}
-pub use Rattle.token_spans.specs.Tokens.{is_name_byte}
+pub use Rattle.lexer.specs.Tokens.{is_name_byte}
 use Rattle.verilog_tokens.specs.Numbers.{is_number}
 use Rattle.verilog_tokens.specs.Words.{is_verilog_word}
 

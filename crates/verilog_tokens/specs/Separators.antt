@@ -1,8 +1,8 @@
 -- What may be added between the tokens of Verilog text without a change of its tokens: blanks, line ends and comments, each comment
 -- behind a blank, and a comment of one line with its line end. (IEEE 1364-2005, 3.2 and 3.3.)
 use Rattle.std.specs.Prelude.{◌≡◌, ◌⊎◌, ℕ, Bool, false, List, [], ◌∷◌, ◌++◌, None}
-pub use Rattle.token_spans.specs.Separators.{spelled}
-use Rattle.token_spans.specs.Separators as separators
+pub use Rattle.lexer.specs.Separators.{spelled}
+use Rattle.lexer.specs.Separators as separators
 use Rattle.verilog_tokens.specs.Tokens.{comment_rest, lexis}
 
 -- a comment that may be added, with what closes it: of one line, or up to the first slash right behind a star

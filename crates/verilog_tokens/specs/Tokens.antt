@@ -5,8 +5,8 @@ use Rattle.std.specs.Prelude.{ℕ, ◌+◌, Bool, true, false, not, ◌&&◌, �
 use Rattle.std.specs.Char.{is_ascii_alphabetic, is_ascii_digit}
 use Rattle.std.specs.List.{prefix_len}
 use Rattle.std.specs.Str.{bytes_eq}
-use Rattle.token_spans.specs.Tokens as tokens
-pub use Rattle.token_spans.specs.Tokens.{Token, Lexis, begins_with, is_one_of, is_blank, is_name_byte, later, after, spellings}
+use Rattle.lexer.specs.Tokens as tokens
+pub use Rattle.lexer.specs.Tokens.{Token, Lexis, begins_with, is_one_of, is_blank, is_name_byte, later, after, spellings}
 use Rattle.verilog_tokens.specs.Words.{is_verilog_word}
 
 -- How many bytes end a comment, up to and with the first slash right behind a star. The flag says whether the byte before these

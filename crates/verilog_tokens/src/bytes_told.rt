@@ -3,7 +3,7 @@
 ghost use Rattle.std.specs.Prelude.{◌≡◌};
 ghost use Rattle.verilog_tokens.specs.Tokens as spec;
 
-use token_spans::byte_table;
+use lexer::byte_table;
 
 macro_rules! one_of {
     ($b:expr, $($c:literal)*) => { false $(|| $b == $c)* };

@@ -6,7 +6,7 @@ ghost use Rattle.std.specs.Str.{bytes_eq};
 ghost use Rattle.verilog_tokens.specs.Tokens as spec;
 
 use crate::bytes_told::{begins_word, is_mark, is_symbol};
-use token_spans::{ByteClass, NameByte, decimal_length, line_separator_length, run_length};
+use lexer::{ByteClass, NameByte, decimal_length, line_separator_length, run_length};
 
 /// How many bytes end a comment, up to and with the first slash right behind a star.
 fn comment_rest(bytes: &[u8]) -> Option<usize>

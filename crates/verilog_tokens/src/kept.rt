@@ -4,7 +4,7 @@ ghost use Rattle.std.specs.Prelude.{◌≡◌};
 ghost use Rattle.verilog_tokens.specs.Kept.{is_identifier, is_numbered, is_kept_name, is_kept_cell_name, is_kept_port_name};
 
 use crate::words::is_verilog_word;
-use token_spans::{NameByte, are_all, is_number};
+use lexer::{NameByte, are_all, is_number};
 
 /// Whether Verilog text keeps this name for a cell: a letter or `_` followed by letters, digits and `_`, that is no word of
 /// Verilog, does not begin with `lib_`, and is not `cell` followed by a number. It takes no memory.

@@ -13,5 +13,5 @@ mod words;
 pub use kept::{is_kept_cell_name, is_kept_port_name};
 pub use laws::tokens_are_lawful;
 pub use scanner::{InTable, scan};
-pub use token_spans::{is_number, number_of};
+pub use lexer::{is_number, number_of};
 pub use words::{is_name, is_verilog_word};

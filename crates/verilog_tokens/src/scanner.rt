@@ -2,12 +2,12 @@
 
 ghost use Rattle.std.specs.Prelude.{◌≡◌, IfOk};
 ghost use Rattle.verilog_tokens.specs.Tokens.{scan_of};
-ghost use Rattle.token_spans.specs.Spans.{LieInside};
+ghost use Rattle.lexer.specs.Spans.{LieInside};
 ghost use Rattle.verilog_tokens.specs.Spans.{tokens_of};
 
 use crate::fronts::{is_open_after, separator_length, token_length};
 use std::alloc::{AllocError, Global};
-use token_spans::{Lexicon, Scan, TokenState};
+use lexer::{Lexicon, Scan, TokenState};
 
 /// Whether a table is open: what the tokens so far say of those that follow.
 #[derive(Clone, Copy)]
@@ -53,5 +53,5 @@ pub fn scan(alloc: Global, text: &[u8]) -> Result<Scan, AllocError>
     ensures fault { IfOk result (λ found. found.fault ≡ (scan_of text.now).1) }
     ensures inside { IfOk result (λ found. LieInside text.now found.tokens.items) }
 {
-    token_spans::scan::<InTable>(alloc, text)
+    lexer::scan::<InTable>(alloc, text)
 }

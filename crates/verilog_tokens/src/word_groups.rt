@@ -5,7 +5,7 @@ ghost use Rattle.std.specs.List.{list_any};
 ghost use Rattle.std.specs.Str.{bytes_eq};
 ghost use Rattle.verilog_tokens.specs.Words.{is_verilog_word};
 
-use token_spans::group_of;
+use lexer::group_of;
 
 /// The words of Verilog by their first letters: those with `a` first, then those with `b`, and so on.
 static GROUPS: [&[&[u8]]; 26] = [

@@ -6,8 +6,7 @@ ghost use Rattle.verilog_writer.specs.Timing.{edge_text, joint_text, condition_t
 use crate::nets::{notifier_in, port_at, wire_at};
 use cell_machine::{CheckKind, Edge, Event};
 use specify_blocks::VModule;
-use text_io::{Desk, Line, OutSlot};
-use text_parts::{Bytes, Decimal, ItemText, Part, Put, parts};
+use text_io::{Bytes, Decimal, Desk, ItemText, Line, OutSlot, Part, Put, parts};
 use udp_tables::TimingCheck;
 
 /// The word before the port of an event.

@@ -4,8 +4,7 @@ ghost use Rattle.verilog_writer.specs.Model.{ports_text, input_port_text, output
 
 use crate::names::ListedNames;
 use sqlite_items::Items;
-use text_io::{Desk, Line, OutSlot};
-use text_parts::{Bytes, Each, ItemText, Part, Put, parts};
+use text_io::{Bytes, Desk, Each, ItemText, Line, OutSlot, Part, Put, parts};
 use udp_tables::VPort;
 
 /// The ports in the header.

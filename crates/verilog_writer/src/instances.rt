@@ -3,8 +3,7 @@ ghost use Rattle.verilog_writer.specs.Model.{terminal_text, call_text, constant_
 
 use crate::nets::{net_at, primitive_at};
 use specify_blocks::{Instance, VModule, VNet};
-use text_io::{Desk, Line, OutSlot};
-use text_parts::{Bytes, Each, ItemText, Part, Put, parts};
+use text_io::{Bytes, Desk, Each, ItemText, Line, OutSlot, Part, Put, parts};
 
 /// Inputs of instances.
 #[derive(Drop)]

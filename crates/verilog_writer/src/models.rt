@@ -15,8 +15,7 @@ use crate::names::NameLines;
 use crate::paths::PathLines;
 use crate::primitive::write_udp;
 use specify_blocks::VModule;
-use text_io::{Desk, Failed, Line, OutSlot, write_whole};
-use text_parts::{Bytes, Each, Part, Put, When, parts, write_part};
+use text_io::{Bytes, Desk, Each, Failed, Line, OutSlot, Part, Put, When, parts, write_part, write_whole};
 
 /// Appends what a text of modules begins with to the Verilog text, which is bound: times are in picoseconds. After `Failed`,
 /// which comes only where a write failed, a prefix of it was appended. It takes no memory.

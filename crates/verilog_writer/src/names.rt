@@ -3,8 +3,7 @@ ghost use Rattle.std.specs.Prelude.{◌++◌};
 ghost use Rattle.verilog_writer.specs.Names.{name_line};
 
 use sqlite_items::Items;
-use text_io::{Desk, Line, OutSlot};
-use text_parts::{ItemText, Put};
+use text_io::{Desk, ItemText, Line, OutSlot, Put};
 use udp_tables::VPort;
 
 /// Names of inputs and of ports in a list, each behind these bytes.

@@ -3,8 +3,7 @@ ghost use Rattle.verilog_writer.specs.Timing.{gate_text, path_line, path_text};
 
 use crate::nets::{port_at, wire_at};
 use specify_blocks::{Gate, VModule, VPath};
-use text_io::{Desk, Line, OutSlot};
-use text_parts::{Bytes, Decimal, ItemText, Part, Put, parts};
+use text_io::{Bytes, Decimal, Desk, ItemText, Line, OutSlot, Part, Put, parts};
 
 /// What stands before a path.
 #[derive(Drop)]

@@ -6,8 +6,7 @@ ghost use Rattle.verilog_writer.specs.Primitive.{primitive_text, output_text};
 
 use crate::names::{ListedNames, NameLines};
 use crate::table::Rows;
-use text_io::{Desk, Failed, Line, OutSlot};
-use text_parts::{Bytes, Each, Part, Put, parts, write_part};
+use text_io::{Bytes, Desk, Each, Failed, Line, OutSlot, Part, Put, parts, write_part};
 use udp_tables::Udp;
 
 /// Appends the text of a primitive to a slot that is bound. After `Failed`, which comes only where a write failed, a

@@ -2,8 +2,7 @@
 ghost use Rattle.verilog_writer.specs.Primitive.{row_text, spaced_text, outcome_text};
 
 use crate::symbols::{level_text, next_text};
-use text_io::{Desk, Line, OutSlot};
-use text_parts::{Bytes, Each, ItemText, Part, Put, parts};
+use text_io::{Bytes, Desk, Each, ItemText, Line, OutSlot, Part, Put, parts};
 use udp_tables::{Entry, UdpRow};
 
 /// Entries, each with a space after it.

@@ -2,7 +2,7 @@
 use Rattle.std.proofs.Common.{◌≡◌, Bool, true, false, if◌then◌else◌, List, [], ◌∷◌, ◌++◌, refl, ap}
 use Rattle.std.specs.List.{flat_map, filter}
 use Rattle.udp_tables.specs.declared.models.VPort.{VPort}
-use Rattle.vhdl_text.specs.VhdlDeclarations.{port_names, input_names}
+use Rattle.vhdl_grammar.specs.VhdlDeclarations.{port_names, input_names}
 use Rattle.driver_texts.specs.NumberedNames.{next_name_text}
 use Rattle.vhdl_drivers.specs.DriverText.{next_input_text}
 

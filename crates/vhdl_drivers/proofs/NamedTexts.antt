@@ -2,9 +2,9 @@
 use Rattle.std.proofs.Common.{◌≡◌, ℕ, Bool, true, false, if◌then◌else◌, List, [], ◌∷◌, Ok, Err, refl, ap}
 use Rattle.grammar_rules.specs.Reading.{Outcome, judge, read}
 use Rattle.grammar_rules.specs.Rule.{Fits, Misfit}
-use Rattle.rule_readers.specs.Next.{next_bytes, rest}
-use Rattle.rule_readers.specs.declared.refusal.Refusal.{Refusal}
-use Rattle.rule_readers.specs.declared.refusal.Refusal.TheVariants.{Syntax}
+use Rattle.grammar_reader.specs.Next.{next_bytes, rest}
+use Rattle.grammar_reader.specs.declared.refusal.Refusal.{Refusal}
+use Rattle.grammar_reader.specs.declared.refusal.Refusal.TheVariants.{Syntax}
 use Rattle.vhdl_tokens.specs.Spelling.{is_quoted}
 use Rattle.vhdl_drivers.specs.DriverSections.{text_of_name}
 

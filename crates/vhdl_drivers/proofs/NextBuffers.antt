@@ -1,7 +1,7 @@
 -- The buffers of a driver, one behind the other.
 use Rattle.std.proofs.Common.{◌≡◌, ℕ, suc, ◌+◌, ◌-◌, ◌<◌, List, Ok, Err, ap, ◌∙◌, arith}
 use Rattle.grammar_rules.specs.Reading.{Outcome, and_then, read}
-use Rattle.rule_readers.specs.declared.refusal.Refusal.{Refusal}
+use Rattle.grammar_reader.specs.declared.refusal.Refusal.{Refusal}
 use Rattle.vhdl_drivers.specs.DriverSections.{buffer, buffers}
 
 -- one more of them

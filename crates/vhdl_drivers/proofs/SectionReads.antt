@@ -1,10 +1,10 @@
 -- A section that is read by one cursor, from there by one of another language, and from there by one of the first again.
 use Rattle.std.proofs.Common.{◌≡◌, ℕ, ◌-◌, List, length, drop, Result, Ok, subst}
 use Rattle.grammar_rules.specs.Reading.{read}
-use Rattle.token_spans.specs.declared.span.Span.{Span}
-use Rattle.token_spans.specs.Spans.{spelled}
-use Rattle.rule_readers.specs.declared.refusal.Stop.{Stop}
-use Rattle.rule_readers.specs.Reading.{Reads}
+use Rattle.lexer.specs.declared.span.Span.{Span}
+use Rattle.lexer.specs.Spans.{spelled}
+use Rattle.grammar_reader.specs.declared.refusal.Stop.{Stop}
+use Rattle.grammar_reader.specs.Reading.{Reads}
 use Rattle.driver_models.specs.declared.model.DriverModel.{DriverModel}
 use Rattle.driver_models.specs.Cores.{Core}
 use Rattle.driver_texts.proofs.CursorPlaces.{left_where_read}

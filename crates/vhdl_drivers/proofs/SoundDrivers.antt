@@ -4,13 +4,13 @@ use Rattle.std.specs.Prelude.{All}
 use Rattle.std.proofs.lemmas.List.Elements.{All-push, All-append}
 use Rattle.grammar_rules.specs.Rule.{Takes}
 use Rattle.grammar_rules.proofs.Promises.{Promises, gives, in_turn, many}
-use Rattle.rule_readers.specs.Texts.{IsAnswer}
-use Rattle.rule_readers.proofs.TextAnswers as answers
+use Rattle.grammar_reader.specs.Texts.{IsAnswer}
+use Rattle.grammar_reader.proofs.TextAnswers as answers
 use Rattle.udp_tables.proofs.ModelFaultPlaces.{place_of_fault}
 use Rattle.udp_tables.specs.declared.models.VPort.{VPort}
 use Rattle.vhdl_tokens.specs.Tokens.{is_name}
 use Rattle.vhdl_tokens.specs.Spelling.{is_same}
-use Rattle.vhdl_text.specs.VhdlText.{text_tokens}
+use Rattle.vhdl_grammar.specs.VhdlText.{text_tokens}
 use Rattle.driven_traces.specs.declared.delays.DrivePath.{DrivePath}
 use Rattle.driver_models.specs.declared.model.DriverModel.{DriverModel}
 use Rattle.driver_models.specs.Models.{input_count, output_count, IsSound}

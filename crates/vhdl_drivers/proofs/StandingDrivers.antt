@@ -1,10 +1,10 @@
 -- Drivers that are read may stand where they do.
 use Rattle.std.proofs.Common.{◌≡◌, ℕ, ◌≤◌, true, false, List, [], ◌∷◌, length, Ok, sym, subst, codes}
 use Rattle.grammar_rules.proofs.Promises.{Promises, gives, in_turn}
-use Rattle.rule_readers.specs.Words.{is_among}
+use Rattle.grammar_reader.specs.Words.{is_among}
 use Rattle.vhdl_tokens.specs.Tokens.{is_name}
 use Rattle.vhdl_tokens.specs.Spelling.{is_same}
-use Rattle.vhdl_text.specs.VhdlText.{text_tokens}
+use Rattle.vhdl_grammar.specs.VhdlText.{text_tokens}
 use Rattle.udp_tables.specs.declared.models.VPort.{VPort}
 use Rattle.driver_models.specs.declared.model.DriverModel.{DriverModel}
 use Rattle.driver_models.specs.Cores.{Core, core_ports, fits}

@@ -6,18 +6,18 @@ use Rattle.std.specs.Prelude.{ℕ, zero, suc, ◌+◌, ◌==◌, ◌&&◌, nat_l
 use Rattle.std.specs.Option.{option_map_or}
 use Rattle.grammar_rules.specs.Rule.{Verdict, Fits, Misfit}
 use Rattle.grammar_rules.specs.Rule as r
-use Rattle.rule_readers.specs.declared.refusal.Refusal.{Refusal}
-use Rattle.rule_readers.specs.declared.refusal.Refusal.TheVariants.{Syntax, Undefined}
-use Rattle.rule_readers.specs.Words.{Grammar, ◌>>=◌, go_on_where}
-use Rattle.rule_readers.specs.Texts.{Texts, text}
+use Rattle.grammar_reader.specs.declared.refusal.Refusal.{Refusal}
+use Rattle.grammar_reader.specs.declared.refusal.Refusal.TheVariants.{Syntax, Undefined}
+use Rattle.grammar_reader.specs.Words.{Grammar, ◌>>=◌, go_on_where}
+use Rattle.grammar_reader.specs.Texts.{Texts, text}
 use Rattle.vhdl_tokens.specs.Tokens.{is_name, lexis}
 use Rattle.vhdl_tokens.specs.Spelling.{is_same, is_quoted}
 use Rattle.udp_tables.specs.declared.models.ModelFault.{ModelFault}
 use Rattle.udp_tables.specs.ModelFaults.{model_faults}
 use Rattle.udp_tables.specs.declared.models.VPort.{VPort}
-use Rattle.vhdl_text.specs.VhdlRules.{expect, expect_all, begins, known, new_name, this_name, this_number}
-use Rattle.vhdl_text.specs.VhdlDeclarations.{packages, port_list, input_names, listed_names, last_true, is_last_false}
-use Rattle.vhdl_text.specs.VhdlOutputs.{delays}
+use Rattle.vhdl_grammar.specs.VhdlRules.{expect, expect_all, begins, known, new_name, this_name, this_number}
+use Rattle.vhdl_grammar.specs.VhdlDeclarations.{packages, port_list, input_names, listed_names, last_true, is_last_false}
+use Rattle.vhdl_grammar.specs.VhdlOutputs.{delays}
 use Rattle.driven_traces.specs.declared.delays.DrivePath.{DrivePath}
 use Rattle.driver_models.specs.declared.model.DriverModel.{DriverModel}
 use Rattle.driver_models.specs.Models.{input_count, output_count}

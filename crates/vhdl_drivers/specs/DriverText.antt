@@ -4,7 +4,7 @@
 use Rattle.std.specs.Prelude.{ℕ, ◌-◌, nat_eq, nat_lt, List, [], ◌++◌, length, codes, decimal, if◌then◌else◌}
 use Rattle.std.specs.List.{flat_map, filter}
 use Rattle.udp_tables.specs.declared.models.VPort.{VPort}
-use Rattle.vhdl_text.specs.VhdlDeclarations.{input_names}
+use Rattle.vhdl_grammar.specs.VhdlDeclarations.{input_names}
 use Rattle.vhdl_writer.specs.Joined.{numbered_texts, apart_text}
 use Rattle.vhdl_writer.specs.Declarations.{some_ports_text}
 use Rattle.driven_traces.specs.declared.delays.DrivePath.{DrivePath}

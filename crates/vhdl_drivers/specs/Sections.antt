@@ -1,7 +1,7 @@
 -- What is read of a section, as the grammar names it.
 use Rattle.std.specs.Prelude.{◌≡◌, ℕ, ◌-◌, List, length, drop, Err}
-use Rattle.token_spans.specs.declared.span.Span.{Span}
-use Rattle.token_spans.specs.Spans.{spelled}
+use Rattle.lexer.specs.declared.span.Span.{Span}
+use Rattle.lexer.specs.Spans.{spelled}
 use Rattle.udp_tables.specs.declared.models.ModelFault.{ModelFault}
 use Rattle.udp_tables.specs.declared.models.ModelFault.TheVariants as fault
 use Rattle.driver_models.specs.Cores.{Core}

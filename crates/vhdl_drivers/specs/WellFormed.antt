@@ -3,9 +3,9 @@
 use Rattle.std.specs.Prelude.{◌≡◌, ℕ, ◌≤◌, ◌^◌, true, false, IsTrue, All, List, length, map, codes}
 use Rattle.cell_machine.specs.CellRules.{is_in_order}
 use Rattle.vhdl_tokens.specs.Spelling.{is_same}
-use Rattle.vhdl_text.specs.VhdlRules.{is_among}
-use Rattle.vhdl_text.specs.VhdlDeclarations.{port_names}
-use Rattle.vhdl_text.specs.WellFormed.{IsEntityName, IsPortName, IsNumber, IsCount, AreApart}
+use Rattle.vhdl_grammar.specs.VhdlRules.{is_among}
+use Rattle.vhdl_grammar.specs.VhdlDeclarations.{port_names}
+use Rattle.vhdl_grammar.specs.WellFormed.{IsEntityName, IsPortName, IsNumber, IsCount, AreApart}
 use Rattle.driven_traces.specs.declared.delays.DrivePath.{DrivePath}
 use Rattle.driver_models.specs.declared.model.DriverModel.{DriverModel}
 use Rattle.driver_models.specs.Models.{IsSound}

@@ -2,17 +2,17 @@
 //! VitalBUFIF1.)
 
 ghost use Rattle.std.specs.Prelude.{◌≡◌, ◌++◌, ◌<◌, Some, IfOk};
-ghost use Rattle.rule_readers.specs.Reading.{read, Reads};
+ghost use Rattle.grammar_reader.specs.Reading.{read, Reads};
 ghost use Rattle.driver_models.specs.Terminals.{all_numbered};
 ghost use Rattle.vhdl_drivers.specs.DriverSections as spec;
 
-use rule_readers::Read;
+use grammar_reader::Read;
 use sqlite_items::Items;
 use std::alloc::{AllocError, Global};
 use udp_tables::VPort;
-use vhdl_declarations::{input_names, listed_names};
-use vhdl_names::numbered_name;
-use vhdl_words::{Cursor, expect_all, numbered};
+use vhdl_declarations_reader::{input_names, listed_names};
+use vhdl_tokens::numbered_name;
+use vhdl_scope::{Cursor, expect_all, numbered};
 
 /// These names, and behind them those of a word with the numbers from 1 on, so many. An `Err` comes only where memory is wanting.
 fn with_numbered(

@@ -1,13 +1,12 @@
 //! The signals of a driver and the instance of its core, by recursive descent. (IEEE 1076-1993, 4.3.1.2 and 9.6.)
 
-ghost use Rattle.rule_readers.specs.Reading.{read, Reads, ReadsAs};
+ghost use Rattle.grammar_reader.specs.Reading.{read, Reads, ReadsAs};
 ghost use Rattle.vhdl_drivers.specs.DriverSections as spec;
 ghost use Rattle.vhdl_drivers.specs.Sections.{call_of};
 
 use crate::language::{Cursor, VitalDrivers};
 use driver_models::{Cores, core_name, core_terminals, declared_wires};
-use part_readers::with_end;
-use rule_readers::Read;
+use grammar_reader::{Read, with_end};
 use sqlite_items::Items;
 use std::alloc::Global;
 use udp_tables::VPort;

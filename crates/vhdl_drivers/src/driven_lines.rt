@@ -1,17 +1,17 @@
 //! The lines of driven outputs, by recursive descent. (IEEE 1076.4-2000, VitalPathDelay01; IEEE 1076-1993, 8.4.)
 
 ghost use Rattle.std.specs.Prelude.{◌≡◌, ◌<◌, ◌^◌, []};
-ghost use Rattle.rule_readers.specs.Reading.{read, Reads};
+ghost use Rattle.grammar_reader.specs.Reading.{read, Reads};
 ghost use Rattle.vhdl_drivers.specs.DriverSections as spec;
 
 use crate::buffers::numbered_word;
 use crate::path_calls::path_call;
 use driven_traces::DrivePath;
-use rule_readers::Read;
+use grammar_reader::Read;
 use sqlite_items::Items;
 use std::alloc::Global;
 use udp_tables::VPort;
-use vhdl_words::Cursor;
+use vhdl_scope::Cursor;
 
 /// The assignment of the driven output with this number, from 0, and this name, which has no paths.
 #[tactic(auto, unfolding(crate::specs::DriverSections::assignment))]

@@ -1,18 +1,18 @@
 //! What a section begins with, by recursive descent: the name of a driver and its ports. (IEEE 1076-1993, 1.1, 1.2 and 10.4.)
 
-ghost use Rattle.rule_readers.specs.Reading.{read, Reads, ReadsAs};
-ghost use Rattle.vhdl_text.specs.VhdlRules.{new_name};
+ghost use Rattle.grammar_reader.specs.Reading.{read, Reads, ReadsAs};
+ghost use Rattle.vhdl_grammar.specs.VhdlRules.{new_name};
 ghost use Rattle.vhdl_drivers.specs.DriverSections as spec;
 ghost use Rattle.vhdl_drivers.specs.Sections.{front_of};
 
 use crate::language::VitalDrivers;
 use driver_models::KnownNames;
-use rule_readers::{Read, Refusal, Stop};
+use grammar_reader::{Read, Refusal, Stop};
 use sqlite_items::Items;
 use std::alloc::Global;
 use udp_tables::VPort;
-use vhdl_declarations::{packages, port_list};
-use vhdl_words::{Cursor, expect_all};
+use vhdl_declarations_reader::{packages, port_list};
+use vhdl_scope::{Cursor, expect_all};
 
 /// What a section begins with: the name of the driver, and its ports.
 #[derive(Drop)]

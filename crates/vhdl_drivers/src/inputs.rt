@@ -1,11 +1,10 @@
 //! The inputs in the list of signals of a process.
 ghost use Rattle.std.specs.List.{flat_map};
-ghost use Rattle.vhdl_text.specs.VhdlDeclarations.{input_names};
+ghost use Rattle.vhdl_grammar.specs.VhdlDeclarations.{input_names};
 ghost use Rattle.driver_texts.specs.NumberedNames.{next_name_text};
 ghost use Rattle.vhdl_drivers.specs.DriverText.{next_input_text};
 
-use text_io::{Desk, Line, OutSlot};
-use text_parts::{Bytes, Each, ItemText, Part, Put, When, parts};
+use text_io::{Bytes, Desk, Each, ItemText, Line, OutSlot, Part, Put, When, parts};
 use udp_tables::VPort;
 
 /// Inputs before other names.

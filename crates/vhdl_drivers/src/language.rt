@@ -3,16 +3,16 @@
 ghost use Rattle.std.specs.Prelude.{◌≡◌, IfOk};
 
 use driver_models::DriverLanguage;
-use rule_readers::Language;
+use grammar_reader::Language;
 use std::alloc::{AllocError, Global};
-use vhdl_words::Vhdl;
+use vhdl_scope::Vhdl;
 
 /// The spelling of VHDL, and the signals of drivers: two names are the same whatever the case of their letters. (IEEE
 /// 1076-1993, 13.3.1.)
 pub struct VitalDrivers;
 
 /// A cursor over the tokens of a section.
-pub(crate) type Cursor<'a> = rule_readers::Cursor<'a, VitalDrivers>;
+pub(crate) type Cursor<'a> = grammar_reader::Cursor<'a, VitalDrivers>;
 
 impl Language for VitalDrivers {
     ghost use Rattle.vhdl_tokens.specs.Tokens.{is_name};
@@ -32,9 +32,9 @@ impl Language for VitalDrivers {
 }
 
 impl DriverLanguage for VitalDrivers {
-    ghost use Rattle.vhdl_names.specs.Kept.{lowered};
+    ghost use Rattle.vhdl_tokens.specs.Kept.{lowered};
     ghost use Rattle.vhdl_drivers.specs.DriverText.{data_word, enable_word};
-    ghost use Rattle.vhdl_words.proofs.LoweredNames.{same_lowered};
+    ghost use Rattle.vhdl_scope.proofs.LoweredNames.{same_lowered};
 
     ghost value = { data_word };
 

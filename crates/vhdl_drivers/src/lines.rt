@@ -7,8 +7,7 @@ use crate::path_lists::OwnPaths;
 use driven_traces::DrivePath;
 use driver_models::DriverModel;
 use driver_texts::output_name;
-use text_io::{Desk, Line, OutSlot};
-use text_parts::{Bytes, Decimal, Part, Put, When, parts};
+use text_io::{Bytes, Decimal, Desk, Line, OutSlot, Part, Put, When, parts};
 use vhdl_writer::{At, ItemText};
 
 /// Whether one of these paths leads to the driven output with this number, from 0.

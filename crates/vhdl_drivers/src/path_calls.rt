@@ -1,21 +1,20 @@
 //! The calls of the paths of driven outputs, by recursive descent. (IEEE 1076.4-2000, VitalPathDelay01.)
 
 ghost use Rattle.std.specs.Prelude.{◌≡◌, ◌<◌, ◌^◌, length};
-ghost use Rattle.rule_readers.specs.Reading.{read, Reads};
-ghost use Rattle.vhdl_text.specs.VhdlRules.{this_number};
+ghost use Rattle.grammar_reader.specs.Reading.{read, Reads};
+ghost use Rattle.vhdl_grammar.specs.VhdlRules.{this_number};
 ghost use Rattle.vhdl_drivers.specs.DriverSections as spec;
 
 use crate::buffers::numbered_word;
 use driven_traces::DrivePath;
 use driver_models::path_from;
-use part_readers::{RepeatedPart, one_or_more};
-use rule_readers::{Read, Refusal, Stop};
+use grammar_reader::{Read, Refusal, RepeatedPart, Stop, one_or_more};
 use sqlite_items::Items;
 use std::alloc::Global;
 use udp_tables::VPort;
-use vhdl_outputs::delays;
+use vhdl_outputs_reader::delays;
 use vhdl_tokens::is_quoted;
-use vhdl_words::{Cursor, Vhdl, expect_all, this_number};
+use vhdl_scope::{Cursor, Vhdl, expect_all, this_number};
 
 /// The number of the path behind these.
 fn path_number(cursor: &mut Cursor, paths: &[DrivePath]) -> Read<()>

@@ -4,8 +4,7 @@ ghost use Rattle.vhdl_drivers.specs.DriverText.{paths_to, drive_path_text};
 
 use driven_traces::DrivePath;
 use driver_texts::input_name;
-use text_io::{Desk, Line, OutSlot};
-use text_parts::{Bytes, Decimal, Part, Put, parts};
+use text_io::{Bytes, Decimal, Desk, Line, OutSlot, Part, Put, parts};
 use udp_tables::VPort;
 use vhdl_writer::apart;
 

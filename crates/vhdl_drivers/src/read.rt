@@ -1,8 +1,8 @@
 //! The bytes of a section to a driver, or to their fault.
 
 ghost use Rattle.std.specs.Prelude.{◌≡◌, IfOk, IfErr, Ok};
-ghost use Rattle.token_spans.specs.Spans.{LieInside, spelled};
-ghost use Rattle.rule_readers.specs.Reading.{read, Reads, ReadsAs};
+ghost use Rattle.lexer.specs.Spans.{LieInside, spelled};
+ghost use Rattle.grammar_reader.specs.Reading.{read, Reads, ReadsAs};
 ghost use Rattle.driver_models.specs.Models.{IsSound};
 ghost use Rattle.vhdl_drivers.specs.DriverSections as spec;
 ghost use Rattle.vhdl_drivers.specs.Sections.{last_tokens, call_of, front_of, IsFaultOf};
@@ -13,12 +13,12 @@ use crate::language::VitalDrivers;
 use crate::section::section_process;
 use driver_models::{Cores, DriverModel, KnownNames};
 use driver_texts::cursor_before;
-use rule_readers::{Read, Stop};
+use grammar_reader::{Read, Stop};
 use std::alloc::Global;
-use token_spans::{KeptSpan, Scan};
+use lexer::{KeptSpan, Scan};
 use udp_tables::{ModelFault, VPort, refusal_fault};
 use vhdl_tokens::scan;
-use vhdl_words::{Cursor, Vhdl};
+use vhdl_scope::{Cursor, Vhdl};
 
 /// What a core is read as, and a cursor where its reading stopped.
 #[derive(Drop)]
@@ -104,7 +104,7 @@ fn section<'a>(
 }
 
 /// The driver of a section, where these names are taken and the models that may be cores are these, or its first fault.
-#[tactic(auto, unfolding(crate::specs::DriverSections::section_text), using(token_spans::proofs::Spelled::spelled))]
+#[tactic(auto, unfolding(crate::specs::DriverSections::section_text), using(lexer::proofs::Spelled::spelled))]
 fn driver_of_text(
     alloc: Global,
     text: &[u8],

@@ -1,8 +1,8 @@
 //! A section behind its core, by recursive descent. (IEEE 1076-1993, 9.2.)
 
 ghost use Rattle.std.specs.Prelude.{◌≡◌};
-ghost use Rattle.rule_readers.specs.Reading.{read, Reads, Token};
-ghost use Rattle.rule_readers.specs.declared.refusal.Refusal.TheVariants.{Syntax};
+ghost use Rattle.grammar_reader.specs.Reading.{read, Reads, Token};
+ghost use Rattle.grammar_reader.specs.declared.refusal.Refusal.TheVariants.{Syntax};
 ghost use Rattle.vhdl_drivers.specs.DriverSections as spec;
 ghost use Rattle.vhdl_drivers.specs.Sections.{front_of, call_of};
 
@@ -14,11 +14,11 @@ use crate::variables::driven_variables;
 use driven_traces::{DrivePath, Driver};
 use driver_models::DriverModel;
 use driver_texts::{driven_names, input_count, output_count};
-use rule_readers::{Read, Refusal, Stop};
+use grammar_reader::{Read, Refusal, Stop};
 use sqlite_items::Items;
 use std::alloc::Global;
 use udp_tables::VPort;
-use vhdl_words::{Cursor, expect_all};
+use vhdl_scope::{Cursor, expect_all};
 
 /// The statements of a driver with these ports, of whose outputs these are driven: the paths to them.
 #[tactic(auto, unfolding(crate::specs::DriverSections::statements))]

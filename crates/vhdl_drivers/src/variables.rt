@@ -1,16 +1,15 @@
 //! The variables of a driver's process, by recursive descent. (IEEE 1076-1993, 4.3.1.3.)
 
 ghost use Rattle.std.specs.Prelude.{◌≡◌, IfOk};
-ghost use Rattle.rule_readers.specs.Reading.{read, Reads, ReadsAs};
-ghost use Rattle.vhdl_text.specs.VhdlRules.{known};
+ghost use Rattle.grammar_reader.specs.Reading.{read, Reads, ReadsAs};
+ghost use Rattle.vhdl_grammar.specs.VhdlRules.{known};
 ghost use Rattle.vhdl_drivers.specs.DriverSections as spec;
 
-use part_readers::{RepeatedPart, where_read, while_next};
-use rule_readers::Read;
+use grammar_reader::{Read, RepeatedPart, where_read, while_next};
 use sqlite_items::Items;
 use std::alloc::{AllocError, Global};
-use vhdl_declarations::{is_last_false, set_last};
-use vhdl_words::{Cursor, Vhdl, expect_all, is_numbered};
+use vhdl_declarations_reader::{is_last_false, set_last};
+use vhdl_scope::{Cursor, Vhdl, expect_all, is_numbered};
 
 /// Whether a name is that of the value of the next of so many driven outputs, behind these. An `Err` comes only where memory is
 /// wanting.
@@ -95,7 +94,7 @@ impl RepeatedPart<Vhdl> for DrivenVariable {
 
     ghost reading = { λ variable glitches s. read (spec.driven_variable variable.driven glitches) s };
 
-    #[tactic(auto, using(part_readers::proofs::WithRest::reads_before))]
+    #[tactic(auto, using(grammar_reader::proofs::WithRest::reads_before))]
     fn next(&self, cursor: &mut Cursor<'_>, mut glitches: Items<bool>) -> Read<Items<bool>> {
         let rest = driven_variable(cursor, self.alloc, self.driven, &mut glitches);
         where_read(glitches, rest)

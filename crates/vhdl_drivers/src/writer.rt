@@ -9,8 +9,7 @@ use crate::inputs::NextInputs;
 use crate::lines::{Buffers, DrivenLines, DrivenVariables};
 use driver_models::DriverModel;
 use driver_texts::{CoreTerminals, ListedNames, NumberedNames};
-use text_io::{Desk, Failed, Line, OutSlot};
-use text_parts::{Bytes, Part, Put, parts, write_part};
+use text_io::{Bytes, Desk, Failed, Line, OutSlot, Part, Put, parts, write_part};
 use vhdl_writer::{Each, PortList};
 
 /// Appends the text of a driver to the VHDL text, which is bound: an entity and its architecture (IEEE 1076-1993, 1.1 and 1.2)

@@ -1,10 +1,10 @@
 -- Entities that are read are well formed.
 use Rattle.std.proofs.Common.{◌≡◌, ℕ, List, length, Result, Ok, Err, IfOk}
 use Rattle.std.specs.Prelude.{Vec}
-use Rattle.vhdl_declarations.specs.vital_models.declared.model.VEntity.{VEntity}
-use Rattle.vhdl_declarations.specs.vhdl_text.VhdlText.{vhdl_text, VhdlTextHasOneAnswer}
-use Rattle.vhdl_declarations.specs.vhdl_text.WellFormed.{IsCount, AreWellFormed}
-use Rattle.vhdl_declarations.specs.vhdl_text.Laws.{TextsAreWellFormed}
+use Rattle.vhdl_declarations_reader.specs.vital_models.declared.model.VEntity.{VEntity}
+use Rattle.vhdl_declarations_reader.specs.vhdl_grammar.VhdlText.{vhdl_text, VhdlTextHasOneAnswer}
+use Rattle.vhdl_declarations_reader.specs.vhdl_grammar.WellFormed.{IsCount, AreWellFormed}
+use Rattle.vhdl_declarations_reader.specs.vhdl_grammar.Laws.{TextsAreWellFormed}
 
 pub well_formed : {A E : Type 0} → VhdlTextHasOneAnswer → TextsAreWellFormed → (text : List ℕ) (r : Result (Vec VEntity A) E) →
     IfOk r (λ found. vhdl_text text ≡ Ok found.items) → IsCount (length text) → IfOk r (λ found. AreWellFormed found.items)

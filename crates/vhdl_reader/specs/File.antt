@@ -1,9 +1,9 @@
 -- What is read of a text, as the grammar names it.
 use Rattle.std.specs.Prelude.{◌≡◌, ℕ, List, Vec, Err}
-use Rattle.vhdl_declarations.specs.udp_tables.declared.models.ModelFault.{ModelFault}
-use Rattle.vhdl_declarations.specs.udp_tables.declared.models.ModelFault.TheVariants as fault
-use Rattle.vhdl_declarations.specs.vital_models.declared.model.VEntity.{VEntity}
-pub use Rattle.vhdl_declarations.specs.vhdl_text.VhdlText.{entity_end, statements, entity, next_entity, file, vhdl_text}
+use Rattle.vhdl_declarations_reader.specs.udp_tables.declared.models.ModelFault.{ModelFault}
+use Rattle.vhdl_declarations_reader.specs.udp_tables.declared.models.ModelFault.TheVariants as fault
+use Rattle.vhdl_declarations_reader.specs.vital_models.declared.model.VEntity.{VEntity}
+pub use Rattle.vhdl_declarations_reader.specs.vhdl_grammar.VhdlText.{entity_end, statements, entity, next_entity, file, vhdl_text}
 
 abbrev pub entities_of : {A : Type 0} → Vec VEntity A → List VEntity
 entities_of found = found.items

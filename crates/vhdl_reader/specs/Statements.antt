@@ -1,7 +1,7 @@
 -- The entity of declarations and statements.
-use Rattle.vhdl_declarations.specs.vital_models.declared.model.VEntity.{VEntity}
-use Rattle.vhdl_declarations.specs.vhdl_text.declared.scope.Scope.{Scope}
-use Rattle.vhdl_declarations.specs.vhdl_text.VhdlText.{entity_with}
+use Rattle.vhdl_declarations_reader.specs.vital_models.declared.model.VEntity.{VEntity}
+use Rattle.vhdl_declarations_reader.specs.vhdl_grammar.declared.scope.Scope.{Scope}
+use Rattle.vhdl_declarations_reader.specs.vhdl_grammar.VhdlText.{entity_with}
 use Rattle.vhdl_reader.specs.declared.statements.Statements.{Statements}
 
 abbrev pub entity_of : Scope → Statements → VEntity

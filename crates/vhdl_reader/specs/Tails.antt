@@ -1,14 +1,14 @@
 -- The rest of the grammar of statements from some places on, where another function reads on.
 use Rattle.std.specs.Prelude.{List, length}
 use Rattle.grammar_rules.specs.Rule as r
-use Rattle.vhdl_declarations.specs.vital_models.declared.model.VEntity.{VEntity}
-use Rattle.rule_readers.specs.Words.{Grammar, ◌>>=◌}
-use Rattle.vhdl_declarations.specs.vhdl_text.declared.scope.Scope.{Scope}
-use Rattle.vhdl_declarations.specs.vhdl_text.declared.scope.Columns.{Columns}
-use Rattle.vhdl_declarations.specs.vhdl_text.declared.scope.Assigned.{Assigned}
-use Rattle.vhdl_declarations.specs.vhdl_text.VhdlChecks.{Checks, violation, state_calls}
-use Rattle.vhdl_declarations.specs.vhdl_text.VhdlOutputs.{values_of, output_lines}
-use Rattle.vhdl_declarations.specs.vhdl_text.VhdlText.{entity_end, entity_with}
+use Rattle.vhdl_declarations_reader.specs.vital_models.declared.model.VEntity.{VEntity}
+use Rattle.grammar_reader.specs.Words.{Grammar, ◌>>=◌}
+use Rattle.vhdl_declarations_reader.specs.vhdl_grammar.declared.scope.Scope.{Scope}
+use Rattle.vhdl_declarations_reader.specs.vhdl_grammar.declared.scope.Columns.{Columns}
+use Rattle.vhdl_declarations_reader.specs.vhdl_grammar.declared.scope.Assigned.{Assigned}
+use Rattle.vhdl_declarations_reader.specs.vhdl_grammar.VhdlChecks.{Checks, violation, state_calls}
+use Rattle.vhdl_declarations_reader.specs.vhdl_grammar.VhdlOutputs.{values_of, output_lines}
+use Rattle.vhdl_declarations_reader.specs.vhdl_grammar.VhdlText.{entity_end, entity_with}
 
 -- the statements behind the values of the outputs
 unfoldable pub behind_values : Scope → Checks → List Columns → List Assigned → Grammar VEntity

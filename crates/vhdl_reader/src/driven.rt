@@ -1,7 +1,7 @@
 //! What drives an output.
 
 use sqlite_items::Items;
-use vhdl_declarations::entities::{HPath, OutValue};
+use vhdl_declarations_reader::entities::{HPath, OutValue};
 
 /// The value of an output, and its paths.
 #[derive(Drop)]

@@ -1,15 +1,14 @@
 //! The entities of a text that were read so far, with a list that finds a name at once.
 
 ghost use Rattle.std.specs.Prelude.{◌≡◌, [], ◌∷◌, ◌++◌, IfOk, IfErr};
-ghost use Rattle.vhdl_declarations.specs.vhdl_text.VhdlText.{entity_names};
-ghost use Rattle.vhdl_declarations.specs.vhdl_words.Lowered.{HaveSame};
+ghost use Rattle.vhdl_declarations_reader.specs.vhdl_grammar.VhdlText.{entity_names};
+ghost use Rattle.vhdl_declarations_reader.specs.vhdl_scope.Lowered.{HaveSame};
 
 use bool_functions::Names;
-use part_readers::where_read;
-use rule_readers::{Read, Stop};
+use grammar_reader::{Read, Stop, where_read};
 use std::alloc::{AllocError, Global};
 use std::marker::Model;
-use vhdl_declarations::entities::VEntity;
+use vhdl_declarations_reader::entities::VEntity;
 
 /// Entities in the order of their text. Contracts see the list of them. Beside them stand their names in lower case, since a name
 /// is the same whatever the case of its letters. (IEEE 1076-1993, 13.3.1.)
@@ -22,9 +21,9 @@ pub struct Entities {
 
 impl Model for Entities {
     ghost use Rattle.std.specs.Prelude.{List};
-    ghost use Rattle.vhdl_declarations.specs.vital_models.declared.model.VEntity.{VEntity};
-    ghost use Rattle.vhdl_declarations.specs.vhdl_text.VhdlText.{entity_names};
-    ghost use Rattle.vhdl_declarations.specs.vhdl_words.Lowered.{HaveSame};
+    ghost use Rattle.vhdl_declarations_reader.specs.vital_models.declared.model.VEntity.{VEntity};
+    ghost use Rattle.vhdl_declarations_reader.specs.vhdl_grammar.VhdlText.{entity_names};
+    ghost use Rattle.vhdl_declarations_reader.specs.vhdl_scope.Lowered.{HaveSame};
 
     ghost Value = { List VEntity };
 
@@ -56,8 +55,8 @@ fn add_entity(
 impl Entities {
     ghost use Rattle.std.specs.Prelude.{◌≡◌, [], ◌∷◌, ◌++◌, true, IfOk, IfErr};
     ghost use Rattle.vhdl_tokens.specs.Tokens.{is_name};
-    ghost use Rattle.vhdl_declarations.specs.vhdl_text.VhdlRules.{is_among};
-    ghost use Rattle.vhdl_declarations.specs.vhdl_text.VhdlText.{entity_names};
+    ghost use Rattle.vhdl_declarations_reader.specs.vhdl_grammar.VhdlRules.{is_among};
+    ghost use Rattle.vhdl_declarations_reader.specs.vhdl_grammar.VhdlText.{entity_names};
 
     /// No entities. Takes no memory.
     pub fn new(alloc: Global) -> Entities

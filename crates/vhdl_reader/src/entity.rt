@@ -1,11 +1,11 @@
 //! Entities of a text, by recursive descent. (IEEE 1076-1993, 1.1 and 1.2; IEEE 1076.4-2000.)
 
 ghost use Rattle.std.specs.Prelude.{◌≡◌};
-ghost use Rattle.rule_readers.specs.Reading.{read, Reads, ReadsAs};
-ghost use Rattle.vhdl_declarations.specs.vhdl_text.VhdlDeclarations.{input_names};
-ghost use Rattle.vhdl_declarations.specs.vhdl_text.VhdlRules as rules;
-ghost use Rattle.vhdl_declarations.specs.vhdl_text.VhdlText as spec;
-ghost use Rattle.vhdl_statements.specs.Checked.{checks_of};
+ghost use Rattle.grammar_reader.specs.Reading.{read, Reads, ReadsAs};
+ghost use Rattle.vhdl_declarations_reader.specs.vhdl_grammar.VhdlDeclarations.{input_names};
+ghost use Rattle.vhdl_declarations_reader.specs.vhdl_grammar.VhdlRules as rules;
+ghost use Rattle.vhdl_declarations_reader.specs.vhdl_grammar.VhdlText as spec;
+ghost use Rattle.vhdl_statements_reader.specs.Checked.{checks_of};
 ghost use Rattle.vhdl_reader.specs.File.{entities_of};
 ghost use Rattle.vhdl_reader.specs.Statements.{entity_of};
 ghost use Rattle.vhdl_reader.specs.Tails as tails;
@@ -13,17 +13,16 @@ ghost use Rattle.vhdl_reader.specs.Tails as tails;
 use crate::entities::Entities;
 use crate::joined::entity_with;
 use crate::statements::Statements;
-use part_readers::{RepeatedPart, while_next, with_read};
-use rule_readers::{Read, Refusal, Stop};
+use grammar_reader::{Read, Refusal, RepeatedPart, Stop, while_next, with_read};
 use sqlite_items::Items;
 use std::alloc::Global;
-use vhdl_declarations::entities::VEntity;
-use vhdl_declarations::grammar::{Assigned, Columns};
-use vhdl_declarations::primitives::VPort;
-use vhdl_declarations::words::{Cursor, Declarations, Vhdl, expect_all};
-use vhdl_declarations::{input_names, packages, scope_of};
-use vhdl_outputs::{output_lines, values_of};
-use vhdl_statements::{Checks, all_checks, state_calls, violation};
+use vhdl_declarations_reader::entities::VEntity;
+use vhdl_declarations_reader::grammar::{Assigned, Columns};
+use vhdl_declarations_reader::primitives::VPort;
+use vhdl_declarations_reader::words::{Cursor, Declarations, Vhdl, expect_all};
+use vhdl_declarations_reader::{input_names, packages, scope_of};
+use vhdl_outputs_reader::{output_lines, values_of};
+use vhdl_statements_reader::{Checks, all_checks, state_calls, violation};
 use vhdl_tokens::is_name;
 
 /// The wait at the end of a process in which these names are its sensitivity list, if there are none. (IEEE 1076-1993, 8.1.)

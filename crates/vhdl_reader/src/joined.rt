@@ -1,8 +1,8 @@
 //! The parts of an entity, each joined with what the statements say of it: an entity as data.
 
 ghost use Rattle.std.specs.Prelude.{◌≡◌, IfOk, Ok};
-ghost use Rattle.vhdl_declarations.specs.vital_models.Sound.{output_ports_from};
-ghost use Rattle.vhdl_declarations.specs.vhdl_text.VhdlText as spec;
+ghost use Rattle.vhdl_declarations_reader.specs.vital_models.Sound.{output_ports_from};
+ghost use Rattle.vhdl_declarations_reader.specs.vhdl_grammar.VhdlText as spec;
 ghost use Rattle.vhdl_reader.specs.Statements.{entity_of};
 
 use crate::driven::Driven;
@@ -10,10 +10,10 @@ use crate::statements::Statements;
 use crate::wholes::{joined, reversed};
 use sqlite_items::Items;
 use std::alloc::{AllocError, Global};
-use vhdl_declarations::entities::{HPath, OutValue, TruthTable, VEntity, VOutput};
-use vhdl_declarations::grammar::{Assigned, Scope, Tables};
-use vhdl_declarations::primitives::VPort;
-use vhdl_outputs::output_ports;
+use vhdl_declarations_reader::entities::{HPath, OutValue, TruthTable, VEntity, VOutput};
+use vhdl_declarations_reader::grammar::{Assigned, Scope, Tables};
+use vhdl_declarations_reader::primitives::VPort;
+use vhdl_outputs_reader::output_ports;
 
 /// The values of outputs: constants, and look-ups, each of the next table. An `Err` comes only where memory is wanting.
 #[tactic(auto, using(crate::proofs::Reversed::reverse_last, crate::proofs::Reversed::reverse_twice))]

@@ -2,8 +2,8 @@
 
 ghost use Rattle.std.specs.Prelude.{false};
 ghost use Rattle.vhdl_tokens.specs.Separators.{Padded};
-ghost use Rattle.rule_readers.specs.TextLaws.{HaveSameValues, HasFaultAtFirstToken};
-ghost use Rattle.vhdl_declarations.specs.vhdl_text.VhdlText.{language};
+ghost use Rattle.grammar_reader.specs.TextLaws.{HaveSameValues, HasFaultAtFirstToken};
+ghost use Rattle.vhdl_declarations_reader.specs.vhdl_grammar.VhdlText.{language};
 
 /// Blanks, line ends and comments that are added between the tokens of a text change none of its entities.
 pub fn added_separators_change_no_entity(text: &[u8], padded: &[u8])

@@ -1,23 +1,23 @@
 //! VHDL text to entities, or to its fault.
 
 ghost use Rattle.std.specs.Prelude.{◌≡◌, IfOk, IfErr, Ok};
-ghost use Rattle.vhdl_declarations.specs.vhdl_text.VhdlText.{vhdl_text, language};
-ghost use Rattle.vhdl_declarations.specs.vhdl_text.WellFormed.{AreWellFormed};
-ghost use Rattle.token_spans.specs.Spans.{tokens_of};
+ghost use Rattle.vhdl_declarations_reader.specs.vhdl_grammar.VhdlText.{vhdl_text, language};
+ghost use Rattle.vhdl_declarations_reader.specs.vhdl_grammar.WellFormed.{AreWellFormed};
+ghost use Rattle.lexer.specs.Spans.{tokens_of};
 ghost use Rattle.vhdl_reader.specs.File.{IsFaultOf};
 
 use crate::entity::file;
-use rule_readers::{Cursor, Stop};
+use grammar_reader::{Cursor, Stop};
 use std::alloc::Global;
-use token_spans::Scan;
-use vhdl_declarations::entities::VEntity;
-use vhdl_declarations::grammar::{texts_are_well_formed, vhdl_text_has_one_answer};
-use vhdl_declarations::primitives::{ModelFault, refusal_fault};
-use vhdl_declarations::words::Vhdl;
+use lexer::Scan;
+use vhdl_declarations_reader::entities::VEntity;
+use vhdl_declarations_reader::grammar::{texts_are_well_formed, vhdl_text_has_one_answer};
+use vhdl_declarations_reader::primitives::{ModelFault, refusal_fault};
+use vhdl_declarations_reader::words::Vhdl;
 use vhdl_tokens::scan;
 
 /// The entities of a VHDL text, or its first fault.
-#[tactic(auto, unfolding(crate::specs::File::vhdl_text), using(token_spans::proofs::Spelled::spelled))]
+#[tactic(auto, unfolding(crate::specs::File::vhdl_text), using(lexer::proofs::Spelled::spelled))]
 fn entities_of(alloc: Global, text: &[u8]) -> Result<Vec<VEntity>, ModelFault>
     ensures entities { IfOk result (λ found. vhdl_text text.now ≡ Ok found.items) }
     ensures fault { IfErr result (λ e. IsFaultOf text.now e) }

@@ -6,10 +6,10 @@ ghost use Rattle.vhdl_reader.specs.Joined as spec;
 use crate::driven::Driven;
 use sqlite_items::Items;
 use std::alloc::{AllocError, Global};
-use vhdl_declarations::entities::{
+use vhdl_declarations_reader::entities::{
     HPath, OutValue, TruthTable, VOutput, VState, VStateTable, VTruth,
 };
-use vhdl_declarations::grammar::Columns;
+use vhdl_declarations_reader::grammar::Columns;
 
 /// A whole of two parts.
 pub trait Whole: Drop {

@@ -4,7 +4,7 @@ use Rattle.std.specs.List.{prefix_len}
 use Rattle.vhdl_tokens.specs.Tokens.{is_blank, begins_with, separator_length}
 use Rattle.vhdl_tokens.specs.Cover.{IsSeparator, spelling}
 use Rattle.vhdl_tokens.specs.Cover as cover
-use Rattle.token_spans.proofs.Covered.{AsSeparator, blank_here, line_here, Finds}
+use Rattle.lexer.proofs.Covered.{AsSeparator, blank_here, line_here, Finds}
 use Rattle.vhdl_tokens.proofs.Longest.{token_here, token_least}
 
 separator_here : (b k : ℕ) (s : List ℕ) → separator_length (b ∷ s) ≡ suc k → AsSeparator IsSeparator b s k

@@ -1,6 +1,6 @@
 -- The laws of VHDL text.
-use Rattle.token_spans.specs.Laws.{Lawful}
-use Rattle.token_spans.proofs.LawfulTexts.{lawful}
+use Rattle.lexer.specs.Laws.{Lawful}
+use Rattle.lexer.proofs.LawfulTexts.{lawful}
 use Rattle.vhdl_tokens.specs.Cover.{spelling}
 use Rattle.vhdl_tokens.proofs.Covered.{finds}
 use Rattle.vhdl_tokens.proofs.Padding.{lets}

@@ -1,3 +1,4 @@
+mod NoWord
 pub mod Stays
 pub mod Padding
 pub mod Longest

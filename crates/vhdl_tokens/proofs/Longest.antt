@@ -8,8 +8,8 @@ use Rattle.std.specs.List.{prefix_len, list_all}
 use Rattle.std.specs.Str.{bytes_eq}
 use Rattle.vhdl_tokens.specs.Tokens.{is_name_byte, is_printable, begins_with, later, string_rest, string_length, character_length, token_length, word_length, number_length, sign_length, is_mark}
 use Rattle.vhdl_tokens.specs.Cover.{spells_number, spells_sign, closes_string, closes_character, spells_token}
-use Rattle.token_spans.specs.Cover.{is_nothing}
-use Rattle.token_spans.proofs.Runs.{run_at, run_least, Spelled, spelled_as, nothing_here, nothing_least}
+use Rattle.lexer.specs.Cover.{is_nothing}
+use Rattle.lexer.proofs.Runs.{run_at, run_least, Spelled, spelled_as, nothing_here, nothing_least}
 
 -- bytes behind the first pass a test
 abbrev Ends : (List ℕ → Bool) → List ℕ → ℕ → Type 0

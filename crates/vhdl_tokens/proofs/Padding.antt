@@ -2,9 +2,9 @@
 use Rattle.std.proofs.Common.{◌≡◌, ℕ, suc, Bool, true, List, ◌∷◌, ◌++◌, length, refl}
 use Rattle.vhdl_tokens.specs.Tokens.{is_blank, separator_length, token_length, is_name, lexis, scan}
 use Rattle.vhdl_tokens.specs.Separators.{IsComment, spelled}
-pub use Rattle.token_spans.proofs.Padding.{Found, word_before}
-use Rattle.token_spans.proofs.Padding.{Lets}
-use Rattle.token_spans.proofs.Padding as padding
+pub use Rattle.lexer.proofs.Padding.{Found, word_before}
+use Rattle.lexer.proofs.Padding.{Lets}
+use Rattle.lexer.proofs.Padding as padding
 use Rattle.vhdl_tokens.proofs.Stays.{token_stays}
 use Rattle.vhdl_tokens.proofs.TokenFirst.{no_separator}
 

@@ -6,7 +6,7 @@ use Rattle.std.specs.List.{list_all, list_any}
 use Rattle.std.specs.Str.{bytes_eq, str_eq_ignore_ascii_case, str_to_ascii_lowercase}
 use Rattle.std.proofs.lemmas.Slice.Eq.{bytes_eq-Decides}
 use Rattle.vhdl_tokens.specs.Tokens.{is_one_of}
-use Rattle.vhdl_names.specs.Words.{vhdl_words, used_words, is_reserved, is_used, is_vhdl_word}
+use Rattle.vhdl_tokens.specs.Words.{vhdl_words, used_words, is_reserved, is_used, is_vhdl_word}
 
 -- the second of the bytes is none of these, and there is one
 abbrev pub has_second : List ℕ → Bool

@@ -3,7 +3,7 @@ use Rattle.std.proofs.Common.{◌≡◌, ℕ, zero, suc, ◌+◌, ◌≤◌, Boo
 use Rattle.std.specs.Char.{is_ascii_alphabetic, is_ascii_digit}
 use Rattle.std.specs.List.{prefix_len}
 use Rattle.vhdl_tokens.specs.Tokens.{is_name_byte, is_printable, begins_with, later, string_rest, string_length, character_length, token_length, word_length, number_length, sign_length, is_mark}
-use Rattle.token_spans.proofs.Alike.{no_name_byte, Alike, behind, decimal_stays, run_ends, begins_not, begins_still}
+use Rattle.lexer.proofs.Alike.{no_name_byte, Alike, behind, decimal_stays, run_ends, begins_not, begins_still}
 
 word : (b : ℕ) (w : List ℕ) {r p : List ℕ} → Alike r p → word_length (b ∷ w ++ r) ≡ suc (length w) → word_length (b ∷ w ++ p) ≡ suc (length w)
 word b w {r} {p} h e =

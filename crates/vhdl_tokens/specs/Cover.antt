@@ -3,7 +3,7 @@ use Rattle.std.specs.Prelude.{◌≡◌, ℕ, nat_le, Bool, true, false, not, �
 use Rattle.std.specs.Char.{is_ascii_alphabetic, is_ascii_digit}
 use Rattle.std.specs.List.{list_all}
 use Rattle.std.specs.Str.{bytes_eq}
-use Rattle.token_spans.specs.Cover.{EndsLine, is_nothing, Spelling}
+use Rattle.lexer.specs.Cover.{EndsLine, is_nothing, Spelling}
 use Rattle.vhdl_tokens.specs.Separators.{IsComment}
 use Rattle.vhdl_tokens.specs.Tokens.{lexis, is_blank, is_mark, is_name_byte, is_printable}
 

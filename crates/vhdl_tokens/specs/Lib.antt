@@ -1,3 +1,5 @@
+pub mod Words
+pub mod Kept
 pub mod Tokens
 pub mod Separators
 pub mod Spans

@@ -1,8 +1,8 @@
 -- What may be added between the tokens of VHDL text without a change of its tokens: blanks, line ends and comments, each comment
 -- behind a blank and with its line end. (IEEE 1076-1993, 13.2 and 13.8.)
 use Rattle.std.specs.Prelude.{ℕ, Bool, List}
-pub use Rattle.token_spans.specs.Separators.{spelled}
-use Rattle.token_spans.specs.Separators as separators
+pub use Rattle.lexer.specs.Separators.{spelled}
+use Rattle.lexer.specs.Separators as separators
 use Rattle.vhdl_tokens.specs.Tokens.{lexis}
 
 -- a comment that may be added, with its line end

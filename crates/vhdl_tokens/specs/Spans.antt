@@ -1,8 +1,8 @@
 -- Tokens as places of a text, and the tokens that they are.
 use Rattle.std.specs.Prelude.{ℕ, Bool, List, Option}
-pub use Rattle.token_spans.specs.Spans.{tokens_of}
-use Rattle.token_spans.specs.Spans as spans
-use Rattle.token_spans.specs.declared.span.Span.{Span}
+pub use Rattle.lexer.specs.Spans.{tokens_of}
+use Rattle.lexer.specs.Spans as spans
+use Rattle.lexer.specs.declared.span.Span.{Span}
 use Rattle.vhdl_tokens.specs.Tokens.{Token, lexis}
 
 -- What a scan of a text gives that stands at an offset: the tokens found so far, and those that begin from there on, where no token

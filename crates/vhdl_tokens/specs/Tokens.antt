@@ -3,9 +3,9 @@
 -- is a lexical fault.
 use Rattle.std.specs.Prelude.{ℕ, ◌+◌, Bool, false, not, ◌&&◌, ◌||◌, ◌==◌, if◌then◌else◌, List, [], ◌∷◌, codes, Option, Some, None, unwrap_or}
 use Rattle.std.specs.Char.{is_ascii_alphabetic, is_ascii_digit, is_ascii_graphic}
-use Rattle.vhdl_names.specs.Words.{is_vhdl_word}
-use Rattle.token_spans.specs.Tokens as tokens
-pub use Rattle.token_spans.specs.Tokens.{Token, Lexis, begins_with, is_one_of, is_blank, is_name_byte, later, after, spellings}
+use Rattle.vhdl_tokens.specs.Words.{is_vhdl_word}
+use Rattle.lexer.specs.Tokens as tokens
+pub use Rattle.lexer.specs.Tokens.{Token, Lexis, begins_with, is_one_of, is_blank, is_name_byte, later, after, spellings}
 
 -- How many bytes of a separator stand at the front of these: a blank, or a comment before its line end (13.8). None where there is
 -- no separator.

@@ -4,7 +4,7 @@ ghost use Rattle.std.specs.Prelude.{◌≡◌, ◌≤◌, length, IfSome};
 ghost use Rattle.vhdl_tokens.specs.Tokens as spec;
 
 use crate::spelling::is_name;
-use token_spans::{byte_table, decimal_length, identifier_length};
+use lexer::{byte_table, decimal_length, identifier_length};
 
 macro_rules! mark {
     ($b:expr) => {

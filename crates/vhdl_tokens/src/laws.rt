@@ -1,5 +1,5 @@
 //! Laws of VHDL text.
-ghost use Rattle.token_spans.specs.Laws.{Lawful};
+ghost use Rattle.lexer.specs.Laws.{Lawful};
 ghost use Rattle.vhdl_tokens.specs.Cover.{spelling};
 
 /// A law: the tokens of a text, with nothing but separators between them, are its bytes up to its lexical fault, and no token can

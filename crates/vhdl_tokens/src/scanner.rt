@@ -2,12 +2,12 @@
 
 ghost use Rattle.std.specs.Prelude.{◌≡◌, ◌≤◌, length, IfOk};
 ghost use Rattle.vhdl_tokens.specs.Tokens.{scan_of};
-ghost use Rattle.token_spans.specs.Spans.{LieInside};
+ghost use Rattle.lexer.specs.Spans.{LieInside};
 ghost use Rattle.vhdl_tokens.specs.Spans.{tokens_of};
 
 use crate::fronts::token_length;
 use std::alloc::{AllocError, Global};
-use token_spans::{Lexicon, Scan, TokenState, line_separator_length};
+use lexer::{Lexicon, Scan, TokenState, line_separator_length};
 
 /// The bytes of the last token, of which it is asked only at an apostrophe whether they are a name. None stand before the first.
 #[derive(Clone, Copy)]
@@ -58,5 +58,5 @@ pub fn scan(alloc: Global, text: &[u8]) -> Result<Scan, AllocError>
     ensures fault { IfOk result (λ found. found.fault ≡ (scan_of text.now).1) }
     ensures inside { IfOk result (λ found. LieInside text.now found.tokens.items) }
 {
-    token_spans::scan::<LastToken<'_>>(alloc, text)
+    lexer::scan::<LastToken<'_>>(alloc, text)
 }

@@ -1,11 +1,11 @@
 //! Which tokens of VHDL text are names, and when two tokens stand for the same.
 
 ghost use Rattle.std.specs.Prelude.{◌≡◌, false};
-ghost use Rattle.vhdl_names.specs.Words.{is_vhdl_word};
+ghost use Rattle.vhdl_tokens.specs.Words.{is_vhdl_word};
 ghost use Rattle.vhdl_tokens.specs.Tokens as tokens;
 ghost use Rattle.vhdl_tokens.specs.Spelling as spec;
 
-use vhdl_names::is_vhdl_word;
+use crate::is_vhdl_word;
 
 /// Whether a token is a name: it is spelled as an identifier, and is no word of VHDL and none that the text of an entity uses. It
 /// takes no memory.

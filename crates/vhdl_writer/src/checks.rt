@@ -5,8 +5,7 @@ ghost use Rattle.vhdl_writer.specs.Statements.{enabled_text, test_at, reference_
 use crate::names::{Condition, port_at};
 use crate::parts::{CheckAt, ItemText, Of};
 use cell_machine::{CheckKind, Edge, Event};
-use text_io::{Desk, Line, OutSlot};
-use text_parts::{Bytes, Decimal, Part, Put, parts};
+use text_io::{Bytes, Decimal, Desk, Line, OutSlot, Part, Put, parts};
 use udp_tables::TimingCheck;
 use vital_models::VEntity;
 

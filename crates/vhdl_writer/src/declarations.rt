@@ -4,8 +4,7 @@ ghost use Rattle.vhdl_writer.specs.Declarations.{direction_text, port_text, some
 
 use crate::names::apart;
 use crate::parts::{At, Each, ItemText};
-use text_io::{Desk, Line, OutSlot};
-use text_parts::{Bytes, Part, Put, When, parts};
+use text_io::{Bytes, Desk, Line, OutSlot, Part, Put, When, parts};
 use udp_tables::VPort;
 use vital_models::VEntity;
 

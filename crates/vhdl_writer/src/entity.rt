@@ -12,8 +12,7 @@ use crate::parts::{Each, Of};
 use crate::states::ListedReports;
 use crate::tables::ConstantLines;
 use crate::variables::{VariableLines, violation_variable};
-use text_io::{Desk, Failed, Line, OutSlot};
-use text_parts::{Bytes, Part, Put, When, parts, write_part};
+use text_io::{Bytes, Desk, Failed, Line, OutSlot, Part, Put, When, parts, write_part};
 use vital_models::VEntity;
 
 /// Appends the text of an entity and of its architecture to the VHDL text, which is bound. After `Failed`, which comes only where

@@ -5,8 +5,7 @@ ghost use Rattle.vhdl_writer.specs.Names.{port_at, inputs_at, list_start, violat
 
 use crate::parts::{At, Each, ItemText, Of};
 use cell_machine::Source;
-use text_io::{Desk, Line, OutSlot};
-use text_parts::{Bytes, Decimal, Part, Put, parts};
+use text_io::{Bytes, Decimal, Desk, Line, OutSlot, Part, Put, parts};
 use vital_models::{VEntity, VState};
 
 /// The name of a port, none where there is no such port.

@@ -5,8 +5,7 @@ use crate::names::{Condition, Listed, apart, port_at};
 use crate::parts::{At, Each, ItemText, Of};
 use crate::tables::table_number;
 use cell_machine::Source;
-use text_io::{Desk, Line, OutSlot};
-use text_parts::{Bytes, Decimal, Part, Put, parts};
+use text_io::{Bytes, Decimal, Desk, Line, OutSlot, Part, Put, parts};
 use vital_models::{HGate, HPath, OutValue, VEntity, VOutput};
 
 /// The look-up of the table of the output with this number.

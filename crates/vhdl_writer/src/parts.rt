@@ -6,8 +6,7 @@ ghost use Rattle.text_io.specs.Desk.{is_bound, HasCause};
 ghost use Rattle.text_io.specs.Line.{PutsText};
 ghost use Rattle.vhdl_writer.specs.Joined.{numbered_texts};
 
-use text_io::{Desk, Line, OutSlot};
-use text_parts::{Part, Put};
+use text_io::{Desk, Line, OutSlot, Part, Put};
 use udp_tables::TimingCheck;
 use vital_models::VEntity;
 

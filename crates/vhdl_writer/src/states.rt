@@ -3,8 +3,7 @@ ghost use Rattle.vhdl_writer.specs.Statements.{report_text, state_text};
 
 use crate::names::{StateColumns, apart};
 use crate::parts::{At, CheckAt, ItemText, Of};
-use text_io::{Desk, Line, OutSlot};
-use text_parts::{Bytes, Decimal, Part, Put, parts};
+use text_io::{Bytes, Decimal, Desk, Line, OutSlot, Part, Put, parts};
 use udp_tables::TimingCheck;
 use vital_models::VState;
 

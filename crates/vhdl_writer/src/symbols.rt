@@ -3,8 +3,7 @@ ghost use Rattle.std.specs.Prelude.{◌≡◌};
 ghost use Rattle.vhdl_writer.specs.Tables.{level_text, symbol_text, next_text, value_text, symbol_apart_text, level_apart_text};
 
 use crate::parts::{At, ItemText};
-use text_io::{Desk, Line, OutSlot};
-use text_parts::{Bytes, Part, Put, parts};
+use text_io::{Bytes, Desk, Line, OutSlot, Part, Put, parts};
 use trit_cubes::Trit;
 use vital_models::{Trits, VNext, VSymbol};
 

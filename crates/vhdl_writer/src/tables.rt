@@ -4,8 +4,7 @@ ghost use Rattle.vhdl_writer.specs.Tables.{row_start, state_row_text, truth_row_
 
 use crate::parts::{At, Each, ItemText};
 use crate::symbols::{Columns, level_text, next_text, value_text};
-use text_io::{Desk, Line, OutSlot};
-use text_parts::{Bytes, Decimal, Part, Put, parts};
+use text_io::{Bytes, Decimal, Desk, Line, OutSlot, Part, Put, parts};
 use vital_models::{OutValue, TruthRow, TruthTable, VEntity, VOutput, VState, VStateRow, VTruth};
 
 /// What stands before the symbols of the row with this number, from 1, of so many rows.

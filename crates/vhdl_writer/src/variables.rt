@@ -4,8 +4,7 @@ ghost use Rattle.vhdl_writer.specs.Declarations.{data_text, check_variables_text
 
 use crate::parts::{At, CheckAt, ItemText};
 use cell_machine::CheckKind;
-use text_io::{Desk, Line, OutSlot};
-use text_parts::{Bytes, Decimal, Part, Put, When, parts};
+use text_io::{Bytes, Decimal, Desk, Line, OutSlot, Part, Put, When, parts};
 use udp_tables::TimingCheck;
 use vital_models::{VOutput, VState, VStateRow};
 

@@ -6,7 +6,7 @@ ghost use Rattle.udp_tables.specs.declared.models.VPort.{VPort};
 ghost use Rattle.vital_models.specs.Kept.{is_taken, is_kept_port_name};
 
 use udp_tables::VPort;
-use vhdl_names::{is_free, is_plain, is_same};
+use vhdl_tokens::{is_free, is_plain, is_same_name};
 
 /// Whether a pin's name is kept for a port of the entity with this name, after these ports.
 #[tactic(auto, unfolding(crate::specs::Kept::is_kept_port_name))]
@@ -20,7 +20,7 @@ pub(crate) fn is_kept_port_name(entity: &[u8], ports: &[VPort], name: &[u8]) -> 
 fn is_taken(entity: &[u8], ports: &[VPort], name: &[u8]) -> bool
     ensures { result ≡ is_taken entity.now ports.now name.now }
 {
-    is_same(entity, name) || is_port_name(ports, name)
+    is_same_name(entity, name) || is_port_name(ports, name)
 }
 
 /// Whether one of these ports has this name, whatever the case of its letters.
@@ -28,7 +28,7 @@ fn is_port_name(ports: &[VPort], name: &[u8]) -> bool
     ensures { result ≡ list_any (λ (port : VPort). str_eq_ignore_ascii_case port.name name.now) ports.now }
 {
     for port in ports {
-        if is_same(port.name.as_slice(), name) {
+        if is_same_name(port.name.as_slice(), name) {
             return true;
         }
     }

@@ -6,7 +6,7 @@ use bool_functions::Names;
 use cell_machine::Cell;
 use sqlite_items::Items;
 use std::alloc::{AllocError, Global};
-use vhdl_names::{is_free, is_identifier, is_numbered, is_same, numbered_name};
+use vhdl_tokens::{is_free, is_identifier, is_numbered, is_same_name, numbered_name};
 
 /// The name of the entity of a cell, where `given` are the names of the entities before it in lower case: the cell's, where that
 /// is a letter followed by letters, digits and single `_`, not one at the end, and, whatever the case of its letters, no word of
@@ -56,7 +56,7 @@ fn name_or_numbered(
 fn is_kept_driver_name(alloc: Global, given: &Names, name: &[u8]) -> Result<bool, AllocError>
     ensures { IfOk result (λ kept. kept ≡ is_kept_driver_name given.now name.now) }
 {
-    Ok(is_kept_entity_name(alloc, given, name)? && !is_same(name, b"driven"))
+    Ok(is_kept_entity_name(alloc, given, name)? && !is_same_name(name, b"driven"))
 }
 
 /// Whether VHDL text keeps this name for a cell.

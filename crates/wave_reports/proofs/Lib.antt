@@ -1,2 +1,4 @@
 pub mod PieceLemmas
 pub mod TextLemmas
+pub mod BoundFiles
+pub mod DrawLemmas

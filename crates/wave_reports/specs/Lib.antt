@@ -6,3 +6,7 @@ pub mod Definitions
 pub mod Changes
 pub mod Lines
 pub mod Waves
+pub mod Dump
+pub mod Outcome
+pub mod Draws
+pub mod Words

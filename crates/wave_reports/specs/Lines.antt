@@ -3,7 +3,7 @@ use Rattle.std.specs.Prelude.{ℕ, ◌==◌, ◌||◌, ◌&&◌, not, nat_le, na
 use Rattle.std.specs.List.{list_all, list_any}
 use Rattle.std.specs.Char.{is_ascii_graphic}
 use Rattle.std.specs.Str.{bytes_eq}
-use Rattle.token_spans.specs.Numbers.{is_number}
+use Rattle.lexer.specs.Numbers.{is_number}
 use Rattle.wave_reports.specs.declared.lines.Said.{Said as Borrowed}
 use Rattle.wave_reports.specs.declared.lines.Said.TheVariants as borrowed
 use Rattle.wave_reports.specs.Traces.{Trace, trace_of, seen as trace_seen}

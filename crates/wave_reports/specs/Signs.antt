@@ -1,7 +1,7 @@
 -- What a word of a line of a trace tells of an output or of a check. This project's format.
 use Rattle.std.specs.Prelude.{ℕ, ◌==◌, ◌||◌, Bool, List, [], ◌∷◌, Option, Some, None, if◌then◌else◌}
 use Rattle.std.specs.Option.{option_and_then}
-use Rattle.token_spans.specs.Numbers.{is_number, number_of}
+use Rattle.lexer.specs.Numbers.{is_number, number_of}
 use Rattle.wave_reports.specs.declared.signs.Sign.{Sign as Borrowed}
 use Rattle.wave_reports.specs.Pieces.{cut_last}
 

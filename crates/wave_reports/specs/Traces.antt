@@ -3,7 +3,7 @@ use Rattle.std.specs.Prelude.{ℕ, ◌==◌, ◌||◌, Bool, List, [], ◌∷◌
 use Rattle.std.specs.Option.{option_map, option_and_then, option_copied}
 use Rattle.std.specs.List.{list_all}
 use Rattle.std.specs.Str.{bytes_eq}
-use Rattle.token_spans.specs.Numbers.{number_of}
+use Rattle.lexer.specs.Numbers.{number_of}
 use Rattle.wave_reports.specs.declared.traces.Trace.{Trace as Borrowed}
 use Rattle.wave_reports.specs.declared.traces.Input.{Input as BorrowedInput}
 use Rattle.wave_reports.specs.Pieces.{pieces, pieces_left}

@@ -5,7 +5,7 @@ ghost use Rattle.std.specs.Option.{option_map, option_copied};
 ghost use Rattle.wave_reports.specs.Lines as spec;
 
 use crate::traces::{Trace, trace_of};
-use token_spans::is_number;
+use lexer::is_number;
 
 /// What a line of a report says.
 #[derive(Clone, Copy)]

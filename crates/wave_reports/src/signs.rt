@@ -4,7 +4,7 @@ ghost use Rattle.std.specs.Option.{option_map};
 ghost use Rattle.wave_reports.specs.Signs as spec;
 
 use crate::pieces::cut_last;
-use token_spans::{is_number, number_of};
+use lexer::{is_number, number_of};
 
 /// What a word tells of an output or of a check.
 #[derive(Clone, Copy)]

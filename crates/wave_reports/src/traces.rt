@@ -8,7 +8,7 @@ ghost use Rattle.wave_reports.specs.Traces as spec;
 
 use crate::pieces::{cut, first_word};
 use crate::signs::{is_value, sign_of};
-use token_spans::number_of;
+use lexer::number_of;
 
 /// An input and the level that it is given.
 #[derive(Clone, Copy)]

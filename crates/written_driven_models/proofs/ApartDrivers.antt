@@ -6,14 +6,14 @@ use Rattle.std.specs.Option.{option_map, option_and_then}
 use Rattle.std.proofs.lemmas.List.{map-append}
 use Rattle.driven_files.specs.vital_models.declared.model.VEntity.{VEntity}
 use Rattle.driven_files.specs.vhdl_tokens.Spelling.{is_same}
-use Rattle.driven_files.specs.vhdl_text.VhdlRules.{is_among}
-use Rattle.driven_files.specs.vhdl_text.VhdlText.{entity_names}
-use Rattle.driven_files.specs.vhdl_text.WellFormed.{IsEntityName, AreApart, AreWellFormed}
+use Rattle.driven_files.specs.vhdl_grammar.VhdlRules.{is_among}
+use Rattle.driven_files.specs.vhdl_grammar.VhdlText.{entity_names}
+use Rattle.driven_files.specs.vhdl_grammar.WellFormed.{IsEntityName, AreApart, AreWellFormed}
 use Rattle.driven_files.specs.driver_models.declared.model.DriverModel.{DriverModel}
 use Rattle.driven_files.specs.driver_models.Cores.{Core, core_number, ports_at, core_ports, fits}
 use Rattle.driven_files.specs.sectioned_texts.DrivenModels.{taken_names}
 use Rattle.driven_files.specs.Vital.{vital_sections}
-use Rattle.written_modules.proofs.grammar_phrases.Places.{IsAt, item_at, get_at, found_behind}
+use Rattle.written_modules.proofs.grammar_reader.ItemPlaces.{IsAt, item_at, get_at, found_behind}
 use Rattle.written_entities.proofs.Names.{entity_named, same_self}
 use Rattle.written_entities.proofs.NameReading.{is_new}
 use Rattle.written_driven_models.specs.Laws.{AreWellFormedDrivers}

@@ -10,7 +10,7 @@ use Rattle.driven_files.specs.driver_models.declared.model.DriverModel.{DriverMo
 use Rattle.driven_files.specs.driver_models.Models.{IsSound}
 use Rattle.driver_texts.specs.NumberedPorts.{ports_of}
 use Rattle.driver_texts.specs.PortNames.{inputs, outputs, name_at, driven_name}
-use Rattle.written_modules.proofs.grammar_phrases.Places.{all_at}
+use Rattle.written_modules.proofs.grammar_reader.ItemPlaces.{all_at}
 use Rattle.written_driven_models.proofs.NumberedDrives.{Numbered, ports_numbered}
 
 got : {A : Type 0} (xs : List A) (k : ℕ) → k < length xs → (x : A) × (slice_get xs k ≡ Some x)

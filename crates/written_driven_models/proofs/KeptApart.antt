@@ -2,13 +2,13 @@
 use Rattle.std.proofs.Common.{◌≡◌, ℕ, false, List, [], ◌∷◌, ◌++◌, map, Option, Some, None, Ok, refl, sym, ap, ◌∙◌, flat_map}
 use Rattle.std.proofs.lemmas.List.{map-append}
 use Rattle.std.specs.List.{AllByRecursion}
-use Rattle.driven_files.specs.token_spans.Tokens.{scan_of}
-use Rattle.driven_files.specs.token_spans.Separators.{spelled}
+use Rattle.driven_files.specs.lexer.Tokens.{scan_of}
+use Rattle.driven_files.specs.lexer.Separators.{spelled}
 use Rattle.driven_files.specs.driver_models.declared.model.DriverModel.{DriverModel}
 use Rattle.driven_files.specs.driver_models.Cores.{Core}
 use Rattle.driven_files.specs.driver_sections.Sections.{text_of}
-use Rattle.written_modules.specs.grammar_phrases.ReadBack.{ReadsBack}
-use Rattle.written_modules.proofs.grammar_phrases.Fronts.{Front, each}
+use Rattle.written_modules.specs.grammar_reader.ReadBack.{ReadsBack}
+use Rattle.written_modules.proofs.grammar_reader.Fronts.{Front, each}
 use Rattle.driven_files.proofs.section_outlines.Outlined.{Outlined, IsOutlined, nothing, one_behind, each_outlined, outlined_is}
 use Rattle.driven_files.specs.sectioned_texts.DrivenModels.{taken_names, rest_of}
 use Rattle.driven_files.proofs.sectioned_texts.WrittenTexts.{AreRead, text_read}

@@ -1,10 +1,10 @@
 -- What must be known of a language of drivers for its texts to read back, and what the words of its grammar take.
 use Rattle.std.proofs.Common.{◌≡◌, ℕ, Bool, true, false, List, [], ◌∷◌, ◌++◌, Option, Some, refl}
 use Rattle.written_modules.specs.grammar_rules.Rule.{Fits}
-use Rattle.written_modules.specs.rule_readers.Words.{expect, begins, known, this_name}
-use Rattle.part_readers.specs.Rests.{with_end}
+use Rattle.written_modules.specs.grammar_reader.Words.{expect, begins, known, this_name}
+use Rattle.grammar_reader.specs.Rests.{with_end}
 use Rattle.driven_files.specs.driver_models.Wires.{numbered}
-use Rattle.written_modules.proofs.grammar_phrases.Derivations.{Reads, gives, token, in_turn}
+use Rattle.written_modules.proofs.grammar_reader.Derivations.{Reads, gives, token, in_turn}
 
 -- A token is the same as itself, the names of wires are names, and none to an enable is one to a buffer's input.
 pub record IsDriverLanguage (is_name : List ℕ → Bool) (is_same : List ℕ → List ℕ → Bool) (value enable : List ℕ) : Type 0 where

@@ -22,7 +22,7 @@ pub mod KeptApart
 pub mod VerilogPieces
 pub mod VitalPieces
 pub mod ApartDrivers
-pub use Rattle.written_modules.proofs.grammar_phrases as grammar_phrases
+pub use Rattle.written_modules.proofs.grammar_reader as grammar_reader
 pub use Rattle.written_entities.proofs.trit_cubes as trit_cubes
 pub use Rattle.written_entities.proofs as written_entities
 pub use Rattle.written_modules.proofs as written_modules

@@ -7,7 +7,7 @@ use Rattle.written_modules.specs.cell_machine.CellRules.{is_ascending}
 use Rattle.written_modules.specs.udp_tables.declared.models.VPort.{VPort}
 use Rattle.driver_texts.specs.NumberedPorts.{NumberedPort, is_driven_place, numbered_ports}
 use Rattle.driver_texts.specs.PortNames.{outputs}
-use Rattle.written_modules.proofs.grammar_phrases.Places.{get_at, one_longer}
+use Rattle.written_modules.proofs.grammar_reader.ItemPlaces.{get_at, one_longer}
 
 -- These ports stand behind so many outputs, of which so many are driven; of all outputs, so many, those at the places of a list are
 -- driven, ascending; and these are the ports with their numbers.

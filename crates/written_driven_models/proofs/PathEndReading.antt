@@ -9,7 +9,7 @@ use Rattle.std.proofs.lemmas.Iterator.Adapters.{position_from-zero}
 use Rattle.written_modules.specs.udp_tables.declared.models.VPort.{VPort}
 use Rattle.driven_files.specs.driver_models.PathEnds.{input_from, output_from, input_number, drive_number}
 use Rattle.driver_texts.specs.PortNames.{inputs, outputs}
-use Rattle.written_modules.proofs.grammar_phrases.Places.{item_at, found_behind}
+use Rattle.written_modules.proofs.grammar_reader.ItemPlaces.{item_at, found_behind}
 use Rattle.written_driven_models.proofs.Languages.{IsDriverLanguage}
 use Rattle.written_driven_models.proofs.NumberedDrives.{Ahead}
 

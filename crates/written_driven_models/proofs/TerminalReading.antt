@@ -7,16 +7,16 @@ use Rattle.std.proofs.lemmas.List.Folds.{list_any-append}
 use Rattle.std.proofs.lemmas.List.{append-nil}
 use Rattle.written_modules.specs.udp_tables.declared.models.VPort.{VPort}
 use Rattle.written_modules.specs.grammar_rules.Rule.{Stops}
-use Rattle.written_modules.specs.rule_readers.Words.{Grammar, ◌>>=◌, begins, is_among}
+use Rattle.written_modules.specs.grammar_reader.Words.{Grammar, ◌>>=◌, begins, is_among}
 use Rattle.driven_files.specs.driver_models.declared.terminals.Terminals.{Terminals}
 use Rattle.driven_files.specs.driver_models.Wires.{numbered}
 use Rattle.driven_files.specs.driver_models.Terminals.{all_numbered, is_driven_by, output_terminal, input_terminal, port_terminal}
 use Rattle.driven_files.specs.driver_models.Terminals.{more_terminals, more_enables, no_terminal, core_terminals}
 use Rattle.driver_texts.specs.NumberedPorts.{NumberedPort}
 use Rattle.driver_texts.specs.CoreTerminals.{terminal_by}
-use Rattle.written_modules.proofs.grammar_phrases.Fronts.{Front, each}
-use Rattle.written_modules.proofs.grammar_phrases.Derivations.{Reads, from_same, to_same, gives, in_turn, passed}
-use Rattle.written_modules.proofs.grammar_phrases.Places.{one_longer}
+use Rattle.written_modules.proofs.grammar_reader.Fronts.{Front, each}
+use Rattle.written_modules.proofs.grammar_reader.Derivations.{Reads, from_same, to_same, gives, in_turn, passed}
+use Rattle.written_modules.proofs.grammar_reader.ItemPlaces.{one_longer}
 use Rattle.written_driven_models.proofs.Languages.{IsDriverLanguage, word_read, known_read, this_read}
 use Rattle.written_driven_models.proofs.WireReading.{names_from, all_are}
 use Rattle.written_driven_models.proofs.NumberedDrives.{Numbered, at_end, an_input, plain, driven}

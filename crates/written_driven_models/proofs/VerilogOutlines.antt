@@ -8,8 +8,8 @@ use Rattle.driven_files.specs.driver_models.declared.model.DriverModel.{DriverMo
 use Rattle.driven_files.specs.verilog_drivers.DriverText.{driver_section, driver_text}
 use Rattle.driven_files.specs.driver_sections.Marks.{ends}
 use Rattle.driven_files.specs.driver_sections.Sections.{section_length}
-use Rattle.written_modules.proofs.grammar_phrases.Fronts.{Front, Anything}
-use Rattle.written_modules.proofs.grammar_phrases.Spelling.{SpellsBy, barred_less, literal, behind}
+use Rattle.written_modules.proofs.grammar_reader.Fronts.{Front, Anything}
+use Rattle.written_modules.proofs.grammar_reader.Spelling.{SpellsBy, barred_less, literal, behind}
 use Rattle.driven_files.specs.section_outlines.Marked.{begins, ends_next}
 use Rattle.driven_files.specs.section_outlines.VerilogMarks.{verilog_marks}
 use Rattle.driven_files.proofs.section_outlines.Offsets.{behind_pair, over_token}

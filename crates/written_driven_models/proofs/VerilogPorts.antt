@@ -17,7 +17,7 @@ use Rattle.driver_texts.specs.NumberedPorts.{NumberedPort, ports_of}
 use Rattle.driver_texts.specs.PortNames.{inputs, name_at, driven_name}
 use Rattle.driven_files.specs.verilog_drivers.DriverText.{data_word, enable_word}
 use Rattle.driven_files.specs.verilog_drivers.WellFormed.{HasNumbers, IsNoWire, IsWellFormedDriver}
-use Rattle.written_modules.proofs.grammar_phrases.Places.{same_bytes}
+use Rattle.written_modules.proofs.grammar_reader.ItemPlaces.{same_bytes}
 use Rattle.written_modules.proofs.Words.{name_is}
 use Rattle.written_modules.proofs.ModuleTokens.{IsNamedPort}
 use Rattle.written_driven_models.proofs.Languages.{IsDriverLanguage}

@@ -30,11 +30,11 @@ use Rattle.driven_files.specs.verilog_drivers.DriverSections.{Front}
 use Rattle.driven_files.specs.verilog_drivers.DriverSections.{section_front, Body, driver_of, section_body, section_end}
 use Rattle.driven_files.specs.verilog_drivers.DriverSections.{section_rest, section}
 use Rattle.driven_files.specs.verilog_drivers.WellFormed.{IsWellFormedDriver}
-use Rattle.written_modules.proofs.grammar_phrases.Fronts.{each}
-use Rattle.written_modules.proofs.grammar_phrases.Derivations.{Reads, to_same, gives, in_turn, chosen, passed, no_turn}
-use Rattle.written_modules.proofs.grammar_phrases.Derivations.{turn, turns, through, goes_on}
-use Rattle.written_modules.proofs.grammar_phrases.Derivations as derivations
-use Rattle.written_modules.proofs.grammar_phrases.Places.{get_at, one_longer, at_place}
+use Rattle.written_modules.proofs.grammar_reader.Fronts.{each}
+use Rattle.written_modules.proofs.grammar_reader.Derivations.{Reads, to_same, gives, in_turn, chosen, passed, no_turn}
+use Rattle.written_modules.proofs.grammar_reader.Derivations.{turn, turns, through, goes_on}
+use Rattle.written_modules.proofs.grammar_reader.Derivations as derivations
+use Rattle.written_modules.proofs.grammar_reader.ItemPlaces.{get_at, one_longer, at_place}
 use Rattle.written_modules.proofs.Words.{name_is, unlike_word}
 use Rattle.written_modules.proofs.PrimitiveTokens.{declared}
 use Rattle.written_modules.proofs.ModuleTokens.{IsNamedPort, listed, input_tokens, output_tokens}

@@ -1,19 +1,19 @@
 -- The text of a well formed driver is a section that is read as this driver.
 use Rattle.std.proofs.Common.{◌≡◌, ℕ, false, List, [], ◌∷◌, ◌++◌, refl, sym, ap, ◌∙◌, codes, append_assoc}
-use Rattle.written_modules.specs.token_spans.Tokens.{scan}
-use Rattle.written_modules.specs.token_spans.Separators.{spelled}
+use Rattle.written_modules.specs.lexer.Tokens.{scan}
+use Rattle.written_modules.specs.lexer.Separators.{spelled}
 use Rattle.written_modules.specs.verilog_tokens.Tokens.{lexis}
-use Rattle.written_modules.specs.rule_readers.Texts.{IsText}
+use Rattle.written_modules.specs.grammar_reader.Texts.{IsText}
 use Rattle.driven_files.specs.driver_models.declared.model.DriverModel.{DriverModel}
 use Rattle.driven_files.specs.driver_models.Cores.{Core}
 use Rattle.driven_files.specs.verilog_drivers.DriverText.{driver_before, driver_section, driver_text}
 use Rattle.driven_files.specs.verilog_drivers.DriverSections.{section_language, section_text}
 use Rattle.driven_files.specs.verilog_drivers.WellFormed.{IsWellFormedDriver}
 use Rattle.driven_files.proofs.verilog_drivers.SoundDrivers.{section_answer}
-use Rattle.written_modules.proofs.grammar_phrases.Fronts.{Front, Anything, in_front}
-use Rattle.written_modules.proofs.grammar_phrases.Passages.{Barred}
-use Rattle.written_modules.proofs.grammar_phrases.Spelling.{SpellsBy, literal, behind, barred_less, found_is}
-use Rattle.written_modules.proofs.grammar_phrases.TextsReadBack.{is_text, reads_back}
+use Rattle.written_modules.proofs.grammar_reader.Fronts.{Front, Anything, in_front}
+use Rattle.written_modules.proofs.grammar_reader.Passages.{Barred}
+use Rattle.written_modules.proofs.grammar_reader.Spelling.{SpellsBy, literal, behind, barred_less, found_is}
+use Rattle.written_modules.proofs.grammar_reader.TextsReadBack.{is_text, reads_back}
 use Rattle.written_driven_models.specs.WrittenDrivers.{IsSectionOf, WrittenDriversReadBack}
 use Rattle.written_driven_models.specs.VerilogDrivers.{verilog_drivers}
 use Rattle.written_driven_models.proofs.VerilogTokens.{IsNamedDriver, inner_text, inner_tokens, inner_spelled, before_is}

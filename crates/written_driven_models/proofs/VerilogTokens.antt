@@ -24,8 +24,8 @@ use Rattle.driven_files.specs.verilog_drivers.DriverText.{drive_path_text}
 use Rattle.driven_files.specs.verilog_drivers.DriverText.{drive_paths_text, driver_header_text, driver_declarations_text}
 use Rattle.driven_files.specs.verilog_drivers.DriverText.{driver_before}
 use Rattle.driven_files.specs.verilog_drivers.WellFormed.{HasNumbers}
-use Rattle.written_modules.proofs.grammar_phrases.Fronts.{Front, Anything, each}
-use Rattle.written_modules.proofs.grammar_phrases.Spelling.{literal, joins, behind, nothing, each_spelled}
+use Rattle.written_modules.proofs.grammar_reader.Fronts.{Front, Anything, each}
+use Rattle.written_modules.proofs.grammar_reader.Spelling.{literal, joins, behind, nothing, each_spelled}
 use Rattle.written_modules.proofs.Spelling.{Spells, Ends}
 use Rattle.written_driven_models.proofs.WireReading.{all_named}
 use Rattle.written_driven_models.proofs.TerminalReading.{terminal_tokens, name_tokens, wires_listed}

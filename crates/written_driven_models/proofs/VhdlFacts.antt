@@ -8,12 +8,12 @@ use Rattle.std.proofs.lemmas.Bool.{and_parts, and_from}
 use Rattle.std.proofs.lemmas.List.{map-append}
 use Rattle.std.proofs.lemmas.List.Elements.{recursion_from_All}
 use Rattle.std.proofs.lemmas.List.Folds.{list_any-append}
-use Rattle.written_entities.specs.vhdl_names.Words.{is_vhdl_word}
+use Rattle.written_entities.specs.vhdl_tokens.Words.{is_vhdl_word}
 use Rattle.written_entities.specs.vhdl_tokens.Tokens.{is_name}
 use Rattle.written_entities.specs.vhdl_tokens.Spelling.{is_same}
-use Rattle.written_entities.specs.vhdl_text.VhdlRules.{is_among}
-use Rattle.written_entities.specs.vhdl_text.VhdlDeclarations.{port_names, name_of_port}
-use Rattle.written_entities.specs.vhdl_text.WellFormed.{IsPortName, AreApart}
+use Rattle.written_entities.specs.vhdl_grammar.VhdlRules.{is_among}
+use Rattle.written_entities.specs.vhdl_grammar.VhdlDeclarations.{port_names, name_of_port}
+use Rattle.written_entities.specs.vhdl_grammar.WellFormed.{IsPortName, AreApart}
 use Rattle.written_modules.specs.udp_tables.declared.models.VPort.{VPort}
 use Rattle.driven_files.specs.driver_models.declared.model.DriverModel.{DriverModel}
 use Rattle.driven_files.specs.driver_models.Terminals.{all_numbered}
@@ -21,7 +21,7 @@ use Rattle.driven_files.specs.driver_models.Wires.{numbered}
 use Rattle.driver_texts.specs.NumberedPorts.{NumberedPort, ports_of}
 use Rattle.driven_files.specs.vhdl_drivers.DriverText.{data_word, enable_word}
 use Rattle.driven_files.specs.vhdl_drivers.WellFormed.{IsWrittenDriver}
-use Rattle.written_modules.proofs.grammar_phrases.Places.{at_place}
+use Rattle.written_modules.proofs.grammar_reader.ItemPlaces.{at_place}
 use Rattle.written_entities.proofs.Names.{IsNamed, port_named, scored_no_word, same_self, case_turned, same_letters, same_name}
 use Rattle.written_entities.proofs.NameReading.{unlike_plain, is_new}
 use Rattle.written_entities.proofs.HeaderReading.{AreDeclared}

@@ -3,10 +3,10 @@ use Rattle.std.proofs.Common.{◌≡◌, ℕ, zero, suc, ◌≤◌, true, false,
 use Rattle.std.specs.List.{AllByRecursion}
 use Rattle.written_modules.specs.grammar_rules.Rule.{Stops}
 use Rattle.written_modules.specs.udp_tables.declared.models.VPort.{VPort}
-use Rattle.written_entities.specs.vhdl_names.Words.{is_reserved, is_used, vhdl_words, used_words}
+use Rattle.written_entities.specs.vhdl_tokens.Words.{is_reserved, is_used, vhdl_words, used_words}
 use Rattle.written_entities.specs.vhdl_tokens.Tokens.{is_name}
 use Rattle.written_entities.specs.vhdl_tokens.Spelling.{is_same}
-use Rattle.written_entities.specs.vhdl_text.VhdlRules.{begins}
+use Rattle.written_entities.specs.vhdl_grammar.VhdlRules.{begins}
 use Rattle.driven_files.specs.driver_models.declared.model.DriverModel.{DriverModel}
 use Rattle.driven_files.specs.driver_models.Cores.{Core, core_name}
 use Rattle.driven_files.specs.driver_models.Terminals.{core_terminals}
@@ -19,8 +19,8 @@ use Rattle.driven_files.specs.vhdl_drivers.DriverSections.{driver_ports, section
 use Rattle.driven_files.specs.vhdl_drivers.DriverSections.{port_map}
 use Rattle.driven_files.specs.vhdl_drivers.DriverSections.{core_call, section_core}
 use Rattle.driven_files.specs.vhdl_drivers.WellFormed.{IsWrittenDriver, IsWellFormedDriver}
-use Rattle.written_modules.proofs.grammar_phrases.Fronts.{each}
-use Rattle.written_modules.proofs.grammar_phrases.Derivations.{Reads, gives, token, in_turn}
+use Rattle.written_modules.proofs.grammar_reader.Fronts.{each}
+use Rattle.written_modules.proofs.grammar_reader.Derivations.{Reads, gives, token, in_turn}
 use Rattle.written_entities.proofs.Names.{entity_named}
 use Rattle.written_entities.proofs.NameReading.{expected, four_expected, six_expected, newly_named, known_as, so_named}
 use Rattle.written_entities.proofs.HeaderReading.{packages_read, ports_front, AreDeclared, port_list_read}

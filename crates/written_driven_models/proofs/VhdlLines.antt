@@ -8,11 +8,11 @@ use Rattle.std.proofs.lemmas.Bool.{lt-ltb, eqb-true}
 use Rattle.std.proofs.lemmas.List.{append-nil}
 use Rattle.std.proofs.lemmas.List.Elements.{recursion_from_All}
 use Rattle.written_modules.specs.udp_tables.declared.models.VPort.{VPort}
-use Rattle.written_entities.specs.vhdl_names.Words.{is_reserved, is_used, vhdl_words, used_words}
+use Rattle.written_entities.specs.vhdl_tokens.Words.{is_reserved, is_used, vhdl_words, used_words}
 use Rattle.written_entities.specs.vhdl_tokens.Tokens.{is_name}
 use Rattle.written_entities.specs.vhdl_tokens.Spelling.{is_same}
-use Rattle.written_entities.specs.vhdl_text.VhdlOutputs.{delays}
-use Rattle.written_entities.specs.vhdl_text.WellFormed.{IsCount, IsNumber}
+use Rattle.written_entities.specs.vhdl_grammar.VhdlOutputs.{delays}
+use Rattle.written_entities.specs.vhdl_grammar.WellFormed.{IsCount, IsNumber}
 use Rattle.driven_traces.specs.declared.delays.DrivePath.{DrivePath}
 use Rattle.driven_traces.specs.Drivers.{IsPathOf}
 use Rattle.driven_files.specs.driver_models.declared.model.DriverModel.{DriverModel}
@@ -25,9 +25,9 @@ use Rattle.driven_files.specs.vhdl_drivers.DriverSections.{drive_path, drive_pat
 use Rattle.driven_files.specs.vhdl_drivers.DriverSections.{has_glitch}
 use Rattle.driven_files.specs.vhdl_drivers.DriverSections.{line_by, driven_lines, statements, process}
 use Rattle.driven_files.specs.vhdl_drivers.WellFormed.{HasNumbers, IsWrittenDriver, IsWellFormedDriver}
-use Rattle.written_modules.proofs.grammar_phrases.Derivations.{Reads, from_same, to_same, gives, token, in_turn, no_turn, turn}
-use Rattle.written_modules.proofs.grammar_phrases.Derivations.{turns}
-use Rattle.written_modules.proofs.grammar_phrases.Places.{get_at, one_longer, at_place}
+use Rattle.written_modules.proofs.grammar_reader.Derivations.{Reads, from_same, to_same, gives, token, in_turn, no_turn, turn}
+use Rattle.written_modules.proofs.grammar_reader.Derivations.{turns}
+use Rattle.written_modules.proofs.grammar_reader.ItemPlaces.{get_at, one_longer, at_place}
 use Rattle.written_entities.proofs.Names.{IsNamed, part_named}
 use Rattle.written_entities.proofs.NameReading.{expected, two_expected, three_expected, four_expected, seven_expected, known_as}
 use Rattle.written_entities.proofs.NameReading.{so_named, time_read, this_number_read}

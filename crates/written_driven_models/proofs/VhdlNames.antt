@@ -8,8 +8,8 @@ use Rattle.std.proofs.lemmas.Option.{slice_get_within}
 use Rattle.std.proofs.lemmas.List.Elements.{All-filter, All-from_recursion, recursion_from_All}
 use Rattle.std.proofs.lemmas.List.Sums.{length-filter, count_by-le-length}
 use Rattle.written_modules.specs.udp_tables.declared.models.VPort.{VPort}
-use Rattle.written_entities.specs.vhdl_text.VhdlDeclarations.{port_names, input_names}
-use Rattle.written_entities.specs.vhdl_text.WellFormed.{IsPortName, IsCount}
+use Rattle.written_entities.specs.vhdl_grammar.VhdlDeclarations.{port_names, input_names}
+use Rattle.written_entities.specs.vhdl_grammar.WellFormed.{IsPortName, IsCount}
 use Rattle.driven_files.specs.driver_models.declared.model.DriverModel.{DriverModel}
 use Rattle.driven_files.specs.driver_models.Terminals.{all_numbered}
 use Rattle.driver_texts.specs.NumberedPorts.{NumberedPort, port_number, outputs_with, driven_with, numbered_ports}

@@ -9,9 +9,9 @@ use Rattle.written_modules.specs.grammar_rules.Rule.{Stops}
 use Rattle.written_modules.specs.grammar_rules.Rule as r
 use Rattle.written_modules.specs.udp_tables.declared.models.VPort.{VPort}
 use Rattle.written_entities.specs.vhdl_tokens.Spelling.{is_same}
-use Rattle.written_entities.specs.vhdl_text.VhdlRules.{begins, this_name}
-use Rattle.written_entities.specs.vhdl_text.VhdlDeclarations.{input_names, listed_names, last_true, is_last_false}
-use Rattle.written_entities.specs.vhdl_text.WellFormed.{IsCount}
+use Rattle.written_entities.specs.vhdl_grammar.VhdlRules.{begins, this_name}
+use Rattle.written_entities.specs.vhdl_grammar.VhdlDeclarations.{input_names, listed_names, last_true, is_last_false}
+use Rattle.written_entities.specs.vhdl_grammar.WellFormed.{IsCount}
 use Rattle.driven_traces.specs.declared.delays.DrivePath.{DrivePath}
 use Rattle.driven_files.specs.driver_models.declared.model.DriverModel.{DriverModel}
 use Rattle.driven_files.specs.driver_models.Terminals.{all_numbered}
@@ -21,9 +21,9 @@ use Rattle.driven_files.specs.vhdl_drivers.DriverSections.{signal_names, process
 use Rattle.driven_files.specs.vhdl_drivers.DriverSections.{delays_variable}
 use Rattle.driven_files.specs.vhdl_drivers.DriverSections.{driven_variable, driven_variables, buffer, buffers}
 use Rattle.driven_files.specs.vhdl_drivers.WellFormed.{IsWrittenDriver}
-use Rattle.written_modules.proofs.grammar_phrases.Fronts.{Front, each}
-use Rattle.written_modules.proofs.grammar_phrases.Derivations.{Reads, from_same, to_same, gives, in_turn, no_turn, turn, turns}
-use Rattle.written_modules.proofs.grammar_phrases.Derivations.{goes_on}
+use Rattle.written_modules.proofs.grammar_reader.Fronts.{Front, each}
+use Rattle.written_modules.proofs.grammar_reader.Derivations.{Reads, from_same, to_same, gives, in_turn, no_turn, turn, turns}
+use Rattle.written_modules.proofs.grammar_reader.Derivations.{goes_on}
 use Rattle.written_entities.proofs.Names.{IsNamed, part_named, same_self}
 use Rattle.written_entities.proofs.NameReading.{expected, two_expected, three_expected, five_expected, known_as, so_named}
 use Rattle.written_entities.proofs.SignalReading.{names_read}
@@ -142,7 +142,7 @@ grown [] b k e = omega (arith, e)
 grown (c ∷ l) b k e = let more = grown l b (length l) refl in omega (arith, more, e)
 
 module _ (m : DriverModel) (count : ℕ) (few : IsCount count) where
-  abbrev variables_from : List Bool → Rattle.written_modules.specs.rule_readers.Words.Grammar (List Bool)
+  abbrev variables_from : List Bool → Rattle.written_modules.specs.grammar_reader.Words.Grammar (List Bool)
   variables_from l = r.Many (λ _. begins (codes "variable")) (λ found _. driven_variable count found) l
 
   -- the variables of an output behind those of others

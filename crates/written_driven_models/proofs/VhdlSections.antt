@@ -1,10 +1,10 @@
 -- The text of a well formed driver is a section that is read as this driver.
 use Rattle.std.proofs.Common.{◌≡◌, ℕ, false, List, [], ◌∷◌, ◌++◌, refl, sym, ap, ◌∙◌, codes, append_assoc}
-use Rattle.written_modules.specs.token_spans.Tokens.{scan}
-use Rattle.written_modules.specs.token_spans.Separators.{spelled}
-use Rattle.written_entities.specs.vhdl_names.Words.{is_reserved, is_used, vhdl_words, used_words}
+use Rattle.written_modules.specs.lexer.Tokens.{scan}
+use Rattle.written_modules.specs.lexer.Separators.{spelled}
+use Rattle.written_entities.specs.vhdl_tokens.Words.{is_reserved, is_used, vhdl_words, used_words}
 use Rattle.written_entities.specs.vhdl_tokens.Tokens.{lexis}
-use Rattle.written_modules.specs.rule_readers.Texts.{IsText}
+use Rattle.written_modules.specs.grammar_reader.Texts.{IsText}
 use Rattle.driven_files.specs.driver_models.declared.model.DriverModel.{DriverModel}
 use Rattle.driven_files.specs.driver_models.Models.{output_count}
 use Rattle.driven_files.specs.driver_models.Cores.{Core}
@@ -16,10 +16,10 @@ use Rattle.driven_files.specs.vhdl_drivers.DriverSections.{section_language}
 use Rattle.driven_files.specs.vhdl_drivers.DriverSections.{section_text}
 use Rattle.driven_files.specs.vhdl_drivers.WellFormed.{IsWellFormedDriver}
 use Rattle.driven_files.proofs.vhdl_drivers.SoundDrivers.{section_answer}
-use Rattle.written_modules.proofs.grammar_phrases.Fronts.{in_front}
-use Rattle.written_modules.proofs.grammar_phrases.Derivations.{Reads, to_same, gives, token, in_turn}
-use Rattle.written_modules.proofs.grammar_phrases.Spelling.{found_is}
-use Rattle.written_modules.proofs.grammar_phrases.TextsReadBack.{is_text, reads_back}
+use Rattle.written_modules.proofs.grammar_reader.Fronts.{in_front}
+use Rattle.written_modules.proofs.grammar_reader.Derivations.{Reads, to_same, gives, token, in_turn}
+use Rattle.written_modules.proofs.grammar_reader.Spelling.{found_is}
+use Rattle.written_modules.proofs.grammar_reader.TextsReadBack.{is_text, reads_back}
 use Rattle.written_entities.proofs.NameReading.{five_expected}
 use Rattle.written_driven_models.specs.WrittenDrivers.{IsSectionOf, WrittenDriversReadBack}
 use Rattle.written_driven_models.specs.VitalDrivers.{vital_drivers}

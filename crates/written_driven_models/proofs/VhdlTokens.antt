@@ -8,11 +8,11 @@ use Rattle.std.proofs.lemmas.Bool.{and_parts}
 use Rattle.std.proofs.lemmas.List.Elements.{recursion_from_All}
 use Rattle.std.proofs.lemmas.List.Sums.{count_by-le-length}
 use Rattle.written_modules.specs.udp_tables.declared.models.VPort.{VPort}
-use Rattle.written_entities.specs.vhdl_names.Words.{is_reserved, is_used, vhdl_words, used_words}
+use Rattle.written_entities.specs.vhdl_tokens.Words.{is_reserved, is_used, vhdl_words, used_words}
 use Rattle.written_entities.specs.vhdl_tokens.Tokens.{Token, lexis, is_name}
 use Rattle.written_entities.specs.vhdl_tokens.Spelling.{is_same}
-use Rattle.written_entities.specs.vhdl_text.VhdlDeclarations.{input_names}
-use Rattle.written_entities.specs.vhdl_text.WellFormed.{IsNumber, IsCount}
+use Rattle.written_entities.specs.vhdl_grammar.VhdlDeclarations.{input_names}
+use Rattle.written_entities.specs.vhdl_grammar.WellFormed.{IsNumber, IsCount}
 use Rattle.written_entities.specs.vhdl_writer.Joined.{numbered_texts, apart_text}
 use Rattle.written_entities.specs.vhdl_writer.Declarations.{some_ports_text}
 use Rattle.driven_traces.specs.declared.delays.DrivePath.{DrivePath}
@@ -34,10 +34,10 @@ use Rattle.written_modules.specs.driver_sections.Marks.{are_next}
 use Rattle.written_modules.specs.section_outlines.Marked.{ends_next}
 use Rattle.written_modules.specs.section_outlines.VhdlMarks.{vhdl_marks}
 use Rattle.written_modules.proofs.section_outlines.Offsets as offsets
-use Rattle.written_modules.proofs.grammar_phrases.Fronts.{Front, Anything, each}
-use Rattle.written_modules.proofs.grammar_phrases.Passages.{passes_found, unless_barred}
-use Rattle.written_modules.proofs.grammar_phrases.Places.{at_place}
-use Rattle.written_modules.proofs.grammar_phrases.Spelling.{literal, joins, behind, nothing, each_spelled}
+use Rattle.written_modules.proofs.grammar_reader.Fronts.{Front, Anything, each}
+use Rattle.written_modules.proofs.grammar_reader.Passages.{passes_found, unless_barred}
+use Rattle.written_modules.proofs.grammar_reader.ItemPlaces.{at_place}
+use Rattle.written_modules.proofs.grammar_reader.Spelling.{literal, joins, behind, nothing, each_spelled}
 use Rattle.written_entities.proofs.Spelling.{vhdl, Spells, SpellsInside, inside, argument}
 use Rattle.written_entities.proofs.Names.{IsNamed, entity_named}
 use Rattle.written_entities.proofs.Words.{Ends, name, part, number, word_alone, word_token}

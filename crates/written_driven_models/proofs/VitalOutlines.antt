@@ -10,8 +10,8 @@ use Rattle.driven_files.specs.vhdl_drivers.DriverSection.{driver_section}
 use Rattle.driven_files.specs.vhdl_drivers.WellFormed.{IsWrittenDriver}
 use Rattle.driven_files.specs.driver_sections.Marks.{ends}
 use Rattle.driven_files.specs.driver_sections.Sections.{section_length, begins_section}
-use Rattle.written_modules.proofs.grammar_phrases.Fronts.{Anything}
-use Rattle.written_modules.proofs.grammar_phrases.Spelling.{literal}
+use Rattle.written_modules.proofs.grammar_reader.Fronts.{Anything}
+use Rattle.written_modules.proofs.grammar_reader.Spelling.{literal}
 use Rattle.driven_files.specs.section_outlines.VhdlMarks.{vhdl_marks}
 use Rattle.driven_files.proofs.section_outlines.Passing.{section_is}
 use Rattle.driven_files.proofs.section_outlines.Outlined.{Outlined, IsSection, plain, section, one_behind}

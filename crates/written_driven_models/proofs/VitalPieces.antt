@@ -1,6 +1,6 @@
 -- The pieces of VHDL text that is written.
 use Rattle.std.proofs.lemmas.List.Elements.{recursion_from_All}
-use Rattle.driven_files.specs.vhdl_text.WellFormed.{IsWellFormedEntity}
+use Rattle.driven_files.specs.vhdl_grammar.WellFormed.{IsWellFormedEntity}
 use Rattle.driven_files.specs.vhdl_drivers.WellFormed.{IsWrittenDriver}
 use Rattle.driven_files.proofs.section_outlines.Outlined.{plain, nothing}
 use Rattle.written_entities.proofs.EntityReading.{entity_tokens, entity_spelled}

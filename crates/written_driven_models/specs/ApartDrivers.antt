@@ -2,8 +2,8 @@
 use Rattle.std.specs.Prelude.{◌≡◌, ℕ, List, [], ◌∷◌, ◌++◌, map, slice_get, Some}
 use Rattle.std.specs.List.{AllByRecursion}
 use Rattle.driven_files.specs.vital_models.declared.model.VEntity.{VEntity}
-use Rattle.driven_files.specs.vhdl_text.VhdlText.{entity_names}
-use Rattle.driven_files.specs.vhdl_text.WellFormed.{AreApart, AreWellFormed}
+use Rattle.driven_files.specs.vhdl_grammar.VhdlText.{entity_names}
+use Rattle.driven_files.specs.vhdl_grammar.WellFormed.{AreApart, AreWellFormed}
 use Rattle.driven_files.specs.driver_models.declared.model.DriverModel.{DriverModel}
 use Rattle.driven_files.specs.vhdl_drivers.WellFormed.{IsWellFormedDriver}
 use Rattle.driven_files.specs.Vital.{vital_sections}

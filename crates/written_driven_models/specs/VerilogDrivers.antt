@@ -1,7 +1,7 @@
 -- Drivers as they are written in Verilog. (IEEE 1364-2005, 7.4, three-state gates, 12.1, modules and their instances, and 19.1,
 -- `celldefine; the layout is this project's.)
 use Rattle.std.specs.Prelude.{ℕ, List}
-use Rattle.written_modules.specs.rule_readers.Texts.{IsText}
+use Rattle.written_modules.specs.grammar_reader.Texts.{IsText}
 use Rattle.driven_files.specs.driver_models.Cores.{Core}
 use Rattle.driven_files.specs.verilog_drivers.DriverText.{driver_section, driver_text}
 use Rattle.driven_files.specs.verilog_drivers.DriverSections.{section_language, section_text}

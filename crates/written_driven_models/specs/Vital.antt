@@ -2,8 +2,8 @@
 -- its core is this project's layout.)
 use Rattle.std.specs.Prelude.{[]}
 use Rattle.driven_files.specs.vital_models.declared.model.VEntity.{VEntity}
-use Rattle.driven_files.specs.vhdl_text.VhdlText.{IsVhdlText}
-use Rattle.driven_files.specs.vhdl_text.WellFormed.{AreWellFormed}
+use Rattle.driven_files.specs.vhdl_grammar.VhdlText.{IsVhdlText}
+use Rattle.driven_files.specs.vhdl_grammar.WellFormed.{AreWellFormed}
 use Rattle.written_entities.specs.vhdl_writer.Entity.{entity_text}
 use Rattle.driven_files.specs.vhdl_drivers.DriverSection.{driver_section}
 use Rattle.driven_files.specs.vhdl_drivers.DriverText.{driver_text}

@@ -1,7 +1,7 @@
 -- Drivers as they are written in VHDL. (IEEE 1076-1993, 1.1, 1.2 and 9.6; IEEE 1076.4-2000, VitalBUFIF1 and VitalPathDelay01; the
 -- layout is this project's.)
 use Rattle.std.specs.Prelude.{ℕ, List}
-use Rattle.written_modules.specs.rule_readers.Texts.{IsText}
+use Rattle.written_modules.specs.grammar_reader.Texts.{IsText}
 use Rattle.driven_files.specs.driver_models.Cores.{Core}
 use Rattle.driven_files.specs.vhdl_drivers.DriverText.{driver_text}
 use Rattle.driven_files.specs.vhdl_drivers.DriverSection.{driver_section}

@@ -3,7 +3,7 @@ use Rattle.std.specs.Prelude.{ℕ, List, Result}
 use Rattle.written_modules.specs.udp_tables.declared.models.ModelFault.{ModelFault}
 use Rattle.driven_files.specs.driver_models.declared.model.DriverModel.{DriverModel}
 use Rattle.driven_files.specs.driver_models.Cores.{Core}
-use Rattle.written_modules.specs.grammar_phrases.ReadBack.{ReadsBack}
+use Rattle.written_modules.specs.grammar_reader.ReadBack.{ReadsBack}
 
 -- Sections that hold drivers, and how drivers are written as such: the driver that bytes hold, or their fault, where some names are
 -- taken and some models may be cores; whether bytes are a section of a driver so; what is written of a driver, without its last line

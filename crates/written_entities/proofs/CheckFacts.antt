@@ -5,7 +5,7 @@ use Rattle.cell_machine.specs.declared.checks.CheckKind.{CheckKind}
 use Rattle.udp_tables.specs.declared.timing_checks.TimingCheck.{TimingCheck}
 use Rattle.vital_models.specs.declared.model.VEntity.{VEntity}
 use Rattle.vital_models.specs.Sound.{IsCheck}
-use Rattle.vhdl_text.specs.WellFormed.{IsNumber, IsCount, IsWellFormedEntity, conditions_of_check, conditions_of_output}
+use Rattle.vhdl_grammar.specs.WellFormed.{IsNumber, IsCount, IsWellFormedEntity, conditions_of_check, conditions_of_output}
 use Rattle.vhdl_writer.specs.Statements.{test_at, reference_at}
 use Rattle.written_entities.proofs.Parts.{by_kind, fact_at, place_below, check_number}
 use Rattle.written_entities.proofs.LookUpOrder.{seen_after, looks_at}

@@ -11,13 +11,13 @@ use Rattle.cell_machine.specs.declared.checks.Edge.TheVariants as edge
 use Rattle.cell_machine.specs.CellRules.{is_one_edge}
 use Rattle.udp_tables.specs.declared.timing_checks.TimingCheck.{TimingCheck}
 use Rattle.vital_models.specs.declared.model.VEntity.{VEntity}
-use Rattle.rule_readers.specs.Words.{valued}
-use Rattle.vhdl_text.specs.VhdlChecks.{Checks, has_data, tested, referred, enabling_condition, always_enabled, enabled}
-use Rattle.vhdl_text.specs.VhdlChecks.{reference_edge, transition, equal_to, same_number, both_limits, one_limit}
-use Rattle.vhdl_text.specs.WellFormed.{IsNumber, IsCount, IsWellFormedEntity, conditions_of_check}
-use Rattle.grammar_phrases.proofs.Bytes.{number_is}
-use Rattle.grammar_phrases.proofs.Derivations.{Reads, gives, token, in_turn, chosen, passed}
-use Rattle.grammar_phrases.proofs.Places.{get_at}
+use Rattle.grammar_reader.specs.Words.{valued}
+use Rattle.vhdl_grammar.specs.VhdlChecks.{Checks, has_data, tested, referred, enabling_condition, always_enabled, enabled}
+use Rattle.vhdl_grammar.specs.VhdlChecks.{reference_edge, transition, equal_to, same_number, both_limits, one_limit}
+use Rattle.vhdl_grammar.specs.WellFormed.{IsNumber, IsCount, IsWellFormedEntity, conditions_of_check}
+use Rattle.grammar_reader.proofs.Bytes.{number_is}
+use Rattle.grammar_reader.proofs.Derivations.{Reads, gives, token, in_turn, chosen, passed}
+use Rattle.grammar_reader.proofs.ItemPlaces.{get_at}
 use Rattle.written_entities.proofs.Words.{word}
 use Rattle.written_entities.proofs.NameReading.{expected, two_expected, three_expected, time_read, part_read}
 use Rattle.written_entities.proofs.Parts.{place_below, check_number}

@@ -13,13 +13,13 @@ use Rattle.cell_machine.specs.CellRules.{is_any_edge, is_one_edge, are_opposite}
 use Rattle.udp_tables.specs.declared.timing_checks.TimingCheck.{TimingCheck}
 use Rattle.vital_models.specs.declared.model.VEntity.{VEntity}
 use Rattle.vital_models.specs.Sound.{has_events}
-use Rattle.rule_readers.specs.Words.{valued, begins_as}
-use Rattle.vhdl_text.specs.VhdlChecks.{procedure_of, Checks, setup_or_hold, check_with, setup_hold, recovery_or_removal}
-use Rattle.vhdl_text.specs.VhdlChecks.{control_edge, active_low, recovery_removal, Pulse, pulse_of, pulse_check, period_pulse}
-use Rattle.vhdl_text.specs.VhdlChecks.{check, checks}
-use Rattle.vhdl_text.specs.WellFormed.{IsWellFormedEntity, conditions_of_check}
+use Rattle.grammar_reader.specs.Words.{valued, begins_as}
+use Rattle.vhdl_grammar.specs.VhdlChecks.{procedure_of, Checks, setup_or_hold, check_with, setup_hold, recovery_or_removal}
+use Rattle.vhdl_grammar.specs.VhdlChecks.{control_edge, active_low, recovery_removal, Pulse, pulse_of, pulse_check, period_pulse}
+use Rattle.vhdl_grammar.specs.VhdlChecks.{check, checks}
+use Rattle.vhdl_grammar.specs.WellFormed.{IsWellFormedEntity, conditions_of_check}
 use Rattle.vhdl_writer.specs.Statements.{test_at, reference_at}
-use Rattle.grammar_phrases.proofs.Derivations.{Reads, to_same, gives, token, in_turn, no_turn, turn, turns, goes_on}
+use Rattle.grammar_reader.proofs.Derivations.{Reads, to_same, gives, token, in_turn, no_turn, turn, turns, goes_on}
 use Rattle.written_entities.proofs.NameReading.{expected, two_expected}
 use Rattle.written_entities.proofs.Counting.{counted, over}
 use Rattle.written_entities.proofs.LookUpOrder.{seen_after}
@@ -185,7 +185,7 @@ period_pulse_read e w before k after same h =
     let seen : ℕ = seen_after 0 (flat_map conditions_of_check before) in
     let pulse = its_pulse k k.kind h c.sound.events in
     in_turn (tested_read e w (codes "PeriodData") before k after true k.first.pin same (period_kind k.kind h) c.sound.first)
-    (in_turn (token (ap (Rattle.rule_readers.specs.Words.allowed_by Rattle.rule_readers.specs.declared.refusal.Refusal.TheVariants.Syntax) pulse.1.told)) (in_turn (limit_read k.limit c.limit)
+    (in_turn (token (ap (Rattle.grammar_reader.specs.Words.allowed_by Rattle.grammar_reader.specs.declared.refusal.Refusal.TheVariants.Syntax) pulse.1.told)) (in_turn (limit_read k.limit c.limit)
     (in_turn (enabled_read e w seen k.condition looks.0 looks.1) (in_turn two_expected
     (to_same (ap (λ (j : TimingCheck). record { checks = before ++ j ∷ []; uses = uses_of e (seen_after seen (of_when k.condition)) }) pulse.1.same ∙ with_it e before k) gives)))))
 

@@ -7,16 +7,16 @@ use Rattle.cell_machine.specs.declared.checks.Edge.{Edge}
 use Rattle.cell_machine.specs.declared.checks.Edge.TheVariants as edge
 use Rattle.udp_tables.specs.declared.timing_checks.TimingCheck.{TimingCheck}
 use Rattle.vital_models.specs.declared.model.VEntity.{VEntity}
-use Rattle.vhdl_text.specs.VhdlChecks.{checks}
-use Rattle.vhdl_text.specs.VhdlChecks as grammar
-use Rattle.vhdl_text.specs.WellFormed.{IsWellFormedEntity}
+use Rattle.vhdl_grammar.specs.VhdlChecks.{checks}
+use Rattle.vhdl_grammar.specs.VhdlChecks as grammar
+use Rattle.vhdl_grammar.specs.WellFormed.{IsWellFormedEntity}
 use Rattle.vhdl_writer.specs.Joined.{numbered_texts}
 use Rattle.vhdl_writer.specs.Names.{port_at}
 use Rattle.vhdl_writer.specs.Statements.{one_text, enabled_text, test_at, reference_at, transition_text, high_word, low_word}
 use Rattle.vhdl_writer.specs.Statements.{setup_hold_text, recovery_word, active_text, recovery_removal_text, width_word}
 use Rattle.vhdl_writer.specs.Statements.{pulse_word, period_pulse_text, kind_text, check_text}
-use Rattle.grammar_phrases.proofs.Fronts.{Front, Anything}
-use Rattle.grammar_phrases.proofs.Spelling.{literal, joins, behind, anywhere}
+use Rattle.grammar_reader.proofs.Fronts.{Front, Anything}
+use Rattle.grammar_reader.proofs.Spelling.{literal, joins, behind, anywhere}
 use Rattle.written_entities.proofs.Spelling.{Spells, argument}
 use Rattle.written_entities.proofs.Words.{Ends, word, name, number, true_word}
 use Rattle.written_entities.proofs.Counting.{counted, counted_anywhere}

@@ -16,19 +16,19 @@ use Rattle.vital_models.specs.declared.model.VTruth.{VTruth}
 use Rattle.vital_models.specs.declared.model.VEntity.{VEntity}
 use Rattle.vital_models.specs.Sound.{IsTruth}
 use Rattle.udp_tables.specs.Ports.{is_input_port}
-use Rattle.rule_readers.specs.declared.refusal.Refusal.TheVariants.{Width}
+use Rattle.grammar_reader.specs.declared.refusal.Refusal.TheVariants.{Width}
 use Rattle.vhdl_tokens.specs.Tokens.{is_name}
-use Rattle.vhdl_text.specs.declared.scope.Scope.{Scope}
-use Rattle.vhdl_text.specs.VhdlTables.{truth_width}
-use Rattle.vhdl_text.specs.VhdlNames.{kept, input_of, listed_by, input_by, listed_input, Uses, condition_of, condition_width}
-use Rattle.vhdl_text.specs.VhdlNames.{first_list, stands_at, same_input, same_list, list_by, condition}
-use Rattle.vhdl_text.specs.WellFormed.{IsWrittenTruth, IsWellFormedEntity, looks_up_in_order}
+use Rattle.vhdl_grammar.specs.declared.scope.Scope.{Scope}
+use Rattle.vhdl_grammar.specs.VhdlTables.{truth_width}
+use Rattle.vhdl_grammar.specs.VhdlNames.{kept, input_of, listed_by, input_by, listed_input, Uses, condition_of, condition_width}
+use Rattle.vhdl_grammar.specs.VhdlNames.{first_list, stands_at, same_input, same_list, list_by, condition}
+use Rattle.vhdl_grammar.specs.WellFormed.{IsWrittenTruth, IsWellFormedEntity, looks_up_in_order}
 use Rattle.vhdl_writer.specs.Joined.{apart_text}
 use Rattle.vhdl_writer.specs.Names.{port_at, inputs_at, input_text, inputs_text, condition_text}
-use Rattle.grammar_phrases.proofs.Fronts.{Front, Anything}
-use Rattle.grammar_phrases.proofs.Derivations.{Reads, from_same, to_same, gives, token, in_turn, goes_on}
-use Rattle.grammar_phrases.proofs.Places.{at_place, all_at, get_at, one_longer}
-use Rattle.grammar_phrases.proofs.Spelling.{literal, behind}
+use Rattle.grammar_reader.proofs.Fronts.{Front, Anything}
+use Rattle.grammar_reader.proofs.Derivations.{Reads, from_same, to_same, gives, token, in_turn, goes_on}
+use Rattle.grammar_reader.proofs.ItemPlaces.{at_place, all_at, get_at, one_longer}
+use Rattle.grammar_reader.proofs.Spelling.{literal, behind}
 use Rattle.written_entities.proofs.Names.{part_named, unnumbered}
 use Rattle.written_entities.proofs.Spelling.{Spells}
 use Rattle.written_entities.proofs.NameReading.{expected, three_expected, four_expected, expected_where, known_as, place_found}
@@ -109,7 +109,7 @@ listed_read : (e : VEntity) → IsWellFormedEntity e → (before : List ℕ) (p 
 unfolding listed_input
 listed_read e w before p fed new = in_turn (token (if_true (is_name (port_at e p)) _ _ (input_named e w p fed).named ∙ input_fits e w before p fed new)) gives
 
-pub list_end_read : (width n : ℕ) {s : List (List ℕ)} → n ≡ width → Reads (Rattle.vhdl_text.specs.VhdlNames.list_end width n) (codes ")" ∷ s) tt s
+pub list_end_read : (width n : ℕ) {s : List (List ℕ)} → n ≡ width → Reads (Rattle.vhdl_grammar.specs.VhdlNames.list_end width n) (codes ")" ∷ s) tt s
 list_end_read width n e = expected_where (nat_eq n width) Width (equal n width e)
 
 -- A list that is read for the first time.

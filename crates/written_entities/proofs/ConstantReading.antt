@@ -20,19 +20,19 @@ use Rattle.vital_models.specs.declared.model.OutValue.TheVariants as value
 use Rattle.vital_models.specs.declared.model.VOutput.{VOutput}
 use Rattle.vital_models.specs.declared.model.VEntity.{VEntity}
 use Rattle.vital_models.specs.Sound.{columns_of, IsState, IsTruth, IsValue, IsOutput}
-use Rattle.vhdl_names.specs.Words.{is_reserved, is_used, vhdl_words, used_words}
+use Rattle.vhdl_tokens.specs.Words.{is_reserved, is_used, vhdl_words, used_words}
 use Rattle.vhdl_tokens.specs.Spelling.{is_same}
-use Rattle.vhdl_text.specs.declared.scope.Tables.{Tables}
-use Rattle.vhdl_text.specs.VhdlRules.{begins}
-use Rattle.vhdl_text.specs.VhdlTables.{StateOrOutput, Condition, is_before_outputs, constant_of, assigned_truth_table}
-use Rattle.vhdl_text.specs.VhdlTables.{condition_constant, output_constant, state_constant, constant, constants}
-use Rattle.vhdl_text.specs.WellFormed.{IsCount, HasOneEdge, IsWrittenState, IsWrittenTruth, IsWrittenValue, IsWrittenOutput}
-use Rattle.vhdl_text.specs.WellFormed.{IsWellFormedEntity}
+use Rattle.vhdl_grammar.specs.declared.scope.Tables.{Tables}
+use Rattle.vhdl_grammar.specs.VhdlRules.{begins}
+use Rattle.vhdl_grammar.specs.VhdlTables.{StateOrOutput, Condition, is_before_outputs, constant_of, assigned_truth_table}
+use Rattle.vhdl_grammar.specs.VhdlTables.{condition_constant, output_constant, state_constant, constant, constants}
+use Rattle.vhdl_grammar.specs.WellFormed.{IsCount, HasOneEdge, IsWrittenState, IsWrittenTruth, IsWrittenValue, IsWrittenOutput}
+use Rattle.vhdl_grammar.specs.WellFormed.{IsWellFormedEntity}
 use Rattle.vhdl_writer.specs.Tables.{state_rows_text, truth_rows_text, state_constant_text, condition_constant_text, is_looked_up}
 use Rattle.vhdl_writer.specs.Tables.{table_number, output_table_text, value_constant_text, output_constant_text, constants_text}
-use Rattle.grammar_phrases.proofs.Fronts.{Front, Anything}
-use Rattle.grammar_phrases.proofs.Derivations.{Reads, to_same, gives, in_turn, chosen, passed, no_turn, turn, turns}
-use Rattle.grammar_phrases.proofs.Spelling.{literal, behind, nothing}
+use Rattle.grammar_reader.proofs.Fronts.{Front, Anything}
+use Rattle.grammar_reader.proofs.Derivations.{Reads, to_same, gives, in_turn, chosen, passed, no_turn, turn, turns}
+use Rattle.grammar_reader.proofs.Spelling.{literal, behind, nothing}
 use Rattle.written_entities.proofs.Names.{part_named, same_self}
 use Rattle.written_entities.proofs.Spelling.{Spells}
 use Rattle.written_entities.proofs.TableTokens.{truth_row_front, state_row_front, rows_front, truth_rows, state_rows}

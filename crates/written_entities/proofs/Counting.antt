@@ -5,13 +5,13 @@ use Rattle.std.proofs.lemmas.List.{append-nil}
 use Rattle.std.proofs.lemmas.Bool.Decides.{nat_tests}
 use Rattle.grammar_rules.specs.Rule.{Verdict}
 use Rattle.grammar_rules.specs.Rule as r
-use Rattle.rule_readers.specs.declared.refusal.Refusal.{Refusal}
-use Rattle.rule_readers.specs.Words.{Grammar}
+use Rattle.grammar_reader.specs.declared.refusal.Refusal.{Refusal}
+use Rattle.grammar_reader.specs.Words.{Grammar}
 use Rattle.vhdl_writer.specs.Joined.{numbered_texts, apart_text}
-use Rattle.grammar_phrases.proofs.Fronts.{Front, Anything}
-use Rattle.grammar_phrases.proofs.Derivations.{Reads}
-use Rattle.grammar_phrases.proofs.Places.{one_longer}
-use Rattle.grammar_phrases.proofs.Spelling.{joins, behind, nothing}
+use Rattle.grammar_reader.proofs.Fronts.{Front, Anything}
+use Rattle.grammar_reader.proofs.Derivations.{Reads}
+use Rattle.grammar_reader.proofs.ItemPlaces.{one_longer}
+use Rattle.grammar_reader.proofs.Spelling.{joins, behind, nothing}
 use Rattle.written_entities.proofs.Spelling.{Spells}
 
 -- the tokens of items that are numbered from this number on

@@ -1,14 +1,14 @@
 -- The elements of a list of names in a call: their tokens and their reading.
 use Rattle.std.proofs.Common.{◌≡◌, ℕ, suc, ◌≤◌, Bool, false, nat_eq, List, [], ◌∷◌, ◌++◌, length, None, refl, arith, codes}
 use Rattle.std.proofs.lemmas.Bool.Decides.{nat_tests}
-use Rattle.rule_readers.specs.Words.{Grammar, begins_by}
+use Rattle.grammar_reader.specs.Words.{Grammar, begins_by}
 use Rattle.vhdl_tokens.specs.Numbers.{number_of}
-use Rattle.vhdl_text.specs.VhdlRules.{is_number_token, elements, only_element, several_elements, more_elements}
+use Rattle.vhdl_grammar.specs.VhdlRules.{is_number_token, elements, only_element, several_elements, more_elements}
 use Rattle.vhdl_writer.specs.Joined.{numbered_texts, apart_text}
 use Rattle.vhdl_writer.specs.Names.{list_start}
-use Rattle.grammar_phrases.proofs.Fronts.{Front, Anything}
-use Rattle.grammar_phrases.proofs.Derivations.{Reads, in_turn, chosen, passed, no_turn, turn, turns}
-use Rattle.grammar_phrases.proofs.Spelling.{literal, joins, behind}
+use Rattle.grammar_reader.proofs.Fronts.{Front, Anything}
+use Rattle.grammar_reader.proofs.Derivations.{Reads, in_turn, chosen, passed, no_turn, turn, turns}
+use Rattle.grammar_reader.proofs.Spelling.{literal, joins, behind}
 use Rattle.written_entities.proofs.Names.{IsNamed}
 use Rattle.written_entities.proofs.Spelling.{Spells}
 use Rattle.written_entities.proofs.Words.{Ends, name}

@@ -6,17 +6,17 @@ use Rattle.std.proofs.lemmas.List.Elements.{recursion_from_All}
 use Rattle.vital_models.specs.declared.model.VEntity.{VEntity}
 use Rattle.vhdl_tokens.specs.Tokens.{scan}
 use Rattle.vhdl_tokens.specs.Separators.{spelled}
-use Rattle.vhdl_text.specs.VhdlRules.{is_among}
-use Rattle.vhdl_text.specs.VhdlText.{entity_names, next_entity, file, language, IsVhdlText, vhdl_text}
-use Rattle.vhdl_text.specs.WellFormed.{AreApart, IsWellFormedEntity, AreWellFormed}
-use Rattle.vhdl_text.proofs.VhdlAnswers.{is_answer}
+use Rattle.vhdl_grammar.specs.VhdlRules.{is_among}
+use Rattle.vhdl_grammar.specs.VhdlText.{entity_names, next_entity, file, language, IsVhdlText, vhdl_text}
+use Rattle.vhdl_grammar.specs.WellFormed.{AreApart, IsWellFormedEntity, AreWellFormed}
+use Rattle.vhdl_grammar.proofs.VhdlAnswers.{is_answer}
 use Rattle.vhdl_writer.specs.Entity.{entity_text}
-use Rattle.grammar_phrases.proofs.Fronts.{Anything, each}
-use Rattle.grammar_phrases.specs.ReadBack.{ReadsBack}
-use Rattle.grammar_phrases.proofs.Derivations.{Reads, gives, in_turn, turn, through}
-use Rattle.grammar_phrases.proofs.TextsReadBack.{is_text, reads_back}
+use Rattle.grammar_reader.proofs.Fronts.{Anything, each}
+use Rattle.grammar_reader.specs.ReadBack.{ReadsBack}
+use Rattle.grammar_reader.proofs.Derivations.{Reads, gives, in_turn, turn, through}
+use Rattle.grammar_reader.proofs.TextsReadBack.{is_text, reads_back}
 use Rattle.written_entities.specs.Laws.{entities_text, WrittenEntitiesReadBack}
-use Rattle.grammar_phrases.proofs.Spelling.{all_found, behind, nothing}
+use Rattle.grammar_reader.proofs.Spelling.{all_found, behind, nothing}
 use Rattle.written_entities.proofs.Names.{entity_named}
 use Rattle.written_entities.proofs.Spelling.{SpellsOutside}
 use Rattle.written_entities.proofs.NameReading.{is_new}

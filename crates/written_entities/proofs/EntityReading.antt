@@ -16,22 +16,22 @@ use Rattle.vital_models.specs.declared.model.VOutput.{VOutput}
 use Rattle.udp_tables.specs.declared.timing_checks.TimingCheck.{TimingCheck}
 use Rattle.vital_models.specs.declared.model.VEntity.{VEntity}
 use Rattle.vital_models.specs.Sound.{output_ports_from}
-use Rattle.rule_readers.specs.declared.refusal.Refusal.TheVariants.{Undriven}
-use Rattle.rule_readers.specs.Words.{begins_as}
-use Rattle.vhdl_names.specs.Words.{is_reserved, is_used, vhdl_words, used_words}
-use Rattle.vhdl_text.specs.declared.scope.Assigned.{Assigned}
-use Rattle.vhdl_text.specs.VhdlRules.{begins, is_among}
-use Rattle.vhdl_text.specs.VhdlDeclarations.{port_names, input_names, scope_of}
-use Rattle.vhdl_text.specs.VhdlChecks.{procedure_of}
-use Rattle.vhdl_text.specs.VhdlOutputs.{begins_line}
-use Rattle.vhdl_text.specs.VhdlText.{states_with, conditions_with, values_with, outputs_with, entity_with, last_wait}
-use Rattle.vhdl_text.specs.VhdlText.{are_looked_up, entity_end, statements, entity}
-use Rattle.vhdl_text.specs.WellFormed.{IsWellFormedEntity, conditions_of_output}
+use Rattle.grammar_reader.specs.declared.refusal.Refusal.TheVariants.{Undriven}
+use Rattle.grammar_reader.specs.Words.{begins_as}
+use Rattle.vhdl_tokens.specs.Words.{is_reserved, is_used, vhdl_words, used_words}
+use Rattle.vhdl_grammar.specs.declared.scope.Assigned.{Assigned}
+use Rattle.vhdl_grammar.specs.VhdlRules.{begins, is_among}
+use Rattle.vhdl_grammar.specs.VhdlDeclarations.{port_names, input_names, scope_of}
+use Rattle.vhdl_grammar.specs.VhdlChecks.{procedure_of}
+use Rattle.vhdl_grammar.specs.VhdlOutputs.{begins_line}
+use Rattle.vhdl_grammar.specs.VhdlText.{states_with, conditions_with, values_with, outputs_with, entity_with, last_wait}
+use Rattle.vhdl_grammar.specs.VhdlText.{are_looked_up, entity_end, statements, entity}
+use Rattle.vhdl_grammar.specs.WellFormed.{IsWellFormedEntity, conditions_of_output}
 use Rattle.vhdl_writer.specs.Declarations.{is_input, first_input}
 use Rattle.vhdl_writer.specs.Entity.{end_text, statements_text, entity_text}
-use Rattle.grammar_phrases.proofs.Fronts.{Front, Anything}
-use Rattle.grammar_phrases.proofs.Derivations.{Reads, to_same, gives, in_turn}
-use Rattle.grammar_phrases.proofs.Spelling.{literal, behind}
+use Rattle.grammar_reader.proofs.Fronts.{Front, Anything}
+use Rattle.grammar_reader.proofs.Derivations.{Reads, to_same, gives, in_turn}
+use Rattle.grammar_reader.proofs.Spelling.{literal, behind}
 use Rattle.written_entities.proofs.Names.{entity_named}
 use Rattle.written_entities.proofs.Spelling.{Spells, SpellsOutside, outside}
 use Rattle.written_entities.proofs.NameReading.{expected, two_expected, five_expected, expected_where, newly_named}

@@ -9,18 +9,18 @@ use Rattle.std.proofs.lemmas.List.{map-append}
 use Rattle.std.proofs.lemmas.List.Elements.{recursion_from_All}
 use Rattle.udp_tables.specs.declared.models.VPort.{VPort}
 use Rattle.vital_models.specs.declared.model.VEntity.{VEntity}
-use Rattle.rule_readers.specs.Words.{valued}
-use Rattle.vhdl_names.specs.Words.{is_reserved, is_used, vhdl_words, used_words}
-use Rattle.vhdl_names.specs.Kept.{is_plain}
-use Rattle.vhdl_text.specs.VhdlRules.{is_among}
-use Rattle.vhdl_text.specs.VhdlDeclarations.{packages, name_of_port, port_names, has_underscore, is_input_word, next_port}
-use Rattle.vhdl_text.specs.VhdlDeclarations.{port_list, ports_of, entity_header, architecture_header}
-use Rattle.vhdl_text.specs.WellFormed.{IsPortName, AreApart, IsWellFormedEntity}
+use Rattle.grammar_reader.specs.Words.{valued}
+use Rattle.vhdl_tokens.specs.Words.{is_reserved, is_used, vhdl_words, used_words}
+use Rattle.vhdl_tokens.specs.Kept.{is_plain}
+use Rattle.vhdl_grammar.specs.VhdlRules.{is_among}
+use Rattle.vhdl_grammar.specs.VhdlDeclarations.{packages, name_of_port, port_names, has_underscore, is_input_word, next_port}
+use Rattle.vhdl_grammar.specs.VhdlDeclarations.{port_list, ports_of, entity_header, architecture_header}
+use Rattle.vhdl_grammar.specs.WellFormed.{IsPortName, AreApart, IsWellFormedEntity}
 use Rattle.vhdl_writer.specs.Declarations.{direction_text, port_text, some_ports_text, ports_text, header_text}
-use Rattle.grammar_phrases.proofs.Fronts.{Front, Anything}
-use Rattle.grammar_phrases.proofs.Derivations.{Reads, gives, token, in_turn, chosen, passed, no_turn, turn, turns}
-use Rattle.grammar_phrases.proofs.Places.{at_place}
-use Rattle.grammar_phrases.proofs.Spelling.{literal, joins, behind, nothing}
+use Rattle.grammar_reader.proofs.Fronts.{Front, Anything}
+use Rattle.grammar_reader.proofs.Derivations.{Reads, gives, token, in_turn, chosen, passed, no_turn, turn, turns}
+use Rattle.grammar_reader.proofs.ItemPlaces.{at_place}
+use Rattle.grammar_reader.proofs.Spelling.{literal, joins, behind, nothing}
 use Rattle.written_entities.proofs.Names.{IsNamed, entity_named, port_named}
 use Rattle.written_entities.proofs.Spelling.{Spells, SpellsOutside, outside}
 use Rattle.written_entities.proofs.Words.{Ends, word, name}

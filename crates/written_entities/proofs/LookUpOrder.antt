@@ -6,8 +6,8 @@ use Rattle.std.proofs.lemmas.Bool.Decides.{nat_tests}
 use Rattle.std.proofs.lemmas.List.{append-nil}
 use Rattle.std.proofs.lemmas.Grind.{flat_map-append}
 use Rattle.std.proofs.Math.Seq.{take-append_seam}
-use Rattle.vhdl_text.specs.WellFormed.{looks_up_in_order}
-use Rattle.grammar_phrases.proofs.Places.{item_at, one_longer}
+use Rattle.vhdl_grammar.specs.WellFormed.{looks_up_in_order}
+use Rattle.grammar_reader.proofs.ItemPlaces.{item_at, one_longer}
 
 -- how many have been looked up behind a look-up, and behind look-ups
 abbrev pub seen_with : ℕ → ℕ → ℕ

@@ -9,17 +9,17 @@ use Rattle.std.proofs.lemmas.Bool.Decides.{nat_tests}
 use Rattle.std.proofs.lemmas.Slice.Eq.{bytes_eq-Decides}
 use Rattle.std.proofs.lemmas.Fmt.{decimal_is_IsNumeral, decimal_injective}
 use Rattle.std.proofs.lemmas.Iterator.Adapters.{position_from-zero}
-use Rattle.rule_readers.specs.declared.refusal.Refusal.{Refusal}
-use Rattle.rule_readers.specs.declared.refusal.Refusal.TheVariants.{Syntax}
-use Rattle.rule_readers.specs.Words.{allowed_by}
-use Rattle.vhdl_names.specs.Kept.{is_plain}
+use Rattle.grammar_reader.specs.declared.refusal.Refusal.{Refusal}
+use Rattle.grammar_reader.specs.declared.refusal.Refusal.TheVariants.{Syntax}
+use Rattle.grammar_reader.specs.Words.{allowed_by}
+use Rattle.vhdl_tokens.specs.Kept.{is_plain}
 use Rattle.vhdl_tokens.specs.Spelling.{is_same}
-use Rattle.vhdl_text.specs.VhdlRules.{expect, expect_all, expect_where, is_among, new_name, known, this_name, place_among}
-use Rattle.vhdl_text.specs.VhdlRules.{this_number, a_number, a_time, numbered_where}
-use Rattle.vhdl_text.specs.WellFormed.{AreApart, IsNumber, IsCount}
-use Rattle.grammar_phrases.proofs.Bytes.{all_digits, number_is}
-use Rattle.grammar_phrases.proofs.Derivations.{Reads, gives, token, in_turn}
-use Rattle.grammar_phrases.proofs.Places.{at_place, found_behind}
+use Rattle.vhdl_grammar.specs.VhdlRules.{expect, expect_all, expect_where, is_among, new_name, known, this_name, place_among}
+use Rattle.vhdl_grammar.specs.VhdlRules.{this_number, a_number, a_time, numbered_where}
+use Rattle.vhdl_grammar.specs.WellFormed.{AreApart, IsNumber, IsCount}
+use Rattle.grammar_reader.proofs.Bytes.{all_digits, number_is}
+use Rattle.grammar_reader.proofs.Derivations.{Reads, gives, token, in_turn}
+use Rattle.grammar_reader.proofs.ItemPlaces.{at_place, found_behind}
 use Rattle.written_entities.proofs.Names.{IsNamed, other_second, part_named, unlike_scored, same_self, case_turned, same_letters}
 use Rattle.written_entities.proofs.Names.{same_name}
 use Rattle.written_entities.proofs.Tests.{equal_self, if_true}

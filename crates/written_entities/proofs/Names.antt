@@ -8,14 +8,14 @@ use Rattle.std.proofs.lemmas.Slice.Eq.{bytes_eq-Decides}
 use Rattle.std.specs.Char.{is_ascii_alphabetic, is_ascii_alphanumeric, is_ascii_digit, to_ascii_lowercase}
 use Rattle.std.specs.Str.{bytes_eq, str_eq_ignore_ascii_case, str_to_ascii_lowercase}
 use Rattle.std.specs.List.{list_all, list_any}
-use Rattle.vhdl_names.specs.Words.{is_word, is_vhdl_word, is_reserved, is_used, vhdl_words, used_words}
-use Rattle.vhdl_names.specs.Kept.{is_plain}
+use Rattle.vhdl_tokens.specs.Words.{is_word, is_vhdl_word, is_reserved, is_used, vhdl_words, used_words}
+use Rattle.vhdl_tokens.specs.Kept.{is_plain}
 use Rattle.vhdl_tokens.specs.Tokens.{is_name_byte, is_name}
 use Rattle.vhdl_tokens.specs.Numbers.{number_of}
 use Rattle.vhdl_tokens.specs.Spelling.{is_character, is_same}
-use Rattle.vhdl_text.specs.WellFormed.{is_spelled_as_name, IsEntityName, IsPortName}
-use Rattle.grammar_phrases.proofs.Bytes.{all_digits}
-use Rattle.grammar_phrases.proofs.Places.{same_bytes}
+use Rattle.vhdl_grammar.specs.WellFormed.{is_spelled_as_name, IsEntityName, IsPortName}
+use Rattle.grammar_reader.proofs.Bytes.{all_digits}
+use Rattle.grammar_reader.proofs.ItemPlaces.{same_bytes}
 use Rattle.written_entities.proofs.Tests.{and_no}
 
 -- A name: it is spelled as one, and is no word.

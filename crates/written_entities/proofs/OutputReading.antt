@@ -6,7 +6,7 @@ use Rattle.std.proofs.lemmas.List.{length-map, map-append, append-nil}
 use Rattle.std.proofs.lemmas.Option.{slice_get-map}
 use Rattle.grammar_rules.specs.Rule.{Verdict, Fits, Stops}
 use Rattle.grammar_rules.specs.Rule as r
-use Rattle.rule_readers.specs.declared.refusal.Refusal.{Refusal}
+use Rattle.grammar_reader.specs.declared.refusal.Refusal.{Refusal}
 use Rattle.udp_tables.specs.declared.models.VPort.{VPort}
 use Rattle.vital_models.specs.declared.model.VOutput.{VOutput}
 use Rattle.vital_models.specs.declared.model.HPath.{HPath}
@@ -14,20 +14,20 @@ use Rattle.vital_models.specs.declared.model.VEntity.{VEntity}
 use Rattle.vital_models.specs.Sound.{output_ports_from, IsOutput}
 use Rattle.vhdl_tokens.specs.Tokens.{is_name}
 use Rattle.vhdl_tokens.specs.Spelling.{is_same}
-use Rattle.vhdl_text.specs.VhdlDeclarations.{name_of_port, output_count}
-use Rattle.vhdl_text.specs.VhdlNames.{Uses}
-use Rattle.vhdl_text.specs.VhdlOutputs.{paths, output_name, has_glitch, Lines, is_text_of, text_by, path_call_start, path_call}
-use Rattle.vhdl_text.specs.VhdlOutputs.{assigned_value, assignment, is_unpathed, assigns_so_named, call_or_assignment}
-use Rattle.vhdl_text.specs.VhdlOutputs.{begins_line, line_by, output_lines}
-use Rattle.vhdl_text.specs.WellFormed.{IsCount, IsPortName, IsWrittenOutput, IsWellFormedEntity, conditions_of_check}
-use Rattle.vhdl_text.specs.WellFormed.{conditions_of_path, conditions_of_output}
+use Rattle.vhdl_grammar.specs.VhdlDeclarations.{name_of_port, output_count}
+use Rattle.vhdl_grammar.specs.VhdlNames.{Uses}
+use Rattle.vhdl_grammar.specs.VhdlOutputs.{paths, output_name, has_glitch, Lines, is_text_of, text_by, path_call_start, path_call}
+use Rattle.vhdl_grammar.specs.VhdlOutputs.{assigned_value, assignment, is_unpathed, assigns_so_named, call_or_assignment}
+use Rattle.vhdl_grammar.specs.VhdlOutputs.{begins_line, line_by, output_lines}
+use Rattle.vhdl_grammar.specs.WellFormed.{IsCount, IsPortName, IsWrittenOutput, IsWellFormedEntity, conditions_of_check}
+use Rattle.vhdl_grammar.specs.WellFormed.{conditions_of_path, conditions_of_output}
 use Rattle.vhdl_writer.specs.Joined.{numbered_texts}
 use Rattle.vhdl_writer.specs.Names.{port_at}
 use Rattle.vhdl_writer.specs.Outputs.{path_text, paths_text, direct_text, output_line}
-use Rattle.grammar_phrases.proofs.Fronts.{Front, Anything}
-use Rattle.grammar_phrases.proofs.Derivations.{Reads, gives, token, in_turn, chosen, passed, no_turn, Turn, turn, turns, goes_on}
-use Rattle.grammar_phrases.proofs.Places.{get_at}
-use Rattle.grammar_phrases.proofs.Spelling.{literal, joins, behind}
+use Rattle.grammar_reader.proofs.Fronts.{Front, Anything}
+use Rattle.grammar_reader.proofs.Derivations.{Reads, gives, token, in_turn, chosen, passed, no_turn, Turn, turn, turns, goes_on}
+use Rattle.grammar_reader.proofs.ItemPlaces.{get_at}
+use Rattle.grammar_reader.proofs.Spelling.{literal, joins, behind}
 use Rattle.written_entities.proofs.Names.{IsNamed, part_named, port_named, same_name, same_self, case_turned}
 use Rattle.written_entities.proofs.Spelling.{Spells, argument}
 use Rattle.written_entities.proofs.Words.{name}
@@ -176,7 +176,7 @@ paths_of output = output.paths
 abbrev pub lines_up_to : VEntity → List VOutput → Lines
 lines_up_to e before = (map paths_of before, uses_of e (seen_before e before))
 
-text_read : (e : VEntity) (o : ℕ) (x : List ℕ) {s : List (List ℕ)} → output_name (scope e) o ≡ Some x → Reads (r.Token (text_by (output_name (scope e) o)) Rattle.rule_readers.specs.declared.refusal.Refusal.TheVariants.Syntax) (quoted x ∷ s) tt s
+text_read : (e : VEntity) (o : ℕ) (x : List ℕ) {s : List (List ℕ)} → output_name (scope e) o ≡ Some x → Reads (r.Token (text_by (output_name (scope e) o)) Rattle.grammar_reader.specs.declared.refusal.Refusal.TheVariants.Syntax) (quoted x ∷ s) tt s
 text_read e o x h =
     token (if_true (is_text_of (output_name (scope e) o) (quoted x)) _ _ (ap (λ (n : Option (List ℕ)). is_text_of n (quoted x)) h ∙ quoted_is x))
 

@@ -11,10 +11,10 @@ use Rattle.udp_tables.specs.declared.models.VPort.{VPort}
 use Rattle.vital_models.specs.declared.model.VOutput.{VOutput}
 use Rattle.vital_models.specs.declared.model.VEntity.{VEntity}
 use Rattle.vital_models.specs.Sound.{output_ports_from}
-use Rattle.vhdl_text.specs.WellFormed.{IsCount, IsWellFormedEntity}
-use Rattle.grammar_phrases.proofs.Fronts.{Front, Anything}
-use Rattle.grammar_phrases.proofs.Places.{at_place}
-use Rattle.grammar_phrases.proofs.Spelling.{joins, behind}
+use Rattle.vhdl_grammar.specs.WellFormed.{IsCount, IsWellFormedEntity}
+use Rattle.grammar_reader.proofs.Fronts.{Front, Anything}
+use Rattle.grammar_reader.proofs.ItemPlaces.{at_place}
+use Rattle.grammar_reader.proofs.Spelling.{joins, behind}
 use Rattle.written_entities.proofs.Spelling.{Spells}
 use Rattle.written_entities.proofs.Words.{Ends, part}
 

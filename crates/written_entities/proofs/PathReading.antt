@@ -6,18 +6,18 @@ use Rattle.vital_models.specs.declared.model.HGate.TheVariants as gate
 use Rattle.vital_models.specs.declared.model.HPath.{HPath}
 use Rattle.vital_models.specs.declared.model.VEntity.{VEntity}
 use Rattle.vital_models.specs.Sound.{IsPath}
-use Rattle.vhdl_names.specs.Words.{is_reserved, is_used, vhdl_words, used_words}
-use Rattle.vhdl_text.specs.VhdlRules.{this_number}
-use Rattle.vhdl_text.specs.VhdlOutputs.{next_zero, all_zero, not_zero, equals_zero, gate_of_conditions, always, gate_of, delays}
-use Rattle.vhdl_text.specs.VhdlOutputs.{next_path, paths}
-use Rattle.vhdl_text.specs.WellFormed.{IsNumber, IsWrittenPath, IsWellFormedEntity, names_condition, conditions_of_gate}
-use Rattle.vhdl_text.specs.WellFormed.{conditions_of_path}
+use Rattle.vhdl_tokens.specs.Words.{is_reserved, is_used, vhdl_words, used_words}
+use Rattle.vhdl_grammar.specs.VhdlRules.{this_number}
+use Rattle.vhdl_grammar.specs.VhdlOutputs.{next_zero, all_zero, not_zero, equals_zero, gate_of_conditions, always, gate_of, delays}
+use Rattle.vhdl_grammar.specs.VhdlOutputs.{next_path, paths}
+use Rattle.vhdl_grammar.specs.WellFormed.{IsNumber, IsWrittenPath, IsWellFormedEntity, names_condition, conditions_of_gate}
+use Rattle.vhdl_grammar.specs.WellFormed.{conditions_of_path}
 use Rattle.vhdl_writer.specs.Joined.{numbered_texts, apart_text}
 use Rattle.vhdl_writer.specs.Names.{port_at, condition_text}
 use Rattle.vhdl_writer.specs.Outputs.{not_zero_text, zero_text, all_zero_text, gate_text, path_text}
-use Rattle.grammar_phrases.proofs.Fronts.{Front, Anything}
-use Rattle.grammar_phrases.proofs.Derivations.{Reads, from_same, to_same, gives, in_turn, chosen, passed, no_turn, turn, turns}
-use Rattle.grammar_phrases.proofs.Spelling.{literal, joins, behind, anywhere}
+use Rattle.grammar_reader.proofs.Fronts.{Front, Anything}
+use Rattle.grammar_reader.proofs.Derivations.{Reads, from_same, to_same, gives, in_turn, chosen, passed, no_turn, turn, turns}
+use Rattle.grammar_reader.proofs.Spelling.{literal, joins, behind, anywhere}
 use Rattle.written_entities.proofs.Spelling.{Spells}
 use Rattle.written_entities.proofs.Words.{Ends, name, number, true_word}
 use Rattle.written_entities.proofs.NameReading.{expected, two_expected, three_expected, time_read, this_number_read}

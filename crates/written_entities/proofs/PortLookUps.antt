@@ -10,13 +10,13 @@ use Rattle.udp_tables.specs.declared.models.VPort.{VPort}
 use Rattle.vital_models.specs.declared.model.VEntity.{VEntity}
 use Rattle.udp_tables.specs.Ports.{is_input_port}
 use Rattle.vhdl_tokens.specs.Spelling.{is_same}
-use Rattle.vhdl_text.specs.VhdlRules.{is_among}
-use Rattle.vhdl_text.specs.VhdlDeclarations.{name_of_port, port_names}
-use Rattle.vhdl_text.specs.VhdlNames.{kept, port_of, input_of, an_input}
-use Rattle.vhdl_text.specs.WellFormed.{IsPortName, AreApart, IsWellFormedEntity}
+use Rattle.vhdl_grammar.specs.VhdlRules.{is_among}
+use Rattle.vhdl_grammar.specs.VhdlDeclarations.{name_of_port, port_names}
+use Rattle.vhdl_grammar.specs.VhdlNames.{kept, port_of, input_of, an_input}
+use Rattle.vhdl_grammar.specs.WellFormed.{IsPortName, AreApart, IsWellFormedEntity}
 use Rattle.vhdl_writer.specs.Names.{port_at}
-use Rattle.grammar_phrases.proofs.Derivations.{Reads}
-use Rattle.grammar_phrases.proofs.Places.{item_at, all_at}
+use Rattle.grammar_reader.proofs.Derivations.{Reads}
+use Rattle.grammar_reader.proofs.ItemPlaces.{item_at, all_at}
 use Rattle.written_entities.proofs.Names.{IsNamed, port_named, same_self}
 use Rattle.written_entities.proofs.NameReading.{known_as, is_new, first_place}
 

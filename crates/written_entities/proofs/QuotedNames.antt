@@ -8,8 +8,8 @@ use Rattle.std.proofs.lemmas.Bool.Decides.{nat_tests}
 use Rattle.std.proofs.Math.Seq.{take-append_seam}
 use Rattle.vhdl_tokens.specs.Tokens.{is_name_byte, later, string_rest, token_length}
 use Rattle.vhdl_tokens.specs.Spelling.{text_of, is_quoted}
-use Rattle.grammar_phrases.proofs.Fronts.{Front, Anything}
-use Rattle.grammar_phrases.proofs.Spelling.{one_token, behind}
+use Rattle.grammar_reader.proofs.Fronts.{Front, Anything}
+use Rattle.grammar_reader.proofs.Spelling.{one_token, behind}
 use Rattle.written_entities.proofs.Names.{IsNamed, same_case}
 use Rattle.written_entities.proofs.Spelling.{Spells, unmarked}
 

@@ -11,8 +11,8 @@ use Rattle.std.proofs.lemmas.List.Sums.{sum_by-append, sum_by-cons}
 use Rattle.std.proofs.Math.Seq.{take-append_seam}
 use Rattle.grammar_rules.specs.Rule.{Fits}
 use Rattle.grammar_rules.specs.Rule as r
-use Rattle.rule_readers.specs.declared.refusal.Refusal.TheVariants.{Syntax}
-use Rattle.rule_readers.specs.Words.{valued}
+use Rattle.grammar_reader.specs.declared.refusal.Refusal.TheVariants.{Syntax}
+use Rattle.grammar_reader.specs.Words.{valued}
 use Rattle.trit_cubes.specs.declared.trits.Trit.{Trit}
 use Rattle.trit_cubes.specs.declared.trits.Trit.TheVariants as trit
 use Rattle.vital_models.specs.declared.table.Trits.{Trits}
@@ -24,14 +24,14 @@ use Rattle.vital_models.specs.declared.table.VNext.{VNext}
 use Rattle.vital_models.specs.declared.table.VNext.TheVariants as next
 use Rattle.vital_models.specs.declared.table.VStateRow.{VStateRow}
 use Rattle.vhdl_tokens.specs.Spelling.{is_same}
-use Rattle.vhdl_text.specs.VhdlRules.{expect, begins}
-use Rattle.vhdl_text.specs.VhdlTables.{level_of, symbol_of, is_edge, next_by, next_symbol, symbols, state_in, next_in}
-use Rattle.vhdl_text.specs.VhdlTables.{state_row_with, state_row_of, row_end, is_as_long_as_state_rows, state_row, next_level}
-use Rattle.vhdl_text.specs.VhdlTables.{levels, value_of, truth_row_with, truth_row_of, is_as_long_as_truth_rows, truth_row}
+use Rattle.vhdl_grammar.specs.VhdlRules.{expect, begins}
+use Rattle.vhdl_grammar.specs.VhdlTables.{level_of, symbol_of, is_edge, next_by, next_symbol, symbols, state_in, next_in}
+use Rattle.vhdl_grammar.specs.VhdlTables.{state_row_with, state_row_of, row_end, is_as_long_as_state_rows, state_row, next_level}
+use Rattle.vhdl_grammar.specs.VhdlTables.{levels, value_of, truth_row_with, truth_row_of, is_as_long_as_truth_rows, truth_row}
 use Rattle.vhdl_writer.specs.Tables.{level_text, symbol_text, next_text, value_text}
-use Rattle.grammar_phrases.proofs.Fronts.{each}
-use Rattle.grammar_phrases.proofs.Derivations.{Reads, from_same, to_same, gives, token, in_turn, turn, turns, no_turn}
-use Rattle.grammar_phrases.proofs.Places.{get_at}
+use Rattle.grammar_reader.proofs.Fronts.{each}
+use Rattle.grammar_reader.proofs.Derivations.{Reads, from_same, to_same, gives, token, in_turn, turn, turns, no_turn}
+use Rattle.grammar_reader.proofs.ItemPlaces.{get_at}
 use Rattle.written_entities.proofs.TableTokens.{value_level, as_level, next_symbol_of, as_symbol, level_front, symbol_front}
 use Rattle.written_entities.proofs.TableTokens.{truth_row_front, state_row_front}
 

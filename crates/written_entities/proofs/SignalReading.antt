@@ -7,15 +7,15 @@ use Rattle.std.proofs.lemmas.List.Elements.{recursion_from_All}
 use Rattle.std.proofs.lemmas.Iterator.Adapters.{position_from-zero}
 use Rattle.udp_tables.specs.declared.models.VPort.{VPort}
 use Rattle.vital_models.specs.declared.model.VEntity.{VEntity}
-use Rattle.vhdl_names.specs.Words.{is_reserved, is_used, vhdl_words, used_words}
-use Rattle.vhdl_text.specs.VhdlDeclarations.{port_names, input_names, listed_name, listed_names, sensitivity}
-use Rattle.vhdl_text.specs.WellFormed.{IsPortName, IsWellFormedEntity}
+use Rattle.vhdl_tokens.specs.Words.{is_reserved, is_used, vhdl_words, used_words}
+use Rattle.vhdl_grammar.specs.VhdlDeclarations.{port_names, input_names, listed_name, listed_names, sensitivity}
+use Rattle.vhdl_grammar.specs.WellFormed.{IsPortName, IsWellFormedEntity}
 use Rattle.vhdl_writer.specs.Joined.{numbered_texts}
 use Rattle.vhdl_writer.specs.Declarations.{is_input, first_input, signal_start, signal_text, signals_end, process_text}
-use Rattle.grammar_phrases.proofs.Fronts.{Front, Anything, each}
-use Rattle.grammar_phrases.proofs.Derivations.{Reads, to_same, gives, in_turn, turn, through, goes_on}
-use Rattle.grammar_phrases.proofs.Places.{at_place, get_at, one_longer}
-use Rattle.grammar_phrases.proofs.Spelling.{literal, joins, behind, nothing}
+use Rattle.grammar_reader.proofs.Fronts.{Front, Anything, each}
+use Rattle.grammar_reader.proofs.Derivations.{Reads, to_same, gives, in_turn, turn, through, goes_on}
+use Rattle.grammar_reader.proofs.ItemPlaces.{at_place, get_at, one_longer}
+use Rattle.grammar_reader.proofs.Spelling.{literal, joins, behind, nothing}
 use Rattle.written_entities.proofs.Names.{IsNamed, port_named}
 use Rattle.written_entities.proofs.Spelling.{Spells}
 use Rattle.written_entities.proofs.Words.{Ends, word, name}

@@ -6,9 +6,9 @@ use Rattle.vhdl_writer.specs.Joined.{numbered_texts}
 use Rattle.driver_sections.specs.Marks.{Vocabulary, vocabulary}
 use Rattle.section_outlines.specs.Marked.{begins, ends_next, marked}
 use Rattle.section_outlines.specs.VhdlMarks.{vhdl_marks}
-use Rattle.grammar_phrases.proofs.Fronts.{Front, Anything, each}
-use Rattle.grammar_phrases.proofs.Passages.{passed}
-use Rattle.grammar_phrases.proofs.Spelling.{SpellsBy, barred_less, literal, behind, nothing}
+use Rattle.grammar_reader.proofs.Fronts.{Front, Anything, each}
+use Rattle.grammar_reader.proofs.Passages.{passed}
+use Rattle.grammar_reader.proofs.Spelling.{SpellsBy, barred_less, literal, behind, nothing}
 use Rattle.written_entities.proofs.Tests.{or_parts}
 
 -- the tokens of VHDL, and which stand for a word

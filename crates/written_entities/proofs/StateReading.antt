@@ -9,23 +9,23 @@ use Rattle.vital_models.specs.declared.model.VState.{VState}
 use Rattle.vital_models.specs.declared.model.VEntity.{VEntity}
 use Rattle.vital_models.specs.Sound.{IsState}
 use Rattle.udp_tables.specs.Ports.{is_input_port}
-use Rattle.vhdl_names.specs.Words.{is_vhdl_word, is_reserved, is_used, vhdl_words, used_words}
+use Rattle.vhdl_tokens.specs.Words.{is_vhdl_word, is_reserved, is_used, vhdl_words, used_words}
 use Rattle.vhdl_tokens.specs.Tokens.{is_name}
 use Rattle.vhdl_tokens.specs.Spelling.{is_same}
-use Rattle.vhdl_text.specs.declared.scope.Columns.{Columns}
-use Rattle.vhdl_text.specs.VhdlRules.{begins, elements, only_element, several_elements, more_elements}
-use Rattle.vhdl_text.specs.VhdlDeclarations.{width_at}
-use Rattle.vhdl_text.specs.VhdlNames.{violated_columns, no_columns, column_count, behind_input, takes_violation, next_column}
-use Rattle.vhdl_text.specs.VhdlNames.{columns_of}
-use Rattle.vhdl_text.specs.VhdlChecks.{state_call_start, state_call, state_calls}
-use Rattle.vhdl_text.specs.WellFormed.{IsCount, IsWrittenState, IsWellFormedEntity}
+use Rattle.vhdl_grammar.specs.declared.scope.Columns.{Columns}
+use Rattle.vhdl_grammar.specs.VhdlRules.{begins, elements, only_element, several_elements, more_elements}
+use Rattle.vhdl_grammar.specs.VhdlDeclarations.{width_at}
+use Rattle.vhdl_grammar.specs.VhdlNames.{violated_columns, no_columns, column_count, behind_input, takes_violation, next_column}
+use Rattle.vhdl_grammar.specs.VhdlNames.{columns_of}
+use Rattle.vhdl_grammar.specs.VhdlChecks.{state_call_start, state_call, state_calls}
+use Rattle.vhdl_grammar.specs.WellFormed.{IsCount, IsWrittenState, IsWellFormedEntity}
 use Rattle.vhdl_writer.specs.Joined.{numbered_texts}
 use Rattle.vhdl_writer.specs.Names.{port_at, next_input_text, violated_text}
 use Rattle.vhdl_writer.specs.Statements.{state_text}
-use Rattle.grammar_phrases.proofs.Fronts.{Front, Anything}
-use Rattle.grammar_phrases.proofs.Derivations.{Reads, to_same, gives, token, in_turn, chosen, passed, no_turn, turn, turns}
-use Rattle.grammar_phrases.proofs.Derivations.{goes_on}
-use Rattle.grammar_phrases.proofs.Spelling.{literal, joins, behind}
+use Rattle.grammar_reader.proofs.Fronts.{Front, Anything}
+use Rattle.grammar_reader.proofs.Derivations.{Reads, to_same, gives, token, in_turn, chosen, passed, no_turn, turn, turns}
+use Rattle.grammar_reader.proofs.Derivations.{goes_on}
+use Rattle.grammar_reader.proofs.Spelling.{literal, joins, behind}
 use Rattle.written_entities.proofs.Names.{IsNamed, unnumbered, unlike_word}
 use Rattle.written_entities.proofs.Spelling.{Spells, argument}
 use Rattle.written_entities.proofs.Words.{Ends, word, name}

@@ -2,18 +2,18 @@
 use Rattle.std.proofs.Common.{◌≡◌, ℕ, ◌≤◌, true, nat_eq, List, [], ◌∷◌, ◌++◌, length, refl, sym, ◌∙◌, arith, subst, codes}
 use Rattle.std.specs.List.{AllByRecursion}
 use Rattle.std.proofs.lemmas.Bool.Decides.{nat_tests}
-use Rattle.rule_readers.specs.Words.{Grammar}
+use Rattle.grammar_reader.specs.Words.{Grammar}
 use Rattle.vital_models.specs.declared.table.TruthRow.{TruthRow}
 use Rattle.vital_models.specs.declared.table.TruthTable.{TruthTable}
 use Rattle.vital_models.specs.declared.table.VStateRow.{VStateRow}
 use Rattle.vital_models.specs.declared.table.VStateTable.{VStateTable}
-use Rattle.vhdl_text.specs.VhdlRules.{elements, only_element, several_elements, more_elements}
-use Rattle.vhdl_text.specs.VhdlTables.{is_as_long_as_state_rows, state_row, state_table, is_as_long_as_truth_rows, truth_row}
-use Rattle.vhdl_text.specs.VhdlTables.{truth_table}
-use Rattle.vhdl_text.specs.WellFormed.{HasOneEdge}
-use Rattle.grammar_phrases.proofs.Fronts.{Front, each}
-use Rattle.grammar_phrases.proofs.Derivations.{Reads, gives, in_turn, chosen, passed, turn, through}
-use Rattle.grammar_phrases.proofs.Places.{at_place}
+use Rattle.vhdl_grammar.specs.VhdlRules.{elements, only_element, several_elements, more_elements}
+use Rattle.vhdl_grammar.specs.VhdlTables.{is_as_long_as_state_rows, state_row, state_table, is_as_long_as_truth_rows, truth_row}
+use Rattle.vhdl_grammar.specs.VhdlTables.{truth_table}
+use Rattle.vhdl_grammar.specs.WellFormed.{HasOneEdge}
+use Rattle.grammar_reader.proofs.Fronts.{Front, each}
+use Rattle.grammar_reader.proofs.Derivations.{Reads, gives, in_turn, chosen, passed, turn, through}
+use Rattle.grammar_reader.proofs.ItemPlaces.{at_place}
 use Rattle.written_entities.proofs.TableTokens.{truth_row_front, state_row_front, rows_front}
 use Rattle.written_entities.proofs.RowReading.{expected, truth_row_read, state_row_read}
 

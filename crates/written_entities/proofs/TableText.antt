@@ -4,22 +4,22 @@ use Rattle.std.proofs.lemmas.List.Elements.{recursion_from_All}
 use Rattle.grammar_rules.specs.Rule.{Takes}
 use Rattle.grammar_rules.proofs.Exact.{complete}
 use Rattle.grammar_rules.proofs.Steps.{value_is}
-use Rattle.rule_readers.specs.declared.refusal.Refusal.{Refusal}
-use Rattle.rule_readers.specs.Words.{Grammar}
+use Rattle.grammar_reader.specs.declared.refusal.Refusal.{Refusal}
+use Rattle.grammar_reader.specs.Words.{Grammar}
 use Rattle.vital_models.specs.declared.table.TruthRow.{TruthRow}
 use Rattle.vital_models.specs.declared.table.TruthTable.{TruthTable}
 use Rattle.vital_models.specs.declared.table.VStateRow.{VStateRow}
 use Rattle.vital_models.specs.declared.model.VState.{VState}
 use Rattle.vital_models.specs.Sound.{IsTruthTable, IsStateTable, columns_of}
-use Rattle.vhdl_text.specs.VhdlTables.{truth_table, state_table}
-use Rattle.vhdl_text.specs.VhdlText.{text_tokens, lexical_place}
-use Rattle.vhdl_text.specs.WellFormed.{HasOneEdge, IsWrittenState}
+use Rattle.vhdl_grammar.specs.VhdlTables.{truth_table, state_table}
+use Rattle.vhdl_grammar.specs.VhdlText.{text_tokens, lexical_place}
+use Rattle.vhdl_grammar.specs.WellFormed.{HasOneEdge, IsWrittenState}
 use Rattle.vhdl_writer.specs.Tables.{truth_rows_text, state_rows_text}
-use Rattle.grammar_phrases.proofs.Fronts.{Anything}
-use Rattle.grammar_phrases.proofs.Places.{none_if}
+use Rattle.grammar_reader.proofs.Fronts.{Anything}
+use Rattle.grammar_reader.proofs.ItemPlaces.{none_if}
 use Rattle.written_entities.specs.Laws.{truth_table_text, state_table_text, IsTruthTableText, IsStateTableText}
 use Rattle.written_entities.specs.Laws.{TruthTableReadBack, StateTableReadBack}
-use Rattle.grammar_phrases.proofs.Spelling.{all_found, behind}
+use Rattle.grammar_reader.proofs.Spelling.{all_found, behind}
 use Rattle.written_entities.proofs.Spelling.{Spells}
 use Rattle.written_entities.proofs.TableTokens.{opened, closed, truth_row_front, state_row_front, rows_front, truth_rows}
 use Rattle.written_entities.proofs.TableTokens.{state_rows}

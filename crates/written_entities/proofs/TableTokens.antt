@@ -14,8 +14,8 @@ use Rattle.vital_models.specs.declared.table.VStateRow.{VStateRow}
 use Rattle.vhdl_writer.specs.Joined.{numbered_texts}
 use Rattle.vhdl_writer.specs.Tables.{level_text, symbol_text, next_text, value_text, row_start, symbol_apart_text}
 use Rattle.vhdl_writer.specs.Tables.{level_apart_text, state_row_text, truth_row_text}
-use Rattle.grammar_phrases.proofs.Fronts.{Front, Anything, each}
-use Rattle.grammar_phrases.proofs.Spelling.{literal, behind}
+use Rattle.grammar_reader.proofs.Fronts.{Front, Anything, each}
+use Rattle.grammar_reader.proofs.Spelling.{literal, behind}
 use Rattle.written_entities.proofs.Spelling.{Spells, numbered_spelled}
 
 -- Symbols.

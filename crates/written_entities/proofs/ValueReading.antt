@@ -23,27 +23,27 @@ use Rattle.vital_models.specs.declared.model.VState.{VState}
 use Rattle.vital_models.specs.declared.model.VEntity.{VEntity}
 use Rattle.vital_models.specs.Sound.{feeds, IsValue, IsOutput}
 use Rattle.udp_tables.specs.Ports.{is_input_port}
-use Rattle.rule_readers.specs.declared.refusal.Refusal.{Refusal}
+use Rattle.grammar_reader.specs.declared.refusal.Refusal.{Refusal}
 use Rattle.vhdl_tokens.specs.Tokens.{is_name}
 use Rattle.vhdl_tokens.specs.Spelling.{is_same}
-use Rattle.vhdl_text.specs.declared.scope.Assigned.{Assigned}
-use Rattle.vhdl_text.specs.declared.scope.Assigned.TheVariants as assigned
-use Rattle.vhdl_text.specs.VhdlRules.{begins, go_on_unnamed}
-use Rattle.vhdl_text.specs.VhdlTables.{truth_width}
-use Rattle.vhdl_text.specs.VhdlDeclarations.{port_names, output_count}
-use Rattle.vhdl_text.specs.VhdlNames.{kept, port_of, input_of, same_source, source_or_state, source_of, listed_source, sources_of}
-use Rattle.vhdl_text.specs.VhdlOutputs.{is_lookup, lookups, output_width, output_table_name, lookup, a_constant, next_value}
-use Rattle.vhdl_text.specs.VhdlOutputs.{is_this_value, begins_value, values_of}
-use Rattle.vhdl_text.specs.WellFormed.{IsCount, IsPortName, IsWrittenValue, IsWrittenOutput, IsWellFormedEntity}
+use Rattle.vhdl_grammar.specs.declared.scope.Assigned.{Assigned}
+use Rattle.vhdl_grammar.specs.declared.scope.Assigned.TheVariants as assigned
+use Rattle.vhdl_grammar.specs.VhdlRules.{begins, go_on_unnamed}
+use Rattle.vhdl_grammar.specs.VhdlTables.{truth_width}
+use Rattle.vhdl_grammar.specs.VhdlDeclarations.{port_names, output_count}
+use Rattle.vhdl_grammar.specs.VhdlNames.{kept, port_of, input_of, same_source, source_or_state, source_of, listed_source, sources_of}
+use Rattle.vhdl_grammar.specs.VhdlOutputs.{is_lookup, lookups, output_width, output_table_name, lookup, a_constant, next_value}
+use Rattle.vhdl_grammar.specs.VhdlOutputs.{is_this_value, begins_value, values_of}
+use Rattle.vhdl_grammar.specs.WellFormed.{IsCount, IsPortName, IsWrittenValue, IsWrittenOutput, IsWellFormedEntity}
 use Rattle.vhdl_writer.specs.Joined.{numbered_texts, apart_text}
 use Rattle.vhdl_writer.specs.Names.{port_at, source_name, source_text, sources_text}
 use Rattle.vhdl_writer.specs.Tables.{table_number}
 use Rattle.vhdl_writer.specs.Outputs.{lookup_text, assigned_text, value_line}
-use Rattle.grammar_phrases.proofs.Fronts.{Front, Anything}
-use Rattle.grammar_phrases.proofs.Derivations.{Reads, to_same, gives, token, in_turn, chosen, passed, no_turn, turn, turns}
-use Rattle.grammar_phrases.proofs.Derivations.{goes_on}
-use Rattle.grammar_phrases.proofs.Places.{get_at}
-use Rattle.grammar_phrases.proofs.Spelling.{literal, behind}
+use Rattle.grammar_reader.proofs.Fronts.{Front, Anything}
+use Rattle.grammar_reader.proofs.Derivations.{Reads, to_same, gives, token, in_turn, chosen, passed, no_turn, turn, turns}
+use Rattle.grammar_reader.proofs.Derivations.{goes_on}
+use Rattle.grammar_reader.proofs.ItemPlaces.{get_at}
+use Rattle.grammar_reader.proofs.Spelling.{literal, behind}
 use Rattle.written_entities.proofs.Names.{IsNamed, part_named, unnumbered, same_self}
 use Rattle.written_entities.proofs.Spelling.{Spells}
 use Rattle.written_entities.proofs.NameReading.{expected, three_expected, four_expected, so_named, place_found, unlike_plain}

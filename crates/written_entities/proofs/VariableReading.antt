@@ -16,21 +16,21 @@ use Rattle.vital_models.specs.declared.model.HPath.{HPath}
 use Rattle.udp_tables.specs.declared.timing_checks.TimingCheck.{TimingCheck}
 use Rattle.vital_models.specs.declared.model.VEntity.{VEntity}
 use Rattle.vital_models.specs.Sound.{columns_of}
-use Rattle.rule_readers.specs.declared.refusal.Refusal.TheVariants.{Undefined}
-use Rattle.rule_readers.specs.Words.{valued, allowed_by}
+use Rattle.grammar_reader.specs.declared.refusal.Refusal.TheVariants.{Undefined}
+use Rattle.grammar_reader.specs.Words.{valued, allowed_by}
 use Rattle.vhdl_tokens.specs.Tokens.{is_name}
 use Rattle.vhdl_tokens.specs.Spelling.{is_same}
-use Rattle.vhdl_text.specs.declared.scope.Tables.{Tables}
-use Rattle.vhdl_text.specs.declared.scope.Variables.{Variables}
-use Rattle.vhdl_text.specs.VhdlRules.{begins, this_number}
-use Rattle.vhdl_text.specs.VhdlTables.{state_width}
-use Rattle.vhdl_text.specs.VhdlDeclarations.{last_true, is_last_false, VariableOf, Check, Violation, State, Output, Glitch}
-use Rattle.vhdl_text.specs.VhdlDeclarations.{is_before_states, awaits_violation, output_count, variable_of, variable_by}
-use Rattle.vhdl_text.specs.VhdlDeclarations.{is_period_type, first_data, check_variables, violation_variable, width_at}
-use Rattle.vhdl_text.specs.VhdlDeclarations.{state_variables, output_variable, glitch_variable, variable, are_declared, variables}
-use Rattle.vhdl_text.specs.WellFormed.{IsNumber, IsCount, IsWrittenState, IsWellFormedEntity}
-use Rattle.grammar_phrases.proofs.Derivations.{Reads, to_same, gives, token, in_turn, no_turn, turn, turns, goes_on}
-use Rattle.grammar_phrases.proofs.Places.{get_at, one_longer}
+use Rattle.vhdl_grammar.specs.declared.scope.Tables.{Tables}
+use Rattle.vhdl_grammar.specs.declared.scope.Variables.{Variables}
+use Rattle.vhdl_grammar.specs.VhdlRules.{begins, this_number}
+use Rattle.vhdl_grammar.specs.VhdlTables.{state_width}
+use Rattle.vhdl_grammar.specs.VhdlDeclarations.{last_true, is_last_false, VariableOf, Check, Violation, State, Output, Glitch}
+use Rattle.vhdl_grammar.specs.VhdlDeclarations.{is_before_states, awaits_violation, output_count, variable_of, variable_by}
+use Rattle.vhdl_grammar.specs.VhdlDeclarations.{is_period_type, first_data, check_variables, violation_variable, width_at}
+use Rattle.vhdl_grammar.specs.VhdlDeclarations.{state_variables, output_variable, glitch_variable, variable, are_declared, variables}
+use Rattle.vhdl_grammar.specs.WellFormed.{IsNumber, IsCount, IsWrittenState, IsWellFormedEntity}
+use Rattle.grammar_reader.proofs.Derivations.{Reads, to_same, gives, token, in_turn, no_turn, turn, turns, goes_on}
+use Rattle.grammar_reader.proofs.ItemPlaces.{get_at, one_longer}
 use Rattle.written_entities.proofs.Names.{IsNamed, part_named, same_self}
 use Rattle.written_entities.proofs.Words.{number}
 use Rattle.written_entities.proofs.NameReading.{expected, three_expected, five_expected, six_expected, eight_expected, so_named}
@@ -110,7 +110,7 @@ no_report checks states glitches =
 
 -- a name that is of no check is of a state or of an output
 of_others : (e : VEntity) (checks : List TimingCheck) (states : ℕ) (glitches : List Bool) (x : List ℕ) (of : VariableOf) → is_same x (120 ∷ 95 ∷ decimal (length (map is_period_check checks) + 1)) ≡ false
-    → Rattle.vhdl_text.specs.VhdlDeclarations.state_or_output e.ports (all_tables e) (violated checks states glitches) x ≡ Some of
+    → Rattle.vhdl_grammar.specs.VhdlDeclarations.state_or_output e.ports (all_tables e) (violated checks states glitches) x ≡ Some of
     → variable_of e.ports (all_tables e) (violated checks states glitches) x ≡ Some of
 of_others e checks states glitches x of other h =
     let v : Variables = violated checks states glitches in

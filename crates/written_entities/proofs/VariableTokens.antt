@@ -12,14 +12,14 @@ use Rattle.vital_models.specs.declared.model.HPath.{HPath}
 use Rattle.udp_tables.specs.declared.timing_checks.TimingCheck.{TimingCheck}
 use Rattle.vital_models.specs.declared.model.VEntity.{VEntity}
 use Rattle.vital_models.specs.Sound.{columns_of, IsState}
-use Rattle.vhdl_names.specs.Words.{is_reserved, is_used, vhdl_words, used_words}
-use Rattle.vhdl_text.specs.VhdlTables.{state_width}
-use Rattle.vhdl_text.specs.VhdlDeclarations.{first_data}
-use Rattle.vhdl_text.specs.WellFormed.{IsNumber, IsCount, IsWrittenState, IsWellFormedEntity}
+use Rattle.vhdl_tokens.specs.Words.{is_reserved, is_used, vhdl_words, used_words}
+use Rattle.vhdl_grammar.specs.VhdlTables.{state_width}
+use Rattle.vhdl_grammar.specs.VhdlDeclarations.{first_data}
+use Rattle.vhdl_grammar.specs.WellFormed.{IsNumber, IsCount, IsWrittenState, IsWellFormedEntity}
 use Rattle.vhdl_writer.specs.Declarations.{data_text, check_variables_text, violation_variable_text, width_of}
 use Rattle.vhdl_writer.specs.Declarations.{state_variables_text, glitch_data_text, output_variables_text, variables_text}
-use Rattle.grammar_phrases.proofs.Fronts.{Front, Anything}
-use Rattle.grammar_phrases.proofs.Spelling.{literal, joins, behind, nothing}
+use Rattle.grammar_reader.proofs.Fronts.{Front, Anything}
+use Rattle.grammar_reader.proofs.Spelling.{literal, joins, behind, nothing}
 use Rattle.written_entities.proofs.Spelling.{Spells}
 use Rattle.written_entities.proofs.Words.{number}
 use Rattle.written_entities.proofs.Counting.{counted, counted_anywhere}

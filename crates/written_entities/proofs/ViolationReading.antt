@@ -4,15 +4,15 @@ use Rattle.std.proofs.Common.{arith, subst, codes, decimal}
 use Rattle.std.proofs.lemmas.List.{length-map}
 use Rattle.udp_tables.specs.declared.timing_checks.TimingCheck.{TimingCheck}
 use Rattle.vital_models.specs.declared.model.VEntity.{VEntity}
-use Rattle.vhdl_names.specs.Words.{is_reserved, is_used, vhdl_words, used_words}
-use Rattle.vhdl_text.specs.VhdlChecks.{checks, next_report, any_report, violation}
-use Rattle.vhdl_text.specs.WellFormed.{IsWellFormedEntity}
+use Rattle.vhdl_tokens.specs.Words.{is_reserved, is_used, vhdl_words, used_words}
+use Rattle.vhdl_grammar.specs.VhdlChecks.{checks, next_report, any_report, violation}
+use Rattle.vhdl_grammar.specs.WellFormed.{IsWellFormedEntity}
 use Rattle.vhdl_writer.specs.Joined.{apart_text}
 use Rattle.vhdl_writer.specs.Statements.{report_text, reports_text, violation_text}
-use Rattle.grammar_phrases.proofs.Fronts.{Front, Anything}
-use Rattle.grammar_phrases.proofs.Derivations.{Reads, to_same, gives, in_turn, no_turn, turn, turns, goes_on}
-use Rattle.grammar_phrases.proofs.Places.{one_longer}
-use Rattle.grammar_phrases.proofs.Spelling.{literal, joins, behind, nothing}
+use Rattle.grammar_reader.proofs.Fronts.{Front, Anything}
+use Rattle.grammar_reader.proofs.Derivations.{Reads, to_same, gives, in_turn, no_turn, turn, turns, goes_on}
+use Rattle.grammar_reader.proofs.ItemPlaces.{one_longer}
+use Rattle.grammar_reader.proofs.Spelling.{literal, joins, behind, nothing}
 use Rattle.written_entities.proofs.Spelling.{Spells}
 use Rattle.written_entities.proofs.Words.{Ends, part}
 use Rattle.written_entities.proofs.NameReading.{expected, two_expected, part_read}

@@ -6,14 +6,14 @@ use Rattle.std.proofs.lemmas.Bool.Decides.{nat_tests}
 use Rattle.std.proofs.lemmas.Fmt.{decimal_is_IsNumeral}
 use Rattle.std.specs.Char.{is_ascii_alphabetic, is_ascii_digit, to_ascii_lowercase}
 use Rattle.std.specs.List.{list_all, prefix_len}
-use Rattle.vhdl_names.specs.Words.{is_vhdl_word, is_reserved, is_used, vhdl_words, used_words}
+use Rattle.vhdl_tokens.specs.Words.{is_vhdl_word, is_reserved, is_used, vhdl_words, used_words}
 use Rattle.vhdl_tokens.specs.Tokens.{is_blank, is_mark, is_name_byte, is_name, lexis, word_length, number_length}
 use Rattle.vhdl_tokens.specs.Tokens.{separator_length, token_length}
 use Rattle.vhdl_tokens.specs.Spelling.{is_same}
-use Rattle.vhdl_text.specs.WellFormed.{is_spelled_as_name, IsNumber}
-use Rattle.grammar_phrases.proofs.Bytes.{unlike, none_of, run_ends, AreFew, short, below_word, few}
-use Rattle.grammar_phrases.proofs.Passages.{Barred}
-use Rattle.grammar_phrases.proofs.Spelling.{SpellsBy, one_token}
+use Rattle.vhdl_grammar.specs.WellFormed.{is_spelled_as_name, IsNumber}
+use Rattle.grammar_reader.proofs.Bytes.{unlike, none_of, run_ends, AreFew, short, below_word, few}
+use Rattle.grammar_reader.proofs.Passages.{Barred}
+use Rattle.grammar_reader.proofs.Spelling.{SpellsBy, one_token}
 use Rattle.written_entities.proofs.Names.{IsNamed, digit_in_name, part_named, unlike_word}
 use Rattle.written_entities.proofs.Spelling.{Spells, unmarked}
 

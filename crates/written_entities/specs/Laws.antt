@@ -8,12 +8,12 @@ use Rattle.vital_models.specs.declared.table.VStateTable.{VStateTable}
 use Rattle.vital_models.specs.declared.model.VState.{VState}
 use Rattle.vital_models.specs.declared.model.VEntity.{VEntity}
 use Rattle.vital_models.specs.Sound.{IsTruthTable, IsStateTable, columns_of}
-use Rattle.vhdl_text.specs.VhdlTables.{truth_table, state_table}
-use Rattle.vhdl_text.specs.VhdlText.{text_tokens, lexical_place, IsVhdlText, vhdl_text}
-use Rattle.vhdl_text.specs.WellFormed.{IsWrittenState, AreWellFormed}
+use Rattle.vhdl_grammar.specs.VhdlTables.{truth_table, state_table}
+use Rattle.vhdl_grammar.specs.VhdlText.{text_tokens, lexical_place, IsVhdlText, vhdl_text}
+use Rattle.vhdl_grammar.specs.WellFormed.{IsWrittenState, AreWellFormed}
 use Rattle.vhdl_writer.specs.Tables.{truth_rows_text, state_rows_text}
 use Rattle.vhdl_writer.specs.Entity.{entity_text}
-use Rattle.grammar_phrases.specs.ReadBack.{ReadsBack}
+use Rattle.grammar_reader.specs.ReadBack.{ReadsBack}
 
 -- the aggregates that constants are given
 unfoldable pub truth_table_text : TruthTable → List ℕ

@@ -11,11 +11,11 @@ use Rattle.specify_blocks.specs.declared.model.VModule.{VModule}
 use Rattle.specify_blocks.specs.Sound.{IsPath, IsCheck}
 use Rattle.specify_blocks.specs.WellFormed.{HasNumbers}
 use Rattle.specify_blocks.specs.VerilogBlocks.{is_path_start, paths, checks, block, specify}
-use Rattle.rule_readers.specs.Words.{begins_by}
+use Rattle.grammar_reader.specs.Words.{begins_by}
 use Rattle.verilog_writer.specs.Timing.{has_block}
-use Rattle.grammar_phrases.proofs.Fronts.{each}
+use Rattle.grammar_reader.proofs.Fronts.{each}
 use Rattle.written_modules.proofs.TimingTokens.{check_word, path_tokens, check_tokens, block_by}
-use Rattle.grammar_phrases.proofs.Derivations.{Reads, to_same, gives, in_turn, chosen, passed, through}
+use Rattle.grammar_reader.proofs.Derivations.{Reads, to_same, gives, in_turn, chosen, passed, through}
 use Rattle.written_modules.proofs.NameReading.{expected}
 use Rattle.written_modules.proofs.NetReading.{both_no}
 use Rattle.written_modules.proofs.InstanceReading.{IsWritten}

@@ -23,16 +23,16 @@ use Rattle.specify_blocks.specs.VerilogBlocks.{edge_of, any_edge, an_event, an_e
 use Rattle.specify_blocks.specs.VerilogBlocks.{ordered_check, turned_check, opposite, width_check, same_condition, equal_to}
 use Rattle.specify_blocks.specs.VerilogBlocks.{same_number, second_period, period_check, check_of, check_of_kind, check}
 use Rattle.specify_blocks.specs.VerilogBlocks.{next_check}
-use Rattle.rule_readers.specs.Words.{begins_as}
+use Rattle.grammar_reader.specs.Words.{begins_as}
 use Rattle.verilog_writer.specs.Nets.{port_at, wire_at, notifier_in}
 use Rattle.written_modules.proofs.Words.{unlike_word}
 use Rattle.written_modules.proofs.TimingTokens.{IsNamedCondition, IsNamedCheck, edge_tokens, event_tokens, condition_tokens}
 use Rattle.written_modules.proofs.TimingTokens.{end_tokens, ordered_tokens, turned_tokens, width_tokens, period_tokens}
 use Rattle.written_modules.proofs.TimingTokens.{check_word, check_more, check_tokens}
-use Rattle.grammar_phrases.proofs.Bytes.{number_is}
-use Rattle.grammar_phrases.proofs.Derivations.{Reads, to_same, gives, token, in_turn, chosen, passed, Turn, turn}
+use Rattle.grammar_reader.proofs.Bytes.{number_is}
+use Rattle.grammar_reader.proofs.Derivations.{Reads, to_same, gives, token, in_turn, chosen, passed, Turn, turn}
 use Rattle.written_modules.proofs.NameReading.{expected, so_named}
-use Rattle.grammar_phrases.proofs.Places.{at_place}
+use Rattle.grammar_reader.proofs.ItemPlaces.{at_place}
 use Rattle.written_modules.proofs.RowReading.{same_number as equal_numbers}
 use Rattle.written_modules.proofs.NetReading.{IsKnown, named_net, input_known, register_known}
 use Rattle.written_modules.proofs.InstanceReading.{IsWritten}

@@ -10,13 +10,13 @@ use Rattle.specify_blocks.specs.VerilogModules.{port_names, declared_wire, decla
 use Rattle.specify_blocks.specs.VerilogModules.{declarations}
 use Rattle.specify_blocks.specs.declared.model.VModule.{VModule}
 use Rattle.specify_blocks.specs.WellFormed.{IsName, AreApart, register_names}
-use Rattle.grammar_phrases.proofs.Fronts.{Front, each}
+use Rattle.grammar_reader.proofs.Fronts.{Front, each}
 use Rattle.written_modules.proofs.PrimitiveTokens.{declared}
 use Rattle.written_modules.proofs.ModuleTokens.{IsNamedPort, IsNamed, listed, declared_where, output_tokens, register_tokens}
 use Rattle.written_modules.proofs.ModuleTokens.{declaration_tokens}
-use Rattle.grammar_phrases.proofs.Derivations.{Reads, gives, in_turn, chosen, passed, Turn, turn, through}
+use Rattle.grammar_reader.proofs.Derivations.{Reads, gives, in_turn, chosen, passed, Turn, turn, through}
 use Rattle.written_modules.proofs.NameReading.{expected, newly_named, is_new}
-use Rattle.grammar_phrases.proofs.Places.{at_place}
+use Rattle.grammar_reader.proofs.ItemPlaces.{at_place}
 use Rattle.written_modules.proofs.PortReading.{ArePorts, header_read, inputs_read, outputs_read}
 
 -- Other tokens than a word.

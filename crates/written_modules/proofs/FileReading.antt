@@ -14,19 +14,19 @@ use Rattle.specify_blocks.specs.VerilogText.{primitives_and_module, is_design_st
 use Rattle.specify_blocks.specs.VerilogText.{IsVerilogText, verilog_text}
 use Rattle.specify_blocks.specs.WellFormed.{AreApart, IsWellFormedUdp, IsWellFormedModule, udp_names, outer_names, AreWellFormed}
 use Rattle.specify_blocks.proofs.VerilogAnswers.{is_answer}
-use Rattle.rule_readers.specs.Words.{begins_by}
+use Rattle.grammar_reader.specs.Words.{begins_by}
 use Rattle.verilog_writer.specs.Model.{prelude_text, module_text}
 use Rattle.written_modules.specs.Laws.{modules_text, WrittenModulesReadBack}
-use Rattle.grammar_phrases.specs.ReadBack.{ReadsBack}
-use Rattle.grammar_phrases.proofs.Spelling.{literal, all_found, behind, each_spelled}
+use Rattle.grammar_reader.specs.ReadBack.{ReadsBack}
+use Rattle.grammar_reader.proofs.Spelling.{literal, all_found, behind, each_spelled}
 use Rattle.written_modules.proofs.Spelling.{Spells}
-use Rattle.grammar_phrases.proofs.Fronts.{Front, Anything, each}
+use Rattle.grammar_reader.proofs.Fronts.{Front, Anything, each}
 use Rattle.written_modules.proofs.PrimitiveTokens.{primitive_tokens, primitive_spelled}
 use Rattle.written_modules.proofs.PrimitiveReading.{primitive_read}
-use Rattle.grammar_phrases.proofs.Derivations.{Reads, to_same, gives, in_turn, Turn, turn, through}
+use Rattle.grammar_reader.proofs.Derivations.{Reads, to_same, gives, in_turn, Turn, turn, through}
 use Rattle.written_modules.proofs.NameReading.{expected, is_new}
-use Rattle.grammar_phrases.proofs.Places.{at_place}
-use Rattle.grammar_phrases.proofs.TextsReadBack.{is_text, reads_back}
+use Rattle.grammar_reader.proofs.ItemPlaces.{at_place}
+use Rattle.grammar_reader.proofs.TextsReadBack.{is_text, reads_back}
 use Rattle.written_modules.proofs.NetReading.{apart_tail}
 use Rattle.written_modules.proofs.ModuleReading.{module_more, module_tokens, module_spelled, module_read}
 

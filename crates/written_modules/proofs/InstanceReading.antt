@@ -23,19 +23,19 @@ use Rattle.specify_blocks.specs.VerilogModules.{net_of, terminal_by, terminal, m
 use Rattle.specify_blocks.specs.VerilogModules.{may_feed, feeding_terminal, next_input, more_inputs, input_count, call, bit}
 use Rattle.specify_blocks.specs.VerilogModules.{constant, of_primitive, begins_instance, one_instance, instances}
 use Rattle.specify_blocks.specs.WellFormed.{IsName, IsWellFormedUdp, AreApart, udp_names}
-use Rattle.rule_readers.specs.declared.refusal.Refusal.TheVariants.{Width}
-use Rattle.rule_readers.specs.Words.{valued}
+use Rattle.grammar_reader.specs.declared.refusal.Refusal.TheVariants.{Width}
+use Rattle.grammar_reader.specs.Words.{valued}
 use Rattle.verilog_writer.specs.Nets.{primitive_at, net_at}
-use Rattle.grammar_phrases.proofs.Fronts.{each}
+use Rattle.grammar_reader.proofs.Fronts.{each}
 use Rattle.written_modules.proofs.Words.{name_is, unlike_word}
-use Rattle.grammar_phrases.proofs.Derivations.{Reads, gives, token, in_turn, Turn, turn, through}
+use Rattle.grammar_reader.proofs.Derivations.{Reads, gives, token, in_turn, Turn, turn, through}
 use Rattle.written_modules.proofs.NameReading.{expected, expected_where}
 use Rattle.written_modules.proofs.RowReading.{same_number}
 use Rattle.written_modules.proofs.ModuleTokens.{next_terminal, bit_text, instance_more, instance_tokens}
 use Rattle.written_modules.proofs.DeclarationReading.{AreDeclared, bare}
 use Rattle.written_modules.proofs.NetReading.{position_is, IsKnown, named_net, net_read, driven_known, state_driven, DrivesNet}
 use Rattle.written_modules.proofs.NetReading.{feeding_value_known, feeding_state_known}
-use Rattle.grammar_phrases.proofs.Places.{all_at}
+use Rattle.grammar_reader.proofs.ItemPlaces.{all_at}
 
 -- a module whose instances up to some place are read
 abbrev pub so_far : VModule → List Instance → VModule

@@ -23,17 +23,17 @@ use Rattle.specify_blocks.specs.VerilogModules.{are_all_driven}
 use Rattle.specify_blocks.specs.VerilogText.{one_module}
 use Rattle.specify_blocks.specs.WellFormed.{IsName, AreApart, IsWellFormedUdp, IsWellFormedModule, HasNumbers, register_names}
 use Rattle.specify_blocks.specs.WellFormed.{udp_names}
-use Rattle.rule_readers.specs.declared.refusal.Refusal.TheVariants.{Undriven}
+use Rattle.grammar_reader.specs.declared.refusal.Refusal.TheVariants.{Undriven}
 use Rattle.verilog_writer.specs.Timing.{has_block}
 use Rattle.verilog_writer.specs.Model.{module_only_text}
-use Rattle.grammar_phrases.proofs.Spelling.{literal, behind, each_spelled}
+use Rattle.grammar_reader.proofs.Spelling.{literal, behind, each_spelled}
 use Rattle.written_modules.proofs.Spelling.{Spells}
-use Rattle.grammar_phrases.proofs.Fronts.{Front, Anything, each}
+use Rattle.grammar_reader.proofs.Fronts.{Front, Anything, each}
 use Rattle.written_modules.proofs.Words.{unlike_word}
-use Rattle.grammar_phrases.proofs.Derivations.{Reads, gives, in_turn}
+use Rattle.grammar_reader.proofs.Derivations.{Reads, gives, in_turn}
 use Rattle.written_modules.proofs.NameReading.{expected_where, newly_named}
 use Rattle.written_modules.proofs.PrimitiveReading.{both}
-use Rattle.grammar_phrases.proofs.Places.{get_at, one_longer, all_at}
+use Rattle.grammar_reader.proofs.ItemPlaces.{get_at, one_longer, all_at}
 use Rattle.written_modules.proofs.ModuleTokens.{IsNamedPort, IsNamed, IsNamedNet, AreNamed, listed, declaration_tokens}
 use Rattle.written_modules.proofs.ModuleTokens.{instance_tokens, header_spelled, declarations_spelled, instance_spelled}
 use Rattle.written_modules.proofs.TimingTokens.{block_by, block_tokens, block_spelled}

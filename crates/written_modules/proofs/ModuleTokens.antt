@@ -12,9 +12,9 @@ use Rattle.verilog_writer.specs.Nets.{primitive_at, net_at}
 use Rattle.verilog_writer.specs.Model.{module_opening_text, next_port_text, ports_text, module_header_text, input_port_text}
 use Rattle.verilog_writer.specs.Model.{output_port_text, wire_text, register_text, declarations_text, terminal_text, driver_text}
 use Rattle.verilog_writer.specs.Model.{call_text, constant_text, instance_text}
-use Rattle.grammar_phrases.proofs.Spelling.{literal, joins, behind, nothing, each_spelled}
+use Rattle.grammar_reader.proofs.Spelling.{literal, joins, behind, nothing, each_spelled}
 use Rattle.written_modules.proofs.Spelling.{Spells, Ends}
-use Rattle.grammar_phrases.proofs.Fronts.{Front, Anything, each, each_begins}
+use Rattle.grammar_reader.proofs.Fronts.{Front, Anything, each, each_begins}
 use Rattle.written_modules.proofs.Words.{name}
 use Rattle.written_modules.proofs.PrimitiveTokens.{declared, comma, opened, closed, line_end, input_word, output_word}
 

@@ -23,7 +23,7 @@ use Rattle.specify_blocks.specs.VerilogModules.{port_name, port_names, net_by, n
 use Rattle.specify_blocks.specs.WellFormed.{IsName, AreApart, register_names}
 use Rattle.verilog_writer.specs.Nets.{notifier_in, net_at}
 use Rattle.written_modules.proofs.NameReading.{is_new}
-use Rattle.grammar_phrases.proofs.Places.{same_bytes, found_behind, item_at, all_at}
+use Rattle.grammar_reader.proofs.ItemPlaces.{same_bytes, found_behind, item_at, all_at}
 use Rattle.written_modules.proofs.ModuleTokens.{IsNamedPort, IsNamed}
 use Rattle.written_modules.proofs.DeclarationReading.{AreDeclared}
 

@@ -17,14 +17,14 @@ use Rattle.specify_blocks.specs.WellFormed.{IsNumber, HasNumbers, register_names
 use Rattle.specify_blocks.specs.VerilogModules.{port_name}
 use Rattle.specify_blocks.specs.VerilogBlocks.{a_number, kept, port_of, an_input, an_output, a_condition, is_path_start, if_gate}
 use Rattle.specify_blocks.specs.VerilogBlocks.{ifnone_gate, path_gate, path, next_path}
-use Rattle.rule_readers.specs.declared.refusal.Refusal.TheVariants.{Syntax}
-use Rattle.rule_readers.specs.Words.{begins_by, allowed_by}
+use Rattle.grammar_reader.specs.declared.refusal.Refusal.TheVariants.{Syntax}
+use Rattle.grammar_reader.specs.Words.{begins_by, allowed_by}
 use Rattle.verilog_writer.specs.Nets.{port_at, wire_at}
 use Rattle.written_modules.proofs.TimingTokens.{IsNamedGate, IsNamedPath, gate_start, gate_more, delay_tokens, path_tokens}
-use Rattle.grammar_phrases.proofs.Bytes.{number_is}
-use Rattle.grammar_phrases.proofs.Derivations.{Reads, gives, token, in_turn, Turn, turn}
+use Rattle.grammar_reader.proofs.Bytes.{number_is}
+use Rattle.grammar_reader.proofs.Derivations.{Reads, gives, token, in_turn, Turn, turn}
 use Rattle.written_modules.proofs.NameReading.{expected, known_as}
-use Rattle.grammar_phrases.proofs.Places.{at_place}
+use Rattle.grammar_reader.proofs.ItemPlaces.{at_place}
 use Rattle.written_modules.proofs.NetReading.{position_is, IsKnown, named_net, wire_position, input_known, output_known}
 use Rattle.written_modules.proofs.NetReading.{value_known}
 use Rattle.written_modules.proofs.InstanceReading.{so_far, IsWritten, all_drive}

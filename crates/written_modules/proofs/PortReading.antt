@@ -15,11 +15,11 @@ use Rattle.specify_blocks.specs.VerilogModules.{port_name, port_names, plain_por
 use Rattle.specify_blocks.specs.VerilogModules.{header, Inputs, with_input, input_at, declared_input, declared_inputs}
 use Rattle.specify_blocks.specs.VerilogModules.{output_place, name_at, place_behind, declared_output, declared_outputs}
 use Rattle.specify_blocks.specs.WellFormed.{IsName, AreApart}
-use Rattle.grammar_phrases.proofs.Fronts.{each}
+use Rattle.grammar_reader.proofs.Fronts.{each}
 use Rattle.written_modules.proofs.Words.{name_is}
-use Rattle.grammar_phrases.proofs.Derivations.{goes_on, Reads, from_same, gives, in_turn, chosen, passed, no_turn, Turn, turn}
-use Rattle.grammar_phrases.proofs.Derivations.{turns, through}
-use Rattle.grammar_phrases.proofs.Places.{get_at, one_longer, at_place, same_bytes, found_behind}
+use Rattle.grammar_reader.proofs.Derivations.{goes_on, Reads, from_same, gives, in_turn, chosen, passed, no_turn, Turn, turn}
+use Rattle.grammar_reader.proofs.Derivations.{turns, through}
+use Rattle.grammar_reader.proofs.ItemPlaces.{get_at, one_longer, at_place, same_bytes, found_behind}
 use Rattle.written_modules.proofs.ModuleTokens.{IsNamedPort, listed, input_tokens, output_tokens}
 use Rattle.written_modules.proofs.ModuleTokens as tokens
 use Rattle.written_modules.proofs.NameReading.{expected, newly_named, known_as, so_named, is_new}

@@ -9,18 +9,18 @@ use Rattle.udp_tables.specs.declared.table.Udp.{Udp}
 use Rattle.udp_tables.specs.Primitive.{is_level}
 use Rattle.udp_tables.specs.Sequential.{changes_in}
 use Rattle.udp_tables.specs.VerilogRules.{begins, is_among}
-use Rattle.rule_readers.specs.declared.refusal.Refusal.TheVariants.{Width}
+use Rattle.grammar_reader.specs.declared.refusal.Refusal.TheVariants.{Width}
 use Rattle.udp_tables.specs.VerilogPrimitives.{Header, most_inputs, most_inputs_with_state, next_input, more_inputs, header}
 use Rattle.udp_tables.specs.VerilogPrimitives.{declared_output, declared_state, register, declared_input, declared_inputs}
 use Rattle.udp_tables.specs.VerilogPrimitives.{begins_row, next_row, table, primitive}
 use Rattle.specify_blocks.specs.Sound.{IsTable}
 use Rattle.specify_blocks.specs.WellFormed.{IsName, AreApart, HasNoState, HasNoStates, IsWellFormedUdp, most_inputs_of}
-use Rattle.grammar_phrases.proofs.Fronts.{Front, each}
+use Rattle.grammar_reader.proofs.Fronts.{Front, each}
 use Rattle.written_modules.proofs.PrimitiveTokens.{next_name, declared, output_tokens, row_tokens}
-use Rattle.grammar_phrases.proofs.Derivations.{Reads, from_same, gives, token, in_turn, chosen, passed, Turn, turn, through}
-use Rattle.grammar_phrases.proofs.Derivations.{goes_on}
+use Rattle.grammar_reader.proofs.Derivations.{Reads, from_same, gives, token, in_turn, chosen, passed, Turn, turn, through}
+use Rattle.grammar_reader.proofs.Derivations.{goes_on}
 use Rattle.written_modules.proofs.NameReading.{expected, expected_where, any_named, newly_named, so_named, is_new}
-use Rattle.grammar_phrases.proofs.Places.{at_place, get_at, one_longer}
+use Rattle.grammar_reader.proofs.ItemPlaces.{at_place, get_at, one_longer}
 use Rattle.written_modules.proofs.RowReading.{IsRow, row_begun, same_number}
 
 -- Headers.

@@ -5,16 +5,16 @@ use Rattle.grammar_rules.proofs.Exact.{complete}
 use Rattle.grammar_rules.proofs.Steps.{value_is}
 use Rattle.udp_tables.specs.declared.table.Udp.{Udp}
 use Rattle.udp_tables.specs.VerilogPrimitives.{primitive}
-use Rattle.rule_readers.specs.declared.refusal.Refusal.{Refusal}
+use Rattle.grammar_reader.specs.declared.refusal.Refusal.{Refusal}
 use Rattle.specify_blocks.specs.VerilogText.{text_tokens, lexical_place}
 use Rattle.specify_blocks.specs.WellFormed.{IsWellFormedUdp}
 use Rattle.verilog_writer.specs.Primitive.{primitive_text}
 use Rattle.written_modules.specs.Laws.{IsPrimitiveText, PrimitiveReadBack}
-use Rattle.grammar_phrases.proofs.Spelling.{all_found}
+use Rattle.grammar_reader.proofs.Spelling.{all_found}
 use Rattle.written_modules.proofs.Spelling.{found}
 use Rattle.written_modules.proofs.PrimitiveTokens.{primitive_tokens, primitive_spelled}
 use Rattle.written_modules.proofs.PrimitiveReading.{udp_more, primitive_read}
-use Rattle.grammar_phrases.proofs.Places.{none_if}
+use Rattle.grammar_reader.proofs.ItemPlaces.{none_if}
 
 text_found : (udp : Udp) → IsWellFormedUdp udp → found false (primitive_text udp) ≡ (primitive_tokens udp [], false)
 text_found udp w = all_found (primitive_spelled udp w)

@@ -14,9 +14,9 @@ use Rattle.specify_blocks.specs.WellFormed.{IsName, IsWellFormedUdp}
 use Rattle.verilog_writer.specs.Symbols.{level_text, entry_text, next_text}
 use Rattle.verilog_writer.specs.Primitive.{opening_text, port_text, header_text, output_text, input_text, spaced_text}
 use Rattle.verilog_writer.specs.Primitive.{outcome_text, row_text, table_text, primitive_text}
-use Rattle.grammar_phrases.proofs.Spelling.{literal, joins, behind, each_spelled}
+use Rattle.grammar_reader.proofs.Spelling.{literal, joins, behind, each_spelled}
 use Rattle.written_modules.proofs.Spelling.{Spells, Ends}
-use Rattle.grammar_phrases.proofs.Fronts.{Front, Anything, each}
+use Rattle.grammar_reader.proofs.Fronts.{Front, Anything, each}
 use Rattle.written_modules.proofs.Words.{name}
 
 -- Nothing is asked of an item.

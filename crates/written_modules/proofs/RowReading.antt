@@ -14,15 +14,15 @@ use Rattle.udp_tables.specs.declared.table.Next.{Next}
 use Rattle.udp_tables.specs.declared.table.Next.TheVariants as next
 use Rattle.udp_tables.specs.declared.table.UdpRow.{UdpRow}
 use Rattle.udp_tables.specs.Primitive.{is_level}
-use Rattle.rule_readers.specs.Words.{valued}
-use Rattle.rule_readers.specs.declared.refusal.Refusal.TheVariants.{Width}
+use Rattle.grammar_reader.specs.Words.{valued}
+use Rattle.grammar_reader.specs.declared.refusal.Refusal.TheVariants.{Width}
 use Rattle.udp_tables.specs.VerilogPrimitives.{symbol, next_by, a_level, begins_change, begins_entry, pair, entry_after}
 use Rattle.udp_tables.specs.VerilogPrimitives.{has_change, begins_next_entry, next_entry, more_entries, state_and_next}
 use Rattle.udp_tables.specs.VerilogPrimitives.{output_level, row_end, row}
 use Rattle.verilog_writer.specs.Symbols.{level_text, next_text}
-use Rattle.grammar_phrases.proofs.Fronts.{each}
+use Rattle.grammar_reader.proofs.Fronts.{each}
 use Rattle.written_modules.proofs.PrimitiveTokens.{entry_start, entry_more, entry_tokens, outcome_tokens, row_tokens}
-use Rattle.grammar_phrases.proofs.Derivations.{Reads, gives, token, in_turn, Turn, turn, through}
+use Rattle.grammar_reader.proofs.Derivations.{Reads, gives, token, in_turn, Turn, turn, through}
 use Rattle.written_modules.proofs.NameReading.{expected, expected_where}
 
 -- Symbols.

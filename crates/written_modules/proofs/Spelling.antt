@@ -1,14 +1,14 @@
 -- How the tokens of a Verilog text come from those of its pieces.
 use Rattle.std.proofs.Common.{◌≡◌, ℕ, Bool, true, ◌||◌, List, [], ◌∷◌}
 use Rattle.std.specs.Str.{bytes_eq}
-use Rattle.token_spans.proofs.Padding.{Found}
+use Rattle.lexer.proofs.Padding.{Found}
 use Rattle.verilog_tokens.specs.Tokens.{is_blank, is_mark, lexis, scan}
 use Rattle.verilog_tokens.specs.Separators.{spelled}
 use Rattle.driver_sections.specs.Marks.{Vocabulary, vocabulary}
 use Rattle.section_outlines.specs.Marked.{marked}
 use Rattle.section_outlines.specs.VerilogMarks.{verilog_marks}
-use Rattle.grammar_phrases.proofs.Fronts.{Front}
-use Rattle.grammar_phrases.proofs.Spelling.{SpellsBy}
+use Rattle.grammar_reader.proofs.Fronts.{Front}
+use Rattle.grammar_reader.proofs.Spelling.{SpellsBy}
 
 -- the tokens of Verilog, and which stand for a word
 abbrev pub verilog : Vocabulary

@@ -16,9 +16,9 @@ use Rattle.verilog_writer.specs.Nets.{port_at, wire_at, notifier_in}
 use Rattle.verilog_writer.specs.Timing.{gate_text, path_line, delays_text, path_text, edge_text, joint_text, condition_text}
 use Rattle.verilog_writer.specs.Timing.{ordered_text, turned_text, width_text, period_line, period_text, kind_text, check_text}
 use Rattle.verilog_writer.specs.Timing.{has_block, lines_text, block_text}
-use Rattle.grammar_phrases.proofs.Spelling.{literal, joins, behind, nothing, each_spelled}
+use Rattle.grammar_reader.proofs.Spelling.{literal, joins, behind, nothing, each_spelled}
 use Rattle.written_modules.proofs.Spelling.{Spells, Ends}
-use Rattle.grammar_phrases.proofs.Fronts.{Front, Anything, each}
+use Rattle.grammar_reader.proofs.Fronts.{Front, Anything, each}
 use Rattle.written_modules.proofs.Words.{name, number}
 use Rattle.written_modules.proofs.PrimitiveTokens.{comma, closed}
 

@@ -9,7 +9,7 @@ use Rattle.specify_blocks.specs.VerilogText.{text_tokens, lexical_place, IsVeril
 use Rattle.specify_blocks.specs.WellFormed.{IsWellFormedUdp, AreWellFormed}
 use Rattle.verilog_writer.specs.Primitive.{primitive_text}
 use Rattle.verilog_writer.specs.Model.{prelude_text, module_text}
-use Rattle.grammar_phrases.specs.ReadBack.{ReadsBack}
+use Rattle.grammar_reader.specs.ReadBack.{ReadsBack}
 
 -- The bytes are the text of this primitive alone: tokens, without a lexical fault, of which the first is `primitive` and the grammar
 -- takes the others.

@@ -1,12 +1,12 @@
 //! The library that a run makes for itself, read as a file is.
 
-use selftest_library::OwnLibrary;
+use selftest_cells::OwnLibrary;
 use std::alloc::Global;
 use std::test::Fail;
 use text_io::{InSlot, Stop, read_all};
 
 /// Whether the text that is read of the library of four cells ends so.
-#[tactic(auto, unfolding(selftest_library::specs::Reading::reads_library))]
+#[tactic(auto, unfolding(selftest_cells::specs::Reading::reads_library))]
 fn ends_in(alloc: Global, wanted: &[u8]) -> Result<bool, Stop> {
     let Ok(mut library) = OwnLibrary::new(alloc, 4) else {
         return Err(Stop::Memory);

@@ -3,7 +3,7 @@
 use std::alloc::{AllocError, Global};
 use std::test::Fail;
 use table_tests::{Row, all_hold};
-use token_spans::KeptSpan;
+use lexer::KeptSpan;
 use verilog_tokens::scan;
 
 /// The tokens of a text, with a blank behind each.

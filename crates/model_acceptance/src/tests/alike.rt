@@ -11,7 +11,7 @@ use cell_machine::{Cell, CellSim, Change, LibertySim};
 use cell_reader::read_cell;
 use liberty_groups::read_library;
 use liberty_text::Unit;
-use section_runs::first_difference;
+use stimulus::first_difference;
 use specify_blocks::{VModule, verilog_model};
 use std::alloc::{AllocError, Global};
 use std::test::Fail;

@@ -6,7 +6,7 @@ use Rattle.cell_machine.specs.Lines.{Machine}
 use Rattle.model_traces.specs.EntityTrace.{entity_line}
 use Rattle.stimulus.specs.DriveLines.{drive_machine, lines_along}
 use Rattle.stimulus.proofs.DriveTraces.{drive_lines}
-use Rattle.section_runs.specs.Differences.{first_difference}
+use Rattle.stimulus.specs.Differences.{first_difference}
 use Rattle.caught_models.proofs.Started.{of_started}
 use Rattle.caught_models.proofs.entities.is_entity_caught.Goals as goal
 

@@ -1,7 +1,7 @@
 use Rattle.std.proofs.Common.{◌∙◌, ◌++◌, ◌∷◌, [], ap, refl}
-use Rattle.cell_parts.specs.Limits.{place_of_state}
-use Rattle.cell_parts.specs.Shown.{shown_state}
-use Rattle.cell_parts.proofs.Turns.{same_turn}
+use Rattle.cell_attributes.specs.Limits.{place_of_state}
+use Rattle.cell_attributes.specs.Shown.{shown_state}
+use Rattle.cell_attributes.proofs.Turns.{same_turn}
 use Rattle.cell_reader.proofs.limits.add_states.Goals as goal
 
 pub loop-state-preserved : goal.loop-state-preserved

@@ -1,6 +1,6 @@
 use Rattle.std.proofs.Common.{◌≡◌, ◌++◌, map, drop}
-use Rattle.cell_parts.specs.Limits.{place_of_state}
-use Rattle.cell_parts.specs.Shown.{shown_state}
+use Rattle.cell_attributes.specs.Limits.{place_of_state}
+use Rattle.cell_attributes.specs.Shown.{shown_state}
 use Rattle.cell_reader.proofs.limits.add_states.Given as goal
 
 abbrev pub invariant-loop-state : goal.invariant-loop-state

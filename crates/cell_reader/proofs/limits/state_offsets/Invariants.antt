@@ -1,6 +1,6 @@
 use Rattle.std.proofs.Common.{◌≡◌, ◌++◌, map, drop}
 use Rattle.std.specs.Prelude.{flat_map}
-use Rattle.cell_parts.specs.Limits.{state_at}
+use Rattle.cell_attributes.specs.Limits.{state_at}
 use Rattle.cell_reader.proofs.limits.state_offsets.Given as goal
 
 abbrev pub invariant-loop-group : goal.invariant-loop-group

@@ -1,9 +1,9 @@
 use Rattle.std.proofs.Common.{◌≤◌, ◌∙◌, length, map, sym, subst, ap}
 use Rattle.std.specs.Prelude.{All}
-use Rattle.cell_parts.specs.Vocabulary.{vocabulary}
-use Rattle.cell_parts.specs.Building.{FitsReading}
-use Rattle.cell_parts.specs.Shown.{shown_state, shown_vocabulary}
-use Rattle.cell_parts.proofs.Turns.{count_shown}
+use Rattle.cell_attributes.specs.Vocabulary.{vocabulary}
+use Rattle.cell_attributes.specs.Building.{FitsReading}
+use Rattle.cell_attributes.specs.Shown.{shown_state, shown_vocabulary}
+use Rattle.cell_attributes.proofs.Turns.{count_shown}
 use Rattle.cell_reader.specs.Parts.{subject_in}
 use Rattle.cell_reader.proofs.PartCounts.{few_pins, few_states, number_count_of, readings_fit_here}
 use Rattle.cell_reader.proofs.numbered.number_names.Goals as goal

@@ -1,8 +1,8 @@
 use Rattle.std.proofs.Common.{◌∙◌, List, ap}
 use Rattle.std.specs.Prelude.{flat_map}
 use Rattle.cell_machine.specs.Delay.{least}
-use Rattle.cell_parts.specs.declared.state_readings.StateReading.{StateReading}
-use Rattle.cell_parts.specs.Limits.{wide_support_in}
+use Rattle.cell_attributes.specs.declared.state_readings.StateReading.{StateReading}
+use Rattle.cell_attributes.specs.Limits.{wide_support_in}
 use Rattle.cell_reader.specs.Parts.{subject_in}
 use Rattle.cell_reader.proofs.Decides.{wide_supports_told}
 use Rattle.cell_reader.proofs.numbered.wide_states.Goals as goal

@@ -1,5 +1,5 @@
 use Rattle.std.proofs.Common.{◌≡◌, take}
-use Rattle.cell_parts.specs.Pins.{pin_names}
+use Rattle.cell_attributes.specs.Pins.{pin_names}
 use Rattle.cell_reader.proofs.parts.names_of.Given as goal
 
 abbrev pub invariant-loop-pin : goal.invariant-loop-pin

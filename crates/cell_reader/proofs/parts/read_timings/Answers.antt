@@ -3,8 +3,8 @@ use Rattle.std.specs.Prelude.{flat_map}
 use Rattle.liberty_groups.specs.declared.tree.Group.{Group}
 use Rattle.cell_machine.specs.declared.pins.Pin.{Pin}
 use Rattle.timing_arcs.specs.declared.subject.Subject.{Subject}
-use Rattle.cell_parts.specs.Pins.{pin_names, pins_in, owners_in}
-use Rattle.cell_parts.proofs.PinRules.{owners_count}
+use Rattle.cell_attributes.specs.Pins.{pin_names, pins_in, owners_in}
+use Rattle.cell_attributes.proofs.PinRules.{owners_count}
 use Rattle.cell_reader.specs.CellTexts.{subject_with}
 use Rattle.cell_timings.specs.PinTimings.{Answer}
 use Rattle.cell_timings.specs.Held.{cell_room, held_from, AreHeld}

@@ -1,9 +1,9 @@
 use Rattle.std.proofs.Common.{◌≡◌, ◌≤◌, ◌∙◌, List, length, map, sym, ap, arith}
-use Rattle.cell_parts.specs.Pins.{pins_of, owners_of}
-use Rattle.cell_parts.proofs.Turns.{count_shown}
+use Rattle.cell_attributes.specs.Pins.{pins_of, owners_of}
+use Rattle.cell_attributes.proofs.Turns.{count_shown}
 use Rattle.liberty_groups.specs.declared.tree.Group.{Group}
-use Rattle.cell_parts.specs.Groups.{pin_groups}
-use Rattle.cell_parts.proofs.PinRules.{owners_count}
+use Rattle.cell_attributes.specs.Groups.{pin_groups}
+use Rattle.cell_attributes.proofs.PinRules.{owners_count}
 use Rattle.cell_timings.specs.PinTimings.{left_out_from}
 use Rattle.cell_reader.specs.Parts.{subject_in}
 use Rattle.cell_reader.proofs.Reading.{accepted_few_pins, lift_ok}

@@ -1,5 +1,5 @@
 use Rattle.std.proofs.Common.{◌∙◌, map, ap}
-use Rattle.cell_parts.specs.Shown.{shown_vocabulary}
+use Rattle.cell_attributes.specs.Shown.{shown_vocabulary}
 use Rattle.cell_reader.specs.Parts.{subject_in}
 use Rattle.cell_reader.proofs.Reading.{accepted_few_pins, accepted_few_groups, outputs_are, lift_ok}
 use Rattle.cell_reader.proofs.read.outputs_in.Goals as goal

@@ -1,7 +1,7 @@
 use Rattle.std.proofs.Common.{◌∙◌, List, ◌+◌, ◌++◌, ap, map, drop, length}
 use Rattle.std.specs.Prelude.{flat_map}
 use Rattle.liberty_groups.specs.declared.tree.Group.{Group}
-use Rattle.cell_parts.specs.Pins.{owners_in}
+use Rattle.cell_attributes.specs.Pins.{owners_in}
 use Rattle.cell_timings.specs.Held.{held_from}
 use Rattle.cell_timings.proofs.HeldSteps.{HasAdded, more_answers, next_group}
 use Rattle.cell_timings.proofs.answers.timing_answers.Goals as goal

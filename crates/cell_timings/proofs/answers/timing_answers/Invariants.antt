@@ -1,6 +1,6 @@
 use Rattle.std.proofs.Common.{◌≡◌, ◌++◌, map, drop, length}
 use Rattle.std.specs.Prelude.{flat_map}
-use Rattle.cell_parts.specs.Pins.{owners_in}
+use Rattle.cell_attributes.specs.Pins.{owners_in}
 use Rattle.cell_timings.specs.Held.{held_from}
 use Rattle.cell_timings.proofs.answers.timing_answers.Given as goal
 

@@ -1,7 +1,7 @@
 use Rattle.std.proofs.Common.{Err, refl}
 use Rattle.text_io.specs.declared.stop.Stop.TheVariants.{Failed}
 use Rattle.cell_translation.specs.Cells.{accepted_written}
-use Rattle.command_outcomes.proofs.WrittenLaws.{all_stops, all_goes_on, report_stops, report_whole}
+use Rattle.run_outcome.proofs.WrittenLaws.{all_stops, all_goes_on, report_stops, report_whole}
 use Rattle.cell_translation.proofs.cells.write_accepted.Goals as goal
 
 pub returns-in_err-write_models-clause-text : goal.returns-in_err-write_models-clause-text

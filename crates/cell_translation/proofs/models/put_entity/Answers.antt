@@ -1,4 +1,4 @@
-use Rattle.command_outcomes.proofs.WrittenLaws.{vital_stops, vital_whole}
+use Rattle.run_outcome.proofs.WrittenLaws.{vital_stops, vital_whole}
 use Rattle.cell_translation.proofs.models.put_entity.Goals as goal
 
 pub returns-in_err-write_entity-clause-text : goal.returns-in_err-write_entity-clause-text

@@ -1,4 +1,4 @@
-use Rattle.command_outcomes.proofs.WrittenLaws.{verilog_stops, verilog_whole}
+use Rattle.run_outcome.proofs.WrittenLaws.{verilog_stops, verilog_whole}
 use Rattle.cell_translation.proofs.models.put_verilog_driver.Goals as goal
 
 pub returns-in_err-write_driver-clause-text : goal.returns-in_err-write_driver-clause-text

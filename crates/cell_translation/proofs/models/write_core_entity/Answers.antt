@@ -1,4 +1,4 @@
-use Rattle.command_outcomes.proofs.WrittenLaws.{stopped_before}
+use Rattle.run_outcome.proofs.WrittenLaws.{stopped_before}
 use Rattle.cell_translation.proofs.models.write_core_entity.Goals as goal
 
 pub returns-in_err-core-clause-text : goal.returns-in_err-core-clause-text

@@ -1,7 +1,7 @@
 use Rattle.text_io.specs.declared.slots.OutSlot.TheVariants.{VitalText}
 use Rattle.text_io.specs.declared.slots.Slot.TheVariants.{Output}
 use Rattle.cell_translation.specs.Cells.{models_written}
-use Rattle.command_outcomes.proofs.WrittenLaws.{all_stops, all_goes_on, still_bound_all}
+use Rattle.run_outcome.proofs.WrittenLaws.{all_stops, all_goes_on, still_bound_all}
 use Rattle.cell_translation.proofs.models.write_models.Goals as goal
 
 pub write_vital-requires : goal.write_vital-requires

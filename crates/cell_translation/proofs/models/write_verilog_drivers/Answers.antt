@@ -1,6 +1,6 @@
 use Rattle.std.proofs.Common.{◌≡◌, true, false, rules, sym, ◌∙◌}
 use Rattle.three_state_cells.specs.DrivenCells.{driven_data_of}
-use Rattle.command_outcomes.proofs.WrittenLaws.{stopped_before}
+use Rattle.run_outcome.proofs.WrittenLaws.{stopped_before}
 use Rattle.cell_translation.proofs.ModelTexts.{no_verilog_drivers, verilog_drivers_written}
 use Rattle.cell_translation.proofs.models.write_verilog_drivers.Goals as goal
 

@@ -1,7 +1,7 @@
 use Rattle.text_io.specs.declared.slots.OutSlot.TheVariants.{VitalText}
 use Rattle.text_io.specs.declared.slots.Slot.TheVariants.{Output}
 use Rattle.cell_translation.specs.Cells.{vital_text}
-use Rattle.command_outcomes.proofs.WrittenLaws.{still_bound_all}
+use Rattle.run_outcome.proofs.WrittenLaws.{still_bound_all}
 use Rattle.cell_translation.proofs.ModelTexts.{vital_on, vital_first}
 use Rattle.cell_translation.proofs.models.write_vital.Goals as goal
 

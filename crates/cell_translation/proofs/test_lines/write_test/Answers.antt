@@ -2,7 +2,7 @@ use Rattle.std.proofs.Common.{Err, refl, sym, ap, ◌∙◌}
 use Rattle.std.specs.Option.{option_copied}
 use Rattle.three_state_cells.specs.DrivenCells.{driven_data_of}
 use Rattle.text_io.specs.declared.stop.Stop.TheVariants.{Memory}
-use Rattle.command_outcomes.proofs.WrittenLaws.{stopped_before}
+use Rattle.run_outcome.proofs.WrittenLaws.{stopped_before}
 use Rattle.cell_translation.proofs.TestLineTexts.{none_whole, line_stops, line_whole}
 use Rattle.cell_translation.proofs.test_lines.write_test.Goals as goal
 

@@ -1,5 +1,5 @@
 use Rattle.std.proofs.Common.{◌≡◌, ◌≤◌, ◌-◌, ◌++◌, length, false}
-use Rattle.token_spans.specs.Tokens.{scan_of}
+use Rattle.lexer.specs.Tokens.{scan_of}
 use Rattle.driver_sections.specs.Fronts.{tokens_from}
 use Rattle.driver_sections.specs.Marks.{ends}
 use Rattle.driver_sections.specs.Told.{ending_of}

@@ -1,5 +1,5 @@
 use Rattle.std.proofs.Common.{◌≡◌, ◌+◌, ◌<◌, ◌≤◌, ℕ, length, drop, sym, ap, ◌∙◌, arith, length-drop}
-use Rattle.token_spans.specs.Tokens.{Lexis}
+use Rattle.lexer.specs.Tokens.{Lexis}
 use Rattle.driver_sections.proofs.Gaps.{one_more, no_more, ended}
 use Rattle.driver_sections.proofs.fronts.behind_separators.Goals as goal
 

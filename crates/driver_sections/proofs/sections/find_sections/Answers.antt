@@ -1,8 +1,8 @@
 use Rattle.std.proofs.Common.{◌≡◌, ◌+◌, ◌<◌, ◌≤◌, ℕ, Bool, true, false, List, [], ◌∷◌, ◌++◌, length, drop, refl, sym, ap, subst, ◌∙◌, arith, append_assoc, length-drop}
 use Rattle.std.proofs.lemmas.List.{append-nil}
-use Rattle.token_spans.specs.declared.span.Span.{Span}
-use Rattle.token_spans.specs.Spans.{LieInside}
-use Rattle.token_spans.proofs.Turns.{inside_more}
+use Rattle.lexer.specs.declared.span.Span.{Span}
+use Rattle.lexer.specs.Spans.{LieInside}
+use Rattle.lexer.proofs.Turns.{inside_more}
 use Rattle.driver_sections.specs.Fronts.{IsNext, HasNoNext, behind_gap, tokens_at}
 use Rattle.driver_sections.specs.Marks.{Vocabulary, Marks, are_next, vocabulary}
 use Rattle.driver_sections.specs.Sections.{section_length, sections_from, StandApart}

@@ -1,5 +1,5 @@
 use Rattle.std.proofs.Common.{◌≡◌, ◌≤◌, ◌-◌, ◌++◌, length, drop}
-use Rattle.token_spans.specs.Spans.{LieInside}
+use Rattle.lexer.specs.Spans.{LieInside}
 use Rattle.driver_sections.specs.Marks.{vocabulary}
 use Rattle.driver_sections.specs.Sections.{sections_from, sections, StandApart}
 use Rattle.driver_sections.specs.Told.{marks_of}

@@ -1,5 +1,5 @@
 use Rattle.std.proofs.Common.{◌≡◌, ◌-◌, length, drop, ◌∙◌, ap, arith}
-use Rattle.token_spans.specs.Spans.{spelled}
+use Rattle.lexer.specs.Spans.{spelled}
 use Rattle.driver_texts.proofs.CursorPlaces.{inside_drop, inside_take, rest_whole, spelled_drop}
 use Rattle.driver_texts.proofs.cursors.cursor_before.Goals as goal
 

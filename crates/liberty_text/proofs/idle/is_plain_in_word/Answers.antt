@@ -1,7 +1,7 @@
 use Rattle.std.proofs.Common.{◌<◌, map, refl, arith}
 use Rattle.std.specs.List.{range_with_len}
 use Rattle.liberty_text.specs.Idle as spec
-use Rattle.token_spans.proofs.ByteTables.{told}
+use Rattle.lexer.proofs.ByteTables.{told}
 use Rattle.liberty_text.proofs.idle.is_plain_in_word.Goals as goal
 
 pub returns : goal.returns

@@ -1,4 +1,4 @@
-use Rattle.section_runs.proofs.Runs.{appends_nothing}
+use Rattle.stimulus.proofs.Runs.{appends_nothing}
 use Rattle.library_audit.proofs.audits.write_compared.Goals as goal
 
 pub returns-in_err-found-clause-text : goal.returns-in_err-found-clause-text

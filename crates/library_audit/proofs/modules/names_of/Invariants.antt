@@ -1,6 +1,6 @@
 use Rattle.std.proofs.Common.{drop}
 use Rattle.model_files.specs.ModelNames.{HaveOwnNames}
-use Rattle.model_languages.specs.Verilog.{verilog}
+use Rattle.model_replay.specs.Verilog.{verilog}
 use Rattle.library_audit.proofs.ModuleNames.{Fills}
 use Rattle.library_audit.proofs.modules.names_of.Given as goal
 

@@ -1,5 +1,5 @@
-use Rattle.library_items.specs.LibraryCells.{all_described}
-use Rattle.command_outcomes.proofs.FailureLaws.{ends_by_comparing}
+use Rattle.library_reader.specs.LibraryCells.{all_described}
+use Rattle.run_outcome.proofs.FailureLaws.{ends_by_comparing}
 use Rattle.library_audit.proofs.ReadFiles.{printed_runs}
 use Rattle.library_audit.proofs.run.audit_library.Goals as goal
 

@@ -1,4 +1,4 @@
-use Rattle.library_items.specs.Endings.{library_limit}
+use Rattle.library_reader.specs.Endings.{library_limit}
 use Rattle.library_translation.proofs.ItemsLemmas.{all_bound, handles_items}
 use Rattle.library_translation.proofs.items.handle_items.Goals as goal
 

@@ -1,5 +1,5 @@
 use Rattle.std.proofs.Common.{refl}
-use Rattle.library_items.specs.declared.ending.Ending.TheVariants as ending
+use Rattle.library_reader.specs.declared.ending.Ending.TheVariants as ending
 use Rattle.library_translation.proofs.LastLines.{last_stops, last_told, fault_stops, fault_told}
 use Rattle.library_translation.proofs.run.finish.Goals as goal
 

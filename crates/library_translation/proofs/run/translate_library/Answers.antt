@@ -1,4 +1,4 @@
-use Rattle.command_outcomes.proofs.LibraryRunLaws.{bound_all, named_all}
+use Rattle.run_outcome.proofs.LibraryRunLaws.{bound_all, named_all}
 use Rattle.library_translation.proofs.TranslateFiles.{library_bound, verilog_bound, vital_bound, unbound, translated_runs}
 use Rattle.library_translation.proofs.run.translate_library.Goals as goal
 

@@ -1,5 +1,5 @@
-use Rattle.command_outcomes.specs.FileSteps.{answer_where}
-use Rattle.command_outcomes.proofs.FileStepLaws.{wants_memory}
+use Rattle.run_outcome.specs.FileSteps.{answer_where}
+use Rattle.run_outcome.proofs.FileStepLaws.{wants_memory}
 use Rattle.model_files.specs.ModelAnswer.{long_model_stop, models_in_text}
 use Rattle.model_files.proofs.model_file.models_taken.Goals as goal
 

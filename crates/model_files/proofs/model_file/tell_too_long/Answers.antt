@@ -1,4 +1,4 @@
-use Rattle.command_outcomes.proofs.FileStepLaws.{told_so}
+use Rattle.run_outcome.proofs.FileStepLaws.{told_so}
 use Rattle.model_files.specs.ModelAnswer.{long_model_stop}
 use Rattle.model_files.proofs.model_file.tell_too_long.Goals as goal
 

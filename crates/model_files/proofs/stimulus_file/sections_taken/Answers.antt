@@ -1,6 +1,6 @@
 use Rattle.model_files.specs.StimulusAnswer.{long_stimulus_stop, sections_in_text}
-use Rattle.command_outcomes.specs.FileSteps.{answer_where}
-use Rattle.command_outcomes.proofs.FileStepLaws.{wants_memory}
+use Rattle.run_outcome.specs.FileSteps.{answer_where}
+use Rattle.run_outcome.proofs.FileStepLaws.{wants_memory}
 use Rattle.model_files.proofs.stimulus_file.sections_taken.Goals as goal
 
 pub returns-in-Err-Memory-clause-err : goal.returns-in-Err-Memory-clause-err

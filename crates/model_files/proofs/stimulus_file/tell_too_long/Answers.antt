@@ -1,4 +1,4 @@
-use Rattle.command_outcomes.proofs.FileStepLaws.{told_so}
+use Rattle.run_outcome.proofs.FileStepLaws.{told_so}
 use Rattle.model_files.specs.StimulusAnswer.{long_stimulus_stop}
 use Rattle.model_files.proofs.stimulus_file.tell_too_long.Goals as goal
 

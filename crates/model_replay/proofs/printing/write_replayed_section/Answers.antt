@@ -1,5 +1,5 @@
 use Rattle.std.proofs.Common.{◌<◌, length, arith}
-use Rattle.section_runs.proofs.Runs.{appends_nothing}
+use Rattle.stimulus.proofs.Runs.{appends_nothing}
 use Rattle.model_replay.proofs.SectionTexts.{has_model, is_found, section_written}
 use Rattle.model_files.proofs.KnownThings.{here-some, on-ok}
 use Rattle.model_replay.proofs.printing.write_replayed_section.Goals as goal

@@ -3,7 +3,7 @@ use Rattle.std.proofs.lemmas.List.{length-replicate}
 use Rattle.text_io.proofs.Wrote.{wrote_item_as}
 use Rattle.model_replay.specs.Outcome.{replayed_section_text}
 use Rattle.model_replay.specs.Replays.{CanBeRun}
-use Rattle.section_runs.proofs.Runs.{holds_next, appends_nothing}
+use Rattle.stimulus.proofs.Runs.{holds_next, appends_nothing}
 use Rattle.model_replay.specs.KnownModels.{IsStartAt, AreStarts}
 use Rattle.model_files.proofs.KnownThings.{none-known}
 use Rattle.model_replay.proofs.SectionTexts.{sections_none, sections_whole, sections_part}

@@ -1,7 +1,7 @@
 use Rattle.std.proofs.Common.{◌≡◌, sym, subst}
-use Rattle.command_outcomes.specs.Runs.{RunsAs}
+use Rattle.run_outcome.specs.Runs.{RunsAs}
 use Rattle.model_files.specs.ModelNames.{HaveOwnNames}
-use Rattle.command_outcomes.proofs.FileStepLaws.{err_is}
+use Rattle.run_outcome.proofs.FileStepLaws.{err_is}
 use Rattle.model_replay.specs.ModelPorts.{models_named}
 use Rattle.model_replay.specs.Outcome.{replay_files, replay_of}
 use Rattle.model_replay.proofs.ReplayFiles.{models_planned, stimulus_planned, models_read, models_end, stimulus_ends, no_memory, replay_read}

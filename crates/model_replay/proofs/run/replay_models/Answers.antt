@@ -1,5 +1,5 @@
-use Rattle.command_outcomes.specs.declared.status.Status.TheVariants.{Done}
-use Rattle.command_outcomes.proofs.FailureLaws.{ends_by_call}
+use Rattle.run_outcome.specs.declared.status.Status.TheVariants.{Done}
+use Rattle.run_outcome.proofs.FailureLaws.{ends_by_call}
 use Rattle.model_replay.proofs.ReplayFiles.{printed_runs}
 use Rattle.model_replay.proofs.run.replay_models.Goals as goal
 

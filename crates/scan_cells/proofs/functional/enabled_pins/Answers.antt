@@ -1,7 +1,7 @@
 use Rattle.std.proofs.Common.{◌≡◌, true, Some, sym, subst, rules}
 use Rattle.std.specs.List.{list_all}
 use Rattle.cell_machine.specs.CellData.{data_of}
-use Rattle.cell_parts.specs.Pins.{owners_of}
+use Rattle.cell_attributes.specs.Pins.{owners_of}
 use Rattle.scan_cells.specs.Enables.{first_enable}
 use Rattle.scan_cells.specs.Views.{is_among, numbers_of, same_outline, StandsBeside}
 use Rattle.scan_cells.proofs.ViewReading.{beside}

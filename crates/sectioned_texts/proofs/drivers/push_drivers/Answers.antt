@@ -1,7 +1,7 @@
 use Rattle.std.proofs.Common.{◌≡◌, ℕ, ◌+◌, ◌<◌, List, [], ◌∷◌, ◌++◌, length, drop, sym, ap, subst, ◌∙◌, arith}
 use Rattle.std.proofs.lemmas.List.{drop_more}
-use Rattle.token_spans.specs.declared.span.Span.{Span}
-use Rattle.token_spans.specs.Spans.{LieInside}
+use Rattle.lexer.specs.declared.span.Span.{Span}
+use Rattle.lexer.specs.Spans.{LieInside}
 use Rattle.driver_models.specs.declared.model.DriverModel.{DriverModel}
 use Rattle.sectioned_texts.specs.DrivenModels.{taken_names, more_drivers}
 use Rattle.sectioned_texts.proofs.NextDrivers.{taken_more, next_driver}

@@ -1,5 +1,5 @@
 use Rattle.std.proofs.Common.{◌≡◌, [], drop}
-use Rattle.token_spans.specs.Spans.{LieInside}
+use Rattle.lexer.specs.Spans.{LieInside}
 use Rattle.sectioned_texts.specs.DrivenModels.{taken_names, more_drivers}
 use Rattle.sectioned_texts.proofs.drivers.push_drivers.Given as goal
 

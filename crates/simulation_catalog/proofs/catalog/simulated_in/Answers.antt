@@ -1,5 +1,5 @@
 use Rattle.std.proofs.Common.{◌≡◌, true, is_some, [], ◌∷◌, ◌++◌, sym, ◌∙◌}
-use Rattle.library_items.specs.LibraryCells.{described, all_described}
+use Rattle.library_reader.specs.LibraryCells.{described, all_described}
 use Rattle.simulation_catalog.specs.NamedModels.{shown}
 use Rattle.simulation_catalog.specs.Catalog.{ports_in, numbers_in}
 use Rattle.simulation_catalog.proofs.CatalogLemmas.{listed_more}

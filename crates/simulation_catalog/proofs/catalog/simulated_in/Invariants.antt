@@ -1,6 +1,6 @@
 use Rattle.std.proofs.Common.{take}
 use Rattle.bool_functions.specs.NameList.{AreDistinct}
-use Rattle.library_items.specs.LibraryCells.{cell_names, all_described}
+use Rattle.library_reader.specs.LibraryCells.{cell_names, all_described}
 use Rattle.simulation_catalog.specs.NamedModels.{shown}
 use Rattle.simulation_catalog.proofs.CatalogLemmas.{AreListed}
 use Rattle.simulation_catalog.proofs.catalog.simulated_in.Given as goal

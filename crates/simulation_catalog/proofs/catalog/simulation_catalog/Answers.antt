@@ -1,4 +1,4 @@
-use Rattle.library_items.specs.LibraryCells.{all_described}
+use Rattle.library_reader.specs.LibraryCells.{all_described}
 use Rattle.simulation_catalog.proofs.CatalogLemmas.{whole_catalog}
 use Rattle.simulation_catalog.proofs.catalog.simulation_catalog.Goals as goal
 

@@ -1,6 +1,6 @@
 use Rattle.std.proofs.Common.{◌≡◌, ℕ, List, ap, subst, ◌∙◌}
 use Rattle.bool_functions.specs.NameList.{Adds}
-use Rattle.vhdl_names.specs.Kept.{lowered}
+use Rattle.vhdl_tokens.specs.Kept.{lowered}
 use Rattle.file_models.specs.declared.file_model.FileModel.{FileModel}
 use Rattle.vital_models.specs.declared.model.VEntity.{VEntity}
 use Rattle.file_models.proofs.NewNames.{names_more}

@@ -1,6 +1,6 @@
 use Rattle.std.proofs.Common.{◌≡◌, ◌+◌, map, drop, length}
 use Rattle.std.specs.Prelude.{flat_map}
-use Rattle.cell_parts.specs.Pins.{owners_in}
+use Rattle.cell_attributes.specs.Pins.{owners_in}
 use Rattle.cell_reader.specs.PinTimings.{subject_at}
 use Rattle.three_state_cells.specs.Refusals.{refusal_with, driver_refusal}
 use Rattle.three_state_cells.proofs.driver_refusals.driver_refusal.Given as goal

@@ -1,7 +1,7 @@
 use Rattle.std.proofs.Common.{◌∙◌, List, IsTrue, sym, subst}
 use Rattle.cell_machine.specs.declared.pins.Pin.{Pin}
 use Rattle.cell_machine.specs.CellRules.{are_distinct}
-use Rattle.cell_parts.specs.Pins.{pin_names}
+use Rattle.cell_attributes.specs.Pins.{pin_names}
 use Rattle.three_state_cells.proofs.Deciding.{early_names}
 use Rattle.three_state_cells.proofs.read.subject_of.Goals as goal
 

@@ -1,4 +1,4 @@
-use Rattle.command_outcomes.proofs.FailureLaws.{counted_once}
+use Rattle.run_outcome.proofs.FailureLaws.{counted_once}
 use Rattle.translate_cmd.proofs.command.run_gated.Goals as goal
 
 pub returns : goal.returns

@@ -1,7 +1,7 @@
 use Rattle.std.proofs.Common.{ℕ, ◌-◌, List, length, drop, Err, ◌∙◌, ap, subst}
-use Rattle.rule_readers.specs.Reading.{read, ReadsAs}
+use Rattle.grammar_reader.specs.Reading.{read, ReadsAs}
 use Rattle.verilog_drivers.specs.DriverSections.{section_front}
-use Rattle.token_spans.specs.Spans.{spelled}
+use Rattle.lexer.specs.Spans.{spelled}
 use Rattle.verilog_drivers.specs.Sections.{front_of}
 use Rattle.verilog_drivers.proofs.SectionReads.{section_read, section_refused}
 use Rattle.verilog_drivers.proofs.read.section.Goals as goal

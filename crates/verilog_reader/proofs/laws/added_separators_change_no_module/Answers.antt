@@ -1,4 +1,4 @@
-use Rattle.rule_readers.proofs.TextLaws.{same_values}
+use Rattle.grammar_reader.proofs.TextLaws.{same_values}
 use Rattle.verilog_tokens.proofs.Padding.{same_tokens}
 use Rattle.specify_blocks.specs.VerilogText.{language}
 use Rattle.verilog_reader.proofs.laws.added_separators_change_no_module.Goals as goal

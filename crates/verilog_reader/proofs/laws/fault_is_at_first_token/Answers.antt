@@ -1,4 +1,4 @@
-use Rattle.rule_readers.proofs.TextLaws.{fault_at_first_token}
+use Rattle.grammar_reader.proofs.TextLaws.{fault_at_first_token}
 use Rattle.specify_blocks.specs.VerilogText.{language}
 use Rattle.verilog_reader.proofs.laws.fault_is_at_first_token.Goals as goal
 

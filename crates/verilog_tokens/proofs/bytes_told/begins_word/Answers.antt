@@ -1,7 +1,7 @@
 use Rattle.std.proofs.Common.{◌<◌, map, refl, arith}
 use Rattle.std.specs.List.{range_with_len}
 use Rattle.verilog_tokens.specs.Tokens as spec
-use Rattle.token_spans.proofs.ByteTables.{told}
+use Rattle.lexer.proofs.ByteTables.{told}
 use Rattle.verilog_tokens.proofs.bytes_told.begins_word.Goals as goal
 
 pub returns : goal.returns

@@ -1,10 +1,10 @@
 use Rattle.std.proofs.Common.{◌≡◌, ℕ, List, sym, ap, subst, ◌∙◌}
 use Rattle.bool_functions.specs.NameList.{Adds}
-use Rattle.vhdl_declarations.specs.vital_models.declared.model.VEntity.{VEntity}
-use Rattle.vhdl_names.specs.Kept.{lowered}
-use Rattle.vhdl_declarations.specs.vhdl_text.VhdlText.{entity_names}
-use Rattle.vhdl_declarations.specs.vhdl_words.Lowered.{HaveSame}
-use Rattle.vhdl_declarations.proofs.vhdl_words.LoweredNames.{entity_added}
+use Rattle.vhdl_declarations_reader.specs.vital_models.declared.model.VEntity.{VEntity}
+use Rattle.vhdl_tokens.specs.Kept.{lowered}
+use Rattle.vhdl_declarations_reader.specs.vhdl_grammar.VhdlText.{entity_names}
+use Rattle.vhdl_declarations_reader.specs.vhdl_scope.Lowered.{HaveSame}
+use Rattle.vhdl_declarations_reader.proofs.vhdl_scope.LoweredNames.{entity_added}
 use Rattle.vhdl_reader.proofs.entities.add_entity.Goals as goal
 
 pub returns-clause-lowered : goal.returns-clause-lowered

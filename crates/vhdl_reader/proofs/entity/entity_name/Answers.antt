@@ -1,6 +1,6 @@
 use Rattle.std.proofs.Common.{ap, ◌∙◌}
-use Rattle.vhdl_declarations.specs.vhdl_text.VhdlRules.{is_among}
-use Rattle.vhdl_declarations.specs.vhdl_text.VhdlText.{entity_names}
+use Rattle.vhdl_declarations_reader.specs.vhdl_grammar.VhdlRules.{is_among}
+use Rattle.vhdl_declarations_reader.specs.vhdl_grammar.VhdlText.{entity_names}
 use Rattle.vhdl_reader.proofs.entity.entity_name.Goals as goal
 
 pub returns : goal.returns

@@ -1,5 +1,5 @@
 use Rattle.std.proofs.Common.{◌≡◌, ◌++◌, length, reverse}
-use Rattle.vhdl_declarations.specs.vhdl_text.VhdlText.{values_with}
+use Rattle.vhdl_declarations_reader.specs.vhdl_grammar.VhdlText.{values_with}
 use Rattle.vhdl_reader.proofs.joined.values_with.Given as goal
 
 abbrev pub invariant-loop-next : goal.invariant-loop-next

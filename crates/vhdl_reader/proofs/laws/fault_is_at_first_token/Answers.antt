@@ -1,5 +1,5 @@
-use Rattle.rule_readers.proofs.TextLaws.{fault_at_first_token}
-use Rattle.vhdl_declarations.specs.vhdl_text.VhdlText.{language}
+use Rattle.grammar_reader.proofs.TextLaws.{fault_at_first_token}
+use Rattle.vhdl_declarations_reader.specs.vhdl_grammar.VhdlText.{language}
 use Rattle.vhdl_reader.proofs.laws.fault_is_at_first_token.Goals as goal
 
 pub returns : goal.returns

@@ -1,7 +1,7 @@
 use Rattle.std.proofs.Common.{◌≤◌, ◌∙◌, length, sym, subst, ap}
-use Rattle.cell_parts.specs.Pins.{pins_of}
-use Rattle.cell_parts.specs.States.{states_of}
-use Rattle.cell_parts.specs.Vocabulary.{Vocabulary}
+use Rattle.cell_attributes.specs.Pins.{pins_of}
+use Rattle.cell_attributes.specs.States.{states_of}
+use Rattle.cell_attributes.specs.Vocabulary.{Vocabulary}
 use Rattle.cell_reader.proofs.PartCounts.{number_count}
 use Rattle.cell_reader.proofs.numbered.Numbered.reader.Goals as goal
 

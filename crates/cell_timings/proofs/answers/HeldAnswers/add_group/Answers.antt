@@ -2,7 +2,7 @@ use Rattle.std.proofs.Common.{◌≡◌, ◌<◌, ◌∙◌, List, ◌∷◌, �
 use Rattle.std.specs.Prelude.{Option}
 use Rattle.liberty_groups.specs.declared.tree.Value.{Value}
 use Rattle.liberty_groups.specs.declared.tree.Group.{Group}
-use Rattle.cell_parts.specs.Pins.{owner_as}
+use Rattle.cell_attributes.specs.Pins.{owner_as}
 use Rattle.timing_arcs.specs.declared.timing_texts.TimingTexts.{TimingTexts}
 use Rattle.cell_timings.specs.Held.{held_from, room_after, AreSharedTexts}
 use Rattle.cell_timings.proofs.HeldSteps.{HasAdded, more_answers, more_room, next_name, shared_there}

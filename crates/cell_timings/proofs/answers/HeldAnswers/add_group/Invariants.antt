@@ -1,5 +1,5 @@
 use Rattle.std.proofs.Common.{◌≡◌, ◌++◌, map, drop, length}
-use Rattle.cell_parts.specs.Pins.{owner_as, owners_in}
+use Rattle.cell_attributes.specs.Pins.{owner_as, owners_in}
 use Rattle.cell_timings.specs.Held.{held_from, room_after}
 use Rattle.cell_timings.proofs.answers.HeldAnswers.add_group.Given as goal
 

@@ -1,7 +1,7 @@
 use Rattle.std.proofs.Common.{◌≡◌, ℕ, List, ap, ◌∙◌}
 use Rattle.std.specs.Option.{is_some}
 use Rattle.bool_functions.specs.NameList.{number_of}
-use Rattle.rule_readers.specs.Words.{is_among}
+use Rattle.grammar_reader.specs.Words.{is_among}
 use Rattle.driver_models.proofs.FoldedNames.{found_among}
 use Rattle.driver_models.proofs.known_names.KnownNames.has.Goals as goal
 

@@ -1,4 +1,4 @@
-use Rattle.command_outcomes.proofs.WrittenLaws.{report_stops, report_whole}
+use Rattle.run_outcome.proofs.WrittenLaws.{report_stops, report_whole}
 use Rattle.library_translation.proofs.CellLemmas.{accepted_of, refused_of, accepted_written_as, refused_written_as}
 use Rattle.library_translation.proofs.ItemsLemmas.{models_bound}
 use Rattle.library_translation.proofs.items.CellModelsItemWriter.write_cell.Goals as goal

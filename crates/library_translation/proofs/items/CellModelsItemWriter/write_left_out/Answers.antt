@@ -1,4 +1,4 @@
-use Rattle.command_outcomes.proofs.WrittenLaws.{report_stops, report_whole}
+use Rattle.run_outcome.proofs.WrittenLaws.{report_stops, report_whole}
 use Rattle.library_translation.proofs.items.CellModelsItemWriter.write_left_out.Goals as goal
 
 pub returns-in_err-write_left_out_file-clause-text : goal.returns-in_err-write_left_out_file-clause-text

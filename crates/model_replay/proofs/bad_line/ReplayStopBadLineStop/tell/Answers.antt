@@ -1,4 +1,4 @@
-use Rattle.command_outcomes.proofs.FileStepLaws.{told_so}
+use Rattle.run_outcome.proofs.FileStepLaws.{told_so}
 use Rattle.model_replay.specs.Outcome.{replay_line_stop}
 use Rattle.model_replay.proofs.bad_line.ReplayStopBadLineStop.tell.Goals as goal
 

@@ -1,6 +1,6 @@
-use Rattle.command_outcomes.proofs.FailureLaws.{ends_by_writing}
-use Rattle.command_outcomes.proofs.FileStepLaws.{told_so}
-use Rattle.library_items.specs.LibraryCells.{all_described}
+use Rattle.run_outcome.proofs.FailureLaws.{ends_by_writing}
+use Rattle.run_outcome.proofs.FileStepLaws.{told_so}
+use Rattle.library_reader.specs.LibraryCells.{all_described}
 use Rattle.simulation_catalog.specs.FaultLines.{cause_stop}
 use Rattle.simulation_catalog.proofs.BadLineEnds.{cause_is_plain}
 use Rattle.simulation_catalog.proofs.bad_lines.SimulationStopBadLineStop.tell.Goals as goal

@@ -1,11 +1,11 @@
 use Rattle.std.proofs.Common.{◌≡◌, List, ap, ◌∙◌}
 use Rattle.std.specs.Option.{is_some}
 use Rattle.bool_functions.specs.NameList.{number_of}
-use Rattle.vhdl_declarations.specs.vital_models.declared.model.VEntity.{VEntity}
-use Rattle.vhdl_names.specs.Kept.{lowered}
-use Rattle.vhdl_declarations.specs.vhdl_text.VhdlRules.{is_among}
-use Rattle.vhdl_declarations.specs.vhdl_text.VhdlText.{entity_names}
-use Rattle.vhdl_declarations.proofs.vhdl_words.LoweredNames.{found_among}
+use Rattle.vhdl_declarations_reader.specs.vital_models.declared.model.VEntity.{VEntity}
+use Rattle.vhdl_tokens.specs.Kept.{lowered}
+use Rattle.vhdl_declarations_reader.specs.vhdl_grammar.VhdlRules.{is_among}
+use Rattle.vhdl_declarations_reader.specs.vhdl_grammar.VhdlText.{entity_names}
+use Rattle.vhdl_declarations_reader.proofs.vhdl_scope.LoweredNames.{found_among}
 use Rattle.vhdl_reader.proofs.entities.Entities.has.Goals as goal
 
 pub returns : goal.returns

@@ -1,7 +1,0 @@
-use Rattle.std.proofs.Common.{◌≡◌, ◌++◌, map, drop}
-use Rattle.std.specs.Prelude.{flat_map}
-use Rattle.cell_parts.specs.Pins.{pins_in}
-use Rattle.cell_parts.proofs.pins.pins_of.Given as goal
-
-abbrev pub invariant-loop-group : goal.invariant-loop-group
-invariant-loop-group l = l.pins ++ flat_map pins_in (map (λ group. group.now) (drop l.group-index l.groups)) ≡ flat_map pins_in (map (λ group. group.now) l.groups)

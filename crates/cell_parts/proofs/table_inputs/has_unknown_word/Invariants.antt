@@ -1,7 +1,0 @@
-use Rattle.std.proofs.Common.{◌≡◌, map, drop}
-use Rattle.cell_parts.specs.StateReadings.{has_unknown_word}
-use Rattle.cell_parts.specs.Shown.{shown_vocabulary}
-use Rattle.cell_parts.proofs.table_inputs.has_unknown_word.Given as goal
-
-abbrev pub invariant-loop-word : goal.invariant-loop-word
-invariant-loop-word l = has_unknown_word (shown_vocabulary l.vocabulary) (map (λ word. word.now) (drop l.word-index l.words)) ≡ has_unknown_word (shown_vocabulary l.vocabulary) (map (λ word. word.now) l.words)

@@ -1,0 +1,16 @@
+pub mod Repeats
+pub mod Choices
+pub mod Values
+pub mod TextAnswers
+pub mod Passing
+pub mod Places
+pub mod Tests
+pub mod TextLaws
+pub mod WithRest
+pub mod Fronts
+pub mod ItemPlaces
+pub mod Derivations
+pub mod Passages
+pub mod Spelling
+pub mod Bytes
+pub mod TextsReadBack

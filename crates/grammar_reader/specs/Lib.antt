@@ -1,0 +1,9 @@
+pub mod Next
+pub mod Words
+pub mod WordValues
+pub mod Texts
+pub mod Reading
+pub mod TextLaws
+pub mod Repeated
+pub mod Rests
+pub mod ReadBack

@@ -1,6 +1,0 @@
--- Parts of declarations, as the grammar names them.
-use Rattle.specify_blocks.specs.VerilogModules as modules
-use Rattle.header_reader.specs.declared.declarations.Inputs.{Inputs}
-
-abbrev pub inputs_of : Inputs → modules.Inputs
-inputs_of found = record { ports = found.ports; behind = found.behind }

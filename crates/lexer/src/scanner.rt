@@ -1,0 +1,83 @@
+//! One scanner for the texts of every language.
+
+ghost use Rattle.std.specs.Prelude.{◌≡◌, ◌<◌, ◌≤◌, ◌^◌, length, true, false, IfOk, Some};
+ghost use Rattle.lexer.specs.Tokens.{scan_of};
+ghost use Rattle.lexer.specs.Spans.{LieInside, tokens_of, from_here};
+
+use crate::fronts::behind_blanks;
+use crate::lexicon::{Lexicon, TokenState};
+use crate::span::{KeptSpan, Scan};
+use std::alloc::{AllocError, Global};
+
+/// The most bytes of a text whose tokens are kept.
+const MOST_BYTES: usize = 4_294_967_295;
+
+/// Where a scan stands: all before the offset `next` is read, and what the tokens before it say of those behind.
+#[derive(Clone, Copy)]
+struct Scanner<L> {
+    before: L,
+    next: usize,
+}
+
+impl<'a, L: TokenState<'a>> Scanner<L> {
+    /// Goes behind the separator or the token that stands next, and behind the blanks that follow it. False says that neither does.
+    /// The tokens that were found so far stand apart from the scanner, so that its place can stay in registers.
+    #[inline(always)]
+    fn step(&mut self, tokens: &mut Vec<KeptSpan>, text: &'a [u8]) -> Result<bool, AllocError>
+        requires here { self.old.next < length text.now }
+        requires short { length text.now < 2 ^ 32 }
+        requires inside { LieInside text.now tokens.old.items }
+        ensures goes_on { IfOk result (λ good. good ≡ true → from_here L.lexis text.now tokens.new.items (L.flag self.new.before) self.new.next self.new.next ≡ from_here L.lexis text.now tokens.old.items (L.flag self.old.before) self.old.next self.old.next) }
+        ensures onwards { IfOk result (λ good. good ≡ true → self.old.next < self.new.next) }
+        ensures within { IfOk result (λ good. self.new.next ≤ length text.now) }
+        ensures stops { IfOk result (λ good. good ≡ false → from_here L.lexis text.now tokens.old.items (L.flag self.old.before) self.old.next self.old.next ≡ (tokens_of text.now tokens.new.items, Some self.new.next)) }
+        ensures inside { IfOk result (λ good. LieInside text.now tokens.new.items) }
+    {
+        let at = self.next;
+        let (_, rest) = text.split_at(at);
+        let length = self.before.token_length(rest);
+        if length > 0 {
+            let token = KeptSpan::new(at, length);
+            tokens.push(token)?;
+            self.before = self.before.after(&rest[..length]);
+            self.next = behind_blanks(text, at + length);
+            return Ok(true);
+        }
+        let skipped = L::separator_length(rest);
+        if skipped == 0 {
+            return Ok(false);
+        }
+        self.next = behind_blanks(text, at + skipped);
+        Ok(true)
+    }
+}
+
+/// The tokens of a text before its lexical fault, and the offset of the fault, if there is one. There is no memory for those of a
+/// text of 4 GiB or more.
+#[inline(always)]
+pub fn scan<'a, L: TokenState<'a>>(alloc: Global, text: &'a [u8]) -> Result<Scan, AllocError>
+    ensures tokens { IfOk result (λ found. tokens_of text.now found.tokens.items ≡ (scan_of L.lexis text.now).0) }
+    ensures fault { IfOk result (λ found. found.fault ≡ (scan_of L.lexis text.now).1) }
+    ensures inside { IfOk result (λ found. LieInside text.now found.tokens.items) }
+{
+    if text.len() > MOST_BYTES {
+        return Err(AllocError);
+    }
+    let mut tokens = Vec::new(alloc);
+    let mut scanner = Scanner {
+        before: L::start(),
+        next: 0,
+    };
+    while scanner.next < text.len() {
+        if !scanner.step(&mut tokens, text)? {
+            return Ok(Scan {
+                tokens,
+                fault: Some(scanner.next),
+            });
+        }
+    }
+    Ok(Scan {
+        tokens,
+        fault: None,
+    })
+}

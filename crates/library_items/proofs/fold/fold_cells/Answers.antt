@@ -1,6 +1,0 @@
-use Rattle.library_items.specs.Endings.{library_limit}
-use Rattle.library_items.proofs.FoldLemmas.{folds_cells}
-use Rattle.library_items.proofs.fold.fold_cells.Goals as goal
-
-pub returns-clause-cells : goal.returns-clause-cells
-returns-clause-cells g c = folds_cells _ library_limit _ _ _ _ c.fold_items.ensures.items

@@ -1,0 +1,27 @@
+use Rattle.std.proofs.Common.{refl, sym, subst}
+use Rattle.cell_reader.specs.CellTexts.{Tells}
+use Rattle.library_reader.specs.Progress.{next_bits, next_refusal}
+use Rattle.library_reader.proofs.CellLemmas.{bits_read, bits_accepted, bits_refused, unexpanded}
+use Rattle.library_reader.proofs.expanded_cell.read_bits.Goals as goal
+
+pub returns-in-Ok-clause-cell : goal.returns-in-Ok-clause-cell
+returns-in-Ok-clause-cell c =
+    let p = c.args.progress.now in
+    let group = c.args.group.now in
+    bits_read p group (next_bits p group) _ c.read_gathered.result c.next_number-number.ensures refl c.read_gathered.ensures.cell
+
+pub returns-in-Ok-clause-accepted : goal.returns-in-Ok-clause-accepted
+returns-in-Ok-clause-accepted c =
+    let p = c.args.progress.now in
+    let group = c.args.group.now in
+    bits_accepted p group (next_bits p group) c.read_gathered.result c.in-Ok.ensures.0 refl c.read_gathered.ensures.accepted
+
+pub returns-in-Ok-clause-refused : goal.returns-in-Ok-clause-refused
+returns-in-Ok-clause-refused c =
+    let p = c.args.progress.now in
+    let group = c.args.group.now in
+    bits_refused p group (next_bits p group) c.read_gathered.result c.in-Ok.ensures.0 refl c.read_gathered.ensures.refused
+
+pub returns-in-Err-clause-refused : goal.returns-in-Err-clause-refused
+returns-in-Err-clause-refused c =
+    subst (Tells (next_refusal c.args.progress.now c.args.group.now)) (sym c.cell_fault.ensures) (unexpanded c.args.progress.now c.args.group.now c.in-Err.fault c.in-Err.ensures)

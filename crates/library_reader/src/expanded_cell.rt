@@ -1,0 +1,93 @@
+//! The next cell of a library, whose group is expanded to single bits.
+ghost use Rattle.std.specs.Prelude.{◌≡◌, ◌+◌, ◌<◌, ◌^◌, false, None, IfOk, IfErr};
+ghost use Rattle.bank_cells.specs.Refusals.{has_many};
+ghost use Rattle.cell_reader.specs.CellTexts.{Tells};
+ghost use Rattle.three_state_cells.specs.DrivenCells.{driven_data_of};
+ghost use Rattle.library_reader.specs.BankRefusals.{cell_reason, cell_fault};
+ghost use Rattle.library_reader.specs.Progress.{next_refusal, next_data};
+
+use crate::progress::Progress;
+use bank_cells::{BankFault, BankReason, gather, has_many};
+use cell_reader::{CellFault, Reason, Refusal};
+use gathered_cells::read_gathered;
+use liberty_groups::Group;
+use std::alloc::Global;
+use three_state_cells::{DrivenCell, read_driven};
+
+/// A reason not to expand the group of a cell, as a reason to refuse the cell.
+fn cell_reason(reason: BankReason) -> Reason
+    ensures { result ≡ cell_reason reason }
+{
+    match reason {
+        BankReason::Bank => Reason::Bank,
+        BankReason::Width => Reason::Width,
+    }
+}
+
+/// Why there is no expanded group, as why there is no cell.
+fn cell_fault(fault: BankFault) -> CellFault
+    ensures { result ≡ cell_fault fault }
+{
+    match fault {
+        BankFault::Refused(refusal) => CellFault::Refused(Refusal {
+            reason: cell_reason(refusal.reason),
+            at: refusal.at,
+        }),
+        BankFault::Memory => CellFault::Memory,
+    }
+}
+
+/// The next cell, which has buses, bundles or banks. Where they are not expanded it is refused for that, and else as the cell of the
+/// expanded group. `Memory` comes only where memory is wanting.
+fn read_bits(alloc: Global, progress: &Progress, group: &Group) -> Result<DrivenCell, CellFault>
+    requires { progress.now.accepted + progress.now.refused + 1 < 2 ^ 64 }
+    ensures cell { IfOk result (λ cell. driven_data_of cell ≡ next_data progress.now group.now) }
+    ensures accepted { IfOk result (λ _. next_refusal progress.now group.now ≡ None) }
+    ensures refused { IfErr result (Tells (next_refusal progress.now group.now)) }
+{
+    let number = progress.next_number();
+    match gather(alloc, group, &progress.types) {
+        Ok(gathered) => read_gathered(
+            alloc,
+            group,
+            &gathered,
+            &progress.types,
+            number,
+            progress.unit,
+            &progress.names,
+        ),
+        Err(fault) => Err(cell_fault(fault)),
+    }
+}
+
+/// The next cell, which has no buses, bundles and banks, so that its group stays as it is and need not be copied. `Memory` comes only
+/// where memory is wanting.
+fn read_plain(alloc: Global, progress: &Progress, group: &Group) -> Result<DrivenCell, CellFault>
+    requires few { progress.now.accepted + progress.now.refused + 1 < 2 ^ 64 }
+    requires plain { has_many group.now ≡ false }
+    ensures cell { IfOk result (λ cell. driven_data_of cell ≡ next_data progress.now group.now) }
+    ensures accepted { IfOk result (λ _. next_refusal progress.now group.now ≡ None) }
+    ensures refused { IfErr result (Tells (next_refusal progress.now group.now)) }
+{
+    let number = progress.next_number();
+    read_driven(alloc, group, number, progress.unit, &progress.names)
+}
+
+/// The next cell, whose buses, bundles and banks are expanded to single bits with the types of buses before it. Where they are not
+/// expanded it is refused for that, and else as the cell of the expanded group. `Memory` comes only where memory is wanting.
+pub(crate) fn read_expanded(
+    alloc: Global,
+    progress: &Progress,
+    group: &Group,
+) -> Result<DrivenCell, CellFault>
+    requires { progress.now.accepted + progress.now.refused + 1 < 2 ^ 64 }
+    ensures cell { IfOk result (λ cell. driven_data_of cell ≡ next_data progress.now group.now) }
+    ensures accepted { IfOk result (λ _. next_refusal progress.now group.now ≡ None) }
+    ensures refused { IfErr result (Tells (next_refusal progress.now group.now)) }
+{
+    if has_many(group) {
+        read_bits(alloc, progress, group)
+    } else {
+        read_plain(alloc, progress, group)
+    }
+}

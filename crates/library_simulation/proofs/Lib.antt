@@ -1,0 +1,11 @@
+pub mod SimulationFiles
+pub mod SimulateLemmas
+pub mod BesideLemmas
+pub mod WholeSimulations
+pub mod OwnNames
+pub use Rattle.model_replay.proofs.VerilogModels as VerilogModels
+pub use Rattle.model_replay.proofs.VitalModels as VitalModels
+pub use Rattle.file_models.proofs as file_models
+pub use Rattle.library_reader.proofs as library_reader
+pub use Rattle.model_files.proofs as model_files
+pub use Rattle.simulation_catalog.proofs as simulation_catalog

@@ -1,5 +1,0 @@
-pub mod Verilog
-pub mod Vital
-pub mod Laws
-pub use Rattle.table_interpreters.specs.ModuleStarts as ModuleStarts
-pub use Rattle.table_interpreters.specs.EntityStarts as EntityStarts

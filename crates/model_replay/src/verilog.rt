@@ -1,0 +1,72 @@
+//! Verilog as a language of models.
+
+use crate::starts::{known_module, start_module};
+use cell_machine::{Change, Shared};
+use driven_files::{VerilogFiles, read_driven_models};
+use file_models::{FileModel, file_models};
+use model_files::{ModelFormat, ModelLanguage};
+use stimulus::{Ports, write_section};
+use specify_blocks::VModule;
+use std::alloc::{AllocError, Global};
+use table_interpreters::ModuleStart;
+use text_io::{Desk, Stop};
+use udp_tables::{ModelFault, VPort};
+
+/// Verilog. (IEEE 1364-2005.)
+pub struct Verilog;
+
+impl ModelLanguage for Verilog {
+    ghost use Rattle.model_replay.specs.Verilog.{verilog};
+    ghost use Rattle.table_interpreters.specs.ModuleStarts.{IsModuleStart};
+
+    type Model = FileModel<VModule>;
+
+    type Start = Shared<ModuleStart>;
+
+    ghost language = { verilog };
+
+    ghost is_start = { λ model start. IsModuleStart model.core start };
+
+    fn format() -> ModelFormat {
+        ModelFormat::Verilog
+    }
+
+    fn read(alloc: Global, text: &[u8]) -> Result<Vec<FileModel<VModule>>, ModelFault> {
+        let found = read_driven_models(alloc, text)?;
+        Ok(file_models::<VerilogFiles>(alloc, found)?)
+    }
+
+    fn name(model: &FileModel<VModule>) -> &[u8] {
+        model.name.as_slice()
+    }
+
+    fn ports(model: &FileModel<VModule>) -> &[VPort] {
+        model.ports.as_slice()
+    }
+
+    fn start(alloc: Global, model: &FileModel<VModule>) -> Result<Shared<ModuleStart>, AllocError> {
+        known_module(alloc, model)
+    }
+
+    fn write_model_trace<D: Desk>(
+        alloc: Global,
+        desk: &mut D,
+        model: &FileModel<VModule>,
+        start: &Shared<ModuleStart>,
+        ports: &Ports,
+        changes: &[Change],
+    ) -> Result<(), Stop> {
+        match start_module(alloc, model, start) {
+            Ok(mut sim) => write_section(
+                alloc,
+                desk,
+                b'V',
+                model.name.as_slice(),
+                ports,
+                &mut sim,
+                changes,
+            ),
+            Err(_) => Err(Stop::Memory),
+        }
+    }
+}

@@ -1,9 +1,0 @@
-use Rattle.std.proofs.Common.{◌≡◌, ◌-◌}
-use Rattle.grammar_rules.specs.Reading.{repeat}
-use Rattle.rule_readers.specs.Words.{begins}
-use Rattle.part_readers.proofs.parts.while_next.Given as goal
-
-abbrev pub invariant-loop-turn : goal.invariant-loop-turn
-invariant-loop-turn g l =
-    repeat (λ _. begins g.L.Language.is_same l.word) (λ u _ s. g.P.RepeatedPart.reading l.part u s) (l._turn-end - l._turn) l.found l.cursor
-    ≡ repeat (λ _. begins g.L.Language.is_same l.word) (λ u _ s. g.P.RepeatedPart.reading l.part u s) l._turn-end l.initial.found l.initial.cursor

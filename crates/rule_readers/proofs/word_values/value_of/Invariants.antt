@@ -1,8 +1,0 @@
-use Rattle.std.proofs.Common.{◌≡◌, drop, map}
-use Rattle.rule_readers.specs.WordValues.{value_among}
-use Rattle.rule_readers.proofs.word_values.value_of.Given as goal
-
-abbrev pub invariant-loop-word : goal.invariant-loop-word
-invariant-loop-word g l =
-    value_among g.L.Language.is_same (map (λ word. (word.0.now, word.1)) (drop l.word-index l.words)) l.token
-    ≡ value_among g.L.Language.is_same (map (λ word. (word.0.now, word.1)) l.words) l.token

@@ -1,6 +1,0 @@
-pub mod Next
-pub mod Words
-pub mod WordValues
-pub mod Texts
-pub mod Reading
-pub mod TextLaws

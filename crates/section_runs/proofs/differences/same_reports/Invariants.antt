@@ -1,8 +1,0 @@
-use Rattle.section_runs.specs.Differences.{same_reports}
-use Rattle.section_runs.proofs.Compared.{RestDecides}
-use Rattle.section_runs.proofs.differences.same_reports.Given as goal
-
-abbrev pub invariant-loop-check : goal.invariant-loop-check
-invariant-loop-check g l =
-    RestDecides same_reports (g.A.TraceSim.stands l.left) (g.B.TraceSim.stands l.right) (λ h. ((g.A.TraceSim.machine l.left).line h).reports)
-    (λ k. ((g.B.TraceSim.machine l.right).line k).reports) l.check

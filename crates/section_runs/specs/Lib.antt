@@ -1,4 +1,0 @@
-pub mod TraceText
-pub mod Writes
-pub mod Differences
-pub mod Comparison

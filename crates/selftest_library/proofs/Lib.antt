@@ -1,4 +1,0 @@
-pub mod Writable
-pub mod LibraryText
-pub mod CellTexts
-pub mod ReadingLemmas

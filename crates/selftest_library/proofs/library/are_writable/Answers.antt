@@ -1,5 +1,0 @@
-use Rattle.selftest_library.proofs.Writable.{cell_writable, library_writable}
-use Rattle.selftest_library.proofs.library.are_writable.Goals as goal
-
-pub returns : goal.returns
-returns c = record { library_is = library_writable; cell_is = cell_writable 28 }

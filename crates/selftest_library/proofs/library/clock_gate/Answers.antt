@@ -1,6 +1,0 @@
-use Rattle.std.proofs.Common.{sym}
-use Rattle.selftest_library.proofs.CellTexts.{clock_gate_statements}
-use Rattle.selftest_library.proofs.library.clock_gate.Goals as goal
-
-pub returns : goal.returns
-returns c = sym clock_gate_statements

@@ -1,6 +1,0 @@
-use Rattle.std.proofs.Common.{sym}
-use Rattle.selftest_library.proofs.CellTexts.{flip_flop_statements}
-use Rattle.selftest_library.proofs.library.flip_flop.Goals as goal
-
-pub returns : goal.returns
-returns c = sym flip_flop_statements

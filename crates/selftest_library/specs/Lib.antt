@@ -1,5 +1,0 @@
-pub mod Draws
-pub mod Sums
-pub mod Statements
-pub mod Library
-pub mod Reading

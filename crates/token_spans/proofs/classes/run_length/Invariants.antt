@@ -1,6 +1,0 @@
-use Rattle.std.proofs.Common.{◌≡◌, ◌+◌, drop}
-use Rattle.std.specs.List.{prefix_len}
-use Rattle.token_spans.proofs.classes.run_length.Given as goal
-
-abbrev pub invariant-loop-at : goal.invariant-loop-at
-invariant-loop-at g l = l.at + prefix_len g.C.ByteClass.has (drop l.at l.bytes) ≡ prefix_len g.C.ByteClass.has l.bytes

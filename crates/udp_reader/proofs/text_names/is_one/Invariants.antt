@@ -1,6 +1,0 @@
-use Rattle.std.proofs.Common.{◌≡◌, map, drop, bytes_eq}
-use Rattle.std.specs.List.{list_any}
-use Rattle.udp_reader.proofs.text_names.is_one.Given as goal
-
-abbrev pub invariant-loop-other : goal.invariant-loop-other
-invariant-loop-other l = list_any (bytes_eq l.name) (map (λ other. other.now) (drop l.other-index l.names)) ≡ list_any (bytes_eq l.name) (map (λ other. other.now) l.names)

@@ -1,0 +1,286 @@
+//! Primitives, by recursive descent. (IEEE 1364-2005, clause 8.)
+
+ghost use Rattle.std.specs.Prelude.{◌≡◌, [], ◌∷◌, ◌++◌, IfOk, OnOk};
+ghost use Rattle.grammar_reader.specs.declared.refusal.Refusal.TheVariants.{Syntax};
+ghost use Rattle.udp_tables.specs.VerilogPrimitives as spec;
+ghost use Rattle.grammar_reader.specs.Reading.{read, Token, Many, Reads, ReadsAs};
+ghost use Rattle.grammar_reader.specs.Next.{next_bytes};
+ghost use Rattle.udp_tables.specs.VerilogRules.{any_name};
+ghost use Rattle.verilog_udp_reader.specs.Headers.{header_of, header_rest, header_with};
+
+use crate::declared::declare;
+use crate::language::{Cursor, Verilog};
+use crate::named_items::NamedItems;
+use crate::row::{begins_entry, row};
+use crate::text_names::{TextNames, new_name};
+use bool_functions::Names;
+use grammar_reader::{Read, Refusal, RepeatedPart, Stop, where_read, while_next, with_read};
+use sqlite_items::Items;
+use std::alloc::Global;
+use udp_tables::{Udp, UdpRow};
+use verilog_tokens::is_name;
+
+/// How many inputs a primitive may have.
+const MOST_INPUTS: usize = 10;
+
+/// How many inputs a primitive with a state may have.
+const MOST_INPUTS_WITH_STATE: usize = 9;
+
+/// For how many rows a table has room at first.
+const SOME_ROWS: usize = 8;
+
+/// The output and the inputs of a primitive's header.
+#[derive(Drop)]
+pub struct Header {
+    pub output: Items<u8>,
+    pub inputs: Items<Items<u8>>,
+}
+
+/// The inputs of a header so far, and the names of its output and of these.
+type HeaderInputs<'a> = NamedItems<'a, Items<u8>>;
+
+/// The name of the output, as the only one of a header.
+#[tactic(auto, using(crate::proofs::NewNames::any_fits, crate::proofs::NewNames::any_other))]
+fn first_name<'a>(cursor: &mut Cursor<'a>, alloc: Global) -> Read<(Items<u8>, TextNames<'a>)>
+    ensures reads { ReadsAs (λ first. first.0) (read any_name cursor.old) result cursor.new }
+    ensures named { IfOk result (λ first. first.1 ≡ first.0 ∷ []) }
+{
+    let token = cursor.bytes();
+    if !is_name(token) {
+        return Err(Stop::Refused(Refusal::Syntax));
+    }
+    let name = Items::from_slice(alloc, token)?;
+    let mut names = TextNames::new(alloc);
+    names.add(token)?;
+    cursor.skip();
+    Ok((name, names))
+}
+
+/// Adds one more input of a header with this output.
+#[tactic(auto, unfolding(udp_tables::specs::VerilogPrimitives::next_input))]
+fn next_input<'a>(
+    cursor: &mut Cursor<'a>,
+    alloc: Global,
+    output: &[u8],
+    found: &mut HeaderInputs<'a>,
+) -> Read<()>
+    requires { found.old.names ≡ output.now ∷ found.old.items }
+    ensures reads { ReadsAs (λ _. found.new.items) (read (spec.next_input output.now found.old.items) cursor.old) result cursor.new }
+    ensures named { OnOk result (found.new.names ≡ output.now ∷ found.new.items) }
+{
+    let token = cursor.bytes();
+    let input = new_name(cursor, alloc, &found.names)?;
+    found.add(input, token)
+}
+
+/// Adds the inputs of a header with this output behind these.
+#[tactic(auto, unfolding(udp_tables::specs::VerilogPrimitives::more_inputs), using(grammar_reader::proofs::Repeats::turns))]
+fn more_inputs<'a>(
+    cursor: &mut Cursor<'a>,
+    alloc: Global,
+    output: &[u8],
+    found: &mut HeaderInputs<'a>,
+) -> Read<()>
+    requires { found.old.names ≡ output.now ∷ found.old.items }
+    ensures { ReadsAs (λ _. found.new.items) (read (spec.more_inputs output.now found.old.items) cursor.old) result cursor.new }
+{
+    for _turn in 0..cursor.left() {
+        if !cursor.is_next(b",") {
+            break;
+        }
+        cursor.skip();
+        next_input(cursor, alloc, output, found)?;
+    }
+    Ok(())
+}
+
+/// The inputs of a header with this output, of which these are the names, and its end.
+#[tactic(auto, unfolding(crate::specs::Headers::header_rest))]
+fn header_rest<'a>(
+    cursor: &mut Cursor<'a>,
+    alloc: Global,
+    output: &[u8],
+    names: TextNames<'a>,
+) -> Read<Items<Items<u8>>>
+    requires { names ≡ output.now ∷ [] }
+    ensures { ReadsAs (header_with output.now) (read (header_rest output.now) cursor.old) result cursor.new }
+{
+    let mut found = NamedItems {
+        items: Items::new(alloc),
+        names,
+    };
+    next_input(cursor, alloc, output, &mut found)?;
+    more_inputs(cursor, alloc, output, &mut found)?;
+    let NamedItems { items: inputs, .. } = found;
+    cursor.expect_where(inputs.len() <= MOST_INPUTS, Refusal::Width, b")")?;
+    cursor.expect(b";")?;
+    Ok(inputs)
+}
+
+/// The header of a primitive, behind its name.
+#[tactic(auto, unfolding(udp_tables::specs::VerilogPrimitives::header, crate::specs::Headers::header_rest))]
+fn primitive_header(cursor: &mut Cursor<'_>, alloc: Global) -> Read<Header>
+    ensures { ReadsAs header_of (read spec.header cursor.old) result cursor.new }
+{
+    cursor.expect(b"(")?;
+    let (output, names) = first_name(cursor, alloc)?;
+    let comma = cursor.expect(b",");
+    let (output, names) = where_read((output, names), comma)?;
+    let inputs = header_rest(cursor, alloc, output.as_slice(), names);
+    let (output, inputs) = with_read(output, inputs)?;
+    Ok(Header { output, inputs })
+}
+
+/// The declaration of the output.
+#[tactic(auto, unfolding(udp_tables::specs::VerilogPrimitives::declared_output))]
+fn primitive_output(cursor: &mut Cursor<'_>, output: &[u8]) -> Read<()>
+    ensures { Reads (read (spec.declared_output output.now) cursor.old) result cursor.new }
+{
+    cursor.expect(b"output")?;
+    cursor.this_name(output)?;
+    cursor.expect(b";")
+}
+
+/// The declaration of the state, behind its word.
+#[tactic(auto, unfolding(udp_tables::specs::VerilogPrimitives::declared_state))]
+fn primitive_state(cursor: &mut Cursor<'_>, output: &[u8]) -> Read<bool>
+    ensures { Reads (read (spec.declared_state output.now) cursor.old) result cursor.new }
+{
+    cursor.this_name(output)?;
+    cursor.expect(b";")?;
+    Ok(true)
+}
+
+/// Whether the primitive has a state.
+#[tactic(auto, unfolding(udp_tables::specs::VerilogPrimitives::register))]
+fn primitive_register(cursor: &mut Cursor<'_>, header: &Header) -> Read<bool>
+    ensures { Reads (read (spec.register (header_of header.now)) cursor.old) result cursor.new }
+{
+    if !cursor.is_next(b"reg") {
+        return Ok(false);
+    }
+    let may = header.inputs.len() <= MOST_INPUTS_WITH_STATE;
+    cursor.expect_where(may, Refusal::Width, b"reg")?;
+    primitive_state(cursor, header.output.as_slice())
+}
+
+/// A declared input, where so many are declared, behind its word.
+#[derive(Drop)]
+struct DeclaredInput<'a>(&'a [Items<u8>]);
+
+impl RepeatedPart<Verilog> for DeclaredInput<'_> {
+    type Found = usize;
+
+    ghost reading = { λ input count s. read (spec.declared_input input.0.now count) s };
+
+    #[tactic(auto, unfolding(udp_tables::specs::VerilogPrimitives::declared_input))]
+    fn next(&self, cursor: &mut Cursor<'_>, count: usize) -> Read<usize> {
+        let Some(name) = self.0.get(count) else {
+            return Err(Stop::Refused(cursor.no_name()));
+        };
+        cursor.this_name(name.as_slice())?;
+        cursor.expect(b";")?;
+        Ok(count + 1)
+    }
+}
+
+/// The declarations of all inputs.
+#[tactic(auto, unfolding(udp_tables::specs::VerilogPrimitives::declared_inputs))]
+fn primitive_inputs(cursor: &mut Cursor<'_>, inputs: &[Items<u8>]) -> Read<()>
+    ensures { Reads (read (spec.declared_inputs inputs.now) cursor.old) result cursor.new }
+{
+    let count = while_next(cursor, b"input", &DeclaredInput(inputs), 0)?;
+    cursor.go_on_where(count == inputs.len())
+}
+
+/// One more row, behind its first token.
+#[tactic(auto, unfolding(udp_tables::specs::VerilogPrimitives::next_row))]
+fn first_row(
+    cursor: &mut Cursor<'_>,
+    alloc: Global,
+    sequential: bool,
+    inputs: usize,
+    first: &[u8],
+) -> Read<Items<UdpRow>>
+    ensures { Reads (read (spec.next_row sequential inputs [] first.now) cursor.old) result cursor.new }
+{
+    let mut rows = Items::from_vec(Vec::with_capacity(alloc, SOME_ROWS)?);
+    rows.push(row(cursor, alloc, sequential, inputs, first)?)?;
+    Ok(rows)
+}
+
+/// The rows of a table behind these.
+#[tactic(auto, unfolding(udp_tables::specs::VerilogPrimitives::next_row), using(grammar_reader::proofs::Repeats::turn, crate::proofs::Entries::no_row, crate::proofs::Entries::one_row))]
+fn more_rows(
+    cursor: &mut Cursor<'_>,
+    alloc: Global,
+    sequential: bool,
+    inputs: usize,
+    mut rows: Items<UdpRow>,
+) -> Read<Items<UdpRow>>
+    ensures { Reads (read (Many (λ _. spec.begins_row sequential) (spec.next_row sequential inputs) rows) cursor.old) result cursor.new }
+{
+    for _turn in 0..cursor.left() {
+        let token = cursor.bytes();
+        if !begins_entry(sequential, token) {
+            break;
+        }
+        cursor.skip();
+        rows.push(row(cursor, alloc, sequential, inputs, token)?)?;
+    }
+    Ok(rows)
+}
+
+/// Goes behind the first token of a table's first row.
+fn begin_row(cursor: &mut Cursor<'_>, sequential: bool) -> Read<()>
+    ensures { ReadsAs (λ _. next_bytes cursor.old) (read (Token (spec.first_of_row sequential) Syntax) cursor.old) result cursor.new }
+{
+    if !begins_entry(sequential, cursor.bytes()) {
+        return Err(Stop::Refused(Refusal::Syntax));
+    }
+    cursor.skip();
+    Ok(())
+}
+
+/// The table of a primitive.
+#[tactic(auto, unfolding(udp_tables::specs::VerilogPrimitives::table))]
+fn table(
+    cursor: &mut Cursor<'_>,
+    alloc: Global,
+    sequential: bool,
+    inputs: usize,
+) -> Read<Items<UdpRow>>
+    ensures { Reads (read (spec.table sequential inputs) cursor.old) result cursor.new }
+{
+    cursor.expect(b"table")?;
+    let token = cursor.bytes();
+    begin_row(cursor, sequential)?;
+    let first = first_row(cursor, alloc, sequential, inputs, token)?;
+    let rows = more_rows(cursor, alloc, sequential, inputs, first)?;
+    cursor.expect(b"endtable")?;
+    Ok(rows)
+}
+
+/// A primitive behind the word `primitive`, where primitives and modules of these names stand before it. Its own name is then
+/// the last of them; where the reading stops they may have one name more.
+#[tactic(auto, unfolding(udp_tables::specs::VerilogPrimitives::primitive))]
+pub fn primitive(cursor: &mut Cursor<'_>, alloc: Global, names: &mut Names) -> Read<Udp>
+    ensures reads { Reads (read (spec.primitive names.old) cursor.old) result cursor.new }
+    ensures added { IfOk result (λ udp. names.new ≡ names.old ++ udp.name ∷ []) }
+{
+    let name = declare(cursor, alloc, names)?;
+    let header = primitive_header(cursor, alloc)?;
+    primitive_output(cursor, header.output.as_slice())?;
+    let sequential = primitive_register(cursor, &header)?;
+    primitive_inputs(cursor, header.inputs.as_slice())?;
+    let rows = table(cursor, alloc, sequential, header.inputs.len())?;
+    cursor.expect(b"endprimitive")?;
+    let Header { output, inputs } = header;
+    Ok(Udp {
+        name,
+        output,
+        inputs,
+        sequential,
+        rows,
+    })
+}

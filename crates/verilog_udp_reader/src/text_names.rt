@@ -1,0 +1,152 @@
+//! Names that are declared, as they stand in a text.
+
+ghost use Rattle.std.specs.Prelude.{◌≡◌, ◌<◌, [], ◌∷◌, ◌++◌, false, map, take, drop, IfOk, IfErr, OnOk, OnErr};
+ghost use Rattle.std.specs.List.{list_any};
+ghost use Rattle.std.specs.Str.{bytes_eq};
+ghost use Rattle.grammar_reader.specs.Next.{next_bytes};
+ghost use Rattle.grammar_reader.specs.Reading.{read, Reads};
+ghost use Rattle.udp_tables.specs.VerilogRules as spec;
+
+use crate::language::{Cursor, Verilog};
+use bool_functions::Names;
+use grammar_reader::{Language, Read, Refusal, Stop};
+use sqlite_items::Items;
+use std::alloc::Global;
+use std::marker::Model;
+use verilog_tokens::is_name;
+
+/// How many names of a list are compared one by one.
+const NEAR: usize = 16;
+
+/// For how many names there is room at first.
+const SOME_NAMES: usize = 8;
+
+/// Names that are declared, as they stand in a text, in order. Contracts see the list of them. The first of them are compared one by
+/// one, which takes no memory; those behind them stand in a list that finds a name at once too.
+#[derive(Drop)]
+pub struct TextNames<'a> {
+    names: Vec<&'a [u8]>,
+    far: Names,
+}
+
+impl<'a> Model for TextNames<'a> {
+    ghost use Rattle.std.specs.Prelude.{◌≡◌, ℕ, List, map, drop};
+
+    ghost Value = { List (List ℕ) };
+
+    ghost view = { λ t. map (λ name. name.now) t.names.items };
+
+    ghost invariant = { λ t. t.far ≡ drop 16 (map (λ name. name.now) t.names.items) };
+}
+
+/// Whether a name is one of these.
+fn is_one(names: &[&[u8]], name: &[u8]) -> bool
+    ensures { result ≡ list_any (bytes_eq name.now) (map (λ other. other.now) names.now) }
+{
+    for other in names {
+        if Verilog::is_same(name, other) {
+            return true;
+        }
+    }
+    false
+}
+
+/// The first names of a list, which are compared one by one.
+#[tactic(auto, using(grammar_reader::proofs::Places::take_all))]
+fn near<'a, 'b>(names: &'b [&'a [u8]]) -> &'b [&'a [u8]]
+    ensures { result.now ≡ take 16 names.now }
+{
+    if names.len() <= NEAR {
+        names
+    } else {
+        &names[..NEAR]
+    }
+}
+
+/// Whether a name is in a list that finds it at once.
+#[tactic(auto, using(crate::proofs::NearNames::numbered))]
+fn is_found(names: &Names, name: &[u8]) -> bool
+    ensures { result ≡ list_any (bytes_eq name.now) names.now }
+{
+    names.number(name).is_some()
+}
+
+/// Adds a name to the list beside declared names, where it is declared behind them and is none of them.
+#[tactic(auto, using(grammar_reader::proofs::Places::none_behind, crate::proofs::NearNames::drop_near, crate::proofs::NearNames::drop_far, crate::proofs::NearNames::added))]
+fn add_far(far: &mut Names, names: &[&[u8]], name: &[u8]) -> Result<(), Stop>
+    requires kept { far.old ≡ drop 16 (map (λ other. other.now) names.now) }
+    requires fresh { list_any (bytes_eq name.now) (map (λ other. other.now) names.now) ≡ false }
+    ensures more { OnOk result (far.new ≡ drop 16 (map (λ other. other.now) names.now ++ name.now ∷ [])) }
+    ensures err { OnErr result (far.new ≡ far.old) }
+    ensures memory { IfErr result (λ stop. stop ≡ Stop.Memory) }
+{
+    if names.len() < NEAR {
+        return Ok(());
+    }
+    match far.add(name) {
+        Ok(_) => Ok(()),
+        Err(_) => Err(Stop::Memory),
+    }
+}
+
+/// For how many more names a list of so many gets room.
+fn room_behind(count: usize) -> usize
+    ensures { 0 < result }
+{
+    if count == 0 { SOME_NAMES } else { 1 }
+}
+
+impl<'a> TextNames<'a> {
+    ghost use Rattle.std.specs.Prelude.{◌≡◌, [], ◌∷◌, ◌++◌, false, IfErr, OnOk};
+    ghost use Rattle.udp_tables.specs.VerilogRules.{is_among};
+
+    /// No names. Takes no memory.
+    pub fn new(alloc: Global) -> TextNames<'a>
+        ensures { result ≡ [] }
+    {
+        TextNames {
+            names: Vec::new(alloc),
+            far: Names::new(alloc),
+        }
+    }
+
+    /// Whether a name is one of these, in the time of one look-up.
+    #[tactic(auto, using(crate::proofs::NearNames::shown_parted))]
+    pub fn has(&self, name: &[u8]) -> bool
+        ensures { result ≡ is_among self.now name.now }
+    {
+        is_one(near(self.names.as_slice()), name) || is_found(&self.far, name)
+    }
+
+    /// Puts one more name behind these, which is none of them.
+    #[tactic(auto, using(crate::proofs::NearNames::shown_push))]
+    pub fn add(&mut self, name: &'a [u8]) -> Result<(), Stop>
+        requires { is_among self.old name.now ≡ false }
+        ensures added { OnOk result (self.new ≡ self.old ++ name.now ∷ []) }
+        ensures memory { IfErr result (λ stop. stop ≡ Stop.Memory) }
+    {
+        self.names.reserve(room_behind(self.names.len()))?;
+        add_far(&mut self.far, self.names.as_slice(), name)?;
+        self.names.push_reserved(name);
+        Ok(())
+    }
+}
+
+/// A name that is declared here, and is none of these.
+#[tactic(auto, using(crate::proofs::NewNames::new_fits, crate::proofs::NewNames::new_taken, crate::proofs::NewNames::new_other))]
+pub fn new_name(cursor: &mut Cursor<'_>, alloc: Global, names: &TextNames<'_>) -> Read<Items<u8>>
+    ensures reads { Reads (read (spec.new_name names.now) cursor.old) result cursor.new }
+    ensures named { IfOk result (λ name. name ≡ next_bytes cursor.old) }
+    ensures fresh { IfOk result (λ _. spec.is_among names.now (next_bytes cursor.old) ≡ false) }
+{
+    let token = cursor.bytes();
+    if !is_name(token) {
+        return Err(Stop::Refused(Refusal::Syntax));
+    }
+    if names.has(token) {
+        return Err(Stop::Refused(Refusal::Twice));
+    }
+    let name = Items::from_slice(alloc, token)?;
+    cursor.skip();
+    Ok(name)
+}

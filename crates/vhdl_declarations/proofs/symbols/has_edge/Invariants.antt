@@ -1,7 +1,0 @@
-use Rattle.std.proofs.Common.{◌≡◌, drop}
-use Rattle.std.specs.List.{list_any}
-use Rattle.vhdl_text.specs.VhdlTables.{is_edge}
-use Rattle.vhdl_declarations.proofs.symbols.has_edge.Given as goal
-
-abbrev pub invariant-loop-symbol : goal.invariant-loop-symbol
-invariant-loop-symbol l = list_any is_edge (drop l.symbol-index l.symbols) ≡ list_any is_edge l.symbols

@@ -1,0 +1,3 @@
+pub mod NextConstant
+pub mod NextVariable
+pub use Rattle.vhdl_scope.proofs as vhdl_scope

@@ -1,6 +1,0 @@
-use Rattle.std.proofs.Common.{arith}
-use Rattle.vhdl_names.proofs.NoWord.{nothing_is_not_reserved}
-use Rattle.vhdl_names.proofs.words.is_reserved.Goals as goal
-
-pub returns-in-empty : goal.returns-in-empty
-returns-in-empty c = nothing_is_not_reserved c.args.name.now (omega arith)

@@ -1,6 +1,0 @@
-use Rattle.std.proofs.Common.{arith}
-use Rattle.vhdl_names.proofs.NoWord.{nothing_is_not_used}
-use Rattle.vhdl_names.proofs.words.is_used.Goals as goal
-
-pub returns-in-empty : goal.returns-in-empty
-returns-in-empty c = nothing_is_not_used c.args.name.now (omega arith)

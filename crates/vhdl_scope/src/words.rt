@@ -1,0 +1,118 @@
+//! Words, numbers and times at the next token.
+
+ghost use Rattle.std.specs.Prelude.{◌≡◌, map, IfOk};
+ghost use Rattle.vhdl_tokens.specs.Spelling.{is_same};
+ghost use Rattle.vhdl_grammar.specs.VhdlRules as spec;
+ghost use Rattle.grammar_reader.specs.Reading.{read, Reads};
+ghost use Rattle.grammar_reader.specs.Words.{valued};
+ghost use Rattle.vhdl_scope.specs.EitherWord.{either_word};
+
+use crate::language::Cursor;
+use grammar_reader::{Read, Refusal, Stop};
+use std::alloc::{AllocError, Global};
+use vhdl_tokens::{is_same, number_of, numbered_name};
+
+/// Tokens that must stand next, one behind the other.
+#[tactic(auto, using(crate::proofs::NextWords::expect_next, crate::proofs::NextWords::expect_other))]
+pub fn expect_all(cursor: &mut Cursor<'_>, texts: &[&[u8]]) -> Read<()>
+    ensures { Reads (read (spec.expect_all (map (λ text. text.now) texts.now)) cursor.old) result cursor.new }
+{
+    for text in texts {
+        if !cursor.is_next(text) {
+            return Err(Stop::Refused(Refusal::Syntax));
+        }
+        cursor.skip();
+    }
+    Ok(())
+}
+
+/// Whether a token is this number, by its value.
+pub fn is_number_token(number: usize, token: &[u8]) -> bool
+    ensures { result ≡ spec.is_number_token number token.now }
+{
+    match number_of(token) {
+        Some(found) => found == number as u64,
+        None => false,
+    }
+}
+
+/// This number.
+pub fn this_number(cursor: &mut Cursor<'_>, number: usize) -> Read<()>
+    ensures { Reads (read (spec.this_number number) cursor.old) result cursor.new }
+{
+    if !is_number_token(number, cursor.bytes()) {
+        return Err(Stop::Refused(Refusal::Syntax));
+    }
+    cursor.skip();
+    Ok(())
+}
+
+/// The number that stands next.
+#[tactic(auto, using(grammar_reader::proofs::Values::valued_found), unfolding(vhdl_grammar::specs::VhdlRules::a_number))]
+pub fn number(cursor: &mut Cursor<'_>) -> Read<u64>
+    ensures { Reads (read spec.a_number cursor.old) result cursor.new }
+{
+    let found = number_of(cursor.bytes());
+    cursor.value(found)
+}
+
+/// What the next token stands for, which has to be one of these two words.
+#[tactic(auto, using(crate::proofs::EitherWords::either_found))]
+pub fn either_word<A: Drop>(
+    cursor: &mut Cursor<'_>,
+    first: &[u8],
+    one: A,
+    second: &[u8],
+    other: A,
+) -> Read<A>
+    ensures { Reads (read (valued (either_word first.now one second.now other)) cursor.old) result cursor.new }
+{
+    let found = if cursor.is_next(first) {
+        Some(one)
+    } else if cursor.is_next(second) {
+        Some(other)
+    } else {
+        None
+    };
+    cursor.value(found)
+}
+
+/// The time in picoseconds that stands next.
+#[tactic(auto, unfolding(vhdl_grammar::specs::VhdlRules::a_time))]
+pub fn time(cursor: &mut Cursor<'_>) -> Read<u64>
+    ensures { Reads (read spec.a_time cursor.old) result cursor.new }
+{
+    let number = number(cursor)?;
+    cursor.expect(b"ps")?;
+    Ok(number)
+}
+
+/// The name with this number, where it is the next one.
+pub fn numbered(
+    cursor: &mut Cursor<'_>,
+    alloc: Global,
+    is_next: bool,
+    word: &[u8],
+    number: usize,
+) -> Read<()>
+    ensures { Reads (read (spec.this_name (spec.numbered_where is_next word.now number)) cursor.old) result cursor.new }
+{
+    if !is_next {
+        return Err(Stop::Refused(cursor.no_name()));
+    }
+    let name = numbered_name(alloc, word, number)?;
+    cursor.this_name(name.as_slice())
+}
+
+/// Whether a token is the name with this number. An `Err` comes only where memory is wanting.
+pub fn is_numbered(
+    alloc: Global,
+    token: &[u8],
+    word: &[u8],
+    number: usize,
+) -> Result<bool, AllocError>
+    ensures { IfOk result (λ same. same ≡ is_same token.now (spec.numbered word.now number)) }
+{
+    let name = numbered_name(alloc, word, number)?;
+    Ok(is_same(token, name.as_slice()))
+}

@@ -1,2 +1,0 @@
-pub mod BoundFiles
-pub mod DrawLemmas

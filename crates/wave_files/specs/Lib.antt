@@ -1,4 +1,0 @@
-pub mod Dump
-pub mod Outcome
-pub mod Draws
-pub mod Words

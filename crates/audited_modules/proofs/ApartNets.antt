@@ -1,5 +1,6 @@
 -- Lists of nets in which no net stands twice.
-use Rattle.std.proofs.Common.{◌≡◌, ℕ, zero, suc, ◌+◌, ◌<◌, Bool, true, false, not, ◌&&◌, cond, List, [], ◌∷◌, length, get_or, inl, inr, refl, sym, ap, ◌∙◌, arith, IsTrue, Some, None, slice_get, nat_lt}
+use Rattle.std.proofs.Common.{◌≡◌, ℕ, zero, suc, ◌+◌, ◌<◌, Bool, true, false, not, ◌&&◌, cond, List, [], ◌∷◌, length, get_or, inl}
+use Rattle.std.proofs.Common.{inr, refl, sym, ap, ◌∙◌, arith, IsTrue, Some, None, slice_get, nat_lt}
 use Rattle.std.specs.Prelude.{find, position}
 use Rattle.std.specs.List.{list_any, list_all, position_from, position_or_len}
 use Rattle.std.specs.Option.{option_map_or}

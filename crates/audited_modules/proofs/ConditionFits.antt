@@ -21,7 +21,8 @@ use Rattle.model_traces.specs.NetValues.{source_value, net_value}
 use Rattle.model_traces.specs.CheckTimes.{is_enabled}
 use Rattle.model_traces.specs.ModuleFits.{FitsCheck}
 use Rattle.table_audit.specs.Terminals.{condition_nets}
-use Rattle.table_audit.specs.Shape.{cell_inputs, port_inputs, both_or_neither, Gating, gating, gating_of, check_gating, feeds_condition}
+use Rattle.table_audit.specs.Shape.{cell_inputs, port_inputs, both_or_neither, Gating, gating, gating_of, check_gating}
+use Rattle.table_audit.specs.Shape.{feeds_condition}
 use Rattle.table_audit.specs.Tables.{cell_condition, model_condition}
 use Rattle.table_audit.specs.Matches.{SameCheck, HasShape, HasValues}
 use Rattle.audited_modules.proofs.PortSides.{number, pin-value}

@@ -1,5 +1,6 @@
 -- The instances of a generated module that stand for the parts of its cell, and what feeds them.
-use Rattle.std.proofs.Common.{◌≡◌, ℕ, suc, ◌+◌, ◌<◌, Bool, true, false, not, List, [], ◌∷◌, ◌++◌, length, map, refl, sym, ap, ◌∙◌, subst, arith, IsTrue, Some, slice_get, nat_lt, if◌then◌else◌}
+use Rattle.std.proofs.Common.{◌≡◌, ℕ, suc, ◌+◌, ◌<◌, Bool, true, false, not, List, [], ◌∷◌, ◌++◌, length, map, refl, sym, ap, ◌∙◌}
+use Rattle.std.proofs.Common.{subst, arith, IsTrue, Some, slice_get, nat_lt, if◌then◌else◌}
 use Rattle.std.specs.List.{list_all}
 use Rattle.std.specs.Option.{option_map_or}
 use Rattle.std.proofs.lemmas.Bool.{and_parts, and_from, ltb-true}
@@ -24,13 +25,17 @@ use Rattle.specify_blocks.specs.declared.model.Instance.TheVariants as instance
 use Rattle.specify_blocks.specs.declared.model.VModule.{VModule}
 use Rattle.specify_blocks.specs.Nets.{is_sequential, net_driven, are_apart}
 use Rattle.specify_blocks.specs.Sound.{IsSound}
-use Rattle.specify_blocks.specs.Generated.{pin_net, notifier_nets, condition_count, condition_wire, wire_of, each_from, group_instance, condition_instance, output_instance, output_instances, instances_of, primitives_of, module_of}
+use Rattle.specify_blocks.specs.Generated.{pin_net, notifier_nets, condition_count, condition_wire, wire_of, each_from}
+use Rattle.specify_blocks.specs.Generated.{group_instance, condition_instance, output_instance, output_instances, instances_of}
+use Rattle.specify_blocks.specs.Generated.{primitives_of, module_of}
 use Rattle.specify_blocks.specs.Generated as generated
 use Rattle.specify_blocks.proofs.PrimitiveLemmas.{get-left, condition_primitive-at}
 use Rattle.model_traces.proofs.PlaceLemmas.{get-within}
 use Rattle.model_traces.proofs.CellSteps.{IsOutputPin, place-is, no-sources}
-use Rattle.model_traces.proofs.ModuleParts.{group-instance-at, condition-instance-at, output-instance-at, condition-driver, output-driver, sequential-are}
-use Rattle.table_audit.specs.Terminals.{sequential_instances, driving, nets_feeding, same_nets, group_nets, condition_nets, state_net, source_net, output_nets, stands_for}
+use Rattle.model_traces.proofs.ModuleParts.{group-instance-at, condition-instance-at, output-instance-at, condition-driver}
+use Rattle.model_traces.proofs.ModuleParts.{output-driver, sequential-are}
+use Rattle.table_audit.specs.Terminals.{sequential_instances, driving, nets_feeding, same_nets, group_nets, condition_nets}
+use Rattle.table_audit.specs.Terminals.{state_net, source_net, output_nets, stands_for}
 use Rattle.table_audit.specs.Shape.{feeds_group, feeds_condition, output_net, feeds_output}
 use Rattle.audited_modules.proofs.ListLemmas.{place-within}
 use Rattle.audited_modules.proofs.StateWires.{instance-at}

@@ -1,5 +1,6 @@
 -- The module of a cell has its shape.
-use Rattle.std.proofs.Common.{◌≡◌, ℕ, ◌<◌, Bool, true, false, List, [], ◌∷◌, length, map, inl, refl, sym, ap, ◌∙◌, subst, IsTrue, Option, Some, None, option_map, slice_get, nat_lt, nat_le, if◌then◌else◌}
+use Rattle.std.proofs.Common.{◌≡◌, ℕ, ◌<◌, Bool, true, false, List, [], ◌∷◌, length, map, inl, refl, sym, ap, ◌∙◌, subst, IsTrue}
+use Rattle.std.proofs.Common.{Option, Some, None, option_map, slice_get, nat_lt, nat_le, if◌then◌else◌}
 use Rattle.std.specs.List.{list_all, list_any}
 use Rattle.std.proofs.lemmas.Bool.{and_parts, ltb-true}
 use Rattle.std.proofs.lemmas.List.{length-map}
@@ -10,7 +11,8 @@ use Rattle.bool_functions.specs.Support.{support_of}
 use Rattle.cell_machine.specs.declared.checks.Check.{Check}
 use Rattle.cell_machine.specs.declared.arcs.Arc.{Arc}
 use Rattle.cell_machine.specs.CellData.{CellData}
-use Rattle.cell_machine.specs.CellRules.{is_input_pin, is_output_pin, is_condition, has_events, longest_time, is_check, is_arc, HoldsRules}
+use Rattle.cell_machine.specs.CellRules.{is_input_pin, is_output_pin, is_condition, has_events, longest_time, is_check, is_arc}
+use Rattle.cell_machine.specs.CellRules.{HoldsRules}
 use Rattle.udp_tables.specs.declared.timing_checks.TimingCheck.{TimingCheck}
 use Rattle.udp_tables.specs.Conditions.{condition_list, conditions_by}
 use Rattle.specify_blocks.proofs.cell_tables.CellLaws.{conditions_are_numbered-lem}
@@ -20,7 +22,8 @@ use Rattle.specify_blocks.specs.Sound.{IsSound}
 use Rattle.specify_blocks.specs.Generated.{wire_of, is_conditional, gate_by, path_of, check_of, module_of}
 use Rattle.model_traces.proofs.PinNumbers.{module-sides}
 use Rattle.model_traces.proofs.CellSteps.{check-place, arc-place, output-pin, all-passes}
-use Rattle.table_audit.specs.Shape.{both_or_neither, gated_by, gate_wire, Gating, gating, gating_of, check_gating, path_gating, feeds_condition}
+use Rattle.table_audit.specs.Shape.{both_or_neither, gated_by, gate_wire, Gating, gating, gating_of, check_gating, path_gating}
+use Rattle.table_audit.specs.Shape.{feeds_condition}
 use Rattle.table_audit.specs.Matches.{SameCheck, SamePath, HasShape}
 use Rattle.audited_modules.proofs.ListLemmas.{among-place, place-within}
 use Rattle.audited_modules.proofs.PortSides.{sides-are}

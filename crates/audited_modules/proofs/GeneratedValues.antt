@@ -1,5 +1,7 @@
 -- The tables of the module of a cell give its values.
-use Rattle.std.proofs.Common.{◌≡◌, ◌≢◌, ℕ, ◌+◌, ◌<◌, Bool, true, false, List, [], ◌∷◌, ◌++◌, length, map, get_or, set, refl, sym, ap, ◌∙◌, subst, arith, IsTrue, Some, option_map, slice_get, length-append, append-nil, if◌then◌else◌}
+use Rattle.std.proofs.Common.{◌≡◌, ◌≢◌, ℕ, ◌+◌, ◌<◌, Bool, true, false, List, [], ◌∷◌, ◌++◌, length, map, get_or, set, refl, sym}
+use Rattle.std.proofs.Common.{ap, ◌∙◌, subst, arith, IsTrue, Some, option_map, slice_get, length-append, append-nil}
+use Rattle.std.proofs.Common.{if◌then◌else◌}
 use Rattle.std.specs.Prelude.{position}
 use Rattle.std.specs.Option.{option_map_or}
 use Rattle.std.proofs.lemmas.Bool.{and_parts}
@@ -24,7 +26,8 @@ use Rattle.udp_tables.specs.declared.parts.Part.TheVariants as part
 use Rattle.udp_tables.specs.Primitive.{level_output}
 use Rattle.udp_tables.specs.Sequential.{udp_next, noted}
 use Rattle.udp_tables.specs.Conditions.{conditions_of, condition_place}
-use Rattle.udp_tables.specs.CellPrimitives.{has_notifier, group_primitive, condition_tree, condition_primitive, has_sources, output_primitive}
+use Rattle.udp_tables.specs.CellPrimitives.{has_notifier, group_primitive, condition_tree, condition_primitive, has_sources}
+use Rattle.udp_tables.specs.CellPrimitives.{output_primitive}
 use Rattle.specify_blocks.proofs.cell_tables.CellLaws.{parts_resolve-lem, groups_are_machines-lem, groups_are_forced-lem}
 use Rattle.specify_blocks.specs.declared.model.VNet.{VNet}
 use Rattle.specify_blocks.specs.declared.model.VNet.TheVariants as net
@@ -32,7 +35,8 @@ use Rattle.specify_blocks.specs.declared.model.Instance.TheVariants as instance
 use Rattle.specify_blocks.specs.declared.model.VModule.{VModule}
 use Rattle.specify_blocks.specs.Nets.{same_net, are_apart}
 use Rattle.specify_blocks.specs.Sound.{IsSound}
-use Rattle.specify_blocks.specs.Generated.{pin_net, notifier_nets, condition_count, wire_of, group_instance, instances_of, primitives_of, module_of}
+use Rattle.specify_blocks.specs.Generated.{pin_net, notifier_nets, condition_count, wire_of, group_instance, instances_of}
+use Rattle.specify_blocks.specs.Generated.{primitives_of, module_of}
 use Rattle.specify_blocks.specs.Generated as generated
 use Rattle.specify_blocks.proofs.PrimitiveLemmas.{get-left, get-right, group_primitive-at, condition_primitive-at}
 use Rattle.model_traces.proofs.PlaceLemmas.{set-last}
@@ -40,12 +44,15 @@ use Rattle.model_traces.proofs.CellSteps.{IsOutputPin, output-pin, no-sources}
 use Rattle.model_traces.proofs.ModuleParts.{output-instance-at}
 use Rattle.table_audit.specs.Terminals.{group_nets, condition_nets, source_net, output_nets}
 use Rattle.table_audit.specs.Shape.{Gating}
-use Rattle.table_audit.specs.Tables.{arranged, next_at, next_by, group_next, value_by, cell_step, place_net, model_step, note_after, cell_forced, model_notified, cell_condition, model_condition, cell_output, model_output}
+use Rattle.table_audit.specs.Tables.{arranged, next_at, next_by, group_next, value_by, cell_step, place_net, model_step}
+use Rattle.table_audit.specs.Tables.{note_after, cell_forced, model_notified, cell_condition, model_condition, cell_output}
+use Rattle.table_audit.specs.Tables.{model_output}
 use Rattle.table_audit.specs.Matches.{HasValues}
 use Rattle.audited_modules.proofs.ListLemmas.{place-within}
 use Rattle.audited_modules.proofs.StateWires.{instance-at}
 use Rattle.audited_modules.proofs.ApartNets.{own-place, own-values}
-use Rattle.audited_modules.proofs.GeneratedParts.{IsUsed, group-at, group-feeds, group-apart, condition-at, condition-driving, condition-apart, output-support, output-feeds, output-driving}
+use Rattle.audited_modules.proofs.GeneratedParts.{IsUsed, group-at, group-feeds, group-apart, condition-at, condition-driving}
+use Rattle.audited_modules.proofs.GeneratedParts.{condition-apart, output-support, output-feeds, output-driving}
 use Rattle.audited_modules.proofs.GeneratedShape.{IsGating, check-gates, path-gates}
 
 -- a written place before the register

@@ -1,5 +1,6 @@
 -- Lists: the first entry that passes a test, entries of filtered lists, and lists that fit place by place.
-use Rattle.std.proofs.Common.{◌≡◌, ℕ, zero, suc, ◌+◌, ◌<◌, Bool, true, false, ◌||◌, cond, List, [], ◌∷◌, length, get_or, inl, inr, refl, sym, ap, ◌∙◌, arith, Some, None, slice_get, if◌then◌else◌}
+use Rattle.std.proofs.Common.{◌≡◌, ℕ, zero, suc, ◌+◌, ◌<◌, Bool, true, false, ◌||◌, cond, List, [], ◌∷◌, length, get_or, inl, inr}
+use Rattle.std.proofs.Common.{refl, sym, ap, ◌∙◌, arith, Some, None, slice_get, if◌then◌else◌}
 use Rattle.std.specs.Prelude.{filter, find}
 use Rattle.std.specs.List.{list_any, position_from}
 use Rattle.trit_cubes.specs.declared.trits.Trit.{Trit}

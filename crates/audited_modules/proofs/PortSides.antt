@@ -1,5 +1,6 @@
 -- The ports of a module whose number and directions are those of a cell's models.
-use Rattle.std.proofs.Common.{◌≡◌, ℕ, Bool, true, false, cond, List, [], ◌∷◌, map, get_or, take, inl, inr, refl, sym, ap, ◌∙◌, arith, IsTrue, slice_get}
+use Rattle.std.proofs.Common.{◌≡◌, ℕ, Bool, true, false, cond, List, [], ◌∷◌, map, get_or, take, inl, inr, refl, sym, ap, ◌∙◌}
+use Rattle.std.proofs.Common.{arith, IsTrue, slice_get}
 use Rattle.std.specs.Prelude.{count_by, filter}
 use Rattle.std.specs.Option.{option_map_or}
 use Rattle.std.proofs.lemmas.Bool.{cases_order}
@@ -16,7 +17,8 @@ use Rattle.udp_tables.specs.Ports.{is_port, port_number, is_input_port}
 use Rattle.specify_blocks.specs.declared.model.VModule.{VModule}
 use Rattle.specify_blocks.proofs.OutputPins.{outputs_are_pins}
 use Rattle.vital_models.specs.Ports.{ports_of as vital_ports}
-use Rattle.vital_models.proofs.PortFacts.{sides, ports-sides, input-side, input_port, outputs-sides, output_ports as entity_output_ports}
+use Rattle.vital_models.proofs.PortFacts.{sides, ports-sides, input-side, input_port, outputs-sides}
+use Rattle.vital_models.proofs.PortFacts.{output_ports as entity_output_ports}
 use Rattle.vital_models.proofs.PortFacts as vital
 use Rattle.model_traces.specs.PortNumbers.{input_count, input_number, input_value, output_ports}
 use Rattle.model_traces.proofs.PinNumbers.{number-tied, count-tied, outputs-by-sides, is_port_pin, count-below}

@@ -43,8 +43,8 @@ abbrev pub GeneratedModulesAreSame : Type 0
 GeneratedModulesAreSame =
     (d : CellData) → IsTrue (is_cell d.name d.pins d.groups d.outputs d.checks d.arcs) → verdict_of d (module_of d) ≡ Same
 
--- Where the comparison answers a difference, the module has the cell's shape, the difference is among all arguments that are compared,
--- and the values of the cell and of the module that it tells are unlike.
+-- Where the comparison answers a difference, the module has the cell's shape, the difference is among all arguments that are
+-- compared, and the values of the cell and of the module that it tells are unlike.
 abbrev pub DifferencesAreUnlike : Type 0
 DifferencesAreUnlike =
     (d : CellData) (m : VModule) (c : Difference)

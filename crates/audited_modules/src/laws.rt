@@ -24,8 +24,8 @@ pub fn generated_modules_are_same()
     ensures { GeneratedModulesAreSame }
 {}
 
-/// Where the comparison answers a difference, the module has the cell's shape, and the difference is one of the arguments that are
-/// compared, with what the cell and the module give there, which are unlike.
+/// Where the comparison answers a difference, the module has the cell's shape, and the difference is one of the arguments that
+/// are compared, with what the cell and the module give there, which are unlike.
 pub fn differences_are_unlike()
     ensures { DifferencesAreUnlike }
 {}

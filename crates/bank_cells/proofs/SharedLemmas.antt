@@ -20,15 +20,18 @@ abbrev tail_of : List SharedItem → List SharedItem
 tail_of [] = []
 tail_of (one ∷ others) = others
 
-each : (vectors : List Vector) (shared : List Shared) (items : List Item) → map shown_shared shared ≡ map (shared_of vectors) items → All (IsSharedOf vectors) shared
+each : (vectors : List Vector) (shared : List Shared) (items : List Item)
+    → map shown_shared shared ≡ map (shared_of vectors) items → All (IsSharedOf vectors) shared
 each vectors [] items e = All-nil (IsSharedOf vectors)
 each vectors (one ∷ shared) [] e = absurd cc
 each vectors (one ∷ shared) (item ∷ items) e =
     let first : shown_shared one ≡ shared_of vectors item = ap (head_of (shown_shared one)) e in
     let same : one.item.now ≡ item = ap (λ (s : SharedItem). s.item) first in
-    All-cons (IsSharedOf vectors) one shared (ap (λ (s : SharedItem). s.made) first ∙ ap (fixed_timing vectors) (sym same)) (each vectors shared items (ap tail_of e))
+    All-cons (IsSharedOf vectors) one shared (ap (λ (s : SharedItem). s.made) first ∙ ap (fixed_timing vectors) (sym same))
+    (each vectors shared items (ap tail_of e))
 
-them : (vectors : List Vector) (shared : List Shared) (items : List Item) → map shown_shared shared ≡ map (shared_of vectors) items → items_of shared ≡ items
+them : (vectors : List Vector) (shared : List Shared) (items : List Item)
+    → map shown_shared shared ≡ map (shared_of vectors) items → items_of shared ≡ items
 them vectors [] [] e = refl
 them vectors [] (item ∷ items) e = absurd cc
 them vectors (one ∷ shared) [] e = absurd cc
@@ -36,10 +39,12 @@ them vectors (one ∷ shared) (item ∷ items) e =
     let first : one.item.now ≡ item = ap (λ (s : SharedItem). s.item) (ap (head_of (shown_shared one)) e) in
     ap (λ i. i ∷ items_of shared) first ∙ ap (λ rest. item ∷ rest) (them vectors shared items (ap tail_of e))
 
-pub all_of : (vectors : List Vector) (items : List Item) (shared : List Shared) → map shown_shared shared ≡ shared_items vectors items → All (IsSharedOf vectors) shared
+pub all_of : (vectors : List Vector) (items : List Item) (shared : List Shared)
+    → map shown_shared shared ≡ shared_items vectors items → All (IsSharedOf vectors) shared
 all_of vectors items shared e = each vectors shared (filter is_shared items) e
 
-pub items_are : (vectors : List Vector) (items : List Item) (shared : List Shared) → map shown_shared shared ≡ shared_items vectors items
+pub items_are : (vectors : List Vector) (items : List Item) (shared : List Shared)
+    → map shown_shared shared ≡ shared_items vectors items
     → items_of shared ≡ filter is_shared items
 items_are vectors items shared e = them vectors shared (filter is_shared items) e
 
@@ -49,7 +54,8 @@ where_went (Ok x) f a = f a
 where_went (Err e) f a = tt
 
 module _ (vectors : List Vector) (at : ℕ) (statements : List Item) (shared : List Shared) (own : List Item) where
-  all_items : map shown_shared shared ≡ shared_items vectors statements → items_of shared ++ own ≡ filter is_shared statements ++ own
+  all_items : map shown_shared shared ≡ shared_items vectors statements
+      → items_of shared ++ own ≡ filter is_shared statements ++ own
   all_items e = ap (λ items. items ++ own) (items_are vectors statements shared e)
 
   -- the statements of a member as they become
@@ -58,13 +64,16 @@ module _ (vectors : List Vector) (at : ℕ) (statements : List Item) (shared : L
       → first ≡ empty ++ map (pin_item vectors (Some at)) (items_of shared) → all ≡ first ++ map (pin_item vectors (Some at)) own
       → all ≡ map (pin_item vectors (Some at)) (filter is_shared statements ++ own)
   made_items empty first all e none some more =
-      more ∙ ap (λ items. items ++ map (pin_item vectors (Some at)) own) (some ∙ ap (λ items. items ++ map (pin_item vectors (Some at)) (items_of shared)) none)
+      more ∙ ap (λ items. items ++ map (pin_item vectors (Some at)) own)
+      (some ∙ ap (λ items. items ++ map (pin_item vectors (Some at)) (items_of shared)) none)
       ∙ sym (map-append (pin_item vectors (Some at)) (items_of shared) own) ∙ ap (map (pin_item vectors (Some at))) (all_items e)
 
   -- and its faults
   pub made_faults :
-      (items : List Item) (old texts first all : List ℕ) → map shown_shared shared ≡ shared_items vectors statements → items ≡ items_of shared ++ own
-      → texts ≡ old ++ text_faults vectors (Some at) pin_texts items → first ≡ texts ++ flat_map (timing_faults_in vectors (Some at)) (items_of shared)
+      (items : List Item) (old texts first all : List ℕ) → map shown_shared shared ≡ shared_items vectors statements
+      → items ≡ items_of shared ++ own
+      → texts ≡ old ++ text_faults vectors (Some at) pin_texts items
+      → first ≡ texts ++ flat_map (timing_faults_in vectors (Some at)) (items_of shared)
       → all ≡ first ++ flat_map (timing_faults_in vectors (Some at)) own
       → all ≡ old ++ pin_faults vectors (Some at) (filter is_shared statements ++ own)
   made_faults items old texts first all e are said some more =
@@ -73,5 +82,6 @@ module _ (vectors : List Vector) (at : ℕ) (statements : List Item) (shared : L
       more ∙ ap (λ l. l ++ timed own) (some ∙ ap (λ l. l ++ timed (items_of shared)) (said ∙ ap (λ i. old ++ said_of i) are))
       ∙ append_assoc (old ++ said_of (items_of shared ++ own)) (timed (items_of shared)) (timed own)
       ∙ append_assoc old (said_of (items_of shared ++ own)) (timed (items_of shared) ++ timed own)
-      ∙ ap (λ l. old ++ (said_of (items_of shared ++ own) ++ l)) (sym (flat_map-append (timing_faults_in vectors (Some at)) (items_of shared) own))
+      ∙ ap (λ l. old ++ (said_of (items_of shared ++ own) ++ l))
+      (sym (flat_map-append (timing_faults_in vectors (Some at)) (items_of shared) own))
       ∙ ap (λ i. old ++ pin_faults vectors (Some at) i) (all_items e)

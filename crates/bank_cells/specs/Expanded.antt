@@ -215,8 +215,8 @@ expanded_cell types cell =
 unfoldable pub expanded : List BusType → Group → Group
 expanded types cell = if has_many cell then expanded_cell types cell else cell
 
--- What a call answers that makes this group of a cell, where nothing refuses to expand the cell: it, why the cell is refused, or that
--- memory was wanting.
+-- What a call answers that makes this group of a cell, where nothing refuses to expand the cell: it, why the cell is refused, or
+-- that memory was wanting.
 abbrev pub AnswersWith : List BusType → Group → Group → Result Group BankFault → Type 0
 AnswersWith types cell single (Ok group) = (bank_refusal types cell ≡ None) × (group ≡ single)
 AnswersWith types cell single (Err (Refused refusal)) = bank_refusal types cell ≡ Some refusal

@@ -23,7 +23,8 @@ use Rattle.bank_cells.specs.Fixed.{names_none, is_fixed}
 abbrev pub text_stays : List Vector → Item-F Item Group → Bool
 text_stays vectors item =
     names_none vectors (simple_named (codes "function") item)
-    && (names_none vectors (simple_named (codes "state_function") item) && names_none vectors (simple_named (codes "three_state") item))
+    && (names_none vectors (simple_named (codes "state_function") item)
+    && names_none vectors (simple_named (codes "three_state") item))
 
 -- A group of a bus or bundle is not one of its inner pins, and a `timing` group becomes the same at each position.
 abbrev pub group_stays : List Vector → Item-F Item Group → Bool

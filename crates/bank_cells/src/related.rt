@@ -83,7 +83,8 @@ fn word_fails(place: Place<'_>, word: &[u8]) -> bool
 
 /// Whether one of these words cannot become a pin.
 fn any_fails(place: Place<'_>, words: &[&[u8]]) -> bool
-    ensures { result ≡ list_any (spec.word_fails place.entry.vectors.now place.entry.position) (map (λ word. word.now) words.now) }
+    ensures { result ≡ list_any (spec.word_fails place.entry.vectors.now place.entry.position)
+        (map (λ word. word.now) words.now) }
 {
     for word in words {
         if word_fails(place, word) {

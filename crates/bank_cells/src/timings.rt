@@ -102,7 +102,8 @@ fn related_at(
     at: usize,
     related: Attribute<'_>,
 ) -> Result<Item, AllocError>
-    ensures { IfOk result (λ item. item ≡ spec.related_pins (spec.members_at vectors.now at related.entry.text.now) related.entry.at) }
+    ensures { IfOk result (λ item. item ≡ spec.related_pins (spec.members_at vectors.now at related.entry.text.now)
+        related.entry.at) }
 {
     let words = related_words(alloc, related.text)?;
     let mut text = Vec::new(alloc);
@@ -112,7 +113,8 @@ fn related_at(
 
 /// The `related_pin` that a `related_bus_pins` becomes.
 fn related_buses(alloc: Global, vectors: &Vectors, buses: Attribute<'_>) -> Result<Item, AllocError>
-    ensures { IfOk result (λ item. item ≡ spec.related_pins (spec.members_of_all vectors.now buses.entry.text.now) buses.entry.at) }
+    ensures { IfOk result (λ item. item ≡ spec.related_pins (spec.members_of_all vectors.now buses.entry.text.now)
+        buses.entry.at) }
 {
     let words = related_words(alloc, buses.text)?;
     let mut text = Vec::new(alloc);

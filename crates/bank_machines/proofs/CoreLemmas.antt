@@ -1,5 +1,6 @@
 -- The statements of a core: its states, its pins and their texts.
-use Rattle.std.proofs.Common.{◌≡◌, ℕ, ◌+◌, Bool, true, false, List, [], ◌∷◌, ◌++◌, length, map, filter, Option, None, Some, if◌then◌else◌, refl, sym, ap, subst, ◌∙◌, codes, decimal, append-nil, arith, append_assoc}
+use Rattle.std.proofs.Common.{◌≡◌, ℕ, ◌+◌, Bool, true, false, List, [], ◌∷◌, ◌++◌, length, map, filter, Option, None, Some}
+use Rattle.std.proofs.Common.{if◌then◌else◌, refl, sym, ap, subst, ◌∙◌, codes, decimal, append-nil, arith, append_assoc}
 use Rattle.std.specs.Prelude.{flat_map, bytes_eq}
 use Rattle.std.specs.List.{cons_option, AllByRecursion}
 use Rattle.std.proofs.lemmas.Bool.{and_parts}
@@ -24,7 +25,8 @@ use Rattle.cell_attributes.specs.Texts.{malformed_at, unknown_at}
 use Rattle.cell_attributes.specs.Outputs.{node_as, output_with, pin_text_as, pin_text}
 use Rattle.cell_attributes.specs.Building.{output_pin, output_in, outputs_from}
 use Rattle.three_state_cells.specs.Outputs.{ThreeStateOutput, three_state_of, is_three_state}
-use Rattle.three_state_cells.specs.CoreGroups.{stays_in_core, core_pin, core_statement_as, core_statement, one_value, enable_function, enable_statements, enable_pin_of, enable_pins}
+use Rattle.three_state_cells.specs.CoreGroups.{stays_in_core, core_pin, core_statement_as, core_statement, one_value}
+use Rattle.three_state_cells.specs.CoreGroups.{enable_function, enable_statements, enable_pin_of, enable_pins}
 use Rattle.three_state_cells.proofs.Statements.{not_false, attributes_kept}
 use Rattle.bus_texts.specs.Vectors.{is_called}
 use Rattle.bank_machines.proofs.StateLists.{single_states, states_append, inner_cons, state_word, pin_apart}
@@ -38,12 +40,19 @@ unfolding is_three_state
 three_state_pin group h = (and_parts (is_called (codes "pin") group) _ (and_parts (is_pin group) _ h).0).0
 
 abbrev core_as : Group → Group-F Item Group
-core_as pin = record { name = pin.name; arguments = pin.arguments; items = filter (λ item. stays_in_core (out-Item item)) pin.items; at = pin.at }
+core_as pin = record {
+  name = pin.name;
+  arguments = pin.arguments;
+  items =
+      filter (λ item. stays_in_core (out-Item item)) pin.items;
+  at = pin.at;
+}
 
 module _ (name : List ℕ) (other : bytes_eq (codes "three_state") name ≡ false) where
   gone : (one : Item-F Item Group) → stays_in_core one ≡ false → simple_named name one ≡ None
   gone (layer.Simple n value at) h =
-      let named : n ≡ codes "three_state" = (bytes_eq-Decides n (codes "three_state")).0 (not_false (bytes_eq n (codes "three_state")) h) in
+      let named : n ≡ codes "three_state" =
+      (bytes_eq-Decides n (codes "three_state")).0 (not_false (bytes_eq n (codes "three_state")) h) in
       ap (λ m. if bytes_eq m name then Some (record { text = text_of value; at = at }) else None) named
       ∙ ap (λ b. if b then Some (record { text = text_of value; at = at }) else None) other
   gone (layer.Complex n arguments at) h = refl
@@ -64,7 +73,8 @@ core_text v pin = ap (pin_text_as v (core_pin pin)) (core_direction pin) ∙ by 
     by None = refl
     by (Some direction.Input) = refl
     by (Some direction.Output) =
-        ap (λ o. output_with v o (attribute_of (core_pin pin) (codes "internal_node")) (attribute_of (core_pin pin) (codes "function")))
+        ap (λ o. output_with v o (attribute_of (core_pin pin) (codes "internal_node"))
+        (attribute_of (core_pin pin) (codes "function")))
         (core_attribute (codes "state_function") refl pin)
         ∙ (ap (λ o. output_with v (attribute_of pin (codes "state_function")) o (attribute_of (core_pin pin) (codes "function")))
         (core_attribute (codes "internal_node") refl pin)
@@ -111,7 +121,8 @@ by_state item group true e t =
 state_statement : (item : Item) → single_states (core_statement item ∷ []) ≡ single_states (item ∷ [])
 state_statement item = by (out-Item item) refl
   where
-    by : (one : Item-F Item Group) → out-Item item ≡ one → single_states (core_statement_as item one ∷ []) ≡ single_states (item ∷ [])
+    by : (one : Item-F Item Group) → out-Item item ≡ one
+        → single_states (core_statement_as item one ∷ []) ≡ single_states (item ∷ [])
     by (layer.Simple name value at) e = refl
     by (layer.Complex name arguments at) e = refl
     by (layer.Inner group) e = by_state item group (is_three_state group) e refl
@@ -126,7 +137,13 @@ core_states (item ∷ items) =
 -- The pins that are added.
 
 abbrev enable_as : ℕ → Attribute → Group-F Item Group
-enable_as number floats = record { name = codes "pin"; arguments = one_value (codes "-e" ++ decimal (number + 1)); items = enable_statements floats; at = floats.at }
+enable_as number floats = record {
+  name = codes "pin";
+  arguments = one_value (codes "-e" ++ decimal (number + 1));
+  items =
+      enable_statements floats;
+  at = floats.at;
+}
 
 abbrev pub enable_group : ℕ → Attribute → Group
 enable_group number floats = roll-Group (enable_as number floats)
@@ -137,7 +154,8 @@ enable_owner_of number (Some floats) = enable_group number floats ∷ []
 
 abbrev pub enable_owners : ℕ → List ThreeStateOutput → List Group
 enable_owners number [] = []
-enable_owners number (output ∷ outputs) = enable_owner_of number (three_state_of output.group) ++ enable_owners (number + 1) outputs
+enable_owners number (output ∷ outputs) = enable_owner_of number (three_state_of output.group)
+    ++ enable_owners (number + 1) outputs
 
 enable_no_state : (number : ℕ) (floats : Attribute) → is_state (enable_group number floats) ≡ false
 enable_no_state number floats = ap (λ (one : Group-F Item Group). state_word one.name) (out-roll-Group (enable_as number floats))
@@ -157,7 +175,8 @@ enable_states number (output ∷ outputs) =
 
 -- the states of a core are those of its cell
 pub states_of_core :
-    (items : List Item) (outputs : List ThreeStateOutput) → single_states (map core_statement items ++ enable_pins 0 outputs) ≡ single_states items
+    (items : List Item) (outputs : List ThreeStateOutput)
+    → single_states (map core_statement items ++ enable_pins 0 outputs) ≡ single_states items
 states_of_core items outputs =
     states_append (map core_statement items) (enable_pins 0 outputs)
     ∙ (ap (λ gs. single_states (map core_statement items) ++ gs) (enable_states 0 outputs)
@@ -173,13 +192,15 @@ through_all owner group single e (value ∷ arguments) =
     ∙ ap (λ gs. owner group ∷ gs) (through_all owner group single e arguments)
 
 owned_through :
-    (owner : Group → Group) (group single : Group) → owner group ≡ single → single.name ≡ group.name → single.arguments ≡ group.arguments
+    (owner : Group → Group) (group single : Group) → owner group ≡ single → single.name ≡ group.name
+    → single.arguments ≡ group.arguments
     → owned single ≡ map owner (owned group)
 owned_through owner group single e named same =
     ap (λ name. if pin_word name single.arguments then map (owner_as single) single.arguments else []) named
     ∙ (ap (λ arguments. if pin_word group.name arguments then map (owner_as single) arguments else []) same ∙ by (is_pin group))
   where
-    by : (b : Bool) → (if b then map (owner_as single) group.arguments else []) ≡ map owner (if b then map (owner_as group) group.arguments else [])
+    by : (b : Bool) → (if b then map (owner_as single) group.arguments else []) ≡ map owner
+        (if b then map (owner_as group) group.arguments else [])
     by true = through_all owner group single e group.arguments
     by false = refl
 
@@ -210,7 +231,8 @@ listed one = flat_map owners_in (filter is_pin (cons_option (inner_of one) []))
 owner_statement : (item : Item) → owner_list (core_statement item ∷ []) ≡ map core_owner (owner_list (item ∷ []))
 owner_statement item = by (out-Item item) refl
   where
-    by : (one : Item-F Item Group) → out-Item item ≡ one → owner_list (core_statement_as item one ∷ []) ≡ map core_owner (owner_list (item ∷ []))
+    by : (one : Item-F Item Group) → out-Item item ≡ one
+        → owner_list (core_statement_as item one ∷ []) ≡ map core_owner (owner_list (item ∷ []))
     by (layer.Simple name value at) e = ap listed e ∙ sym (ap (λ one. map core_owner (listed one)) e)
     by (layer.Complex name arguments at) e = ap listed e ∙ sym (ap (λ one. map core_owner (listed one)) e)
     by (layer.Inner group) e = by_owner item group (is_three_state group) e refl
@@ -221,16 +243,20 @@ core_owners (item ∷ items) =
     owners_append (core_statement item ∷ []) (map core_statement items)
     ∙ (ap (λ gs. gs ++ owner_list (map core_statement items)) (owner_statement item)
     ∙ (ap (λ gs. map core_owner (owner_list (item ∷ [])) ++ gs) (core_owners items)
-    ∙ (sym (map-append core_owner (owner_list (item ∷ [])) (owner_list items)) ∙ sym (ap (map core_owner) (owners_append (item ∷ []) items)))))
+    ∙ (sym (map-append core_owner (owner_list (item ∷ [])) (owner_list items))
+    ∙ sym (ap (map core_owner) (owners_append (item ∷ []) items)))))
 
-by_enable_owner : (number : ℕ) (floats : Option Attribute) → owner_list (enable_pin_of number floats) ≡ enable_owner_of number floats
+by_enable_owner : (number : ℕ) (floats : Option Attribute)
+    → owner_list (enable_pin_of number floats) ≡ enable_owner_of number floats
 by_enable_owner number None = refl
 by_enable_owner number (Some floats) =
     owner_cons (enable_group number floats) []
-    ∙ ap (λ (one : Group-F Item Group). (if pin_word one.name one.arguments then map (owner_as (enable_group number floats)) one.arguments else []) ++ [])
+    ∙ ap (λ (one : Group-F Item Group).
+    (if pin_word one.name one.arguments then map (owner_as (enable_group number floats)) one.arguments else []) ++ [])
     (out-roll-Group (enable_as number floats))
 
-enables_owned : (number : ℕ) (outputs : List ThreeStateOutput) → owner_list (enable_pins number outputs) ≡ enable_owners number outputs
+enables_owned : (number : ℕ) (outputs : List ThreeStateOutput)
+    → owner_list (enable_pins number outputs) ≡ enable_owners number outputs
 enables_owned number [] = refl
 enables_owned number (output ∷ outputs) =
     owners_append (enable_pin_of number (three_state_of output.group)) (enable_pins (number + 1) outputs)
@@ -240,7 +266,8 @@ enables_owned number (output ∷ outputs) =
 -- the pins of a core
 pub owners_of_core :
     (items : List Item) (outputs : List ThreeStateOutput)
-    → owner_list (map core_statement items ++ enable_pins 0 outputs) ≡ map core_owner (owner_list items) ++ enable_owners 0 outputs
+    → owner_list (map core_statement items ++ enable_pins 0 outputs) ≡ map core_owner (owner_list items)
+    ++ enable_owners 0 outputs
 owners_of_core items outputs =
     owners_append (map core_statement items) (enable_pins 0 outputs)
     ∙ (ap (λ gs. gs ++ owner_list (enable_pins 0 outputs)) (core_owners items)
@@ -251,31 +278,39 @@ owners_of_core items outputs =
 module _ (v : Vocabulary) (pins : ℕ) (states : List StateGroup) (to : List ℕ) where
   pub outputs_append :
       (number : ℕ) (xs ys : List Group)
-      → outputs_from v pins states to number (xs ++ ys) ≡ outputs_from v pins states to number xs ++ outputs_from v pins states to (number + length xs) ys
+      → outputs_from v pins states to number (xs ++ ys) ≡ outputs_from v pins states to number xs
+      ++ outputs_from v pins states to (number + length xs) ys
   outputs_append number [] ys = let e : number + 0 ≡ number = omega arith in ap (λ n. outputs_from v pins states to n ys) (sym e)
   outputs_append number (x ∷ xs) ys =
       let e : number + 1 + length xs ≡ number + length (x ∷ xs) = omega arith in
       ap (λ os. output_in v pins states to number x ++ os)
-      (outputs_append (number + 1) xs ys ∙ ap (λ n. outputs_from v pins states to (number + 1) xs ++ outputs_from v pins states to n ys) e)
+      (outputs_append (number + 1) xs ys
+      ∙ ap (λ n. outputs_from v pins states to (number + 1) xs ++ outputs_from v pins states to n ys) e)
       ∙ sym
       (append_assoc (output_in v pins states to number x) (outputs_from v pins states to (number + 1) xs)
       (outputs_from v pins states to (number + length (x ∷ xs)) ys))
 
-  core_output : (number : ℕ) (group : Group) → output_in v pins states to number (core_owner group) ≡ output_in v pins states to number group
+  core_output : (number : ℕ) (group : Group)
+      → output_in v pins states to number (core_owner group) ≡ output_in v pins states to number group
   core_output number group =
-      ap (λ d. if is_output_group d then output_pin pins states to number (pin_text v (core_owner group)) ∷ [] else []) (owner_direction group)
-      ∙ ap (λ t. if is_output_group (direction_of group) then output_pin pins states to number t ∷ [] else []) (owner_text v group)
+      ap (λ d. if is_output_group d then output_pin pins states to number (pin_text v (core_owner group)) ∷ [] else [])
+      (owner_direction group)
+      ∙ ap (λ t. if is_output_group (direction_of group) then output_pin pins states to number t ∷ [] else [])
+      (owner_text v group)
 
   pub core_outputs :
-      (groups : List Group) (number : ℕ) → outputs_from v pins states to number (map core_owner groups) ≡ outputs_from v pins states to number groups
+      (groups : List Group) (number : ℕ)
+      → outputs_from v pins states to number (map core_owner groups) ≡ outputs_from v pins states to number groups
   core_outputs [] number = refl
   core_outputs (group ∷ groups) number =
       ap (λ os. os ++ outputs_from v pins states to (number + 1) (map core_owner groups)) (core_output number group)
       ∙ ap (λ os. output_in v pins states to number group ++ os) (core_outputs groups (number + 1))
 
-pub core_reads : (v : Vocabulary) (groups : List Group) → AllByRecursion (ReadsText v) (map core_owner groups) → AllByRecursion (ReadsText v) groups
+pub core_reads : (v : Vocabulary) (groups : List Group) → AllByRecursion (ReadsText v) (map core_owner groups)
+    → AllByRecursion (ReadsText v) groups
 core_reads v [] h = tt
-core_reads v (group ∷ groups) h = (subst (λ t. (malformed_at t ≡ []) × (unknown_at t ≡ [])) (owner_text v group) h.0, core_reads v groups h.1)
+core_reads v (group ∷ groups) h =
+    (subst (λ t. (malformed_at t ≡ []) × (unknown_at t ≡ [])) (owner_text v group) h.0, core_reads v groups h.1)
 
 -- the attributes of a pin that is added
 pub enable_attribute :
@@ -287,8 +322,11 @@ pub enable_attribute :
 enable_attribute number floats name =
     ap (λ (one : Group-F Item Group). last_or None (attributes_named name one.items)) (out-roll-Group (enable_as number floats))
     ∙ (ap
-    (λ one. last_or None (cons_option (simple_named name one) (attributes_named name (made.Simple (codes "function") (one_value (enable_function floats.text)) floats.at ∷ []))))
+    (λ one. last_or None (cons_option (simple_named name one)
+    (attributes_named name (made.Simple (codes "function") (one_value (enable_function floats.text)) floats.at ∷ []))))
     (outs-Simple (codes "direction") (one_value (codes "output")) floats.at)
     ∙ ap
-    (λ one. last_or None (cons_option (simple_named name (layer.Simple (codes "direction") (one_value (codes "output")) floats.at)) (cons_option (simple_named name one) [])))
+    (λ one. last_or None (cons_option
+    (simple_named name (layer.Simple (codes "direction") (one_value (codes "output")) floats.at))
+    (cons_option (simple_named name one) [])))
     (outs-Simple (codes "function") (one_value (enable_function floats.text)) floats.at))

@@ -1,5 +1,6 @@
 -- The core of an expanded cell runs as the bank machine.
-use Rattle.std.proofs.Common.{◌≡◌, ℕ, ◌+◌, Bool, true, false, List, [], ◌∷◌, ◌++◌, length, map, Option, None, Some, refl, sym, ap, subst, ◌∙◌, arith}
+use Rattle.std.proofs.Common.{◌≡◌, ℕ, ◌+◌, Bool, true, false, List, [], ◌∷◌, ◌++◌, length, map, Option, None, Some, refl, sym, ap}
+use Rattle.std.proofs.Common.{subst, ◌∙◌, arith}
 use Rattle.std.specs.Prelude.{flat_map}
 use Rattle.std.proofs.lemmas.List.{length-map}
 use Rattle.std.specs.List.{AllByRecursion}
@@ -37,15 +38,23 @@ use Rattle.bank_machines.proofs.StateLists.{all_split, single_states}
 use Rattle.bank_machines.proofs.PinLemmas.{owner_of, Placed, ReadsText}
 use Rattle.bank_machines.proofs.PinLists.{owner_list, owners_are, placed_are, scalars_are, own_are}
 use Rattle.bank_machines.proofs.Spelling.{cell_spells}
-use Rattle.bank_machines.proofs.CoreLemmas.{core_owner, enable_owners, states_of_core, owners_of_core, outputs_append, core_outputs, core_reads}
+use Rattle.bank_machines.proofs.CoreLemmas.{core_owner, enable_owners, states_of_core, owners_of_core, outputs_append}
+use Rattle.bank_machines.proofs.CoreLemmas.{core_outputs, core_reads}
 use Rattle.bank_machines.proofs.EnableLemmas.{FloatsAs, owners_float, scalars_float, scalars_placed, enables_are}
-use Rattle.bank_machines.proofs.Machines.{unrefused, expanded_items, plain_items, reads, many_states, many_outputs, few_states, few_outputs, outputs_over, runs_as, machines_are}
+use Rattle.bank_machines.proofs.Machines.{unrefused, expanded_items, plain_items, reads, many_states, many_outputs, few_states}
+use Rattle.bank_machines.proofs.Machines.{few_outputs, outputs_over, runs_as, machines_are}
 
 core_items : (cell : Group) → (core_group cell).items ≡ map core_statement cell.items ++ enable_pins 0 (three_state_outputs cell)
 unfolding core_group
 core_items cell =
     ap (λ (one : Group-F Item Group). one.items)
-    (out-roll-Group (record { name = cell.name; arguments = cell.arguments; items = map core_statement cell.items ++ enable_pins 0 (three_state_outputs cell); at = cell.at }))
+    (out-roll-Group (record {
+      name = cell.name;
+      arguments = cell.arguments;
+      items = map core_statement cell.items
+          ++ enable_pins 0 (three_state_outputs cell);
+      at = cell.at;
+    }))
 
 module _ (types : List BusType) (cell : Group) (meets : CellMeetsNone (core_group (expanded types cell))) where
   abbrev single : Group
@@ -84,7 +93,8 @@ module _ (types : List BusType) (cell : Group) (meets : CellMeetsNone (core_grou
   owners_same : owner_list core.items ≡ map core_owner (owner_list single.items) ++ enable_owners 0 added
   owners_same = ap owner_list (core_items single) ∙ owners_of_core single.items added
 
-  all_reads : AllByRecursion (ReadsText v) (map core_owner (owner_list single.items)) × AllByRecursion (ReadsText v) (enable_owners 0 added)
+  all_reads : AllByRecursion (ReadsText v) (map core_owner (owner_list single.items))
+      × AllByRecursion (ReadsText v) (enable_owners 0 added)
   all_reads =
       all_split (ReadsText v) (map core_owner (owner_list single.items)) (enable_owners 0 added)
       (subst (λ gs. AllByRecursion (ReadsText v) gs) owners_same (reads types cell core meets))
@@ -100,17 +110,22 @@ module _ (types : List BusType) (cell : Group) (meets : CellMeetsNone (core_grou
       ++ outputs_from v pins states numbers (length (owner_list single.items)) (enable_owners 0 added)
   split_outputs same =
       let count : 0 + length (map core_owner (owner_list single.items)) ≡ length (owner_list single.items) =
-      let e : length (map core_owner (owner_list single.items)) ≡ length (owner_list single.items) = length-map (owner_list single.items) core_owner in omega (arith, e) in
+      let e : length (map core_owner (owner_list single.items)) ≡ length (owner_list single.items) =
+      length-map (owner_list single.items) core_owner in omega (arith, e) in
       outputs_over types cell core meets same
       ∙ (ap (outputs_from v pins states numbers 0) owners_same
       ∙ (outputs_append v pins states numbers 0 (map core_owner (owner_list single.items)) (enable_owners 0 added)
-      ∙ (ap (λ os. os ++ outputs_from v pins states numbers (0 + length (map core_owner (owner_list single.items))) (enable_owners 0 added))
+      ∙ (ap (λ os. os ++ outputs_from v pins states numbers (0 + length (map core_owner (owner_list single.items)))
+      (enable_owners 0 added))
       (core_outputs v pins states numbers (owner_list single.items) 0)
-      ∙ ap (λ n. outputs_from v pins states numbers 0 (owner_list single.items) ++ outputs_from v pins states numbers n (enable_owners 0 added)) count)))
+      ∙ ap (λ n. outputs_from v pins states numbers 0 (owner_list single.items)
+      ++ outputs_from v pins states numbers n (enable_owners 0 added)) count)))
 
   added_outputs :
-      (owner : WrittenPin → Group) → owner_list single.items ≡ map owner made → AllByRecursion (FloatsAs vectors owner) made → AllByRecursion (Placed vectors) made
-      → outputs_from v pins states numbers (length (owner_list single.items)) (enable_owners 0 added) ≡ enables_among names v pins states (length made) made
+      (owner : WrittenPin → Group) → owner_list single.items ≡ map owner made → AllByRecursion (FloatsAs vectors owner) made
+      → AllByRecursion (Placed vectors) made
+      → outputs_from v pins states numbers (length (owner_list single.items)) (enable_owners 0 added) ≡ enables_among names v pins
+      states (length made) made
   added_outputs owner same floats placed =
       let count : length (owner_list single.items) ≡ length made = ap length same ∙ length-map made owner in
       let same_added : added ≡ three_states_from 0 (map owner made) = ap (three_states_from 0) same in
@@ -124,7 +139,8 @@ record IsBankCore (types : List BusType) (cell : Group) : Type 0 where
   pub states_are : groups_of (core_group (expanded types cell)) ≡ joined (bank_core types cell).states
   pub outputs_are : outputs_of (core_group (expanded types cell)) ≡ (bank_core types cell).outputs
 
-is_bank_core : (types : List BusType) (cell : Group) → bank_refusal types cell ≡ None → CellMeetsNone (core_group (expanded types cell)) → IsBankCore types cell
+is_bank_core : (types : List BusType) (cell : Group) → bank_refusal types cell ≡ None
+    → CellMeetsNone (core_group (expanded types cell)) → IsBankCore types cell
 is_bank_core types cell h meets = by (has_many cell) refl
   where
     joined_outputs : (xs ys us ws : List OutputPin) → xs ≡ us → ys ≡ ws → xs ++ ys ≡ us ++ ws
@@ -143,9 +159,11 @@ is_bank_core types cell h meets = by (has_many cell) refl
           outputs_are =
               split_outputs types cell meets same
               ∙ joined_outputs _ _ _ _
-              (many_outputs types cell (core types cell meets) meets (owner_list (expanded types cell).items) owners faults (cell_reads types cell meets))
+              (many_outputs types cell (core types cell meets) meets (owner_list (expanded types cell).items) owners faults
+              (cell_reads types cell meets))
               (added_outputs types cell meets (owner_of (cell_vectors types cell)) owners
-              (owners_float (cell_vectors types cell) (v types cell meets) (numbers types cell meets) (cell_spells types cell) (made types cell meets))
+              (owners_float (cell_vectors types cell) (v types cell meets) (numbers types cell meets) (cell_spells types cell)
+              (made types cell meets))
               (placed_are types (cell_vectors types cell) cell.items faults));
         }
     by false e =
@@ -162,14 +180,17 @@ is_bank_core types cell h meets = by (has_many cell) refl
               ∙ joined_outputs _ _ _ _
               (few_outputs types cell (core types cell meets) meets (owner_list (expanded types cell).items) owners e)
               (added_outputs types cell meets (λ (pin : WrittenPin). pin.group) owners
-              (scalars_float (cell_vectors types cell) (v types cell meets) (numbers types cell meets) (cell_spells types cell) (made types cell meets) scalars)
-              (scalars_placed (cell_vectors types cell) (v types cell meets) (numbers types cell meets) (cell_spells types cell) (made types cell meets) scalars));
+              (scalars_float (cell_vectors types cell) (v types cell meets) (numbers types cell meets) (cell_spells types cell)
+              (made types cell meets) scalars)
+              (scalars_placed (cell_vectors types cell) (v types cell meets) (numbers types cell meets) (cell_spells types cell)
+              (made types cell meets) scalars));
         }
 
 pub cores_are : BankMachineIsExpandedCore
 cores_are types cell unit earlier name number h accepted =
     let group : Group = core_group (expanded types cell) in
-    let same : IsBankCore types cell = is_bank_core types cell h (accepted_meets_none_here (subject_of unit group) earlier group accepted) in
+    let same : IsBankCore types cell =
+    is_bank_core types cell h (accepted_meets_none_here (subject_of unit group) earlier group accepted) in
     runs_as (bank_core types cell) (cell_data unit name number group) same.states_are same.outputs_are
 
 -- both together
@@ -180,7 +201,8 @@ decided_none (Some one) None h = absurd cc
 decided_none (Some one) (Some other) h = absurd cc
 
 core_accepted :
-    (unit : Option TimeUnit) (earlier : List (List ℕ)) (core : Group) (groups : List Group) → floating_refusal unit earlier core groups ≡ None
+    (unit : Option TimeUnit) (earlier : List (List ℕ)) (core : Group) (groups : List Group)
+    → floating_refusal unit earlier core groups ≡ None
     → refusal_of (subject_of unit core) earlier core ≡ None
 unfolding floating_refusal
 core_accepted unit earlier core groups h =
@@ -193,13 +215,15 @@ unfolding floating_of
 floating_core unit number group outputs = refl
 
 by_outputs :
-    (types : List BusType) (cell : Group) (unit : Option TimeUnit) (earlier : List (List ℕ)) (number : ℕ) → bank_refusal types cell ≡ None
+    (types : List BusType) (cell : Group) (unit : Option TimeUnit) (earlier : List (List ℕ)) (number : ℕ)
+    → bank_refusal types cell ≡ None
     → (outputs : List ThreeStateOutput) → refusal_by unit earlier (expanded types cell) outputs ≡ None
     → RunsAs (data_by unit number (expanded types cell) outputs).core (bank_by types cell outputs)
 by_outputs types cell unit earlier number h [] accepted =
     machines_are types cell unit earlier (cell_name (expanded types cell)) number h accepted
 by_outputs types cell unit earlier number h (output ∷ outputs) accepted =
-    subst (λ single. RunsAs single (bank_core types cell)) (sym (floating_core unit number (core_group (expanded types cell)) (output ∷ outputs)))
+    subst (λ single. RunsAs single (bank_core types cell))
+    (sym (floating_core unit number (core_group (expanded types cell)) (output ∷ outputs)))
     (cores_are types cell unit earlier (core_name number) number h
     (core_accepted unit earlier (core_group (expanded types cell)) (pin_groups (expanded types cell)) accepted))
 

@@ -1,5 +1,6 @@
 -- The function of the output that is 1 where another output does not float.
-use Rattle.std.proofs.Common.{◌≡◌, ℕ, true, false, List, [], ◌∷◌, ◌++◌, Some, Result, Ok, Err, if◌then◌else◌, refl, sym, ap, subst, ◌∙◌, codes}
+use Rattle.std.proofs.Common.{◌≡◌, ℕ, true, false, List, [], ◌∷◌, ◌++◌, Some, Result, Ok, Err, if◌then◌else◌, refl, sym, ap}
+use Rattle.std.proofs.Common.{subst, ◌∙◌, codes}
 use Rattle.std.specs.Prelude.{is_ok}
 use Rattle.std.specs.List.{AllByRecursion}
 use Rattle.std.proofs.lemmas.Bool.{cases_Bool}
@@ -35,7 +36,8 @@ use Rattle.bank_machines.proofs.TextLemmas.{Spells, tree_same, IsRead, judged_re
 use Rattle.bank_machines.proofs.MovedTexts.{cell_names, unfaulted}
 
 -- a phrase that leaves some symbols leaves them and more, where more stand behind
-takes_more : (more : List Symbol) {l : Rule} {s rest : List Symbol} {f : Node} → Takes l s f rest → Takes l (s ++ more) f (rest ++ more)
+takes_more : (more : List Symbol) {l : Rule} {s rest : List Symbol} {f : Node} → Takes l s f rest
+    → Takes l (s ++ more) f (rest ++ more)
 takes_more more Takes.name = Takes.name
 takes_more more Takes.zero = Takes.zero
 takes_more more Takes.one = Takes.one
@@ -58,7 +60,8 @@ inverted s = symbol.Bang ∷ symbol.Open ∷ (s ++ symbol.Close ∷ [])
 inverted_text : (s : List Symbol) (f : Node) → IsText s f → IsText (inverted s) (tree.Not f)
 inverted_text s f t = Takes.and (Takes.xor (Takes.not (Takes.bang (Takes.post (Takes.group (takes_more (symbol.Close ∷ []) t))))))
 
-inverted_symbols : (names : List (List ℕ)) (text : List ℕ) → symbols names (codes "!(" ++ text ++ codes ")") ≡ inverted (symbols names text)
+inverted_symbols : (names : List (List ℕ)) (text : List ℕ)
+    → symbols names (codes "!(" ++ text ++ codes ")") ≡ inverted (symbols names text)
 inverted_symbols names text =
     symbols_append names (codes "!(" ++ text) (codes ")") (and_right (ends_in_word (codes "!(" ++ text)))
     ∙ ap (λ s. s ++ symbol.Close ∷ []) (symbols_append names (codes "!(") text refl)
@@ -78,29 +81,37 @@ alone_has_tree names text h = by (reading_of (free_names text) text) refl h
         let wanted = alike_text (alike_back (alike_symbols names text)) own.0 own.1 in
         record { function = wanted.0; is = wanted.1 }
 
-enabled_tree : (names : List (List ℕ)) (text : List ℕ) (g : Node) → reading_of names (enable_function text) ≡ Ok g → reads_alone text ≡ true
+enabled_tree : (names : List (List ℕ)) (text : List ℕ) (g : Node) → reading_of names (enable_function text) ≡ Ok g
+    → reads_alone text ≡ true
     → (has : HasTree names text) → g ≡ tree.Not has.function
 enabled_tree names text g e h has =
-    let written : enable_function text ≡ codes "!(" ++ text ++ codes ")" = ap (λ b. if b then codes "!(" ++ text ++ codes ")" else []) h in
+    let written : enable_function text ≡ codes "!(" ++ text ++ codes ")" =
+    ap (λ b. if b then codes "!(" ++ text ++ codes ")" else []) h in
     let read : IsText (inverted (symbols names text)) g =
-    subst (λ s. IsText s g) (ap (symbols names) written ∙ inverted_symbols names text) (reading_tree names (enable_function text) g e).tree in
-    text_tree (inverted (symbols names text)) g (tree.Not has.function) read (inverted_text (symbols names text) has.function has.is)
+    subst (λ s. IsText s g) (ap (symbols names) written ∙ inverted_symbols names text)
+    (reading_tree names (enable_function text) g e).tree in
+    text_tree (inverted (symbols names text)) g (tree.Not has.function) read
+    (inverted_text (symbols names text) has.function has.is)
 
-empty_unread : (names : List (List ℕ)) (text : List ℕ) (g : Node) → reading_of names (enable_function text) ≡ Ok g → reads_alone text ≡ false → ⊥
+empty_unread : (names : List (List ℕ)) (text : List ℕ) (g : Node) → reading_of names (enable_function text) ≡ Ok g
+    → reads_alone text ≡ false → ⊥
 empty_unread names text g e h =
     let written : enable_function text ≡ [] = ap (λ b. if b then codes "!(" ++ text ++ codes ")" else []) h in
     let none : reading_of names [] ≡ Ok g = sym (ap (reading_of names) written) ∙ e in
     cc
 
 pub enable_is :
-    (vectors : List Vector) (v : Vocabulary) (numbers : List ℕ) (at : ℕ) → AllByRecursion Spells vectors → (scope : Scope) (floats : Attribute)
+    (vectors : List Vector) (v : Vocabulary) (numbers : List ℕ) (at : ℕ) → AllByRecursion Spells vectors
+    → (scope : Scope) (floats : Attribute)
     → fault_of vectors (Some at) (Some floats) ≡ []
     → IsSound (text_as v scope (Some (record { text = enable_function (rewritten vectors at floats.text); at = floats.at })))
-    → function_of numbers (text_as v scope (Some (record { text = enable_function (rewritten vectors at floats.text); at = floats.at })))
+    → function_of numbers (text_as v scope
+    (Some (record { text = enable_function (rewritten vectors at floats.text); at = floats.at })))
     ≡ tree.Not (function_at (cell_names vectors v numbers) at floats.text)
 enable_is vectors v numbers at spell scope floats h s =
     let made : List ℕ = rewritten vectors at floats.text in
-    let read : IsRead (reading_of v.names (enable_function made)) (judged v.classes scope floats.at (reading_of v.names (enable_function made))) floats.at =
+    let read : IsRead (reading_of v.names (enable_function made))
+    (judged v.classes scope floats.at (reading_of v.names (enable_function made))) floats.at =
     judged_reads v.classes scope floats.at (reading_of v.names (enable_function made)) s in
     let placed : is_misplaced vectors at floats.text ≡ false = unfaulted (text_fails vectors (Some at) floats.text) floats.at h in
     let alone : reads_alone made ≡ true =

@@ -1,4 +1,5 @@
--- What the definitions give of a text over buses whose first position is the bit 1, and over the variables of a bank of two states.
+-- What the definitions give of a text over buses whose first position is the bit 1, and over the variables of a bank of two
+-- states.
 use Rattle.std.proofs.Common.{◌≡◌, ℕ, Bool, true, false, List, [], ◌∷◌, map, refl, codes}
 use Rattle.std.specs.Prelude.{is_ok}
 use Rattle.bool_functions.specs.declared.tree.Node.TheVariants as tree
@@ -20,14 +21,17 @@ abbrev text : List ℕ
 text = codes "D[0] & !IQ + CK*D"
 
 -- one tree, over four names ..
-text_has_tree : text_tree vectors text ≡ tree.Or (tree.And (tree.Name 0) (tree.Not (tree.Name 1))) (tree.And (tree.Name 2) (tree.Name 3))
+text_has_tree : text_tree vectors text ≡ tree.Or (tree.And (tree.Name 0) (tree.Not (tree.Name 1)))
+    (tree.And (tree.Name 2) (tree.Name 3))
 text_has_tree = refl
 
 -- .. which have the values of these at each position
-names_at_first : map (name_at vectors 0) (names_written text) ≡ member_name (codes "D") 0 ∷ member_name (codes "IQ") 0 ∷ codes "CK" ∷ member_name (codes "D") 1 ∷ []
+names_at_first : map (name_at vectors 0) (names_written text) ≡ member_name (codes "D") 0 ∷ member_name
+    (codes "IQ") 0 ∷ codes "CK" ∷ member_name (codes "D") 1 ∷ []
 names_at_first = refl
 
-names_at_second : map (name_at vectors 1) (names_written text) ≡ member_name (codes "D") 0 ∷ member_name (codes "IQ") 1 ∷ codes "CK" ∷ member_name (codes "D") 0 ∷ []
+names_at_second : map (name_at vectors 1) (names_written text) ≡ member_name (codes "D") 0 ∷ member_name
+    (codes "IQ") 1 ∷ codes "CK" ∷ member_name (codes "D") 0 ∷ []
 names_at_second = refl
 
 -- a number that runs into a name, and a bit behind a name that has none, are no texts

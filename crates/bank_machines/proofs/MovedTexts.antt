@@ -1,5 +1,6 @@
 -- The attributes of statements at a position, and the functions of their texts.
-use Rattle.std.proofs.Common.{◌≡◌, ℕ, Bool, true, false, List, [], ◌∷◌, map, Option, None, Some, if◌then◌else◌, refl, sym, ap, ◌∙◌, codes}
+use Rattle.std.proofs.Common.{◌≡◌, ℕ, Bool, true, false, List, [], ◌∷◌, map, Option, None, Some, if◌then◌else◌, refl, sym, ap}
+use Rattle.std.proofs.Common.{◌∙◌, codes}
 use Rattle.std.specs.Prelude.{bytes_eq}
 use Rattle.std.specs.Option.{option_map}
 use Rattle.std.specs.List.{cons_option, AllByRecursion}
@@ -17,7 +18,8 @@ use Rattle.bus_texts.specs.declared.vectors.Vector.{Vector}
 use Rattle.bus_texts.specs.Vectors.{is_called}
 use Rattle.bus_texts.specs.Texts.{is_misplaced, rewritten, text_for, text_fails}
 use Rattle.bank_cells.specs.Faults.{pin_texts, fault_of}
-use Rattle.bank_cells.specs.Expanded.{values_at, values_if, is_one_of, text_as as statement_as, text_at, timing_at, pin_item_as, pin_item}
+use Rattle.bank_cells.specs.Expanded.{values_at, values_if, is_one_of, text_as as statement_as, text_at, timing_at, pin_item_as}
+use Rattle.bank_cells.specs.Expanded.{pin_item}
 use Rattle.cell_attributes.specs.declared.texts.Scope.{Scope}
 use Rattle.cell_attributes.specs.Building.{function_in}
 use Rattle.cell_attributes.specs.Texts.{judged, text_as}
@@ -46,12 +48,15 @@ module _ (vectors : List Vector) (position : Option ℕ) where
 
     moved_simple :
         is_one_of names name ≡ true → (one : Item-F Item Group)
-        → simple_named name (out-Item (statement_as vectors position names one)) ≡ option_map (moved vectors position) (simple_named name one)
+        → simple_named name (out-Item (statement_as vectors position names one)) ≡ option_map (moved vectors position)
+        (simple_named name one)
     moved_simple h (layer.Simple n value at) =
-        ap (simple_named name) (outs-Simple n (values_if vectors position (is_one_of names n) value) at) ∙ by (bytes_eq n name) refl
+        ap (simple_named name) (outs-Simple n (values_if vectors position (is_one_of names n) value) at)
+        ∙ by (bytes_eq n name) refl
       where
         by : (same : Bool) → bytes_eq n name ≡ same
-            → chosen (bytes_eq n name) (values_if vectors position (is_one_of names n) value) at ≡ option_map (moved vectors position) (chosen (bytes_eq n name) value at)
+            → chosen (bytes_eq n name) (values_if vectors position (is_one_of names n) value) at ≡ option_map
+            (moved vectors position) (chosen (bytes_eq n name) value at)
         by true e =
             let named : n ≡ name = (bytes_eq-Decides n name).0 e in
             let text : is_one_of names n ≡ true = ap (is_one_of names) named ∙ h in
@@ -69,21 +74,26 @@ module _ (vectors : List Vector) (position : Option ℕ) where
         is_one_of names name ≡ false → (one : Item-F Item Group)
         → simple_named name (out-Item (statement_as vectors position names one)) ≡ simple_named name one
     kept_simple h (layer.Simple n value at) =
-        ap (simple_named name) (outs-Simple n (values_if vectors position (is_one_of names n) value) at) ∙ by (bytes_eq n name) refl
+        ap (simple_named name) (outs-Simple n (values_if vectors position (is_one_of names n) value) at)
+        ∙ by (bytes_eq n name) refl
       where
         by : (same : Bool) → bytes_eq n name ≡ same
-            → chosen (bytes_eq n name) (values_if vectors position (is_one_of names n) value) at ≡ chosen (bytes_eq n name) value at
+            → chosen (bytes_eq n name) (values_if vectors position (is_one_of names n) value) at ≡ chosen
+            (bytes_eq n name) value at
         by true e =
             let named : n ≡ name = (bytes_eq-Decides n name).0 e in
             let text : is_one_of names n ≡ false = ap (is_one_of names) named ∙ h in
             ap (λ is_text. chosen (bytes_eq n name) (values_if vectors position is_text value) at) text
         by false e =
-            ap (λ same. chosen same (values_if vectors position (is_one_of names n) value) at) e ∙ sym (ap (λ same. chosen same value at) e)
+            ap (λ same. chosen same (values_if vectors position (is_one_of names n) value) at) e
+            ∙ sym (ap (λ same. chosen same value at) e)
     kept_simple h (layer.Complex n arguments at) = ap (simple_named name) (outs-Complex n arguments at)
     kept_simple h (layer.Inner group) = ap (simple_named name) (outs-Inner group)
 
   -- a statement of a pin
-  pin_simple : (name : List ℕ) (item : Item) → simple_named name (out-Item (pin_item vectors position item)) ≡ simple_named name (out-Item (text_at vectors position pin_texts item))
+  pin_simple : (name : List ℕ) (item : Item)
+      → simple_named name (out-Item (pin_item vectors position item)) ≡ simple_named name
+      (out-Item (text_at vectors position pin_texts item))
   pin_simple name item = by (out-Item item) refl
     where
       timing : (b : Bool) (group : Group) → out-Item item ≡ layer.Inner group
@@ -92,13 +102,16 @@ module _ (vectors : List Vector) (position : Option ℕ) where
       timing false group e = ap (simple_named name) e
 
       by : (one : Item-F Item Group) → out-Item item ≡ one
-          → simple_named name (out-Item (pin_item_as vectors position one item)) ≡ simple_named name (out-Item (statement_as vectors position pin_texts one))
+          → simple_named name (out-Item (pin_item_as vectors position one item)) ≡ simple_named name
+          (out-Item (statement_as vectors position pin_texts one))
       by (layer.Simple n value at) e = ap (λ one. simple_named name (out-Item (statement_as vectors position pin_texts one))) e
       by (layer.Complex n arguments at) e = ap (simple_named name) e ∙ sym (ap (simple_named name) (outs-Complex n arguments at))
-      by (layer.Inner group) e = timing (is_called (codes "timing") group) group e ∙ sym (ap (simple_named name) (outs-Inner group))
+      by (layer.Inner group) e = timing (is_called (codes "timing") group) group e
+          ∙ sym (ap (simple_named name) (outs-Inner group))
 
 -- all statements of a group
-moved_cons : (g : Attribute → Attribute) (o : Option Attribute) (xs : List Attribute) → cons_option (option_map g o) (map g xs) ≡ map g (cons_option o xs)
+moved_cons : (g : Attribute → Attribute) (o : Option Attribute) (xs : List Attribute)
+    → cons_option (option_map g o) (map g xs) ≡ map g (cons_option o xs)
 moved_cons g None xs = refl
 moved_cons g (Some a) xs = refl
 
@@ -113,35 +126,44 @@ attributes_by name f g each (item ∷ items) =
     ∙ moved_cons g (simple_named name (out-Item item)) (attributes_named name items))
 
 attributes_same :
-    (name : List ℕ) (f : Item → Item) → ((item : Item) → simple_named name (out-Item (f item)) ≡ simple_named name (out-Item item))
+    (name : List ℕ) (f : Item → Item)
+    → ((item : Item) → simple_named name (out-Item (f item)) ≡ simple_named name (out-Item item))
     → (items : List Item) → attributes_named name (map f items) ≡ attributes_named name items
 attributes_same name f each [] = refl
 attributes_same name f each (item ∷ items) =
     ap (λ o. cons_option o (attributes_named name (map f items))) (each item)
     ∙ ap (cons_option (simple_named name (out-Item item))) (attributes_same name f each items)
 
-last_moved : (g : Attribute → Attribute) (earlier : Option Attribute) (xs : List Attribute) → last_or (option_map g earlier) (map g xs) ≡ option_map g (last_or earlier xs)
+last_moved : (g : Attribute → Attribute) (earlier : Option Attribute) (xs : List Attribute)
+    → last_or (option_map g earlier) (map g xs) ≡ option_map g (last_or earlier xs)
 last_moved g earlier [] = refl
 last_moved g earlier (x ∷ xs) = last_moved g (Some x) xs
 
 -- the attribute of a name that counts, where it is one of a text and where it is none
 pub text_moved :
-    (vectors : List Vector) (position : Option ℕ) (names : List (List ℕ)) (name : List ℕ) (items : List Item) → is_one_of names name ≡ true
-    → last_or None (attributes_named name (map (text_at vectors position names) items)) ≡ option_map (moved vectors position) (last_or None (attributes_named name items))
+    (vectors : List Vector) (position : Option ℕ) (names : List (List ℕ)) (name : List ℕ) (items : List Item)
+    → is_one_of names name ≡ true
+    → last_or None (attributes_named name (map (text_at vectors position names) items)) ≡ option_map (moved vectors position)
+    (last_or None (attributes_named name items))
 text_moved vectors position names name items h =
     ap (last_or None)
-    (attributes_by name (text_at vectors position names) (moved vectors position) (λ item. moved_simple vectors position names name h (out-Item item)) items)
+    (attributes_by name (text_at vectors position names) (moved vectors position)
+    (λ item. moved_simple vectors position names name h (out-Item item)) items)
     ∙ last_moved (moved vectors position) None (attributes_named name items)
 
 pub other_kept :
-    (vectors : List Vector) (position : Option ℕ) (names : List (List ℕ)) (name : List ℕ) (items : List Item) → is_one_of names name ≡ false
-    → last_or None (attributes_named name (map (text_at vectors position names) items)) ≡ last_or None (attributes_named name items)
+    (vectors : List Vector) (position : Option ℕ) (names : List (List ℕ)) (name : List ℕ) (items : List Item)
+    → is_one_of names name ≡ false
+    → last_or None (attributes_named name (map (text_at vectors position names) items)) ≡ last_or None
+    (attributes_named name items)
 other_kept vectors position names name items h =
-    ap (last_or None) (attributes_same name (text_at vectors position names) (λ item. kept_simple vectors position names name h (out-Item item)) items)
+    ap (last_or None) (attributes_same name (text_at vectors position names)
+    (λ item. kept_simple vectors position names name h (out-Item item)) items)
 
 pub pin_text_moved :
     (vectors : List Vector) (position : Option ℕ) (name : List ℕ) (items : List Item) → is_one_of pin_texts name ≡ true
-    → last_or None (attributes_named name (map (pin_item vectors position) items)) ≡ option_map (moved vectors position) (last_or None (attributes_named name items))
+    → last_or None (attributes_named name (map (pin_item vectors position) items)) ≡ option_map (moved vectors position)
+    (last_or None (attributes_named name items))
 pin_text_moved vectors position name items h =
     ap (last_or None)
     (attributes_by name (pin_item vectors position) (moved vectors position)
@@ -165,9 +187,11 @@ unfaulted true at h = absurd cc
 unfaulted false at h = refl
 
 pub text_is :
-    (vectors : List Vector) (v : Vocabulary) (numbers : List ℕ) (at : ℕ) → AllByRecursion Spells vectors → (scope : Scope) (o : Option Attribute)
+    (vectors : List Vector) (v : Vocabulary) (numbers : List ℕ) (at : ℕ) → AllByRecursion Spells vectors
+    → (scope : Scope) (o : Option Attribute)
     → fault_of vectors (Some at) o ≡ [] → IsSound (text_as v scope (option_map (moved vectors (Some at)) o))
-    → function_in numbers (text_as v scope (option_map (moved vectors (Some at)) o)) ≡ function_if (cell_names vectors v numbers) at o
+    → function_in numbers (text_as v scope (option_map (moved vectors (Some at)) o)) ≡ function_if (cell_names vectors v numbers)
+    at o
 text_is vectors v numbers at spell scope None h s = refl
 text_is vectors v numbers at spell scope (Some a) h s =
     let made : List ℕ = rewritten vectors at a.text in

@@ -1,5 +1,7 @@
 -- What the parts of a text are: names, and what has no name in it.
-use Rattle.std.proofs.Common.{◌≡◌, ℕ, zero, suc, ◌+◌, ◌-◌, ◌*◌, ◌<◌, ◌≤◌, Bool, true, false, cond, not, ◌&&◌, ◌==◌, List, [], ◌∷◌, ◌++◌, length, take, drop, map, Option, None, Some, if◌then◌else◌, refl, sym, ap, subst, ◌∙◌, arith, eqb-true}
+use Rattle.std.proofs.Common.{◌≡◌, ℕ, zero, suc, ◌+◌, ◌-◌, ◌*◌, ◌<◌, ◌≤◌, Bool, true, false, cond, not, ◌&&◌, ◌==◌, List, [], ◌∷◌}
+use Rattle.std.proofs.Common.{◌++◌, length, take, drop, map, Option, None, Some, if◌then◌else◌, refl, sym, ap, subst, ◌∙◌, arith}
+use Rattle.std.proofs.Common.{eqb-true}
 use Rattle.std.specs.Prelude.{unwrap_or, nat_lt, min, slice_index}
 use Rattle.std.specs.List.{list_any, list_all, prefix_len, AllByRecursion}
 use Rattle.std.specs.Char.{is_ascii_digit}
@@ -14,7 +16,8 @@ use Rattle.bool_functions.specs.declared.tokens.Span.{Span}
 use Rattle.bool_functions.specs.Token.{span, bytes_at, is_blank, is_word_byte, digit_of, mark_of, symbol_of, symbols}
 use Rattle.bool_functions.proofs.JoinedTexts.{symbols_append, symbols_word}
 use Rattle.bus_texts.specs.Numbers.{digits_behind, digits_number}
-use Rattle.bus_texts.specs.Parts.{Part, begins_name, is_identifier, name_with, closed_digits, digits_in_front, first_part, parts_of}
+use Rattle.bus_texts.specs.Parts.{Part, begins_name, is_identifier, name_with, closed_digits, digits_in_front, first_part}
+use Rattle.bus_texts.specs.Parts.{parts_of}
 use Rattle.bus_texts.proofs.PartLemmas.{first_some, parts_step, digits_first}
 use Rattle.bus_texts.proofs.RewrittenTexts.{and_right}
 use Rattle.bus_texts.proofs.RunningTexts.{is_stray}
@@ -38,7 +41,8 @@ taken_pass : (p q : ℕ → Bool) → ((b : ℕ) → p b ≡ true → q b ≡ tr
 taken_pass p q f [] = refl
 taken_pass p q f (b ∷ s) = by (p b) refl (taken_pass p q f s)
   where
-    by : (here : Bool) → p b ≡ here → list_all q (take (prefix_len p s) s) ≡ true → list_all q (take (prefix_len p (b ∷ s)) (b ∷ s)) ≡ true
+    by : (here : Bool) → p b ≡ here → list_all q (take (prefix_len p s) s) ≡ true
+        → list_all q (take (prefix_len p (b ∷ s)) (b ∷ s)) ≡ true
     by true e h =
         let n : ℕ = prefix_len p s in
         let more : 1 + n ≡ suc n = omega arith in
@@ -90,7 +94,8 @@ digits_nameless b s d names to =
     let rest : List ℕ = take (prefix_len is_ascii_digit s) s in
     let front : take (prefix_len is_ascii_digit (b ∷ s)) (b ∷ s) ≡ b ∷ rest = first_taken is_ascii_digit b s d in
     let word : list_all is_word_byte (b ∷ rest) ≡ true =
-    and_from (is_word_byte b) (list_all is_word_byte rest) (digit_word b d) (taken_pass is_ascii_digit is_word_byte digit_word s) in
+    and_from (is_word_byte b) (list_all is_word_byte rest) (digit_word b d) (taken_pass is_ascii_digit is_word_byte digit_word s)
+    in
     let one : (ns : List (List ℕ)) → symbols ns (b ∷ rest) ≡ digit_of b rest ∷ [] =
     λ ns. symbols_word ns (b ∷ rest) word (omega arith) ∙ rw d refl in
     ap (λ w. map (renamed_symbol to) (symbols names w)) front
@@ -99,7 +104,8 @@ digits_nameless b s d names to =
     ∙ (sym (one []) ∙ sym (ap (symbols []) front))))
 
 abbrev single_by : List (List ℕ) → ℕ → (word blank : Bool) → List Symbol
-single_by names b word blank = if word then symbol_of names (b ∷ []) ∷ [] else (if blank then [] else symbol_of names (b ∷ []) ∷ [])
+single_by names b word blank = if word then symbol_of names (b ∷ []) ∷ []
+    else (if blank then [] else symbol_of names (b ∷ []) ∷ [])
 
 abbrev spans_by : (word blank : Bool) → List Span
 spans_by word blank = if word then span 0 1 ∷ [] else (if blank then [] else span 0 1 ∷ [])
@@ -113,10 +119,12 @@ single_each names b false false = refl
 single_symbols : (names : List (List ℕ)) (b : ℕ) → symbols names (b ∷ []) ≡ single_by names b (is_word_byte b) (is_blank b)
 single_symbols names b = single_each names b (is_word_byte b) (is_blank b)
 
-other_symbol : (names : List (List ℕ)) (b : ℕ) → is_ascii_digit b ≡ false → is_word_byte b ≡ false → symbol_of names (b ∷ []) ≡ mark_of b
+other_symbol : (names : List (List ℕ)) (b : ℕ) → is_ascii_digit b ≡ false → is_word_byte b ≡ false
+    → symbol_of names (b ∷ []) ≡ mark_of b
 other_symbol names b d w =
     ap
-    (λ digit. if digit then digit_of b [] else (if is_word_byte b then symbol.Name (unwrap_or (number_of names (b ∷ [])) (length names)) else mark_of b))
+    (λ digit. if digit then digit_of b []
+    else (if is_word_byte b then symbol.Name (unwrap_or (number_of names (b ∷ [])) (length names)) else mark_of b))
     d
     ∙ ap (λ word. if word then symbol.Name (unwrap_or (number_of names (b ∷ [])) (length names)) else mark_of b) w
 
@@ -138,7 +146,8 @@ bracket_stray names a rest =
     let front : symbols names (91 ∷ rest) ≡ symbol.Stray ∷ symbols names rest = symbols_append names (91 ∷ []) rest refl in
     ap (list_any is_stray) (symbols_append names a (91 ∷ rest) (and_right (ends_in_word a)))
     ∙ (list_any-append is_stray (symbols names a) (symbols names (91 ∷ rest))
-    ∙ or_right (list_any is_stray (symbols names a)) (list_any is_stray (symbols names (91 ∷ rest))) (ap (list_any is_stray) front))
+    ∙ or_right (list_any is_stray (symbols names a)) (list_any is_stray (symbols names (91 ∷ rest)))
+    (ap (list_any is_stray) front))
 
 none_taken : (k : ℕ) → take {A = ℕ} k [] ≡ []
 none_taken zero = refl
@@ -156,7 +165,8 @@ record Opens (t digits : List ℕ) : Type 0 where
   pub taken : digits ≡ take (prefix_len is_ascii_digit inner) inner
   pub some : 0 < prefix_len is_ascii_digit inner
 
-opens_by : (b : ℕ) (s : List ℕ) (digits : List ℕ) → b ≡ 91 → closed_digits s (prefix_len is_ascii_digit s) ≡ Some digits → Opens (b ∷ s) digits
+opens_by : (b : ℕ) (s : List ℕ) (digits : List ℕ) → b ≡ 91 → closed_digits s (prefix_len is_ascii_digit s) ≡ Some digits
+    → Opens (b ∷ s) digits
 opens_by b s digits same e =
     by (nat_lt 0 (prefix_len is_ascii_digit s))
     (nat_lt (prefix_len is_ascii_digit s) (length s) && (slice_index s (prefix_len is_ascii_digit s) == 93)) refl e
@@ -173,7 +183,8 @@ opens : (t digits : List ℕ) → digits_in_front t ≡ Some digits → Opens t 
 opens [] digits e = absurd cc
 opens (b ∷ s) digits e = by (b == 91) refl e
   where
-    by : (here : Bool) → (b == 91) ≡ here → (if here then closed_digits s (prefix_len is_ascii_digit s) else None) ≡ Some digits → Opens (b ∷ s) digits
+    by : (here : Bool) → (b == 91) ≡ here → (if here then closed_digits s (prefix_len is_ascii_digit s) else None) ≡ Some digits
+        → Opens (b ∷ s) digits
     by true p e = opens_by b s digits (eqb-true b 91 p) e
     by false p e = absurd cc
 
@@ -209,12 +220,14 @@ has_number t digits e h =
     by true q all some e = let none : length digits ≡ 0 = eqb-true (length digits) 0 q in omega (arith, some, none)
     by false q all some e = some_behind 0 digits all e
 
-bit_stray : (t digits : List ℕ) (n : ℕ) → digits_in_front (drop n t) ≡ Some digits → (names : List (List ℕ)) → list_any is_stray (symbols names (take (n + length digits + 2) t)) ≡ true
+bit_stray : (t digits : List ℕ) (n : ℕ) → digits_in_front (drop n t) ≡ Some digits → (names : List (List ℕ))
+    → list_any is_stray (symbols names (take (n + length digits + 2) t)) ≡ true
 bit_stray t digits n e names =
     let open_ : Opens (drop n t) digits = opens (drop n t) digits e in
     let sum : n + length digits + 2 ≡ n + suc (length digits + 1) = omega arith in
     let split : take (n + length digits + 2) t ≡ take n t ++ 91 ∷ take (length digits + 1) open_.inner =
-    ap (λ k. take k t) sum ∙ (take_sum n (suc (length digits + 1)) t ∙ ap (λ u. take n t ++ take (suc (length digits + 1)) u) open_.is) in
+    ap (λ k. take k t) sum ∙ (take_sum n (suc (length digits + 1)) t
+    ∙ ap (λ u. take n t ++ take (suc (length digits + 1)) u) open_.is) in
     ap (λ w. list_any is_stray (symbols names w)) split ∙ bracket_stray names (take n t) (take (length digits + 1) open_.inner)
 
 word_of_name : (b : ℕ) → begins_name b ≡ true → is_word_byte b ≡ true
@@ -226,10 +239,12 @@ no_word true false h e = absurd cc
 no_word false digit h e = refl
 
 -- the first part of a text
-name_identifier : (b : ℕ) (s : List ℕ) → begins_name b ≡ true → is_identifier (take (prefix_len is_word_byte (b ∷ s)) (b ∷ s)) ≡ true
+name_identifier : (b : ℕ) (s : List ℕ) → begins_name b ≡ true
+    → is_identifier (take (prefix_len is_word_byte (b ∷ s)) (b ∷ s)) ≡ true
 name_identifier b s h =
     ap is_identifier (first_taken is_word_byte b s (word_of_name b h))
-    ∙ and_from (begins_name b) (list_all is_word_byte (take (prefix_len is_word_byte s) s)) h (taken_pass is_word_byte is_word_byte (λ c e. e) s)
+    ∙ and_from (begins_name b) (list_all is_word_byte (take (prefix_len is_word_byte s) s)) h
+    (taken_pass is_word_byte is_word_byte (λ c e. e) s)
 
 no_identifier : (name : List ℕ) → is_identifier name ≡ true → name ≡ [] → ⊥
 no_identifier [] h e = cc
@@ -242,7 +257,8 @@ module _ (b : ℕ) (s : List ℕ) where
   abbrev count : ℕ
   count = prefix_len is_word_byte whole
 
-  name_is_part : begins_name b ≡ true → (digits : Option (List ℕ)) → digits_in_front (drop count whole) ≡ digits → IsPart (name_with whole count digits)
+  name_is_part : begins_name b ≡ true → (digits : Option (List ℕ)) → digits_in_front (drop count whole) ≡ digits
+      → IsPart (name_with whole count digits)
   name_is_part h None e = record {
     nameless = λ none. absurd (no_identifier (take count whole) (name_identifier b s h) none);
     named = λ _. name_identifier b s h;
@@ -254,15 +270,22 @@ module _ (b : ℕ) (s : List ℕ) where
     written = λ _. by (digits_number digits) refl;
   }
     where
-      by : (bit : Option ℕ) → digits_number digits ≡ bit → IsWritten (take (count + length digits + 2) whole) (take count whole) bit
+      by : (bit : Option ℕ) → digits_number digits ≡ bit
+          → IsWritten (take (count + length digits + 2) whole) (take count whole) bit
       by None q = absurd (has_number (drop count whole) digits e q)
       by (Some bit) q = bit_stray whole digits count e
 
   first_is_part : IsPart (first_part whole)
   first_is_part = by (begins_name b) (is_ascii_digit b) refl refl
     where
-      plain : (written : List ℕ) (followed : Bool) → IsNameless written → IsPart (record { written = written; name = []; bit = None; followed = followed })
-      plain written followed h = record { nameless = λ _. h; named = λ some. absurd (some refl); written = λ some. absurd (some refl) }
+      plain : (written : List ℕ) (followed : Bool) → IsNameless written
+          → IsPart (record { written = written; name = []; bit = None; followed = followed })
+      plain written followed h = record {
+        nameless = λ _. h;
+        named = λ some. absurd (some refl);
+        written =
+            λ some. absurd (some refl);
+      }
 
       by : (named digit : Bool) → begins_name b ≡ named → is_ascii_digit b ≡ digit → IsPart (first_part whole)
       by true digit n d = rw n (name_is_part n (digits_in_front (drop count whole)) refl)

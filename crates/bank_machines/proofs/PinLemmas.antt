@@ -1,5 +1,6 @@
 -- The output of a pin of an expanded cell is that of its statements as they stand.
-use Rattle.std.proofs.Common.{◌≡◌, ℕ, ◌+◌, Bool, true, false, List, [], ◌∷◌, ◌++◌, map, slice_index, Option, None, Some, if◌then◌else◌, refl, sym, ap, ◌∙◌, codes, unwrap_or, length}
+use Rattle.std.proofs.Common.{◌≡◌, ℕ, ◌+◌, Bool, true, false, List, [], ◌∷◌, ◌++◌, map, slice_index, Option, None, Some}
+use Rattle.std.proofs.Common.{if◌then◌else◌, refl, sym, ap, ◌∙◌, codes, unwrap_or, length}
 use Rattle.std.specs.Option.{option_map}
 use Rattle.std.specs.List.{AllByRecursion}
 use Rattle.liberty_groups.specs.declared.tree.Item.{Item}
@@ -24,7 +25,8 @@ use Rattle.cell_attributes.specs.declared.vocabulary.Class.{Class}
 use Rattle.cell_attributes.specs.Pins.{direction_as, direction_of}
 use Rattle.cell_attributes.specs.Scans.{is_output_group}
 use Rattle.cell_attributes.specs.Vocabulary.{Vocabulary}
-use Rattle.cell_attributes.specs.Texts.{is_coupled, use_of, class_at, text_as, is_node_class, node_at, malformed_at, unknown_at, coupled_at}
+use Rattle.cell_attributes.specs.Texts.{is_coupled, use_of, class_at, text_as, is_node_class, node_at, malformed_at, unknown_at}
+use Rattle.cell_attributes.specs.Texts.{coupled_at}
 use Rattle.cell_attributes.specs.Outputs.{output_with, output_text, pin_text_as, pin_text}
 use Rattle.cell_attributes.specs.Building.{function_in, function_of, output_pin, output_in, outputs_from}
 use Rattle.cell_attributes.proofs.Distinct.{nil_parts}
@@ -60,7 +62,8 @@ abbrev pub ReadsText : Vocabulary → Group → Type 0
 ReadsText v owner = (malformed_at (pin_text v owner) ≡ []) × (unknown_at (pin_text v owner) ≡ [])
 
 pub apart_text :
-    (v : Vocabulary) (s : Scope) → ((i : ℕ) (class : Class) → is_coupled (use_of s i class) ≡ false) → (o : Option Attribute) → coupled_at (text_as v s o) ≡ []
+    (v : Vocabulary) (s : Scope) → ((i : ℕ) (class : Class) → is_coupled (use_of s i class) ≡ false) → (o : Option Attribute)
+    → coupled_at (text_as v s o) ≡ []
 apart_text v s h None = refl
 apart_text v s h (Some a) = judged_apart v.classes s a.at h (reading_of v.names a.text)
 
@@ -72,15 +75,18 @@ module _ (vectors : List Vector) (v : Vocabulary) (numbers : List ℕ) (spell : 
   sound_text t a b c = record { well_formed = a; known = b; apart = c }
 
   node_function :
-      (node : Attribute) (number : Option ℕ) → number_of v.names node.text ≡ number → unknown_at (node_at v.classes node.at number) ≡ []
+      (node : Attribute) (number : Option ℕ) → number_of v.names node.text ≡ number
+      → unknown_at (node_at v.classes node.at number) ≡ []
       → function_of numbers (node_at v.classes node.at number) ≡ tree.Name (number_in_cell names node.text)
   node_function node None e h = absurd cc
   node_function node (Some i) e h = by (is_node_class (class_at v.classes i)) h
     where
       by : (b : Bool) → unknown_at (if b then text.Reads (tree.Name i) node.at else text.Unknown node.at) ≡ []
-          → function_of numbers (if b then text.Reads (tree.Name i) node.at else text.Unknown node.at) ≡ tree.Name (number_in_cell names node.text)
+          → function_of numbers (if b then text.Reads (tree.Name i) node.at else text.Unknown node.at) ≡ tree.Name
+          (number_in_cell names node.text)
       by true h =
-          fold-Name Node (renamed_step numbers) i ∙ sym (ap (λ o. tree.Name (slice_index numbers (unwrap_or o (length v.names)))) e)
+          fold-Name Node (renamed_step numbers) i
+          ∙ sym (ap (λ o. tree.Name (slice_index numbers (unwrap_or o (length v.names)))) e)
       by false h = absurd cc
 
   module _ (at : ℕ) where
@@ -91,8 +97,10 @@ module _ (vectors : List Vector) (v : Vocabulary) (numbers : List ℕ) (spell : 
     or_first t o e = ap (λ f. unwrap_or f (tree.Name 0)) e
 
     driven_same :
-        (state internal function : Option Attribute) → fault_of vectors (Some at) state ≡ [] → fault_of vectors (Some at) function ≡ []
-        → malformed_at (output_with v (move state) internal (move function)) ≡ [] → unknown_at (output_with v (move state) internal (move function)) ≡ []
+        (state internal function : Option Attribute) → fault_of vectors (Some at) state ≡ []
+        → fault_of vectors (Some at) function ≡ []
+        → malformed_at (output_with v (move state) internal (move function)) ≡ []
+        → unknown_at (output_with v (move state) internal (move function)) ≡ []
         → function_of numbers (output_with v (move state) internal (move function)) ≡ driven_by names at state internal function
     driven_same (Some state) internal function f g a b =
         let t : Text = text_as v scope.StateFunction (move (Some state)) in
@@ -103,7 +111,8 @@ module _ (vectors : List Vector) (v : Vocabulary) (numbers : List ℕ) (spell : 
     driven_same None None function f g a b =
         let t : Text = text_as v scope.Function (move function) in
         let apart : coupled_at t ≡ [] = apart_text v scope.Function (λ i c. function_apart c) (move function) in
-        or_first t (function_if names at function) (text_is vectors v numbers at spell scope.Function function g (sound_text t a b apart))
+        or_first t (function_if names at function)
+        (text_is vectors v numbers at spell scope.Function function g (sound_text t a b apart))
 
   -- the attributes of a pin
   module _ (group : Group) (position : Option ℕ) where
@@ -116,30 +125,43 @@ module _ (vectors : List Vector) (v : Vocabulary) (numbers : List ℕ) (spell : 
     owner_items : owner.items ≡ map (pin_item vectors position) group.items
     owner_items =
         ap (λ (one : Group-F Item Group). one.items)
-        (out-roll-Group (record { name = group.name; arguments = group.arguments; items = map (pin_item vectors position) group.items; at = group.at }))
+        (out-roll-Group (record {
+          name = group.name;
+          arguments = group.arguments;
+          items =
+              map (pin_item vectors position) group.items;
+          at = group.at;
+        }))
 
-    pub text_attribute : (name : List ℕ) → is_one_of pin_texts name ≡ true → attribute_of owner name ≡ option_map (moved vectors position) (attribute_of group name)
+    pub text_attribute : (name : List ℕ) → is_one_of pin_texts name ≡ true
+        → attribute_of owner name ≡ option_map (moved vectors position) (attribute_of group name)
     text_attribute name h =
-        ap (λ (items : List Item). last_or None (attributes_named name items)) owner_items ∙ pin_text_moved vectors position name group.items h
+        ap (λ (items : List Item). last_or None (attributes_named name items)) owner_items
+        ∙ pin_text_moved vectors position name group.items h
 
     other_attribute : (name : List ℕ) → is_one_of pin_texts name ≡ false → attribute_of owner name ≡ attribute_of group name
     other_attribute name h =
-        ap (λ (items : List Item). last_or None (attributes_named name items)) owner_items ∙ pin_other_kept vectors position name group.items h
+        ap (λ (items : List Item). last_or None (attributes_named name items)) owner_items
+        ∙ pin_other_kept vectors position name group.items h
 
     pub direction_same : direction_of owner ≡ direction_of group
     direction_same = ap direction_as (other_attribute (codes "direction") refl)
 
     output_same :
         output_text v owner
-        ≡ output_with v (option_map (moved vectors position) (attribute_of group (codes "state_function"))) (attribute_of group (codes "internal_node"))
+        ≡ output_with v (option_map (moved vectors position) (attribute_of group (codes "state_function")))
+        (attribute_of group (codes "internal_node"))
         (option_map (moved vectors position) (attribute_of group (codes "function")))
     output_same =
-        ap (λ o. output_with v o (attribute_of owner (codes "internal_node")) (attribute_of owner (codes "function"))) (text_attribute (codes "state_function") refl)
+        ap (λ o. output_with v o (attribute_of owner (codes "internal_node")) (attribute_of owner (codes "function")))
+        (text_attribute (codes "state_function") refl)
         ∙ (ap
-        (λ o. output_with v (option_map (moved vectors position) (attribute_of group (codes "state_function"))) o (attribute_of owner (codes "function")))
+        (λ o. output_with v (option_map (moved vectors position) (attribute_of group (codes "state_function"))) o
+        (attribute_of owner (codes "function")))
         (other_attribute (codes "internal_node") refl)
         ∙ ap
-        (output_with v (option_map (moved vectors position) (attribute_of group (codes "state_function"))) (attribute_of group (codes "internal_node")))
+        (output_with v (option_map (moved vectors position) (attribute_of group (codes "state_function")))
+        (attribute_of group (codes "internal_node")))
         (text_attribute (codes "function") refl))
 
     drives : direction_of group ≡ Some direction.Output → pin_text v owner ≡ output_text v owner
@@ -151,27 +173,32 @@ module _ (vectors : List Vector) (v : Vocabulary) (numbers : List ℕ) (spell : 
 
   -- the function of an output
   function_same :
-      (group : Group) (position : Option ℕ) → unfaulted_at vectors group position → ReadsText v (owner_of vectors (record { group = group; position = position }))
+      (group : Group) (position : Option ℕ) → unfaulted_at vectors group position
+      → ReadsText v (owner_of vectors (record { group = group; position = position }))
       → direction_of group ≡ Some direction.Output
-      → function_of numbers (pin_text v (owner_of vectors (record { group = group; position = position }))) ≡ function_by names v group position
+      → function_of numbers (pin_text v (owner_of vectors (record { group = group; position = position }))) ≡ function_by names v
+      group position
   function_same group None placed reads d =
       let single : Group = owner_of vectors (record { group = group; position = None }) in
       let own : pin_text v group ≡ output_text v group = ap (pin_text_as v group) d in
       let same : output_text v single ≡ output_text v group =
       output_same group None
-      ∙ (ap (λ o. output_with v o (attribute_of group (codes "internal_node")) (option_map (moved vectors None) (attribute_of group (codes "function"))))
+      ∙ (ap (λ o. output_with v o (attribute_of group (codes "internal_node"))
+      (option_map (moved vectors None) (attribute_of group (codes "function"))))
       (unmoved (attribute_of group (codes "state_function")))
       ∙ ap (output_with v (attribute_of group (codes "state_function")) (attribute_of group (codes "internal_node")))
       (unmoved (attribute_of group (codes "function")))) in
       ap (function_of numbers) (drives group None d ∙ (same ∙ sym own))
   function_same group (Some at) placed reads d =
       let single : Group = owner_of vectors (record { group = group; position = Some at }) in
-      let made : Text = output_with v (move at (attribute_of group (codes "state_function"))) (attribute_of group (codes "internal_node")) (move at (attribute_of group (codes "function"))) in
+      let made : Text = output_with v (move at (attribute_of group (codes "state_function")))
+      (attribute_of group (codes "internal_node")) (move at (attribute_of group (codes "function"))) in
       let same : pin_text v single ≡ made = drives group (Some at) d ∙ output_same group (Some at) in
       let one = nil_parts (fault_named vectors (Some at) group.items (codes "function")) _ placed in
       let two = nil_parts (fault_named vectors (Some at) group.items (codes "state_function")) _ one.1 in
       ap (function_of numbers) same
-      ∙ driven_same at (attribute_of group (codes "state_function")) (attribute_of group (codes "internal_node")) (attribute_of group (codes "function"))
+      ∙ driven_same at (attribute_of group (codes "state_function")) (attribute_of group (codes "internal_node"))
+      (attribute_of group (codes "function"))
       two.0 one.0 (sym (ap malformed_at same) ∙ reads.0) (sym (ap unknown_at same) ∙ reads.1)
 
   module _ (pins : ℕ) (states : List StateGroup) where
@@ -195,9 +222,11 @@ module _ (vectors : List Vector) (v : Vocabulary) (numbers : List ℕ) (spell : 
 
     -- all pins
     pub outputs_are :
-        (made : List WrittenPin) → AllByRecursion (Placed vectors) made → AllByRecursion (ReadsText v) (map (owner_of vectors) made) → (number : ℕ)
+        (made : List WrittenPin) → AllByRecursion (Placed vectors) made
+        → AllByRecursion (ReadsText v) (map (owner_of vectors) made) → (number : ℕ)
         → outputs_from v pins states numbers number (map (owner_of vectors) made) ≡ outputs_among names v pins states number made
     outputs_are [] placed reads number = refl
     outputs_are (pin ∷ made) placed reads number =
-        ap (λ os. os ++ outputs_from v pins states numbers (number + 1) (map (owner_of vectors) made)) (pin_same number pin placed.0 reads.0)
+        ap (λ os. os ++ outputs_from v pins states numbers (number + 1) (map (owner_of vectors) made))
+        (pin_same number pin placed.0 reads.0)
         ∙ ap (λ os. output_of names v pins states number pin ++ os) (outputs_are made placed.1 reads.1 (number + 1))

@@ -1,5 +1,6 @@
 -- The pins of an expanded cell are those that its statements make.
-use Rattle.std.proofs.Common.{◌≡◌, ℕ, ◌+◌, Bool, true, false, not, ◌&&◌, ◌==◌, List, [], ◌∷◌, ◌++◌, length, map, filter, Option, None, Some, if◌then◌else◌, refl, sym, ap, subst, ◌∙◌, inl, inr, codes, append-nil}
+use Rattle.std.proofs.Common.{◌≡◌, ℕ, ◌+◌, Bool, true, false, not, ◌&&◌, ◌==◌, List, [], ◌∷◌, ◌++◌, length, map, filter, Option}
+use Rattle.std.proofs.Common.{None, Some, if◌then◌else◌, refl, sym, ap, subst, ◌∙◌, inl, inr, codes, append-nil}
 use Rattle.std.specs.Prelude.{flat_map, bytes_eq}
 use Rattle.std.specs.List.{cons_option, list_any, AllByRecursion}
 use Rattle.std.proofs.lemmas.Bool.{or_cases, or_parts}
@@ -24,9 +25,13 @@ use Rattle.bus_texts.specs.declared.vectors.Vector.{Vector}
 use Rattle.bus_texts.specs.Vectors.{Bank, is_called, is_bank, bank_of, pin_vectors, positions}
 use Rattle.bank_cells.specs.Members.{member_items}
 use Rattle.bank_cells.specs.Faults.{pin_texts, text_faults, timing_faults_in}
-use Rattle.bank_cells.specs.Refusals.{is_pins, is_many_as, is_many_item, along, state_texts, member_faults, vector_faults, width_faults_of, width_faults_as, width_faults_in}
-use Rattle.bank_cells.specs.Expanded.{text_at, text_value, pin_item, member_pin, member_pins, vector_pins, state_name, variables_at, bank_state, bank_item, bank_items, single_pin, single_group, expanded_group, expanded_as, expanded_item}
-use Rattle.bank_machines.specs.BankOutputs.{WrittenPin, member_group, pin_of_member, pins_of_vector, scalar_pin, pins_of_group, pins_as, pins_made}
+use Rattle.bank_cells.specs.Refusals.{is_pins, is_many_as, is_many_item, along, state_texts, member_faults, vector_faults}
+use Rattle.bank_cells.specs.Refusals.{width_faults_of, width_faults_as, width_faults_in}
+use Rattle.bank_cells.specs.Expanded.{text_at, text_value, pin_item, member_pin, member_pins, vector_pins, state_name}
+use Rattle.bank_cells.specs.Expanded.{variables_at, bank_state, bank_item, bank_items, single_pin, single_group, expanded_group}
+use Rattle.bank_cells.specs.Expanded.{expanded_as, expanded_item}
+use Rattle.bank_machines.specs.BankOutputs.{WrittenPin, member_group, pin_of_member, pins_of_vector, scalar_pin, pins_of_group}
+use Rattle.bank_machines.specs.BankOutputs.{pins_as, pins_made}
 use Rattle.bank_machines.proofs.StateLemmas.{is_name}
 use Rattle.bank_machines.proofs.PinLemmas.{owner_of, Placed, ReadsText}
 
@@ -43,10 +48,12 @@ owners_append xs ys =
 abbrev pub owned : Group → List Group
 owned group = if is_pin group then owners_in group else []
 
-owned_cons : (group : Group) (groups : List Group) → flat_map owners_in (filter is_pin (group ∷ groups)) ≡ owned group ++ flat_map owners_in (filter is_pin groups)
+owned_cons : (group : Group) (groups : List Group)
+    → flat_map owners_in (filter is_pin (group ∷ groups)) ≡ owned group ++ flat_map owners_in (filter is_pin groups)
 owned_cons group groups = by (is_pin group) refl
   where
-    by : (b : Bool) → is_pin group ≡ b → flat_map owners_in (filter is_pin (group ∷ groups)) ≡ owned group ++ flat_map owners_in (filter is_pin groups)
+    by : (b : Bool) → is_pin group ≡ b
+        → flat_map owners_in (filter is_pin (group ∷ groups)) ≡ owned group ++ flat_map owners_in (filter is_pin groups)
     by true e = rw e refl
     by false e = rw e refl
 
@@ -69,21 +76,42 @@ bank_apart group h =
 -- a bit of a bus or bundle
 module _ (vectors : List Vector) (group : Group) (vector : Vector) (at : ℕ) (member : List ℕ) where
   abbrev written : Group-F Item Group
-  written = record { name = codes "pin"; arguments = text_value member; items = member_items group vector at member; at = group.at }
+  written = record {
+    name = codes "pin";
+    arguments = text_value member;
+    items = member_items group vector at member;
+    at =
+        group.at;
+  }
 
   abbrev expanded : Group-F Item Group
   expanded =
-      record { name = codes "pin"; arguments = text_value member; items = map (pin_item vectors (Some at)) (member_items group vector at member); at = group.at }
+      record {
+        name = codes "pin";
+        arguments = text_value member;
+        items =
+            map (pin_item vectors (Some at)) (member_items group vector at member);
+        at = group.at;
+      }
 
-  member_owner : owner_of vectors (record { group = member_group group vector at member; position = Some at }) ≡ member_pin vectors group vector at member
+  member_owner : owner_of vectors (record { group = member_group group vector at member; position = Some at }) ≡ member_pin
+      vectors group vector at member
   member_owner =
       ap
-      (λ (one : Group-F Item Group). roll-Group (record { name = one.name; arguments = one.arguments; items = map (pin_item vectors (Some at)) one.items; at = one.at }))
+      (λ (one : Group-F Item Group). roll-Group
+      (record {
+        name = one.name;
+        arguments = one.arguments;
+        items = map (pin_item vectors (Some at)) one.items;
+        at =
+            one.at;
+      }))
       (out-roll-Group written)
 
   member_owned : owned (member_pin vectors group vector at member) ≡ member_pin vectors group vector at member ∷ []
   member_owned =
-      ap (λ (one : Group-F Item Group). if pin_word one.name one.arguments then map (owner_as (member_pin vectors group vector at member)) one.arguments else [])
+      ap (λ (one : Group-F Item Group). if pin_word one.name one.arguments
+      then map (owner_as (member_pin vectors group vector at member)) one.arguments else [])
       (out-roll-Group expanded)
 
   member_written : (member_group group vector at member).items ≡ member_items group vector at member
@@ -91,14 +119,16 @@ module _ (vectors : List Vector) (group : Group) (vector : Vector) (at : ℕ) (m
 
 pins_along :
     (vectors : List Vector) (group : Group) (vector : Vector) (at : ℕ) (members : List (List ℕ))
-    → owner_list (along (member_pins vectors group vector) at members) ≡ map (owner_of vectors) (along (pin_of_member group vector) at members)
+    → owner_list (along (member_pins vectors group vector) at members) ≡ map (owner_of vectors)
+    (along (pin_of_member group vector) at members)
 pins_along vectors group vector at [] = refl
 pins_along vectors group vector at (member ∷ members) =
     let rest : List Item = along (member_pins vectors group vector) (at + 1) members in
     inner_cons (member_pin vectors group vector at member) rest
     ∙ (ap (λ gs. gs ++ owner_list rest) (member_owned vectors group vector at member)
     ∙ (ap (λ (g : Group). g ∷ owner_list rest) (sym (member_owner vectors group vector at member))
-    ∙ ap (λ gs. owner_of vectors (record { group = member_group group vector at member; position = Some at }) ∷ gs) (pins_along vectors group vector (at + 1) members)))
+    ∙ ap (λ gs. owner_of vectors (record { group = member_group group vector at member; position = Some at }) ∷ gs)
+    (pins_along vectors group vector (at + 1) members)))
 
 vectors_owned :
     (vectors : List Vector) (group : Group) (many : List Vector)
@@ -115,7 +145,8 @@ state_is_no_pin : (b : Bool) (arguments : List Value) → pin_word (if b then co
 state_is_no_pin true arguments = refl
 state_is_no_pin false arguments = refl
 
-bank_owns : (vectors : List Vector) (group : Group) (bank : Bank) (ps : List ℕ) → owner_list (map (bank_item vectors group bank) ps) ≡ []
+bank_owns : (vectors : List Vector) (group : Group) (bank : Bank) (ps : List ℕ)
+    → owner_list (map (bank_item vectors group bank) ps) ≡ []
 bank_owns vectors group bank [] = refl
 bank_owns vectors group bank (p ∷ ps) =
     let single : Group = bank_state vectors group bank p in
@@ -127,9 +158,11 @@ bank_owns vectors group bank (p ∷ ps) =
       at = group.at;
     }) in
     let apart : is_pin single ≡ false =
-    ap (λ (one : Group-F Item Group). pin_word one.name one.arguments) e ∙ state_is_no_pin (is_called (codes "ff_bank") group) (variables_at bank p) in
+    ap (λ (one : Group-F Item Group). pin_word one.name one.arguments) e
+    ∙ state_is_no_pin (is_called (codes "ff_bank") group) (variables_at bank p) in
     inner_cons single (map (bank_item vectors group bank) ps)
-    ∙ (ap (λ b. (if b then owners_in single else []) ++ owner_list (map (bank_item vectors group bank) ps)) apart ∙ bank_owns vectors group bank ps)
+    ∙ (ap (λ b. (if b then owners_in single else []) ++ owner_list (map (bank_item vectors group bank) ps)) apart
+    ∙ bank_owns vectors group bank ps)
 
 by_bank : (vectors : List Vector) (group : Group) (bank : Option Bank) → owner_list (bank_items vectors group bank) ≡ []
 by_bank vectors group None = refl
@@ -137,7 +170,8 @@ by_bank vectors group (Some bank) = bank_owns vectors group bank (positions bank
 
 -- a scalar pin group
 scalar_owners :
-    (owner : WrittenPin → Group) (group single : Group) → owner (record { group = group; position = None }) ≡ single → (arguments : List Value)
+    (owner : WrittenPin → Group) (group single : Group) → owner (record { group = group; position = None }) ≡ single
+    → (arguments : List Value)
     → map (owner_as single) arguments ≡ map owner (map (scalar_pin group) arguments)
 scalar_owners owner group single e [] = refl
 scalar_owners owner group single e (value ∷ arguments) =
@@ -145,14 +179,16 @@ scalar_owners owner group single e (value ∷ arguments) =
     ∙ ap (λ gs. owner (record { group = group; position = None }) ∷ gs) (scalar_owners owner group single e arguments)
 
 scalar_owned :
-    (owner : WrittenPin → Group) (group single : Group) → owner (record { group = group; position = None }) ≡ single → single.name ≡ group.name
+    (owner : WrittenPin → Group) (group single : Group) → owner (record { group = group; position = None }) ≡ single
+    → single.name ≡ group.name
     → single.arguments ≡ group.arguments
     → owned single ≡ map owner (if is_pin group then map (scalar_pin group) group.arguments else [])
 scalar_owned owner group single e named same =
     ap (λ name. if pin_word name single.arguments then map (owner_as single) single.arguments else []) named
     ∙ (ap (λ arguments. if pin_word group.name arguments then map (owner_as single) arguments else []) same ∙ by (is_pin group))
   where
-    by : (b : Bool) → (if b then map (owner_as single) group.arguments else []) ≡ map owner (if b then map (scalar_pin group) group.arguments else [])
+    by : (b : Bool) → (if b then map (owner_as single) group.arguments else []) ≡ map owner
+        (if b then map (scalar_pin group) group.arguments else [])
     by true = scalar_owners owner group single e group.arguments
     by false = refl
 
@@ -162,17 +198,25 @@ module _ (types : List BusType) (vectors : List Vector) where
       ≡ map (owner_of vectors) (if is_pin group then map (scalar_pin group) group.arguments else [])
   by_plain group true e =
       let single : Group = single_pin vectors group in
-      let is = out-roll-Group (record { name = group.name; arguments = group.arguments; items = map (pin_item vectors None) group.items; at = group.at }) in
+      let is = out-roll-Group (record {
+        name = group.name;
+        arguments = group.arguments;
+        items =
+            map (pin_item vectors None) group.items;
+        at = group.at;
+      }) in
       inner_cons single []
       ∙ (append-nil (owned single)
-      ∙ scalar_owned (owner_of vectors) group single refl (ap (λ (one : Group-F Item Group). one.name) is) (ap (λ (one : Group-F Item Group). one.arguments) is))
+      ∙ scalar_owned (owner_of vectors) group single refl (ap (λ (one : Group-F Item Group). one.name) is)
+      (ap (λ (one : Group-F Item Group). one.arguments) is))
   by_plain group false e =
       let apart : is_pin group ≡ false = ap (λ b. b && not (length group.arguments == 0)) e in
       inner_cons group []
       ∙ (ap (λ b. (if b then owners_in group else []) ++ []) apart
       ∙ sym (ap (λ b. map (owner_of vectors) (if b then map (scalar_pin group) group.arguments else [])) apart))
 
-  group_owned : (group : Group) → owner_list (expanded_group types vectors group) ≡ map (owner_of vectors) (pins_of_group types group)
+  group_owned : (group : Group) → owner_list (expanded_group types vectors group) ≡ map (owner_of vectors)
+      (pins_of_group types group)
   group_owned group = by (is_pins group) (is_bank group) refl refl
     where
       by : (many bank : Bool) → is_pins group ≡ many → is_bank group ≡ bank
@@ -185,7 +229,8 @@ module _ (types : List BusType) (vectors : List Vector) where
           ap owner_list items ∙ (by_bank vectors group (bank_of group) ∙ sym (ap (map (owner_of vectors)) none))
       by false false e f =
           let items : expanded_group types vectors group ≡ single_group vectors group = rw (e, f) refl in
-          let scalar : pins_of_group types group ≡ (if is_pin group then map (scalar_pin group) group.arguments else []) = rw e refl in
+          let scalar : pins_of_group types group ≡ (if is_pin group then map (scalar_pin group) group.arguments else []) =
+          rw e refl in
           ap owner_list items ∙ (by_plain group (is_called (codes "pin") group) refl ∙ sym (ap (map (owner_of vectors)) scalar))
 
   by_layer : (one : Item-F Item Group) → owner_list (expanded_as types vectors one) ≡ map (owner_of vectors) (pins_as types one)
@@ -197,7 +242,8 @@ module _ (types : List BusType) (vectors : List Vector) where
 
   -- the pins of an expanded cell
   pub owners_are :
-      (items : List Item) → owner_list (flat_map (expanded_item types vectors) items) ≡ map (owner_of vectors) (flat_map (pins_made types) items)
+      (items : List Item) → owner_list (flat_map (expanded_item types vectors) items) ≡ map (owner_of vectors)
+      (flat_map (pins_made types) items)
   owners_are [] = refl
   owners_are (item ∷ items) =
       let later : List Item = flat_map (expanded_item types vectors) items in
@@ -207,57 +253,70 @@ module _ (types : List BusType) (vectors : List Vector) where
       ∙ sym (map-append (owner_of vectors) (pins_made types item) (flat_map (pins_made types) items))))
 
   -- no text of them has a fault
-  all_join : {X : Type 0} (P : X → Type 0) (xs ys : List X) → AllByRecursion P xs → AllByRecursion P ys → AllByRecursion P (xs ++ ys)
+  all_join : {X : Type 0} (P : X → Type 0) (xs ys : List X) → AllByRecursion P xs → AllByRecursion P ys
+      → AllByRecursion P (xs ++ ys)
   all_join P [] ys a b = b
   all_join P (x ∷ xs) ys a b = (a.0, all_join P xs ys a.1 b)
 
   placed_along :
-      (group : Group) (vector : Vector) (at : ℕ) (members : List (List ℕ)) → along (member_faults vectors group vector) at members ≡ []
+      (group : Group) (vector : Vector) (at : ℕ) (members : List (List ℕ))
+      → along (member_faults vectors group vector) at members ≡ []
       → AllByRecursion (Placed vectors) (along (pin_of_member group vector) at members)
   placed_along group vector at [] h = tt
   placed_along group vector at (member ∷ members) h =
       let items : List Item = member_items group vector at member in
-      let parts = nil_parts (member_faults vectors group vector at member) (along (member_faults vectors group vector) (at + 1) members) h in
-      let here = nil_parts (text_faults vectors (Some at) pin_texts items) (flat_map (timing_faults_in vectors (Some at)) items) parts.0 in (
+      let parts = nil_parts (member_faults vectors group vector at member)
+      (along (member_faults vectors group vector) (at + 1) members) h in
+      let here = nil_parts (text_faults vectors (Some at) pin_texts items) (flat_map (timing_faults_in vectors (Some at)) items)
+      parts.0 in (
         ap (text_faults vectors (Some at) pin_texts) (member_written vectors group vector at member) ∙ here.0,
         placed_along group vector (at + 1) members parts.1,
       )
 
   placed_vectors :
-      (group : Group) (many : List Vector) → flat_map (vector_faults vectors group) many ≡ [] → AllByRecursion (Placed vectors) (flat_map (pins_of_vector group) many)
+      (group : Group) (many : List Vector) → flat_map (vector_faults vectors group) many ≡ []
+      → AllByRecursion (Placed vectors) (flat_map (pins_of_vector group) many)
   placed_vectors group [] h = tt
   placed_vectors group (vector ∷ many) h =
       let parts = nil_parts (vector_faults vectors group vector) (flat_map (vector_faults vectors group) many) h in
-      all_join (Placed vectors) (pins_of_vector group vector) (flat_map (pins_of_vector group) many) (placed_along group vector 0 vector.members parts.0)
+      all_join (Placed vectors) (pins_of_vector group vector) (flat_map (pins_of_vector group) many)
+      (placed_along group vector 0 vector.members parts.0)
       (placed_vectors group many parts.1)
 
   placed_scalars : (group : Group) (arguments : List Value) → AllByRecursion (Placed vectors) (map (scalar_pin group) arguments)
   placed_scalars group [] = tt
   placed_scalars group (value ∷ arguments) = (tt, placed_scalars group arguments)
 
-  placed_scalar : (group : Group) (b : Bool) → AllByRecursion (Placed vectors) (if b then map (scalar_pin group) group.arguments else [])
+  placed_scalar : (group : Group) (b : Bool)
+      → AllByRecursion (Placed vectors) (if b then map (scalar_pin group) group.arguments else [])
   placed_scalar group true = placed_scalars group group.arguments
   placed_scalar group false = tt
 
-  placed_group : (group : Group) (many : Bool) → is_pins group ≡ many → width_faults_of types vectors group ≡ [] → AllByRecursion (Placed vectors) (pins_of_group types group)
+  placed_group : (group : Group) (many : Bool) → is_pins group ≡ many → width_faults_of types vectors group ≡ []
+      → AllByRecursion (Placed vectors) (pins_of_group types group)
   placed_group group true e h =
-      let faults : width_faults_of types vectors group ≡ flat_map (vector_faults vectors group) (pin_vectors types group) = rw e refl in
+      let faults : width_faults_of types vectors group ≡ flat_map (vector_faults vectors group) (pin_vectors types group) =
+      rw e refl in
       let same : pins_of_group types group ≡ flat_map (pins_of_vector group) (pin_vectors types group) = rw e refl in
-      subst (λ ps. AllByRecursion (Placed vectors) ps) (sym same) (placed_vectors group (pin_vectors types group) (sym faults ∙ h))
+      subst (λ ps. AllByRecursion (Placed vectors) ps) (sym same)
+      (placed_vectors group (pin_vectors types group) (sym faults ∙ h))
   placed_group group false e h =
       let same : pins_of_group types group ≡ (if is_pin group then map (scalar_pin group) group.arguments else []) = rw e refl in
       subst (λ ps. AllByRecursion (Placed vectors) ps) (sym same) (placed_scalar group (is_pin group))
 
-  placed_layer : (one : Item-F Item Group) → width_faults_as types vectors one ≡ [] → AllByRecursion (Placed vectors) (pins_as types one)
+  placed_layer : (one : Item-F Item Group) → width_faults_as types vectors one ≡ []
+      → AllByRecursion (Placed vectors) (pins_as types one)
   placed_layer (layer.Simple name value at) h = tt
   placed_layer (layer.Complex name arguments at) h = tt
   placed_layer (layer.Inner group) h = placed_group group (is_pins group) refl h
 
-  pub placed_are : (items : List Item) → flat_map (width_faults_in types vectors) items ≡ [] → AllByRecursion (Placed vectors) (flat_map (pins_made types) items)
+  pub placed_are : (items : List Item) → flat_map (width_faults_in types vectors) items ≡ []
+      → AllByRecursion (Placed vectors) (flat_map (pins_made types) items)
   placed_are [] h = tt
   placed_are (item ∷ items) h =
       let parts = nil_parts (width_faults_in types vectors item) (flat_map (width_faults_in types vectors) items) h in
-      all_join (Placed vectors) (pins_made types item) (flat_map (pins_made types) items) (placed_layer (out-Item item) parts.0) (placed_are items parts.1)
+      all_join (Placed vectors) (pins_made types item) (flat_map (pins_made types) items) (placed_layer (out-Item item) parts.0)
+      (placed_are items parts.1)
 
   -- a cell that has no such groups
   abbrev own : WrittenPin → Group
@@ -279,25 +338,33 @@ module _ (types : List BusType) (vectors : List Vector) where
   scalar_pins (layer.Complex name arguments at) h = tt
   scalar_pins (layer.Inner group) h =
       let apart : is_pins group ≡ false = (or_parts (is_pins group) (is_bank group) h).0 in
-      let same : pins_of_group types group ≡ (if is_pin group then map (scalar_pin group) group.arguments else []) = rw apart refl in
+      let same : pins_of_group types group ≡ (if is_pin group then map (scalar_pin group) group.arguments else []) = rw apart refl
+      in
       subst (λ ps. AllByRecursion IsScalar ps) (sym same) (scalars_by group (is_pin group))
 
-  pub scalars_are : (items : List Item) → list_any is_many_item items ≡ false → AllByRecursion IsScalar (flat_map (pins_made types) items)
+  pub scalars_are : (items : List Item) → list_any is_many_item items ≡ false
+      → AllByRecursion IsScalar (flat_map (pins_made types) items)
   scalars_are [] h = tt
   scalars_are (item ∷ items) h =
       let apart = or_parts (is_many_item item) (list_any is_many_item items) h in
-      all_join IsScalar (pins_made types item) (flat_map (pins_made types) items) (scalar_pins (out-Item item) apart.0) (scalars_are items apart.1)
+      all_join IsScalar (pins_made types item) (flat_map (pins_made types) items) (scalar_pins (out-Item item) apart.0)
+      (scalars_are items apart.1)
 
-  own_layer : (item : Item) (one : Item-F Item Group) → out-Item item ≡ one → is_many_as one ≡ false → owner_list (item ∷ []) ≡ map own (pins_as types one)
+  own_layer : (item : Item) (one : Item-F Item Group) → out-Item item ≡ one → is_many_as one ≡ false
+      → owner_list (item ∷ []) ≡ map own (pins_as types one)
   own_layer item (layer.Simple name value at) e h = ap (λ o. flat_map owners_in (filter is_pin (cons_option (inner_of o) []))) e
-  own_layer item (layer.Complex name arguments at) e h = ap (λ o. flat_map owners_in (filter is_pin (cons_option (inner_of o) []))) e
+  own_layer item (layer.Complex name arguments at) e h =
+      ap (λ o. flat_map owners_in (filter is_pin (cons_option (inner_of o) []))) e
   own_layer item (layer.Inner group) e h =
       let apart : is_pins group ≡ false = (or_parts (is_pins group) (is_bank group) h).0 in
-      let same : pins_of_group types group ≡ (if is_pin group then map (scalar_pin group) group.arguments else []) = rw apart refl in
+      let same : pins_of_group types group ≡ (if is_pin group then map (scalar_pin group) group.arguments else []) = rw apart refl
+      in
       ap (λ o. flat_map owners_in (filter is_pin (cons_option (inner_of o) []))) e
-      ∙ (owned_cons group [] ∙ (append-nil (owned group) ∙ (scalar_owned own group group refl refl refl ∙ sym (ap (map own) same))))
+      ∙ (owned_cons group [] ∙ (append-nil (owned group)
+      ∙ (scalar_owned own group group refl refl refl ∙ sym (ap (map own) same))))
 
-  pub own_are : (items : List Item) → list_any is_many_item items ≡ false → owner_list items ≡ map own (flat_map (pins_made types) items)
+  pub own_are : (items : List Item) → list_any is_many_item items ≡ false
+      → owner_list items ≡ map own (flat_map (pins_made types) items)
   own_are [] h = refl
   own_are (item ∷ items) h =
       let apart = or_parts (is_many_item item) (list_any is_many_item items) h in
@@ -308,15 +375,18 @@ module _ (types : List BusType) (vectors : List Vector) where
 
 -- what an accepted cell says of its pins
 reads_all :
-    (v : Vocabulary) (group : Group) (arguments : List Value) → ReadsText v group → AllByRecursion (ReadsText v) (map (owner_as group) arguments)
+    (v : Vocabulary) (group : Group) (arguments : List Value) → ReadsText v group
+    → AllByRecursion (ReadsText v) (map (owner_as group) arguments)
 reads_all v group [] h = tt
 reads_all v group (value ∷ arguments) h = (h, reads_all v group arguments h)
 
 pub all_read :
-    (v : Vocabulary) (groups : List Group) → flat_map malformed_at (map (pin_text v) groups) ≡ [] → flat_map unknown_at (map (pin_text v) groups) ≡ []
+    (v : Vocabulary) (groups : List Group) → flat_map malformed_at (map (pin_text v) groups) ≡ []
+    → flat_map unknown_at (map (pin_text v) groups) ≡ []
     → AllByRecursion (ReadsText v) (flat_map owners_in groups)
 all_read v [] a b = tt
 all_read v (group ∷ groups) a b =
     let pa = nil_parts (malformed_at (pin_text v group)) (flat_map malformed_at (map (pin_text v) groups)) a in
     let pb = nil_parts (unknown_at (pin_text v group)) (flat_map unknown_at (map (pin_text v) groups)) b in
-    all_join [] [] (ReadsText v) (owners_in group) (flat_map owners_in groups) (reads_all v group group.arguments (pa.0, pb.0)) (all_read v groups pa.1 pb.1)
+    all_join [] [] (ReadsText v) (owners_in group) (flat_map owners_in groups) (reads_all v group group.arguments (pa.0, pb.0))
+    (all_read v groups pa.1 pb.1)

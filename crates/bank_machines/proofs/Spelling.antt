@@ -1,5 +1,6 @@
 -- The members of the buses, bundles and banks of a cell have the names of their bits.
-use Rattle.std.proofs.Common.{◌≡◌, ℕ, suc, ◌+◌, Bool, true, false, ◌==◌, List, [], ◌∷◌, ◌++◌, map, Option, None, Some, if◌then◌else◌, refl, sym, ap, ◌∙◌, arith, slice_get, eqb-true}
+use Rattle.std.proofs.Common.{◌≡◌, ℕ, suc, ◌+◌, Bool, true, false, ◌==◌, List, [], ◌∷◌, ◌++◌, map, Option, None, Some}
+use Rattle.std.proofs.Common.{if◌then◌else◌, refl, sym, ap, ◌∙◌, arith, slice_get, eqb-true}
 use Rattle.std.specs.Prelude.{flat_map, option_and_then, codes}
 use Rattle.std.specs.List.{AllByRecursion}
 use Rattle.liberty_groups.specs.declared.tree.Value.{Value}
@@ -12,14 +13,19 @@ use Rattle.bus_texts.specs.declared.vectors.VectorKind.{VectorKind}
 use Rattle.bus_texts.specs.declared.vectors.VectorKind.TheVariants as kinds
 use Rattle.bus_texts.specs.BusTypes.{type_of}
 use Rattle.bus_texts.specs.Texts.{bit_place}
-use Rattle.bus_texts.specs.Vectors.{is_called, is_bank, member_name, bits_in, bit_vector, bus_named, buses_in, bundle_members, bundle_vector, bundle_named, bundles_in, Bank, bank_of, positions, variables_as, item_pin_vectors, item_variables, pin_vectors_in, variables_at, all_pin_vectors, all_variables, cell_vectors}
+use Rattle.bus_texts.specs.Vectors.{is_called, is_bank, member_name, bits_in, bit_vector, bus_named, buses_in, bundle_members}
+use Rattle.bus_texts.specs.Vectors.{bundle_vector, bundle_named, bundles_in, Bank, bank_of, positions, variables_as}
+use Rattle.bus_texts.specs.Vectors.{item_pin_vectors, item_variables, pin_vectors_in, variables_at, all_pin_vectors}
+use Rattle.bus_texts.specs.Vectors.{all_variables, cell_vectors}
 use Rattle.bank_machines.proofs.TextLemmas.{Spells}
 
-all_join : {X : Type 0} (P : X → Type 0) (xs ys : List X) → AllByRecursion P xs → AllByRecursion P ys → AllByRecursion P (xs ++ ys)
+all_join : {X : Type 0} (P : X → Type 0) (xs ys : List X) → AllByRecursion P xs → AllByRecursion P ys
+    → AllByRecursion P (xs ++ ys)
 all_join P [] ys a b = b
 all_join P (x ∷ xs) ys a b = (a.0, all_join P xs ys a.1 b)
 
-all_flat : {X Y : Type 0} (P : Y → Type 0) (f : X → List Y) (xs : List X) → ((x : X) → AllByRecursion P (f x)) → AllByRecursion P (flat_map f xs)
+all_flat : {X Y : Type 0} (P : Y → Type 0) (f : X → List Y) (xs : List X) → ((x : X) → AllByRecursion P (f x))
+    → AllByRecursion P (flat_map f xs)
 all_flat P f [] h = tt
 all_flat P f (x ∷ xs) h = all_join P (f x) (flat_map f xs) (h x) (all_flat P f xs h)
 
@@ -33,13 +39,15 @@ record IsAt (name : List ℕ) (bit from : ℕ) (bits : List ℕ) (place : ℕ) :
   pub counted : place ≡ from + behind
   pub member : slice_get (map (member_name name) bits) behind ≡ Some (member_name name bit)
 
-placed : (name : List ℕ) (bit from : ℕ) (bits : List ℕ) (place : ℕ) → bit_place bit from bits ≡ Some place → IsAt name bit from bits place
+placed : (name : List ℕ) (bit from : ℕ) (bits : List ℕ) (place : ℕ) → bit_place bit from bits ≡ Some place
+    → IsAt name bit from bits place
 placed name bit from [] place e = absurd cc
 placed name bit from (other ∷ bits) place e = by (other == bit) refl e (placed name bit (from + 1) bits place)
   where
     by :
         (here : Bool) → (other == bit) ≡ here → (if here then Some from else bit_place bit (from + 1) bits) ≡ Some place
-        → (bit_place bit (from + 1) bits ≡ Some place → IsAt name bit (from + 1) bits place) → IsAt name bit from (other ∷ bits) place
+        → (bit_place bit (from + 1) bits ≡ Some place → IsAt name bit (from + 1) bits place)
+        → IsAt name bit from (other ∷ bits) place
     by true h e later =
         let same : from ≡ place = cc in
         record { behind = 0; counted = omega (arith, same); member = ap (λ b. Some (member_name name b)) (eqb-true other bit h) }
@@ -51,13 +59,15 @@ placed name bit from (other ∷ bits) place e = by (other == bit) refl e (placed
 bits_spell : (kind : VectorKind) (bits : List ℕ) (name : List ℕ) → Spells (bit_vector kind bits name)
 bits_spell kind bits name at bit member e = by (bit_place bit 0 bits) refl e
   where
-    by : (place : Option ℕ) → bit_place bit 0 bits ≡ place → option_and_then (λ i. slice_get (map (member_name name) bits) i) place ≡ Some member → member ≡ member_name name bit
+    by : (place : Option ℕ) → bit_place bit 0 bits ≡ place
+        → option_and_then (λ i. slice_get (map (member_name name) bits) i) place ≡ Some member → member ≡ member_name name bit
     by None p e = absurd cc
     by (Some place) p e =
         let is : IsAt name bit 0 bits place = placed name bit 0 bits place p in
         let count : place ≡ 0 + is.behind = is.counted in
         let same : place ≡ is.behind = omega (arith, count) in
-        let found : Some member ≡ Some (member_name name bit) = sym e ∙ (ap (slice_get (map (member_name name) bits)) same ∙ is.member) in
+        let found : Some member ≡ Some (member_name name bit) =
+        sym e ∙ (ap (slice_get (map (member_name name) bits)) same ∙ is.member) in
         cc
 
 bundle_spells : (members : List (List ℕ)) (name : List ℕ) → Spells (bundle_vector members name)
@@ -69,13 +79,15 @@ group_pins_spell types group true bundle =
     all_mapped Spells (bus_named (bits_in (type_of types group))) group.arguments
     (λ (value : Value). bits_spell kinds.Bus (bits_in (type_of types group)) value.bytes)
 group_pins_spell types group false true =
-    all_mapped Spells (bundle_named (bundle_members group)) group.arguments (λ (value : Value). bundle_spells (bundle_members group) value.bytes)
+    all_mapped Spells (bundle_named (bundle_members group)) group.arguments
+    (λ (value : Value). bundle_spells (bundle_members group) value.bytes)
 group_pins_spell types group false false = tt
 
 pins_spell : (types : List BusType) (one : Item-F Item Group) → AllByRecursion Spells (item_pin_vectors types one)
 pins_spell types (layer.Simple name value at) = tt
 pins_spell types (layer.Complex name arguments at) = tt
-pins_spell types (layer.Inner group) = group_pins_spell types group (is_called (codes "bus") group) (is_called (codes "bundle") group)
+pins_spell types (layer.Inner group) =
+    group_pins_spell types group (is_called (codes "bus") group) (is_called (codes "bundle") group)
 
 bank_spells : (bank : Option Bank) → AllByRecursion Spells (variables_as bank)
 bank_spells None = tt

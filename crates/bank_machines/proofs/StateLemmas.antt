@@ -1,5 +1,6 @@
 -- The state that the expanded group of a bank at a position holds is that of the bank there.
-use Rattle.std.proofs.Common.{◌≡◌, ℕ, Bool, true, false, ◌||◌, List, [], ◌∷◌, length, map, Option, None, Some, if◌then◌else◌, refl, sym, ap, subst, ◌∙◌, inl, inr, codes, unwrap_or}
+use Rattle.std.proofs.Common.{◌≡◌, ℕ, Bool, true, false, ◌||◌, List, [], ◌∷◌, length, map, Option, None, Some, if◌then◌else◌}
+use Rattle.std.proofs.Common.{refl, sym, ap, subst, ◌∙◌, inl, inr, codes, unwrap_or}
 use Rattle.std.specs.Prelude.{flat_map, bytes_eq}
 use Rattle.std.specs.Option.{option_map}
 use Rattle.std.specs.List.{AllByRecursion}
@@ -19,7 +20,8 @@ use Rattle.cell_attributes.specs.declared.texts.Scope.{Scope}
 use Rattle.cell_attributes.specs.declared.texts.Scope.TheVariants as scope
 use Rattle.cell_attributes.specs.declared.texts.Text.{Text}
 use Rattle.cell_attributes.specs.declared.state_readings.StateReading.{StateReading}
-use Rattle.cell_attributes.specs.States.{Arguments, two_of, arguments_of, is_table, both_named, both_with, unless_kept, first_both, second_both}
+use Rattle.cell_attributes.specs.States.{Arguments, two_of, arguments_of, is_table, both_named, both_with, unless_kept}
+use Rattle.cell_attributes.specs.States.{first_both, second_both}
 use Rattle.cell_attributes.specs.Vocabulary.{Vocabulary}
 use Rattle.cell_attributes.specs.Texts.{text_as}
 use Rattle.cell_attributes.specs.StateReadings.{is_ff, own_scope, reading_of_texts, reading_of_table, state_reading}
@@ -54,9 +56,11 @@ control_named ff = if ff then codes "clocked_on" else codes "enable"
 abbrev texts_named : Bool → List (List ℕ)
 texts_named ff = data_named ff ∷ control_named ff ∷ codes "clear" ∷ codes "preset" ∷ []
 
-names_known : (ff : Bool) → (is_one_of (texts_named ff) (data_named ff) ≡ true) × (is_one_of (texts_named ff) (control_named ff) ≡ true)
+names_known : (ff : Bool) → (is_one_of (texts_named ff) (data_named ff) ≡ true)
+    × (is_one_of (texts_named ff) (control_named ff) ≡ true)
     × (is_one_of (texts_named ff) (codes "clear") ≡ true) × (is_one_of (texts_named ff) (codes "preset") ≡ true)
-    × (is_one_of (texts_named ff) (codes "clear_preset_var1") ≡ false) × (is_one_of (texts_named ff) (codes "clear_preset_var2") ≡ false)
+    × (is_one_of (texts_named ff) (codes "clear_preset_var1") ≡ false)
+    × (is_one_of (texts_named ff) (codes "clear_preset_var2") ≡ false)
 names_known true = (refl, refl, refl, refl, refl, refl)
 names_known false = (refl, refl, refl, refl, refl, refl)
 
@@ -72,24 +76,29 @@ module _
   abbrev reading : StateReading
   reading = reading_of_texts v (length pins) single
 
-  text_attribute : (name : List ℕ) → is_one_of (state_texts group) name ≡ true → attribute_of single name ≡ option_map (moved vectors (Some at)) (attribute_of group name)
+  text_attribute : (name : List ℕ) → is_one_of (state_texts group) name ≡ true
+      → attribute_of single name ≡ option_map (moved vectors (Some at)) (attribute_of group name)
   text_attribute name h =
       ap (λ (items : List Item). last_or None (attributes_named name items)) is.statements
       ∙ text_moved vectors (Some at) (state_texts group) name group.items h
 
-  other_attribute : (name : List ℕ) → is_one_of (state_texts group) name ≡ false → attribute_of single name ≡ attribute_of group name
+  other_attribute : (name : List ℕ) → is_one_of (state_texts group) name ≡ false
+      → attribute_of single name ≡ attribute_of group name
   other_attribute name h =
       ap (λ (items : List Item). last_or None (attributes_named name items)) is.statements
       ∙ other_kept vectors (Some at) (state_texts group) name group.items h
 
   -- the function of a text of the bank
   text_function :
-      (s : Scope) (name : List ℕ) (t : Text) → t ≡ text_as v s (attribute_of single name) → is_one_of (state_texts group) name ≡ true
+      (s : Scope) (name : List ℕ) (t : Text) → t ≡ text_as v s (attribute_of single name)
+      → is_one_of (state_texts group) name ≡ true
       → fault_named vectors (Some at) group.items name ≡ [] → IsSound t
       → function_in numbers t ≡ function_if cell at (attribute_of group name)
   text_function s name t e h fault sound =
-      let same : t ≡ text_as v s (option_map (moved vectors (Some at)) (attribute_of group name)) = e ∙ ap (text_as v s) (text_attribute name h) in
-      ap (function_in numbers) same ∙ text_is vectors v numbers at spell s (attribute_of group name) fault (subst (λ w. IsSound w) same sound)
+      let same : t ≡ text_as v s (option_map (moved vectors (Some at)) (attribute_of group name)) =
+      e ∙ ap (text_as v s) (text_attribute name h) in
+      ap (function_in numbers) same ∙ text_is vectors v numbers at spell s (attribute_of group name) fault
+      (subst (λ w. IsSound w) same sound)
 
   abbrev arguments : Arguments
   arguments = record { first = member_name bank.first at; second = member_name bank.second at }
@@ -103,13 +112,15 @@ module _
   one_group : is_table single ≡ false → groups_in numbers single reading ≡ state_with (kind_of_texts numbers single reading) ∷ []
   one_group table =
       ap (groups_with numbers single reading) two_arguments
-      ∙ ap (λ b. if b then table_groups single reading arguments else state_with (kind_of_texts numbers single reading) ∷ []) table
+      ∙ ap (λ b. if b then table_groups single reading arguments else state_with (kind_of_texts numbers single reading) ∷ [])
+      table
 
   read_texts : is_table single ≡ false → state_reading v (length pins) single ≡ reading
   read_texts table = ap (λ b. if b then reading_of_table v (length pins) single else reading) table
 
   -- a state of this kind
-  state_of : (k : GroupKind) → groups_in numbers single reading ≡ state_with k ∷ [] → k ≡ kind_at cell group at → AllByRecursion (Fits pins) (groups_in numbers single reading)
+  state_of : (k : GroupKind) → groups_in numbers single reading ≡ state_with k ∷ [] → k ≡ kind_at cell group at
+      → AllByRecursion (Fits pins) (groups_in numbers single reading)
       → groups_in numbers single reading ≡ state_at cell (length pins) group at ∷ []
   state_of k e same fits =
       let one : Fits pins (state_with k) = (subst (λ gs. AllByRecursion (Fits pins) gs) e fits).0 in
@@ -118,12 +129,15 @@ module _
   or_first : (o p : Option Node) → o ≡ p → unwrap_or o (tree.Name 0) ≡ unwrap_or p (tree.Name 0)
   or_first o p e = ap (λ f. unwrap_or f (tree.Name 0)) e
 
-  first_same : is_one_of (state_texts group) (codes "clear_preset_var1") ≡ false → unwrap_or (first_both single) both.Unknown ≡ unwrap_or (first_both group) both.Unknown
+  first_same : is_one_of (state_texts group) (codes "clear_preset_var1") ≡ false
+      → unwrap_or (first_both single) both.Unknown ≡ unwrap_or (first_both group) both.Unknown
   first_same h = ap (λ o. unwrap_or (both_with both_named o) both.Unknown) (other_attribute (codes "clear_preset_var1") h)
 
-  second_same : is_one_of (state_texts group) (codes "clear_preset_var2") ≡ false → unwrap_or (second_both single) both.Unknown ≡ unwrap_or (second_both group) both.Unknown
+  second_same : is_one_of (state_texts group) (codes "clear_preset_var2") ≡ false
+      → unwrap_or (second_both single) both.Unknown ≡ unwrap_or (second_both group) both.Unknown
   second_same h =
-      ap (λ o. unwrap_or (both_with (λ text. unless_kept (both_named text)) o) both.Unknown) (other_attribute (codes "clear_preset_var2") h)
+      ap (λ o. unwrap_or (both_with (λ text. unless_kept (both_named text)) o) both.Unknown)
+      (other_attribute (codes "clear_preset_var2") h)
 
   module _ (faults : state_faults vectors group at ≡ []) where
     abbrev fault_of : List ℕ → List ℕ
@@ -154,18 +168,30 @@ module _
         (ap (λ b. text_as v (own_scope v (arguments_of single)) (attribute_of single (data_named b))) ff)
         (among (data_named b) true named.0) one.0 sound.of_data in
         let control_text =
-        text_function scope.Control (control_named b) reading.control (ap (λ b. text_as v scope.Control (attribute_of single (control_named b))) ff)
+        text_function scope.Control (control_named b) reading.control
+        (ap (λ b. text_as v scope.Control (attribute_of single (control_named b))) ff)
         (among (control_named b) true named.1) two.0 sound.of_control in
-        let clear_text = text_function scope.Control (codes "clear") reading.clear refl (among (codes "clear") true named.2) three.0 sound.of_clear in
-        let preset_text = text_function scope.Control (codes "preset") reading.preset refl (among (codes "preset") true named.3) four.0 sound.of_preset in
-        (data_text, control_text, clear_text, preset_text, first_same (among (codes "clear_preset_var1") false named.4), second_same (among (codes "clear_preset_var2") false named.5))
+        let clear_text = text_function scope.Control (codes "clear") reading.clear refl (among (codes "clear") true named.2)
+        three.0 sound.of_clear in
+        let preset_text = text_function scope.Control (codes "preset") reading.preset refl (among (codes "preset") true named.3)
+        four.0 sound.of_preset in (
+          data_text,
+          control_text,
+          clear_text,
+          preset_text,
+          first_same (among (codes "clear_preset_var1") false named.4),
+          second_same (among (codes "clear_preset_var2") false named.5),
+        )
 
     clocked_same :
-        is_ff single ≡ true → state_texts group ≡ ff_texts → IsSoundReading reading → clocked numbers single reading ≡ clocked_at cell group at
+        is_ff single ≡ true → state_texts group ≡ ff_texts → IsSoundReading reading
+        → clocked numbers single reading ≡ clocked_at cell group at
     clocked_same ff texts sound =
         let same = texts_same true ff texts sound in
-        let next = or_first (function_in numbers reading.data_text) (function_if cell at (attribute_of group (codes "next_state"))) same.0 in
-        let clock = or_first (function_in numbers reading.control) (function_if cell at (attribute_of group (codes "clocked_on"))) same.1 in
+        let next = or_first (function_in numbers reading.data_text)
+        (function_if cell at (attribute_of group (codes "next_state"))) same.0 in
+        let clock = or_first (function_in numbers reading.control) (function_if cell at (attribute_of group (codes "clocked_on")))
+        same.1 in
         λ i. record {
           next_state = next i;
           clocked_on = clock i;
@@ -176,7 +202,8 @@ module _
         }
 
     gated_same :
-        is_ff single ≡ false → state_texts group ≡ latch_texts → IsSoundReading reading → gated numbers single reading ≡ gated_at cell group at
+        is_ff single ≡ false → state_texts group ≡ latch_texts → IsSoundReading reading
+        → gated numbers single reading ≡ gated_at cell group at
     gated_same ff texts sound =
         let same = texts_same false ff texts sound in
         λ i. record {

@@ -1,15 +1,18 @@
 -- The inputs of a state are the pins that stand in its functions, ascending.
-use Rattle.std.proofs.Common.{◌≡◌, ℕ, ◌+◌, ◌<◌, ◌≤◌, Bool, ◌&&◌, ◌||◌, ◌==◌, nat_eq, nat_lt, List, [], ◌∷◌, ◌++◌, length, filter, IsTrue, refl, sym, ap, ◌∙◌, arith, inl, inr, eqb-true}
+use Rattle.std.proofs.Common.{◌≡◌, ℕ, ◌+◌, ◌<◌, ◌≤◌, Bool, ◌&&◌, ◌||◌, ◌==◌, nat_eq, nat_lt, List, [], ◌∷◌, ◌++◌, length, filter}
+use Rattle.std.proofs.Common.{IsTrue, refl, sym, ap, ◌∙◌, arith, inl, inr, eqb-true}
 use Rattle.std.specs.List.{list_all}
 use Rattle.std.proofs.lemmas.Bool.{and_parts, and_from, or_cases, or_left, lt-ltb, ltb-true}
 use Rattle.bool_functions.specs.Support.{insert_all}
 use Rattle.cell_machine.specs.declared.pins.Pin.{Pin}
 use Rattle.cell_machine.specs.declared.groups.StateGroup.{StateGroup}
 use Rattle.cell_machine.specs.Names.{has}
-use Rattle.cell_machine.specs.CellRules.{is_ascending, is_input_pin, is_support, control_names, data_names, names_support, is_kind, is_group}
+use Rattle.cell_machine.specs.CellRules.{is_ascending, is_input_pin, is_support, control_names, data_names, names_support}
+use Rattle.cell_machine.specs.CellRules.{is_kind, is_group}
 use Rattle.cell_machine.proofs.CellFacts.{list_all-implied, has-all, input-below}
 use Rattle.cell_attributes.specs.StateReadings.{pins_among}
-use Rattle.cell_attributes.proofs.Members.{all_from, in_passes, stand_in, placed_in, in_placed, placed_ascend, in_filter, filter_in, filter_all, all_both}
+use Rattle.cell_attributes.proofs.Members.{all_from, in_passes, stand_in, placed_in, in_placed, placed_ascend, in_filter}
+use Rattle.cell_attributes.proofs.Members.{filter_in, filter_all, all_both}
 use Rattle.bank_machines.specs.BankStates.{state_of_kind}
 
 -- ascending lists of the same numbers are equal
@@ -19,7 +22,8 @@ all_above x (y ∷ ys) h =
     let parts = and_parts (nat_lt x y) (is_ascending (y ∷ ys)) h in
     let first : x < y = ltb-true x y parts.0 in
     and_from (nat_lt x y) (list_all (nat_lt x) ys) parts.0
-    (list_all-implied (nat_lt y) (nat_lt x) ys (λ z t. let later : y < z = ltb-true y z t in lt-ltb x z (omega (arith, first, later))) (all_above y ys parts.1))
+    (list_all-implied (nat_lt y) (nat_lt x) ys (λ z t. let later : y < z = ltb-true y z t
+    in lt-ltb x z (omega (arith, first, later))) (all_above y ys parts.1))
 
 rest_ascends : (x : ℕ) (xs : List ℕ) → IsTrue (is_ascending (x ∷ xs)) → IsTrue (is_ascending xs)
 rest_ascends x [] h = refl
@@ -40,11 +44,13 @@ later_has x y z ys e l h =
       | inr later ↦ later
     ]
 
-rest_stands : (x y : ℕ) (xs ys : List ℕ) → x ≡ y → IsTrue (list_all (nat_lt x) xs) → IsTrue (list_all (has (y ∷ ys)) xs) → IsTrue (stand_in ys xs)
+rest_stands : (x y : ℕ) (xs ys : List ℕ) → x ≡ y → IsTrue (list_all (nat_lt x) xs) → IsTrue (list_all (has (y ∷ ys)) xs)
+    → IsTrue (stand_in ys xs)
 rest_stands x y xs ys e l h = all_both (nat_lt x) (has (y ∷ ys)) (has ys) xs (λ z a b. later_has x y z ys e a b) l h
 
 ascending_same :
-    (xs ys : List ℕ) → IsTrue (is_ascending xs) → IsTrue (is_ascending ys) → IsTrue (stand_in ys xs) → IsTrue (stand_in xs ys) → xs ≡ ys
+    (xs ys : List ℕ) → IsTrue (is_ascending xs) → IsTrue (is_ascending ys) → IsTrue (stand_in ys xs) → IsTrue (stand_in xs ys)
+    → xs ≡ ys
 ascending_same [] [] a b h k = refl
 ascending_same [] (y ∷ ys) a b h k = absurd cc
 ascending_same (x ∷ xs) [] a b h k = absurd cc
@@ -101,14 +107,16 @@ module _ (pins : List Pin) (group : StateGroup) (fits : Fits pins group) where
         | inr own ↦
             elim (or_cases (nat_eq i fits.number) (nat_eq i (fits.number + 1)) own) [
               | inl e ↦ let same : i ≡ fits.number = eqb-true i fits.number e in absurd (omega (arith, same, below, behind))
-              | inr e ↦ let same : i ≡ fits.number + 1 = eqb-true i (fits.number + 1) e in absurd (omega (arith, same, below, behind))
+              | inr e ↦ let same : i ≡ fits.number + 1 = eqb-true i (fits.number + 1) e
+                  in absurd (omega (arith, same, below, behind))
             ]
       ]
 
   all_own_or_held : IsTrue (list_all is_own_or_held written)
   all_own_or_held =
       all_from is_own_or_held (control_names group.kind) (data_names group.kind)
-      (list_all-implied (has group.support) is_own_or_held (control_names group.kind) (λ i t. or_left (has group.support i) _ t) controls)
+      (list_all-implied (has group.support) is_own_or_held (control_names group.kind) (λ i t. or_left (has group.support i) _ t)
+      controls)
       (and_parts (list_all is_own_or_held (data_names group.kind)) (list_all (has written) group.support) others).0
 
   placed_held : IsTrue (stand_in group.support placed)

@@ -1,7 +1,8 @@
 -- The texts of a cell with buses, bundles and banks as they stand, read at a position (Liberty Reference Manual, `bus`, `bundle`,
 -- `ff_bank` and `latch_bank` groups; `function` and the other function texts). No text is rewritten here: each name of a text has
 -- the value of a name of the expanded cell. (How the bits of buses and banks are spelled is this project's rule.)
-use Rattle.std.specs.Prelude.{ℕ, ◌+◌, Bool, false, not, ◌==◌, List, [], ◌∷◌, ◌++◌, length, map, filter, slice_get, slice_index, slice_index_or, unwrap_or}
+use Rattle.std.specs.Prelude.{ℕ, ◌+◌, Bool, false, not, ◌==◌, List, [], ◌∷◌, ◌++◌, length, map, filter, slice_get, slice_index}
+use Rattle.std.specs.Prelude.{slice_index_or, unwrap_or}
 use Rattle.std.specs.Prelude.{Option, Some, None, Result, Ok, Err, if◌then◌else◌}
 use Rattle.liberty_groups.specs.Attributes.{Attribute}
 use Rattle.bool_functions.specs.declared.symbol.Symbol.{Symbol}

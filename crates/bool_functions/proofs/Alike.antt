@@ -43,7 +43,8 @@ record Left (l : Rule) (s rest : List Symbol) : Type 0 where
   pub takes : Takes l s tree others
   pub alike : Alike rest others
 
-grouped : {s rest o : List Symbol} {f : Node} → Takes AtOr s f o → Alike (symbol.Close ∷ rest) o → Left AtPost (symbol.Open ∷ s) rest
+grouped : {s rest o : List Symbol} {f : Node} → Takes AtOr s f o → Alike (symbol.Close ∷ rest) o
+    → Left AtPost (symbol.Open ∷ s) rest
 grouped t (Alike.equal a) = record { tree = _; others = _; takes = Takes.group t; alike = a }
 
 quoted : {s rest o : List Symbol} {f : Node} → Takes AtPost s f o → Alike (symbol.Quote ∷ rest) o → Left AtPost s rest
@@ -56,7 +57,8 @@ record Before (l : Rule) (s : List Symbol) (x : Symbol) (rest : List Symbol) : T
   pub takes : Takes l s tree (x ∷ others)
   pub alike : Alike rest others
 
-careted : {s rest o : List Symbol} {f : Node} → Takes AtXor s f o → Alike (symbol.Caret ∷ rest) o → Before AtXor s symbol.Caret rest
+careted : {s rest o : List Symbol} {f : Node} → Takes AtXor s f o → Alike (symbol.Caret ∷ rest) o
+    → Before AtXor s symbol.Caret rest
 careted t (Alike.equal a) = record { tree = _; others = _; takes = t; alike = a }
 
 timed : {s rest o : List Symbol} {f : Node} → Takes AtAnd s f o → Alike (symbol.Times ∷ rest) o → Before AtAnd s symbol.Times rest
@@ -85,7 +87,8 @@ left Takes.one (Alike.equal a) = record { tree = _; others = _; takes = Takes.on
 left (Takes.group k) (Alike.equal a) = let r = left k a in grouped r.takes r.alike
 left (Takes.quote k) a = let r = left k a in quoted r.takes r.alike
 left (Takes.post k) a = let r = left k a in record { tree = _; others = _; takes = Takes.post r.takes; alike = r.alike }
-left (Takes.bang k) (Alike.equal a) = let r = left k a in record { tree = _; others = _; takes = Takes.bang r.takes; alike = r.alike }
+left (Takes.bang k) (Alike.equal a) = let r = left k a
+    in record { tree = _; others = _; takes = Takes.bang r.takes; alike = r.alike }
 left (Takes.not k) a = let r = left k a in record { tree = _; others = _; takes = Takes.not r.takes; alike = r.alike }
 left (Takes.caret k m) a = let r = left k a in let b = careted r.takes r.alike in with_xor b (left m b.alike)
 left (Takes.xor k) a = let r = left k a in record { tree = _; others = _; takes = Takes.xor r.takes; alike = r.alike }
@@ -109,6 +112,7 @@ pub alike_fault : {s t : List Symbol} (at : ℕ) → Alike s t → IsFault s at 
 alike_fault {s} {t} at a e = record {
   within = subst (λ n. at ≤ n) (alike_length a) e.within;
   before = alike_front (alike_take at a) e.before;
-  first = λ lt front. e.first (subst (λ n. at < n) (sym (alike_length a)) lt) (alike_front (alike_take (at + 1) (alike_back a)) front);
+  first = λ lt front. e.first (subst (λ n. at < n) (sym (alike_length a)) lt)
+      (alike_front (alike_take (at + 1) (alike_back a)) front);
   short = λ is f k. let (g, m) = alike_text (alike_back a) f k in e.short (is ∙ sym (alike_length a)) g m;
 }

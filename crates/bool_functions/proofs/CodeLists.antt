@@ -1,5 +1,6 @@
 -- Trees as lists of codes.
-use Rattle.std.proofs.Common.{◌≡◌, ℕ, Bool, true, false, not, ◌&&◌, ◌||◌, ◌==◌, ◌↔◌, List, [], ◌∷◌, ◌++◌, length, map, slice_index, slice_index_or, refl, sym, ap, subst, ◌∙◌, arith, append_assoc, eqb-true, eq-eqb}
+use Rattle.std.proofs.Common.{◌≡◌, ℕ, Bool, true, false, not, ◌&&◌, ◌||◌, ◌==◌, ◌↔◌, List, [], ◌∷◌, ◌++◌, length, map}
+use Rattle.std.proofs.Common.{slice_index, slice_index_or, refl, sym, ap, subst, ◌∙◌, arith, append_assoc, eqb-true, eq-eqb}
 use Rattle.std.proofs.lemmas.List.{append-nil, length-map, map-append}
 use Rattle.std.proofs.lemmas.Bool.{and_parts}
 use Rattle.std.proofs.Math.Bool.{beq}
@@ -9,9 +10,11 @@ use Rattle.bool_functions.specs.declared.codes.Code.{Code}
 use Rattle.bool_functions.specs.declared.codes.Code.TheVariants as code
 use Rattle.bool_functions.specs.declared.tree.Node.{Node}
 use Rattle.bool_functions.specs.declared.tree.Node.TheVariants as node
-use Rattle.bool_functions.specs.Code.{codes_step, codes_of, read_code, read_codes, innermost, tree_of, renamed_code, code_names, is_name_code, same_code, same_codes, fits, Adds}
+use Rattle.bool_functions.specs.Code.{codes_step, codes_of, read_code, read_codes, innermost, tree_of, renamed_code, code_names}
+use Rattle.bool_functions.specs.Code.{is_name_code, same_code, same_codes, fits, Adds}
 use Rattle.bool_functions.specs.Tree.{value_step, value_of, names_of, renamed_step, renamed_by, xor}
-use Rattle.bool_functions.proofs.Trees.{every_tree, fold-Zero, fold-One, fold-Name, fold-Not, fold-Xor, fold-And, fold-Or, names_Zero, names_One, names_Name, names_Not, names_Xor, names_And, names_Or}
+use Rattle.bool_functions.proofs.Trees.{every_tree, fold-Zero, fold-One, fold-Name, fold-Not, fold-Xor, fold-And, fold-Or}
+use Rattle.bool_functions.proofs.Trees.{names_Zero, names_One, names_Name, names_Not, names_Xor, names_And, names_Or}
 
 -- the codes of a tree by its top
 pub codes_Zero : codes_of node.Zero ≡ code.Zero ∷ []
@@ -44,13 +47,15 @@ reads_leaf f c e r fs rest = ap (λ cs. read_codes fs (cs ++ rest)) e ∙ ap (λ
 
 reads_not : (f : Node) → Reads f → Reads (node.Not f)
 reads_not f p fs rest =
-    ap (λ cs. read_codes fs (cs ++ rest)) (codes_Not f) ∙ ap (read_codes fs) (append_assoc (codes_of f) (code.Not ∷ []) rest) ∙ p fs (code.Not ∷ rest)
+    ap (λ cs. read_codes fs (cs ++ rest)) (codes_Not f) ∙ ap (read_codes fs) (append_assoc (codes_of f) (code.Not ∷ []) rest)
+    ∙ p fs (code.Not ∷ rest)
 
 reads_two : (op : Node → Node → Node) (f g : Node) (c : Code) → codes_of (op f g) ≡ (codes_of f ++ codes_of g) ++ c ∷ []
     → ((fs : List Node) → read_code (g ∷ (f ∷ fs)) c ≡ op f g ∷ fs) → Reads f → Reads g → Reads (op f g)
 reads_two op f g c e r p q fs rest =
     ap (λ cs. read_codes fs (cs ++ rest)) e
-    ∙ ap (read_codes fs) (append_assoc (codes_of f ++ codes_of g) (c ∷ []) rest ∙ append_assoc (codes_of f) (codes_of g) (c ∷ rest))
+    ∙ ap (read_codes fs) (append_assoc (codes_of f ++ codes_of g) (c ∷ []) rest
+    ∙ append_assoc (codes_of f) (codes_of g) (c ∷ rest))
     ∙ p fs (codes_of g ++ c ∷ rest) ∙ q (f ∷ fs) (c ∷ rest) ∙ ap (λ gs. read_codes gs rest) (r fs)
 
 reads : (f : Node) → Reads f
@@ -80,24 +85,30 @@ module _ (to : List ℕ) where
       → renamed ((codes_of f ++ codes_of g) ++ op (length (codes_of g)) ∷ [])
       ≡ (codes_of (renamed_by to f) ++ codes_of (renamed_by to g)) ++ op (length (codes_of (renamed_by to g))) ∷ []
   renamed_two op f g same p q =
-      let size : length (codes_of g) ≡ length (codes_of (renamed_by to g)) = sym (length-map (codes_of g) (renamed_code to)) ∙ ap length q in
+      let size : length (codes_of g) ≡ length (codes_of (renamed_by to g)) = sym (length-map (codes_of g) (renamed_code to))
+      ∙ ap length q in
       map-append (renamed_code to) (codes_of f ++ codes_of g) (op (length (codes_of g)) ∷ [])
-      ∙ ap (λ l. l ++ renamed_code to (op (length (codes_of g))) ∷ []) (map-append (renamed_code to) (codes_of f) (codes_of g) ∙ ap (λ l. l ++ renamed (codes_of g)) p ∙ ap (λ l. codes_of (renamed_by to f) ++ l) q)
+      ∙ ap (λ l. l ++ renamed_code to (op (length (codes_of g))) ∷ [])
+      (map-append (renamed_code to) (codes_of f) (codes_of g) ∙ ap (λ l. l ++ renamed (codes_of g)) p
+      ∙ ap (λ l. codes_of (renamed_by to f) ++ l) q)
       ∙ ap (λ c. (codes_of (renamed_by to f) ++ codes_of (renamed_by to g)) ++ c ∷ []) (same (length (codes_of g)) ∙ ap op size)
 
   pub renamed_codes : (f : Node) → Renames f
   renamed_codes = every_tree Renames (record {
     zero_leaf = ap renamed codes_Zero ∙ sym codes_Zero ∙ sym (ap codes_of (fold-Zero Node (renamed_step to)));
     one_leaf = ap renamed codes_One ∙ sym codes_One ∙ sym (ap codes_of (fold-One Node (renamed_step to)));
-    name_leaf = λ i. ap renamed (codes_Name i) ∙ sym (codes_Name (slice_index to i)) ∙ sym (ap codes_of (fold-Name Node (renamed_step to) i));
+    name_leaf = λ i. ap renamed (codes_Name i) ∙ sym (codes_Name (slice_index to i))
+        ∙ sym (ap codes_of (fold-Name Node (renamed_step to) i));
     not_of = λ f p.
         ap renamed (codes_Not f) ∙ map-append (renamed_code to) (codes_of f) (code.Not ∷ []) ∙ ap (λ l. l ++ code.Not ∷ []) p
         ∙ sym (codes_Not (renamed_by to f)) ∙ sym (ap codes_of (fold-Not Node (renamed_step to) f));
     xor_of = λ f g p q.
-        ap renamed (codes_Xor f g) ∙ renamed_two code.Xor f g (λ n. refl) p q ∙ sym (codes_Xor (renamed_by to f) (renamed_by to g))
+        ap renamed (codes_Xor f g) ∙ renamed_two code.Xor f g (λ n. refl) p q
+        ∙ sym (codes_Xor (renamed_by to f) (renamed_by to g))
         ∙ sym (ap codes_of (fold-Xor Node (renamed_step to) f g));
     and_of = λ f g p q.
-        ap renamed (codes_And f g) ∙ renamed_two code.And f g (λ n. refl) p q ∙ sym (codes_And (renamed_by to f) (renamed_by to g))
+        ap renamed (codes_And f g) ∙ renamed_two code.And f g (λ n. refl) p q
+        ∙ sym (codes_And (renamed_by to f) (renamed_by to g))
         ∙ sym (ap codes_of (fold-And Node (renamed_step to) f g));
     or_of = λ f g p q.
         ap renamed (codes_Or f g) ∙ renamed_two code.Or f g (λ n. refl) p q ∙ sym (codes_Or (renamed_by to f) (renamed_by to g))
@@ -105,9 +116,11 @@ module _ (to : List ℕ) where
   })
 
   -- the codes of a tree make the renamed one, where they are renamed
-  pub renamed_tree : (cs : List Code) (f : Node) → cs ≡ codes_of (tree_of cs) → tree_of cs ≡ f → tree_of (renamed cs) ≡ renamed_by to f
+  pub renamed_tree : (cs : List Code) (f : Node) → cs ≡ codes_of (tree_of cs) → tree_of cs ≡ f
+      → tree_of (renamed cs) ≡ renamed_by to f
   renamed_tree cs f own is =
-      ap (λ l. tree_of (renamed l)) own ∙ ap tree_of (renamed_codes (tree_of cs)) ∙ tree_of_codes (renamed_by to (tree_of cs)) ∙ ap (renamed_by to) is
+      ap (λ l. tree_of (renamed l)) own ∙ ap tree_of (renamed_codes (tree_of cs)) ∙ tree_of_codes (renamed_by to (tree_of cs))
+      ∙ ap (renamed_by to) is
 
 -- codes that pass the test are equal
 from_same : (c d : Code) → same_code c d ≡ true → c ≡ d
@@ -142,7 +155,8 @@ same_themselves [] = refl
 same_themselves (c ∷ cs) = ap (λ b. b && same_codes cs cs) (same_itself c) ∙ same_themselves cs
 
 -- trees are equal exactly where their codes pass the test
-pub same_lines : (cs ds : List Code) (f g : Node) (b : Bool) → tree_of cs ≡ f → tree_of ds ≡ g → cs ≡ codes_of (tree_of cs) → ds ≡ codes_of (tree_of ds) → b ≡ same_codes cs ds → IsTrue b ↔ (f ≡ g)
+pub same_lines : (cs ds : List Code) (f g : Node) (b : Bool) → tree_of cs ≡ f → tree_of ds ≡ g → cs ≡ codes_of (tree_of cs)
+    → ds ≡ codes_of (tree_of ds) → b ≡ same_codes cs ds → IsTrue b ↔ (f ≡ g)
 same_lines cs ds f g b p q m n e = (
   λ h. sym p ∙ ap tree_of (equal_codes cs ds (sym e ∙ h)) ∙ q,
   λ s. let are : cs ≡ ds = m ∙ ap codes_of (p ∙ s ∙ sym q) ∙ sym n in e ∙ ap (same_codes cs) (sym are) ∙ same_themselves cs,
@@ -162,9 +176,11 @@ names-append (code.Or n ∷ cs) ds = names-append cs ds
 abbrev Names : Node → Type 0
 Names f = code_names (codes_of f) ≡ names_of f
 
-names_two : (f g : Node) (c : Code) → code_names (c ∷ []) ≡ [] → Names f → Names g → code_names ((codes_of f ++ codes_of g) ++ c ∷ []) ≡ names_of f ++ names_of g
+names_two : (f g : Node) (c : Code) → code_names (c ∷ []) ≡ [] → Names f → Names g
+    → code_names ((codes_of f ++ codes_of g) ++ c ∷ []) ≡ names_of f ++ names_of g
 names_two f g c n p q =
-    names-append (codes_of f ++ codes_of g) (c ∷ []) ∙ ap (λ l. code_names (codes_of f ++ codes_of g) ++ l) n ∙ append-nil (code_names (codes_of f ++ codes_of g))
+    names-append (codes_of f ++ codes_of g) (c ∷ []) ∙ ap (λ l. code_names (codes_of f ++ codes_of g) ++ l) n
+    ∙ append-nil (code_names (codes_of f ++ codes_of g))
     ∙ names-append (codes_of f) (codes_of g) ∙ ap (λ l. l ++ code_names (codes_of g)) p ∙ ap (λ l. names_of f ++ l) q
 
 -- those of a tree's codes are the tree's
@@ -173,7 +189,8 @@ names_of_codes = every_tree Names (record {
   zero_leaf = ap code_names codes_Zero ∙ sym names_Zero;
   one_leaf = ap code_names codes_One ∙ sym names_One;
   name_leaf = λ i. ap code_names (codes_Name i) ∙ sym (names_Name i);
-  not_of = λ f p. ap code_names (codes_Not f) ∙ names-append (codes_of f) (code.Not ∷ []) ∙ append-nil (code_names (codes_of f)) ∙ p ∙ sym (names_Not f);
+  not_of = λ f p. ap code_names (codes_Not f) ∙ names-append (codes_of f) (code.Not ∷ []) ∙ append-nil (code_names (codes_of f))
+      ∙ p ∙ sym (names_Not f);
   xor_of = λ f g p q. ap code_names (codes_Xor f g) ∙ names_two f g _ refl p q ∙ sym (names_Xor f g);
   and_of = λ f g p q. ap code_names (codes_And f g) ∙ names_two f g _ refl p q ∙ sym (names_And f g);
   or_of = λ f g p q. ap code_names (codes_Or f g) ∙ names_two f g _ refl p q ∙ sym (names_Or f g);
@@ -183,7 +200,8 @@ pub line_names : (cs : List Code) (f : Node) → tree_of cs ≡ f → cs ≡ cod
 line_names cs f p m = ap code_names m ∙ names_of_codes (tree_of cs) ∙ ap names_of p
 
 -- the codes that come to an empty list
-pub codes_made : (f : Node) (b : Bool) (old new shrunk : List Code) → Adds b old new f → b ≡ true → old ≡ [] → shrunk ≡ new → (shrunk ≡ codes_of f) × (fits f ≡ true)
+pub codes_made : (f : Node) (b : Bool) (old new shrunk : List Code) → Adds b old new f → b ≡ true → old ≡ [] → shrunk ≡ new
+    → (shrunk ≡ codes_of f) × (fits f ≡ true)
 codes_made f true old new shrunk p e o s = (s ∙ p.0 ∙ ap (λ l. l ++ codes_of f) o, p.1)
 codes_made f false old new shrunk p e o s = absurd cc
 
@@ -225,9 +243,12 @@ Parted code.Zero cs f = f ≡ node.Zero
 Parted code.One cs f = f ≡ node.One
 Parted (code.Name i) cs f = f ≡ node.Name i
 Parted code.Not cs f = (g : Node) × (f ≡ node.Not g) × (cs ≡ codes_of g)
-Parted (code.Xor n) cs f = (g : Node) × (h : Node) × (f ≡ node.Xor g h) × (cs ≡ codes_of g ++ codes_of h) × (n ≡ length (codes_of h))
-Parted (code.And n) cs f = (g : Node) × (h : Node) × (f ≡ node.And g h) × (cs ≡ codes_of g ++ codes_of h) × (n ≡ length (codes_of h))
-Parted (code.Or n) cs f = (g : Node) × (h : Node) × (f ≡ node.Or g h) × (cs ≡ codes_of g ++ codes_of h) × (n ≡ length (codes_of h))
+Parted (code.Xor n) cs f = (g : Node) × (h : Node) × (f ≡ node.Xor g h) × (cs ≡ codes_of g ++ codes_of h)
+    × (n ≡ length (codes_of h))
+Parted (code.And n) cs f = (g : Node) × (h : Node) × (f ≡ node.And g h) × (cs ≡ codes_of g ++ codes_of h)
+    × (n ≡ length (codes_of h))
+Parted (code.Or n) cs f = (g : Node) × (h : Node) × (f ≡ node.Or g h) × (cs ≡ codes_of g ++ codes_of h)
+    × (n ≡ length (codes_of h))
 
 abbrev IsParted : Node → Type 0
 IsParted f = (cs : List Code) (c : Code) → codes_of f ≡ cs ++ c ∷ [] → Parted c cs f
@@ -243,15 +264,19 @@ parts = every_tree IsParted (record {
   one_leaf = parted_by node.One [] code.One codes_One refl;
   name_leaf = λ i. parted_by (node.Name i) [] (code.Name i) (codes_Name i) refl;
   not_of = λ f p. parted_by (node.Not f) (codes_of f) code.Not (codes_Not f) (f, refl, refl);
-  xor_of = λ f g p q. parted_by (node.Xor f g) (codes_of f ++ codes_of g) (code.Xor (length (codes_of g))) (codes_Xor f g) (f, g, refl, refl, refl);
-  and_of = λ f g p q. parted_by (node.And f g) (codes_of f ++ codes_of g) (code.And (length (codes_of g))) (codes_And f g) (f, g, refl, refl, refl);
-  or_of = λ f g p q. parted_by (node.Or f g) (codes_of f ++ codes_of g) (code.Or (length (codes_of g))) (codes_Or f g) (f, g, refl, refl, refl);
+  xor_of = λ f g p q. parted_by (node.Xor f g) (codes_of f ++ codes_of g) (code.Xor (length (codes_of g))) (codes_Xor f g)
+      (f, g, refl, refl, refl);
+  and_of = λ f g p q. parted_by (node.And f g) (codes_of f ++ codes_of g) (code.And (length (codes_of g))) (codes_And f g)
+      (f, g, refl, refl, refl);
+  or_of = λ f g p q. parted_by (node.Or f g) (codes_of f ++ codes_of g) (code.Or (length (codes_of g))) (codes_Or f g)
+      (f, g, refl, refl, refl);
 })
 
 pub parted : (f : Node) (cs before : List Code) (c : Code) → cs ≡ codes_of f → IsLastAndRest cs c before → Parted c before f
 parted f cs before c e last = parts f before c (sym e ∙ last.0)
 
-pub parted_as : (f : Node) (cs before : List Code) (c d : Code) → cs ≡ codes_of f → IsLastAndRest cs c before → c ≡ d → Parted d before f
+pub parted_as : (f : Node) (cs before : List Code) (c d : Code) → cs ≡ codes_of f → IsLastAndRest cs c before → c ≡ d
+    → Parted d before f
 parted_as f cs before c d e last is = subst (λ x. Parted x before f) is (parted f cs before c e last)
 
 pub no_codes : (f : Node) (cs : List Code) → cs ≡ codes_of f → length cs ≡ 0 → ⊥
@@ -289,17 +314,24 @@ module _ (bits : List Bool) where
   unequal false true = refl
   unequal false false = refl
 
-  pub value_Xor : (f g h : Node) (a b : Bool) → f ≡ node.Xor g h → a ≡ value_of bits g → b ≡ value_of bits h → not (beq a b) ≡ value_of bits f
+  pub value_Xor : (f g h : Node) (a b : Bool) → f ≡ node.Xor g h → a ≡ value_of bits g → b ≡ value_of bits h
+      → not (beq a b) ≡ value_of bits f
   value_Xor f g h a b e p q =
-      unequal a b ∙ ap (λ x. xor x b) p ∙ ap (xor (value_of bits g)) q ∙ sym (ap (value_of bits) e ∙ fold-Xor Bool (value_step given) g h)
+      unequal a b ∙ ap (λ x. xor x b) p ∙ ap (xor (value_of bits g)) q
+      ∙ sym (ap (value_of bits) e ∙ fold-Xor Bool (value_step given) g h)
 
-  value_And : (f g h : Node) (a b : Bool) → f ≡ node.And g h → a ≡ value_of bits g → b ≡ value_of bits h → (a && b) ≡ value_of bits f
-  value_And f g h a b e p q = ap (λ x. x && b) p ∙ ap (λ x. value_of bits g && x) q ∙ sym (ap (value_of bits) e ∙ fold-And Bool (value_step given) g h)
+  value_And : (f g h : Node) (a b : Bool) → f ≡ node.And g h → a ≡ value_of bits g → b ≡ value_of bits h
+      → (a && b) ≡ value_of bits f
+  value_And f g h a b e p q = ap (λ x. x && b) p ∙ ap (λ x. value_of bits g && x) q
+      ∙ sym (ap (value_of bits) e ∙ fold-And Bool (value_step given) g h)
 
-  value_Or : (f g h : Node) (a b : Bool) → f ≡ node.Or g h → a ≡ value_of bits g → b ≡ value_of bits h → (a || b) ≡ value_of bits f
-  value_Or f g h a b e p q = ap (λ x. x || b) p ∙ ap (λ x. value_of bits g || x) q ∙ sym (ap (value_of bits) e ∙ fold-Or Bool (value_step given) g h)
+  value_Or : (f g h : Node) (a b : Bool) → f ≡ node.Or g h → a ≡ value_of bits g → b ≡ value_of bits h
+      → (a || b) ≡ value_of bits f
+  value_Or f g h a b e p q = ap (λ x. x || b) p ∙ ap (λ x. value_of bits g || x) q
+      ∙ sym (ap (value_of bits) e ∙ fold-Or Bool (value_step given) g h)
 
-  pub value_both : (f g h : Node) (a b : Bool) → f ≡ node.And g h → a ≡ value_of bits g → b ≡ value_of bits h → a ≡ true → b ≡ value_of bits f
+  pub value_both : (f g h : Node) (a b : Bool) → f ≡ node.And g h → a ≡ value_of bits g → b ≡ value_of bits h → a ≡ true
+      → b ≡ value_of bits f
   value_both f g h a b e p q t = ap (λ x. x && b) (sym t) ∙ value_And f g h a b e p q
 
   pub value_neither : (f g h : Node) (a : Bool) → f ≡ node.And g h → a ≡ value_of bits g → a ≡ false → a ≡ value_of bits f
@@ -308,5 +340,6 @@ module _ (bits : List Bool) where
   pub value_first : (f g h : Node) (a : Bool) → f ≡ node.Or g h → a ≡ value_of bits g → a ≡ true → a ≡ value_of bits f
   value_first f g h a e p t = t ∙ ap (λ x. x || value_of bits h) (sym t) ∙ value_Or f g h a (value_of bits h) e p refl
 
-  pub value_second : (f g h : Node) (a b : Bool) → f ≡ node.Or g h → a ≡ value_of bits g → b ≡ value_of bits h → a ≡ false → b ≡ value_of bits f
+  pub value_second : (f g h : Node) (a b : Bool) → f ≡ node.Or g h → a ≡ value_of bits g → b ≡ value_of bits h → a ≡ false
+      → b ≡ value_of bits f
   value_second f g h a b e p q t = ap (λ x. x || b) (sym t) ∙ value_Or f g h a b e p q

@@ -35,23 +35,27 @@ Ends AtOr (symbol.Stray ∷ s) = Unit {0}
 Ends AtOr _ = ⊥
 
 -- what follows a phrase gives the operand to what waits
-pub skip_not : (ps : List Pending) (f : Node) (s : List Symbol) → Ends AtNot s → run (pending.Not ∷ ps, Some f) s ≡ run (ps, Some (node.Not f)) s
+pub skip_not : (ps : List Pending) (f : Node) (s : List Symbol) → Ends AtNot s
+    → run (pending.Not ∷ ps, Some f) s ≡ run (ps, Some (node.Not f)) s
 skip_not ps f (symbol.Quote ∷ s) e = absurd e
 skip_not ps f _ e = refl
 
 -- what follows a phrase gives the operand to what waits
-pub skip_xor : (ps : List Pending) (h f : Node) (s : List Symbol) → Ends AtXor s → run (pending.Xor h ∷ ps, Some f) s ≡ run (ps, Some (node.Xor h f)) s
+pub skip_xor : (ps : List Pending) (h f : Node) (s : List Symbol) → Ends AtXor s
+    → run (pending.Xor h ∷ ps, Some f) s ≡ run (ps, Some (node.Xor h f)) s
 skip_xor ps h f (symbol.Quote ∷ s) e = absurd e
 skip_xor ps h f _ e = refl
 
 -- what follows a phrase gives the operand to what waits
-pub skip_and : (ps : List Pending) (h f : Node) (s : List Symbol) → Ends AtAnd s → run (pending.And h ∷ ps, Some f) s ≡ run (ps, Some (node.And h f)) s
+pub skip_and : (ps : List Pending) (h f : Node) (s : List Symbol) → Ends AtAnd s
+    → run (pending.And h ∷ ps, Some f) s ≡ run (ps, Some (node.And h f)) s
 skip_and ps h f (symbol.Quote ∷ s) e = absurd e
 skip_and ps h f (symbol.Caret ∷ s) e = absurd e
 skip_and ps h f _ e = refl
 
 -- what follows a phrase gives the operand to what waits
-pub skip_or : (ps : List Pending) (h f : Node) (s : List Symbol) → Ends AtOr s → run (pending.Or h ∷ ps, Some f) s ≡ run (ps, Some (node.Or h f)) s
+pub skip_or : (ps : List Pending) (h f : Node) (s : List Symbol) → Ends AtOr s
+    → run (pending.Or h ∷ ps, Some f) s ≡ run (ps, Some (node.Or h f)) s
 skip_or ps h f [] e = refl
 skip_or ps h f (symbol.Plus ∷ s) e = refl
 skip_or ps h f (symbol.Close ∷ s) e = refl
@@ -95,7 +99,8 @@ ends_before_start (symbol.Caret ∷ s) e = absurd e
 ends_before_start _ e = tt
 
 -- where an operand begins after another one, that one waits for it
-go_beside : (ps : List Pending) (f : Node) (s : List Symbol) → Starts s → run (ps, Some f) s ≡ run (held pending.And (settled 2 ps f), None) s
+go_beside : (ps : List Pending) (f : Node) (s : List Symbol) → Starts s
+    → run (ps, Some f) s ≡ run (held pending.And (settled 2 ps f), None) s
 go_beside ps f (symbol.Name i ∷ s) e = refl
 go_beside ps f (symbol.Zero ∷ s) e = refl
 go_beside ps f (symbol.One ∷ s) e = refl
@@ -128,7 +133,8 @@ under_xor [] h = tt
 under_xor (p ∷ ps) h = omega arith
 
 -- The reader that begins a phrase has its tree for the operand after it, with the same pile.
-pub complete : {l : Rule} {s rest : List Symbol} {f : Node} → Takes l s f rest → (ps : List Pending) → Under l ps → Ends l rest → run (ps, None) s ≡ run (ps, Some f) rest
+pub complete : {l : Rule} {s rest : List Symbol} {f : Node} → Takes l s f rest → (ps : List Pending) → Under l ps → Ends l rest
+    → run (ps, None) s ≡ run (ps, Some f) rest
 complete Takes.name ps h e = refl
 complete Takes.zero ps h e = refl
 complete Takes.one ps h e = refl
@@ -145,7 +151,8 @@ complete (Takes.times {t = u} {rest = rest} {f = f} {g = g} t k) ps h e =
     complete t ps h tt ∙ ap (λ p. run (held pending.And p, None) u) (settled_under 2 ps f h)
     ∙ complete k (pending.And f ∷ ps) (lit< tt) (ends_xor rest e) ∙ skip_and ps f g rest e
 complete (Takes.beside {t = u} {rest = rest} {f = f} {g = g} t k) ps h e =
-    complete t ps h (ends_before_start u (starts k)) ∙ go_beside ps f u (starts k) ∙ ap (λ p. run (held pending.And p, None) u) (settled_under 2 ps f h)
+    complete t ps h (ends_before_start u (starts k)) ∙ go_beside ps f u (starts k)
+    ∙ ap (λ p. run (held pending.And p, None) u) (settled_under 2 ps f h)
     ∙ complete k (pending.And f ∷ ps) (lit< tt) (ends_xor rest e) ∙ skip_and ps f g rest e
 complete (Takes.and {rest = rest} t) ps h e = complete t ps (under_and ps h) (ends_and rest e)
 complete (Takes.plus {t = u} {rest = rest} {f = f} {g = g} t k) ps h e =

@@ -1,5 +1,6 @@
 -- The elements of a list, by its first one.
-use Rattle.std.proofs.Common.{◌≡◌, ℕ, zero, suc, ◌<◌, Bool, true, false, ◌||◌, ◌==◌, List, [], ◌∷◌, length, slice_index_or, Contains, IsTrue, ◌↔◌, refl, subst, arith, ◌⊎◌, inl, inr, eqb-true, eq-eqb}
+use Rattle.std.proofs.Common.{◌≡◌, ℕ, zero, suc, ◌<◌, Bool, true, false, ◌||◌, ◌==◌, List, [], ◌∷◌, length, slice_index_or}
+use Rattle.std.proofs.Common.{Contains, IsTrue, ◌↔◌, refl, subst, arith, ◌⊎◌, inl, inr, eqb-true, eq-eqb}
 use Rattle.std.specs.List.{list_any}
 
 pub contains_here : {X : Type 0} (x : X) (xs : List X) → Contains (x ∷ xs) x
@@ -18,7 +19,8 @@ contains_cases x xs y h = by h.0 h.1 h.2
 pub contains_none : {X : Type 0} (y : X) → Contains [] y → ⊥
 contains_none y h = omega (arith, h.1)
 
-by_test : (i x : ℕ) (xs : List ℕ) (b : Bool) → x == i ≡ b → (IsTrue (list_any (λ j. j == i) xs) ↔ Contains xs i) → IsTrue (b || list_any (λ j. j == i) xs) ↔ Contains (x ∷ xs) i
+by_test : (i x : ℕ) (xs : List ℕ) (b : Bool) → x == i ≡ b → (IsTrue (list_any (λ j. j == i) xs) ↔ Contains xs i)
+    → IsTrue (b || list_any (λ j. j == i) xs) ↔ Contains (x ∷ xs) i
 by_test i x xs true e h = (λ _. subst (λ y. Contains (x ∷ xs) y) (eqb-true x i e) (contains_here x xs), λ _. refl)
 by_test i x xs false e h = (
   λ t. contains_later x xs i (h.0 t),

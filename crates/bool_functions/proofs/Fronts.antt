@@ -1,5 +1,6 @@
 -- Where the reader stops is the first place with which no function text goes on.
-use Rattle.std.proofs.Common.{◌≡◌, ℕ, ◌+◌, ◌-◌, ◌<◌, ◌≤◌, List, [], ◌∷◌, ◌++◌, length, take, drop, Option, None, Some, Ok, Err, refl, sym, ap, subst, ◌∙◌, arith, append_assoc, length-append, length-drop}
+use Rattle.std.proofs.Common.{◌≡◌, ℕ, ◌+◌, ◌-◌, ◌<◌, ◌≤◌, List, [], ◌∷◌, ◌++◌, length, take, drop, Option, None, Some, Ok, Err}
+use Rattle.std.proofs.Common.{refl, sym, ap, subst, ◌∙◌, arith, append_assoc, length-append, length-drop}
 use Rattle.std.proofs.Math.Seq.{take-append_seam, take-append-add, drop-append_seam}
 use Rattle.bool_functions.specs.declared.symbol.Symbol.{Symbol}
 use Rattle.bool_functions.specs.declared.symbol.Symbol.TheVariants as symbol
@@ -32,14 +33,19 @@ completes : (ps : List Pending) (g : Node) → (f : Node) × (run (ps, Some g) (
 unfolding closings
 completes [] g = (g, refl)
 completes (pending.Group ∷ ps) g = completes ps g
-completes (pending.Or h ∷ ps) g = let (f, e) = completes ps (node.Or h g) in (f, skip_or ps h g (closings ps) (ends_closings ps) ∙ e)
+completes (pending.Or h ∷ ps) g = let (f, e) = completes ps (node.Or h g)
+    in (f, skip_or ps h g (closings ps) (ends_closings ps) ∙ e)
 completes (pending.And h ∷ ps) g =
     let (f, e) = completes ps (node.And h g) in (f, skip_and ps h g (closings ps) (ends_and (closings ps) (ends_closings ps)) ∙ e)
 completes (pending.Xor h ∷ ps) g =
-    let (f, e) = completes ps (node.Xor h g) in (f, skip_xor ps h g (closings ps) (ends_xor (closings ps) (ends_and (closings ps) (ends_closings ps))) ∙ e)
+    let (f, e) = completes ps (node.Xor h g)
+    in (f, skip_xor ps h g (closings ps) (ends_xor (closings ps) (ends_and (closings ps) (ends_closings ps))) ∙ e)
 completes (pending.Not ∷ ps) g =
-    let (f, e) = completes ps (node.Not g) in
-    (f, skip_not ps g (closings ps) (ends_not (closings ps) (ends_xor (closings ps) (ends_and (closings ps) (ends_closings ps)))) ∙ e)
+    let (f, e) = completes ps (node.Not g) in (
+      f,
+      skip_not ps g (closings ps) (ends_not (closings ps) (ends_xor (closings ps) (ends_and (closings ps) (ends_closings ps))))
+          ∙ e,
+    )
 
 -- from each state some symbols lead to a whole text
 goes_on : (st : State) → (more : List Symbol) × (f : Node) × (run st more ≡ Ok f)
@@ -69,7 +75,8 @@ at_end st m None e k = let i : [] ≡ m = cc in record {
 }
 at_end st m (Some f) e k = absurd cc
 
-at_symbol : (st : State) (x : Symbol) (s m : List Symbol) (o : Option State) → step st x ≡ o → next o (x ∷ s) (λ a. run a s) ≡ Err m
+at_symbol : (st : State) (x : Symbol) (s m : List Symbol) (o : Option State) → step st x ≡ o
+    → next o (x ∷ s) (λ a. run a s) ≡ Err m
     → ((a : State) → run a s ≡ Err m → Stops a s m) → Stops st (x ∷ s) m
 unfolding Bad
 at_symbol st x s m None e k later = let i : x ∷ s ≡ m = cc in record {
@@ -94,18 +101,22 @@ stops st (x ∷ s) m e = at_symbol st x s m (step st x) refl e (λ a k. stops a 
 front_taken : (s front m : List Symbol) (at : ℕ) → s ≡ front ++ m → length front ≡ at → take at s ≡ front
 front_taken s front m at e l = ap (λ n. take n s) (sym l) ∙ ap (take (length front)) e ∙ take-append_seam front m
 
-longer_taken : (s front : List Symbol) (x : Symbol) (m : List Symbol) (at : ℕ) → s ≡ front ++ x ∷ m → length front ≡ at → take (at + 1) s ≡ front ++ x ∷ []
-longer_taken s front x m at e l = ap (λ n. take (n + 1) s) (sym l) ∙ ap (take (length front + 1)) e ∙ take-append-add front (x ∷ m) 1
+longer_taken : (s front : List Symbol) (x : Symbol) (m : List Symbol) (at : ℕ) → s ≡ front ++ x ∷ m → length front ≡ at
+    → take (at + 1) s ≡ front ++ x ∷ []
+longer_taken s front x m at e l = ap (λ n. take (n + 1) s) (sym l) ∙ ap (take (length front + 1)) e
+    ∙ take-append-add front (x ∷ m) 1
 
 -- with the symbol at which the reader stops no text goes on
 no_front : (s : List Symbol) (at : ℕ) (front : List Symbol) (after : State) (m : List Symbol) → s ≡ front ++ m → length front ≡ at
-    → ((rest : List Symbol) → run start (front ++ rest) ≡ run after rest) → Bad after m → at < length s → IsFront (take (at + 1) s) → ⊥
+    → ((rest : List Symbol) → run start (front ++ rest) ≡ run after rest) → Bad after m → at < length s
+    → IsFront (take (at + 1) s) → ⊥
 unfolding Bad
 no_front s at front after [] e l reads bad lt fronts = omega (arith, ap length e, length-append front [])
 no_front s at front after (x ∷ m) e l reads bad lt (more, f, t) =
     let text : run start ((front ++ x ∷ []) ++ more) ≡ Ok f =
     ap (λ u. run start (u ++ more)) (sym (longer_taken s front x m at e l)) ∙ text_read (take (at + 1) s ++ more) f t in
-    let joined_up : run start ((front ++ x ∷ []) ++ more) ≡ run start (front ++ x ∷ more) = ap (run start) (append_assoc front (x ∷ []) more) in
+    let joined_up : run start ((front ++ x ∷ []) ++ more) ≡ run start (front ++ x ∷ more) =
+    ap (run start) (append_assoc front (x ∷ []) more) in
     let ends : run after (x ∷ more) ≡ Err (x ∷ more) = ap (λ o. next o (x ∷ more) (λ b. run b more)) bad in
     let known : run start (front ++ x ∷ more) ≡ run after (x ∷ more) = reads (x ∷ more) in
     absurd cc
@@ -119,7 +130,8 @@ of_stop s at le e r =
     let (more, f, k) = goes_on r.after in
     record {
       within = le;
-      before = subst IsFront (sym (front_taken s r.front (drop at s) at r.splits l)) (more, f, read_text (r.front ++ more) f (r.reads more ∙ k));
+      before = subst IsFront (sym (front_taken s r.front (drop at s) at r.splits l))
+          (more, f, read_text (r.front ++ more) f (r.reads more ∙ k));
       first = no_front s at r.front r.after (drop at s) r.splits l r.reads r.bad;
       short = λ _ g t. no_text s (drop at s) g e t;
     }

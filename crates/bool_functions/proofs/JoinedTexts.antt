@@ -1,10 +1,12 @@
 -- The symbols of two texts, one behind the other.
-use Rattle.std.proofs.Common.{◌≡◌, ℕ, zero, suc, ◌+◌, ◌-◌, ◌<◌, ◌≤◌, Bool, true, false, ◌&&◌, List, [], ◌∷◌, ◌++◌, length, map, take, slice_range, if◌then◌else◌, refl, sym, ap, ◌∙◌, arith}
+use Rattle.std.proofs.Common.{◌≡◌, ℕ, zero, suc, ◌+◌, ◌-◌, ◌<◌, ◌≤◌, Bool, true, false, ◌&&◌, List, [], ◌∷◌, ◌++◌, length, map}
+use Rattle.std.proofs.Common.{take, slice_range, if◌then◌else◌, refl, sym, ap, ◌∙◌, arith}
 use Rattle.std.proofs.lemmas.List.{map-append}
 use Rattle.std.specs.List.{AllByRecursion, list_all}
 use Rattle.std.proofs.lemmas.Bool.{and_parts}
 use Rattle.bool_functions.specs.declared.tokens.Span.{Span}
-use Rattle.bool_functions.specs.Token.{is_blank, is_word_byte, begins_word, span, grown, spans_from, spans, bytes_at, symbol_of, symbols}
+use Rattle.bool_functions.specs.Token.{is_blank, is_word_byte, begins_word, span, grown, spans_from, spans, bytes_at, symbol_of}
+use Rattle.bool_functions.specs.Token.{symbols}
 use Rattle.bool_functions.specs.Laws.{runs_on}
 use Rattle.bool_functions.proofs.Runs.{Within, spans_within}
 
@@ -17,7 +19,8 @@ some_grown : (at : ℕ) (ts : List Span) → 0 < length ts → 0 < length (grown
 some_grown at [] h = h
 some_grown at (t ∷ ts) h = omega arith
 
-some_first : (more blank : Bool) (at : ℕ) (ts : List Span) → (more ≡ true → 0 < length ts) → 0 < length (first_by true more blank at ts)
+some_first : (more blank : Bool) (at : ℕ) (ts : List Span) → (more ≡ true → 0 < length ts)
+    → 0 < length (first_by true more blank at ts)
 some_first true blank at ts h = some_grown at ts (h refl)
 some_first false blank at ts h = omega arith
 
@@ -38,7 +41,8 @@ first_append false more true at ts us h = refl
 first_append false more false at ts us h = refl
 
 -- one byte, and a text behind it that does not go on with its run
-first_alone : (word more blank : Bool) (at : ℕ) (us : List Span) → (word && more) ≡ false → first_by word more blank at us ≡ first_by word false blank at [] ++ us
+first_alone : (word more blank : Bool) (at : ℕ) (us : List Span) → (word && more) ≡ false
+    → first_by word more blank at us ≡ first_by word false blank at [] ++ us
 first_alone true true blank at us h = absurd cc
 first_alone true false blank at us h = refl
 first_alone false more true at us h = refl
@@ -52,7 +56,8 @@ spans_append at (c ∷ d ∷ s) b h =
     let e : (at + 1) + length (d ∷ s) ≡ at + length (c ∷ d ∷ s) = omega arith in
     ap (λ ts. first_by (is_word_byte c) (is_word_byte d) (is_blank c) at ts)
     (spans_append (at + 1) (d ∷ s) b h ∙ ap (λ n. spans_from (at + 1) (d ∷ s) ++ spans_from n b) e)
-    ∙ first_append (is_word_byte c) (is_word_byte d) (is_blank c) at (spans_from (at + 1) (d ∷ s)) (spans_from (at + length (c ∷ d ∷ s)) b) (some_run (at + 1) (d ∷ s))
+    ∙ first_append (is_word_byte c) (is_word_byte d) (is_blank c) at (spans_from (at + 1) (d ∷ s))
+    (spans_from (at + length (c ∷ d ∷ s)) b) (some_run (at + 1) (d ∷ s))
 
 -- tokens further back by some bytes
 abbrev moved_by : ℕ → Span → Span
@@ -62,7 +67,8 @@ moved_grown : (n at : ℕ) (ts : List Span) → grown (n + at) (map (moved_by n)
 moved_grown n at [] = refl
 moved_grown n at (t ∷ ts) = refl
 
-moved_first : (word more blank : Bool) (n at : ℕ) (ts : List Span) → first_by word more blank (n + at) (map (moved_by n) ts) ≡ map (moved_by n) (first_by word more blank at ts)
+moved_first : (word more blank : Bool) (n at : ℕ) (ts : List Span)
+    → first_by word more blank (n + at) (map (moved_by n) ts) ≡ map (moved_by n) (first_by word more blank at ts)
 moved_first true true blank n at ts = moved_grown n at ts
 moved_first true false blank n at ts = let e : (n + at) + 1 ≡ n + (at + 1) = omega arith in rw e refl
 moved_first false more true n at ts = refl
@@ -72,7 +78,8 @@ moved_spans : (n at : ℕ) (s : List ℕ) → spans_from (n + at) s ≡ map (mov
 moved_spans n at [] = refl
 moved_spans n at (b ∷ s) =
     let e : (n + at) + 1 ≡ n + (at + 1) = omega arith in
-    ap (λ ts. first_by (is_word_byte b) (begins_word s) (is_blank b) (n + at) ts) (ap (λ k. spans_from k s) e ∙ moved_spans n (at + 1) s)
+    ap (λ ts. first_by (is_word_byte b) (begins_word s) (is_blank b) (n + at) ts)
+    (ap (λ k. spans_from k s) e ∙ moved_spans n (at + 1) s)
     ∙ moved_first (is_word_byte b) (begins_word s) (is_blank b) n at (spans_from (at + 1) s)
 
 -- the bytes of a token in two texts
@@ -107,25 +114,31 @@ symbols_front names a b (t ∷ ts) h =
 
 symbols_behind :
     (names : List (List ℕ)) (a b : List ℕ) (ts : List Span)
-    → map (λ t. symbol_of names (bytes_at (a ++ b) t)) (map (moved_by (length a)) ts) ≡ map (λ t. symbol_of names (bytes_at b t)) ts
+    → map (λ t. symbol_of names (bytes_at (a ++ b) t)) (map (moved_by (length a)) ts) ≡ map (λ t. symbol_of names (bytes_at b t))
+    ts
 symbols_behind names a b [] = refl
 symbols_behind names a b (t ∷ ts) =
-    ap (λ w. symbol_of names w ∷ map (λ t. symbol_of names (bytes_at (a ++ b) t)) (map (moved_by (length a)) ts)) (range_behind a b t.start t.end)
+    ap (λ w. symbol_of names w ∷ map (λ t. symbol_of names (bytes_at (a ++ b) t)) (map (moved_by (length a)) ts))
+    (range_behind a b t.start t.end)
     ∙ ap (λ rest. symbol_of names (bytes_at b t) ∷ rest) (symbols_behind names a b ts)
 
 -- where no run goes on from the one text into the other, the symbols are those of both
-pub symbols_append : (names : List (List ℕ)) (a b : List ℕ) → runs_on a b ≡ false → symbols names (a ++ b) ≡ symbols names a ++ symbols names b
+pub symbols_append : (names : List (List ℕ)) (a b : List ℕ) → runs_on a b ≡ false
+    → symbols names (a ++ b) ≡ symbols names a ++ symbols names b
 symbols_append names a b h =
     let none : 0 + length a ≡ length a = omega arith in
     let moved : spans_from (length a) b ≡ map (moved_by (length a)) (spans b) =
     let e : length a + 0 ≡ length a = omega arith in ap (λ n. spans_from n b) (sym e) ∙ moved_spans (length a) 0 b in
-    ap (λ ts. map (λ t. symbol_of names (bytes_at (a ++ b) t)) ts) (spans_append 0 a b h ∙ (ap (λ n. spans a ++ spans_from n b) none ∙ ap (λ ts. spans a ++ ts) moved))
+    ap (λ ts. map (λ t. symbol_of names (bytes_at (a ++ b) t)) ts)
+    (spans_append 0 a b h ∙ (ap (λ n. spans a ++ spans_from n b) none ∙ ap (λ ts. spans a ++ ts) moved))
     ∙ map-append (λ t. symbol_of names (bytes_at (a ++ b) t)) (spans a) (map (moved_by (length a)) (spans b))
-    ∙ ap (λ front. front ++ map (λ t. symbol_of names (bytes_at (a ++ b) t)) (map (moved_by (length a)) (spans b))) (symbols_front names a b (spans a) (spans_within 0 a (length a) (omega arith)))
+    ∙ ap (λ front. front ++ map (λ t. symbol_of names (bytes_at (a ++ b) t)) (map (moved_by (length a)) (spans b)))
+    (symbols_front names a b (spans a) (spans_within 0 a (length a) (omega arith)))
     ∙ ap (λ behind. symbols names a ++ behind) (symbols_behind names a b (spans b))
 
 -- a text of letters, digits and `_` alone is one token
-spans_word : (at : ℕ) (w : List ℕ) → list_all is_word_byte w ≡ true → 0 < length w → spans_from at w ≡ span at (at + length w) ∷ []
+spans_word : (at : ℕ) (w : List ℕ) → list_all is_word_byte w ≡ true → 0 < length w
+    → spans_from at w ≡ span at (at + length w) ∷ []
 spans_word at [] h l = absurd (omega (arith, l))
 spans_word at (b ∷ []) h l = let e : is_word_byte b ≡ true = (and_parts (is_word_byte b) true h).0 in rw e refl
 spans_word at (b ∷ c ∷ s) h l =
@@ -140,7 +153,8 @@ take_whole : (w : List ℕ) → take (length w) w ≡ w
 take_whole [] = refl
 take_whole (b ∷ w) = ap (λ u. b ∷ u) (take_whole w)
 
-pub symbols_word : (names : List (List ℕ)) (w : List ℕ) → list_all is_word_byte w ≡ true → 0 < length w → symbols names w ≡ symbol_of names w ∷ []
+pub symbols_word : (names : List (List ℕ)) (w : List ℕ) → list_all is_word_byte w ≡ true → 0 < length w
+    → symbols names w ≡ symbol_of names w ∷ []
 symbols_word names w h l =
     let whole : 0 + length w - 0 ≡ length w = omega arith in
     ap (λ ts. map (λ t. symbol_of names (bytes_at w t)) ts) (spans_word 0 w h l)

@@ -1,18 +1,21 @@
 -- How the keys of an index set are seen as a list of names.
-use Rattle.std.proofs.Common.{◌≡◌, ℕ, suc, ◌+◌, ◌<◌, Bool, true, false, not, cond, ◌||◌, nat_lt, List, [], ◌∷◌, ◌++◌, map, length, position, None, Some, refl, sym, ap, ◌∙◌, arith, bytes_eq, if◌then◌else◌}
+use Rattle.std.proofs.Common.{◌≡◌, ℕ, suc, ◌+◌, ◌<◌, Bool, true, false, not, cond, ◌||◌, nat_lt, List, [], ◌∷◌, ◌++◌, map, length}
+use Rattle.std.proofs.Common.{position, None, Some, refl, sym, ap, ◌∙◌, arith, bytes_eq, if◌then◌else◌}
 use Rattle.std.proofs.lemmas.List.{length-map}
 use Rattle.std.proofs.lemmas.Bool.Decides.{nat_tests}
 use Rattle.bool_functions.specs.NameList.{Adds}
 use Rattle.std.specs.List.{IsDistinct, AllByRecursion, position_or_len, prefix_len, list_any}
 
-pub prefix_len-map : {X Y : Type 0} (f : X → Y) (p : Y → Bool) (xs : List X) → prefix_len p (map f xs) ≡ prefix_len (λ x. p (f x)) xs
+pub prefix_len-map : {X Y : Type 0} (f : X → Y) (p : Y → Bool) (xs : List X)
+    → prefix_len p (map f xs) ≡ prefix_len (λ x. p (f x)) xs
 prefix_len-map f p [] = refl
 prefix_len-map f p (x ∷ xs) = ap (λ n. cond (p (f x)) (1 + n) 0) (prefix_len-map f p xs)
 
 pub position-map : {X Y : Type 0} (f : X → Y) (p : Y → Bool) (xs : List X) → position p (map f xs) ≡ position (λ x. p (f x)) xs
 position-map f p xs =
     ap (λ n. cond (nat_lt n (length (map f xs))) (Some n) None) (prefix_len-map f (λ y. not (p y)) xs)
-    ∙ ap (λ m. cond (nat_lt (position_or_len (λ x. p (f x)) xs) m) (Some (position_or_len (λ x. p (f x)) xs)) None) (length-map xs f)
+    ∙ ap (λ m. cond (nat_lt (position_or_len (λ x. p (f x)) xs) m) (Some (position_or_len (λ x. p (f x)) xs)) None)
+    (length-map xs f)
 
 pub list_any-map : {X Y : Type 0} (f : X → Y) (p : Y → Bool) (xs : List X) → list_any p (map f xs) ≡ list_any (λ x. p (f x)) xs
 list_any-map f p [] = refl
@@ -48,11 +51,13 @@ position-none p xs h = chosen_none _ _ (position_or_len-none p xs h)
 pub position-some : {X : Type 0} (p : X → Bool) (xs : List X) → list_any p xs ≡ true → position p xs ≡ None → ⊥
 position-some p xs h g = let e : position p xs ≡ Some (position_or_len p xs) = chosen_some _ _ (position_or_len-some p xs h) in cc
 
-pub AllByRecursion-map : {X Y : Type 0} (f : X → Y) (P : Y → Type 0) (xs : List X) → AllByRecursion (λ x. P (f x)) xs → AllByRecursion P (map f xs)
+pub AllByRecursion-map : {X Y : Type 0} (f : X → Y) (P : Y → Type 0) (xs : List X) → AllByRecursion (λ x. P (f x)) xs
+    → AllByRecursion P (map f xs)
 AllByRecursion-map f P [] h = h
 AllByRecursion-map f P (x ∷ xs) h = (h.0, AllByRecursion-map f P xs h.1)
 
-pub IsDistinct-map : {X Y : Type 0} (f : X → Y) (e : Y → Y → Bool) (xs : List X) → IsDistinct (λ x y. e (f x) (f y)) xs → IsDistinct e (map f xs)
+pub IsDistinct-map : {X Y : Type 0} (f : X → Y) (e : Y → Y → Bool) (xs : List X) → IsDistinct (λ x y. e (f x) (f y)) xs
+    → IsDistinct e (map f xs)
 unfolding IsDistinct
 IsDistinct-map f e [] h = h
 IsDistinct-map f e (x ∷ xs) h = (AllByRecursion-map f (λ y. e (f x) y ≡ false) xs h.0, IsDistinct-map f e xs h.1)
@@ -71,7 +76,8 @@ told_present true is_new e t = refl
 told_present false is_new e t = absurd cc
 
 -- whether a name is among the names is whether its key is among the keys
-among : {X : Type 0} (f : X → List ℕ) (keys : List X) (x : X) (names : List (List ℕ)) (name : List ℕ) → map f keys ≡ names → f x ≡ name
+among : {X : Type 0} (f : X → List ℕ) (keys : List X) (x : X) (names : List (List ℕ)) (name : List ℕ) → map f keys ≡ names
+    → f x ≡ name
     → list_any (bytes_eq name) names ≡ list_any (λ k. bytes_eq (f x) (f k)) keys
 among f keys x names name p q =
     sym (ap (list_any (bytes_eq name)) p)
@@ -79,7 +85,8 @@ among f keys x names name p q =
     ∙ ap (λ bytes. list_any (λ k. bytes_eq bytes (f k)) keys) (sym q)
 
 -- a key that is new is the last one
-pub adds_new : {X : Type 0} (f : X → List ℕ) (keys new : List X) (x : X) (names : List (List ℕ)) (name : List ℕ) (number : ℕ) (is_new : Bool) → map f keys ≡ names
+pub adds_new : {X : Type 0} (f : X → List ℕ) (keys new : List X) (x : X) (names : List (List ℕ)) (name : List ℕ) (number : ℕ)
+    (is_new : Bool) → map f keys ≡ names
     → f x ≡ name → number ≡ length keys → new ≡ (if list_any (λ k. bytes_eq (f x) (f k)) keys then keys else keys ++ x ∷ [])
     → is_new ≡ not (list_any (λ k. bytes_eq (f x) (f k)) keys) → is_new ≡ true → Adds names name (Some number) (map f new)
 adds_new f keys new x names name number is_new p q n e is t =
@@ -93,7 +100,8 @@ adds_new f keys new x names name number is_new p q n e is t =
     )
 
 -- one that is there stays where it is
-pub adds_none : {X : Type 0} (f : X → List ℕ) (keys new : List X) (x : X) (names : List (List ℕ)) (name : List ℕ) (is_new : Bool) → map f keys ≡ names
+pub adds_none : {X : Type 0} (f : X → List ℕ) (keys new : List X) (x : X) (names : List (List ℕ)) (name : List ℕ) (is_new : Bool)
+    → map f keys ≡ names
     → f x ≡ name → new ≡ (if list_any (λ k. bytes_eq (f x) (f k)) keys then keys else keys ++ x ∷ [])
     → is_new ≡ not (list_any (λ k. bytes_eq (f x) (f k)) keys) → is_new ≡ false → Adds names name None (map f new)
 adds_none f keys new x names name is_new p q e is t =

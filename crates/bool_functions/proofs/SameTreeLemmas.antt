@@ -6,7 +6,8 @@ use Rattle.std.proofs.lemmas.Bool.Decides.{nat_tests}
 use Rattle.bool_functions.specs.declared.tree.Node.{Node, out-Node, roll-Node}
 use Rattle.bool_functions.specs.declared.tree.Node.TheVariants as node
 use Rattle.bool_functions.specs.declared.tree.Node.TheOpen.{Node-F}
-use Rattle.bool_functions.specs.declared.tree.Node.TheViews.{roll-out-Node, out-roll-Node, rolls-Zero, rolls-One, rolls-Name, rolls-Not, rolls-Xor, rolls-And, rolls-Or}
+use Rattle.bool_functions.specs.declared.tree.Node.TheViews.{roll-out-Node, out-roll-Node, rolls-Zero, rolls-One, rolls-Name}
+use Rattle.bool_functions.specs.declared.tree.Node.TheViews.{rolls-Not, rolls-Xor, rolls-And, rolls-Or}
 use Rattle.bool_functions.proofs.Trees.{every_tree, fold-Zero, fold-One, fold-Name, fold-Not, fold-Xor, fold-And, fold-Or}
 use Rattle.std.proofs.Math.Logic.{inl, inr}
 use Rattle.bool_functions.specs.SameTrees.{same_step, same_tree}
@@ -25,19 +26,23 @@ from_name : (i : ℕ) (k : Node-F Node) → same_step (Node-F.Name i) k ≡ true
 from_name i (Node-F.Name j) h = ap (λ n. Node-F.Name n) (sym (eqb-true i j h))
 from_name i _ h = absurd cc
 
-from_not : (p : Node → Bool) (k : Node-F Node) → same_step (Node-F.Not p) k ≡ true → (g : Node) × (k ≡ Node-F.Not g) × (p g ≡ true)
+from_not : (p : Node → Bool) (k : Node-F Node) → same_step (Node-F.Not p) k ≡ true → (g : Node) × (k ≡ Node-F.Not g)
+    × (p g ≡ true)
 from_not p (Node-F.Not g) h = (g, refl, h)
 from_not p _ h = absurd cc
 
-from_xor : (p q : Node → Bool) (k : Node-F Node) → same_step (Node-F.Xor p q) k ≡ true → (g : Node) × (h : Node) × (k ≡ Node-F.Xor g h) × (p g ≡ true) × (q h ≡ true)
+from_xor : (p q : Node → Bool) (k : Node-F Node) → same_step (Node-F.Xor p q) k ≡ true → (g : Node) × (h : Node)
+    × (k ≡ Node-F.Xor g h) × (p g ≡ true) × (q h ≡ true)
 from_xor p q (Node-F.Xor g h) e = let parts = and_parts (p g) (q h) e in (g, h, refl, parts.0, parts.1)
 from_xor p q _ e = absurd cc
 
-from_and : (p q : Node → Bool) (k : Node-F Node) → same_step (Node-F.And p q) k ≡ true → (g : Node) × (h : Node) × (k ≡ Node-F.And g h) × (p g ≡ true) × (q h ≡ true)
+from_and : (p q : Node → Bool) (k : Node-F Node) → same_step (Node-F.And p q) k ≡ true → (g : Node) × (h : Node)
+    × (k ≡ Node-F.And g h) × (p g ≡ true) × (q h ≡ true)
 from_and p q (Node-F.And g h) e = let parts = and_parts (p g) (q h) e in (g, h, refl, parts.0, parts.1)
 from_and p q _ e = absurd cc
 
-from_or : (p q : Node → Bool) (k : Node-F Node) → same_step (Node-F.Or p q) k ≡ true → (g : Node) × (h : Node) × (k ≡ Node-F.Or g h) × (p g ≡ true) × (q h ≡ true)
+from_or : (p q : Node → Bool) (k : Node-F Node) → same_step (Node-F.Or p q) k ≡ true → (g : Node) × (h : Node)
+    × (k ≡ Node-F.Or g h) × (p g ≡ true) × (q h ≡ true)
 from_or p q (Node-F.Or g h) e = let parts = and_parts (p g) (q h) e in (g, h, refl, parts.0, parts.1)
 from_or p q _ e = absurd cc
 
@@ -58,25 +63,33 @@ equals-not f is g e =
 
 equals-xor : (f k : Node) → Equals f → Equals k → Equals (node.Xor f k)
 equals-xor f k is also g e =
-    let (h, j, top, left, right) = from_xor (same_tree f) (same_tree k) (out-Node g) (sym (ap (λ t. t g) (fold-Xor (Node → Bool) step f k)) ∙ e) in
-    ap (λ x. node.Xor x k) (is h left) ∙ ap (λ x. node.Xor h x) (also j right) ∙ sym (rolls-Xor h j) ∙ by_top g (Node-F.Xor h j) top
+    let (h, j, top, left, right) = from_xor (same_tree f) (same_tree k) (out-Node g)
+    (sym (ap (λ t. t g) (fold-Xor (Node → Bool) step f k)) ∙ e) in
+    ap (λ x. node.Xor x k) (is h left) ∙ ap (λ x. node.Xor h x) (also j right) ∙ sym (rolls-Xor h j)
+    ∙ by_top g (Node-F.Xor h j) top
 
 equals-and : (f k : Node) → Equals f → Equals k → Equals (node.And f k)
 equals-and f k is also g e =
-    let (h, j, top, left, right) = from_and (same_tree f) (same_tree k) (out-Node g) (sym (ap (λ t. t g) (fold-And (Node → Bool) step f k)) ∙ e) in
-    ap (λ x. node.And x k) (is h left) ∙ ap (λ x. node.And h x) (also j right) ∙ sym (rolls-And h j) ∙ by_top g (Node-F.And h j) top
+    let (h, j, top, left, right) = from_and (same_tree f) (same_tree k) (out-Node g)
+    (sym (ap (λ t. t g) (fold-And (Node → Bool) step f k)) ∙ e) in
+    ap (λ x. node.And x k) (is h left) ∙ ap (λ x. node.And h x) (also j right) ∙ sym (rolls-And h j)
+    ∙ by_top g (Node-F.And h j) top
 
 equals-or : (f k : Node) → Equals f → Equals k → Equals (node.Or f k)
 equals-or f k is also g e =
-    let (h, j, top, left, right) = from_or (same_tree f) (same_tree k) (out-Node g) (sym (ap (λ t. t g) (fold-Or (Node → Bool) step f k)) ∙ e) in
+    let (h, j, top, left, right) = from_or (same_tree f) (same_tree k) (out-Node g)
+    (sym (ap (λ t. t g) (fold-Or (Node → Bool) step f k)) ∙ e) in
     ap (λ x. node.Or x k) (is h left) ∙ ap (λ x. node.Or h x) (also j right) ∙ sym (rolls-Or h j) ∙ by_top g (Node-F.Or h j) top
 
 -- trees that pass the test are equal
 pub same_tree-equal : (f : Node) → Equals f
 same_tree-equal = every_tree Equals record {
-  zero_leaf = λ g e. sym rolls-Zero ∙ by_top g Node-F.Zero (from_zero (out-Node g) (sym (ap (λ t. t g) (fold-Zero (Node → Bool) step)) ∙ e));
-  one_leaf = λ g e. sym rolls-One ∙ by_top g Node-F.One (from_one (out-Node g) (sym (ap (λ t. t g) (fold-One (Node → Bool) step)) ∙ e));
-  name_leaf = λ i g e. sym (rolls-Name i) ∙ by_top g (Node-F.Name i) (from_name i (out-Node g) (sym (ap (λ t. t g) (fold-Name (Node → Bool) step i)) ∙ e));
+  zero_leaf = λ g e. sym rolls-Zero
+      ∙ by_top g Node-F.Zero (from_zero (out-Node g) (sym (ap (λ t. t g) (fold-Zero (Node → Bool) step)) ∙ e));
+  one_leaf = λ g e. sym rolls-One ∙ by_top g Node-F.One
+      (from_one (out-Node g) (sym (ap (λ t. t g) (fold-One (Node → Bool) step)) ∙ e));
+  name_leaf = λ i g e. sym (rolls-Name i)
+      ∙ by_top g (Node-F.Name i) (from_name i (out-Node g) (sym (ap (λ t. t g) (fold-Name (Node → Bool) step i)) ∙ e));
   not_of = equals-not;
   xor_of = equals-xor;
   and_of = equals-and;
@@ -100,13 +113,23 @@ Passes f = same_tree f f ≡ true
 -- a tree passes with itself
 pub same_tree-refl : (f : Node) → Passes f
 same_tree-refl = every_tree Passes record {
-  zero_leaf = ap (λ t. t node.Zero) (fold-Zero (Node → Bool) step) ∙ ap (same_step Node-F.Zero) (top_of node.Zero Node-F.Zero rolls-Zero);
-  one_leaf = ap (λ t. t node.One) (fold-One (Node → Bool) step) ∙ ap (same_step Node-F.One) (top_of node.One Node-F.One rolls-One);
-  name_leaf = λ i. ap (λ t. t (node.Name i)) (fold-Name (Node → Bool) step i) ∙ ap (same_step (Node-F.Name i)) (top_of (node.Name i) (Node-F.Name i) (rolls-Name i)) ∙ same-number i;
-  not_of = λ f is. ap (λ t. t (node.Not f)) (fold-Not (Node → Bool) step f) ∙ ap (same_step (Node-F.Not (same_tree f))) (top_of (node.Not f) (Node-F.Not f) (rolls-Not f)) ∙ is;
-  xor_of = λ f g is also. ap (λ t. t (node.Xor f g)) (fold-Xor (Node → Bool) step f g) ∙ ap (same_step (Node-F.Xor (same_tree f) (same_tree g))) (top_of (node.Xor f g) (Node-F.Xor f g) (rolls-Xor f g)) ∙ both_true _ _ is also;
-  and_of = λ f g is also. ap (λ t. t (node.And f g)) (fold-And (Node → Bool) step f g) ∙ ap (same_step (Node-F.And (same_tree f) (same_tree g))) (top_of (node.And f g) (Node-F.And f g) (rolls-And f g)) ∙ both_true _ _ is also;
-  or_of = λ f g is also. ap (λ t. t (node.Or f g)) (fold-Or (Node → Bool) step f g) ∙ ap (same_step (Node-F.Or (same_tree f) (same_tree g))) (top_of (node.Or f g) (Node-F.Or f g) (rolls-Or f g)) ∙ both_true _ _ is also;
+  zero_leaf = ap (λ t. t node.Zero) (fold-Zero (Node → Bool) step)
+      ∙ ap (same_step Node-F.Zero) (top_of node.Zero Node-F.Zero rolls-Zero);
+  one_leaf = ap (λ t. t node.One) (fold-One (Node → Bool) step)
+      ∙ ap (same_step Node-F.One) (top_of node.One Node-F.One rolls-One);
+  name_leaf = λ i. ap (λ t. t (node.Name i)) (fold-Name (Node → Bool) step i)
+      ∙ ap (same_step (Node-F.Name i)) (top_of (node.Name i) (Node-F.Name i) (rolls-Name i)) ∙ same-number i;
+  not_of = λ f is. ap (λ t. t (node.Not f)) (fold-Not (Node → Bool) step f)
+      ∙ ap (same_step (Node-F.Not (same_tree f))) (top_of (node.Not f) (Node-F.Not f) (rolls-Not f)) ∙ is;
+  xor_of = λ f g is also. ap (λ t. t (node.Xor f g)) (fold-Xor (Node → Bool) step f g)
+      ∙ ap (same_step (Node-F.Xor (same_tree f) (same_tree g))) (top_of (node.Xor f g) (Node-F.Xor f g) (rolls-Xor f g))
+      ∙ both_true _ _ is also;
+  and_of = λ f g is also. ap (λ t. t (node.And f g)) (fold-And (Node → Bool) step f g)
+      ∙ ap (same_step (Node-F.And (same_tree f) (same_tree g))) (top_of (node.And f g) (Node-F.And f g) (rolls-And f g))
+      ∙ both_true _ _ is also;
+  or_of = λ f g is also. ap (λ t. t (node.Or f g)) (fold-Or (Node → Bool) step f g)
+      ∙ ap (same_step (Node-F.Or (same_tree f) (same_tree g))) (top_of (node.Or f g) (Node-F.Or f g) (rolls-Or f g))
+      ∙ both_true _ _ is also;
 }
 
 false_where : (c : Bool) → (c ≡ true → ⊥) → c ≡ false
@@ -116,7 +139,8 @@ false_where false never = refl
 -- what tells whether two trees are equal is this test
 pub told_same : (b : Bool) (f g : Node) → IsTrue b ↔ (f ≡ g) → b ≡ same_tree f g
 told_same true f g told = sym (subst (λ h. same_tree f h ≡ true) (told.0 refl) (same_tree-refl f))
-told_same false f g told = sym (false_where (same_tree f g) (λ e. let found : false ≡ true = told.1 (same_tree-equal f g e) in absurd cc))
+told_same false f g told = sym (false_where (same_tree f g) (λ e. let found : false ≡ true = told.1 (same_tree-equal f g e)
+    in absurd cc))
 
 -- trees with unlike numbers are unlike
 pub unlike-keys : (f g : Node) → (key_of f ≡ key_of g → ⊥) → same_tree f g ≡ false

@@ -5,7 +5,8 @@ use Rattle.bool_functions.specs.Support.{inserted, insert_all}
 use Rattle.bool_functions.specs.declared.tree.Node.{Node}
 use Rattle.bool_functions.specs.declared.tree.Node.TheVariants as node
 use Rattle.bool_functions.specs.declared.tree.Node.TheOpen.{Node-F}
-use Rattle.bool_functions.specs.declared.tree.Node.TheViews.{roll-Node, rolls-Zero, rolls-One, rolls-Name, rolls-Not, rolls-Xor, rolls-And, rolls-Or}
+use Rattle.bool_functions.specs.declared.tree.Node.TheViews.{roll-Node, rolls-Zero, rolls-One, rolls-Name, rolls-Not, rolls-Xor}
+use Rattle.bool_functions.specs.declared.tree.Node.TheViews.{rolls-And, rolls-Or}
 use Rattle.bool_functions.specs.declared.tree.Node.TheFolds.{fold-Node, fold-roll-Node, ind-Node, map-Node}
 use Rattle.bool_functions.specs.Tree.{names_step, names_of}
 

@@ -1,5 +1,7 @@
 -- The bits of words of values, and blocks of points.
-use Rattle.std.proofs.Common.{◌≡◌, ℕ, zero, suc, ◌+◌, ◌-◌, ◌*◌, ◌/◌, ◌%◌, ◌^◌, ◌<◌, ◌≤◌, min, bit_and, bit_or, bit_xor, Bool, true, false, not, ◌&&◌, ◌||◌, ◌==◌, nat_lt, List, [], ◌∷◌, ◌++◌, take, length, map, slice_get, Some, refl, sym, ap, ◌∙◌, arith, append-nil, eqb-true, inl, inr}
+use Rattle.std.proofs.Common.{◌≡◌, ℕ, zero, suc, ◌+◌, ◌-◌, ◌*◌, ◌/◌, ◌%◌, ◌^◌, ◌<◌, ◌≤◌, min, bit_and, bit_or, bit_xor, Bool}
+use Rattle.std.proofs.Common.{true, false, not, ◌&&◌, ◌||◌, ◌==◌, nat_lt, List, [], ◌∷◌, ◌++◌, take, length, map, slice_get, Some}
+use Rattle.std.proofs.Common.{refl, sym, ap, ◌∙◌, arith, append-nil, eqb-true, inl, inr}
 use Rattle.std.specs.List.{range_with_len, list_any}
 use Rattle.std.proofs.lemmas.Bool.{cases_Bool}
 use Rattle.std.proofs.lemmas.Bool.Decides.{nat_tests}
@@ -92,17 +94,20 @@ none_so (k ∷ points) = ap (λ n. 0 + 2 * n) (none_so points)
 
 turned_all : (f : ℕ → Bool) (points : List ℕ) → length points ≡ 64 → ones - word_of f points ≡ word_of (λ k. not (f k)) points
 turned_all f points h =
-    let e : word_of (λ k. not (f k)) points + word_of f points + 1 ≡ 2 ^ 64 = both_ways f points ∙ ap (λ n. 2 ^ n) h in omega arith
+    let e : word_of (λ k. not (f k)) points + word_of f points + 1 ≡ 2 ^ 64 = both_ways f points ∙ ap (λ n. 2 ^ n) h
+    in omega arith
 
 all_so : (points : List ℕ) → length points ≡ 64 → ones ≡ word_of (λ k. true) points
 all_so points h =
-    let e : word_of (λ k. not false) points + word_of (λ k. false) points + 1 ≡ 2 ^ 64 = both_ways (λ k. false) points ∙ ap (λ n. 2 ^ n) h in
+    let e : word_of (λ k. not false) points + word_of (λ k. false) points + 1 ≡ 2 ^ 64 = both_ways (λ k. false) points
+    ∙ ap (λ n. 2 ^ n) h in
     let z : word_of (λ k. false) points ≡ 0 = none_so points in
     omega arith
 
 same_values : (f g : ℕ → Bool) (points : List ℕ) → ((k : ℕ) → f k ≡ g k) → word_of f points ≡ word_of g points
 same_values f g [] h = refl
-same_values f g (k ∷ points) h = ap (λ b. bit b + 2 * word_of f points) (h k) ∙ ap (λ n. bit (g k) + 2 * n) (same_values f g points h)
+same_values f g (k ∷ points) h = ap (λ b. bit b + 2 * word_of f points) (h k)
+    ∙ ap (λ n. bit (g k) + 2 * n) (same_values f g points h)
 
 -- the word of a tree is that of its values
 module _ (given : ℕ → ℕ) (at : ℕ → ℕ → Bool) (points : List ℕ) where
@@ -112,7 +117,8 @@ module _ (given : ℕ → ℕ) (at : ℕ → ℕ → Bool) (points : List ℕ) w
   shows_two :
       (op : ℕ → ℕ → ℕ) (on : Bool → Bool → Bool) (f g : Node)
       → ((f g : ℕ → Bool) → op (word_of f points) (word_of g points) ≡ word_of (λ k. on (f k) (g k)) points)
-      → Shows f → Shows g → op (word_by given f) (word_by given g) ≡ word_of (λ k. on (value_by (at k) f) (value_by (at k) g)) points
+      → Shows f → Shows g → op (word_by given f) (word_by given g) ≡ word_of (λ k. on (value_by (at k) f) (value_by (at k) g))
+      points
   shows_two op on f g together p q =
       ap (λ n. op n (word_by given g)) p
       ∙ ap (λ n. op (word_of (λ k. value_by (at k) f) points) n) q
@@ -133,13 +139,18 @@ module _ (given : ℕ → ℕ) (at : ℕ → ℕ → Bool) (points : List ℕ) w
         fold-Not ℕ (word_step given) f ∙ ap (λ n. ones - n) p ∙ turned_all (λ k. value_by (at k) f) points h
         ∙ same_values (λ k. not (value_by (at k) f)) _ points (λ k. sym (fold-Not Bool (value_step (at k)) f));
     xor_of = λ f g p q.
-        fold-Xor ℕ (word_step given) f g ∙ shows_two bit_xor xor f g (λ f g. words bit_xor xor (xor_block 1) bits-xor refl f g points) p q
-        ∙ same_values (λ k. xor (value_by (at k) f) (value_by (at k) g)) _ points (λ k. sym (fold-Xor Bool (value_step (at k)) f g));
+        fold-Xor ℕ (word_step given) f g
+        ∙ shows_two bit_xor xor f g (λ f g. words bit_xor xor (xor_block 1) bits-xor refl f g points) p q
+        ∙ same_values (λ k. xor (value_by (at k) f) (value_by (at k) g)) _ points
+        (λ k. sym (fold-Xor Bool (value_step (at k)) f g));
     and_of = λ f g p q.
-        fold-And ℕ (word_step given) f g ∙ shows_two bit_and (λ a b. a && b) f g (λ f g. words bit_and (λ a b. a && b) (and_block 1) bits-and refl f g points) p q
+        fold-And ℕ (word_step given) f g
+        ∙ shows_two bit_and (λ a b. a && b) f g (λ f g. words bit_and (λ a b. a && b) (and_block 1) bits-and refl f g points)
+        p q
         ∙ same_values (λ k. value_by (at k) f && value_by (at k) g) _ points (λ k. sym (fold-And Bool (value_step (at k)) f g));
     or_of = λ f g p q.
-        fold-Or ℕ (word_step given) f g ∙ shows_two bit_or (λ a b. a || b) f g (λ f g. words bit_or (λ a b. a || b) (or_block 1) bits-or refl f g points) p q
+        fold-Or ℕ (word_step given) f g
+        ∙ shows_two bit_or (λ a b. a || b) f g (λ f g. words bit_or (λ a b. a || b) (or_block 1) bits-or refl f g points) p q
         ∙ same_values (λ k. value_by (at k) f || value_by (at k) g) _ points (λ k. sym (fold-Or Bool (value_step (at k)) f g));
   })
 
@@ -180,13 +191,16 @@ bits_shown (suc n) (b ∷ bs) h =
 pub block_shown :
     (f : Node) (places : List ℕ) (start count : ℕ)
     → count ≤ 64
-    → bits_of count (word_by (word_at (map (named places start) places)) f) ≡ map (λ k. value_by (entry_of places k) f) (range_with_len start count)
+    → bits_of count (word_by (word_at (map (named places start) places)) f) ≡ map (λ k. value_by (entry_of places k) f)
+    (range_with_len start count)
 block_shown f places start count h =
     let points : List ℕ = range_with_len start 64 in
     let v : ℕ → Bool = λ k. value_by (entry_of places k) f in
     let full : length points ≡ 64 = range_length start 64 in
-    let long : count ≤ length (map v points) = let e : length (map v points) ≡ length points = length-map points v in omega arith in
-    ap (bits_of count) (word_shows (word_at (map (named places start) places)) (entry_of places) points full (names_shown places start) f)
+    let long : count ≤ length (map v points) = let e : length (map v points) ≡ length points = length-map points v in omega arith
+    in
+    ap (bits_of count) (word_shows (word_at (map (named places start) places)) (entry_of places) points full
+    (names_shown places start) f)
     ∙ bits_shown count (map v points) long
     ∙ take-map v count points
     ∙ ap (map v) (range-take start 64 count h)
@@ -195,19 +209,22 @@ block_shown f places start count h =
 pub word_below : (f : ℕ → Bool) (a n word : ℕ) → n < 64 → word ≡ word_of f (range_with_len a n) → word < 2 ^ 63
 word_below f a n word h w =
     let len : length (map f (range_with_len a n)) ≡ n = length-map (range_with_len a n) f ∙ range_length a n in
-    let below : word_of f (range_with_len a n) < 2 ^ length (map f (range_with_len a n)) = number_below (map f (range_with_len a n)) in
+    let below : word_of f (range_with_len a n) < 2 ^ length (map f (range_with_len a n)) =
+    number_below (map f (range_with_len a n)) in
     let small : n ≤ 63 = omega arith in
     let most : 2 ^ n ≤ 2 ^ 63 = pow_mono small in
     let same : 2 ^ length (map f (range_with_len a n)) ≡ 2 ^ n = ap (λ m. 2 ^ m) len in
     omega arith
 
-pub whole_word : (f : ℕ → Bool) (start step word : ℕ) → step ≡ 64 → word ≡ word_of f (range_with_len (start + (64 - step)) step) → word ≡ word_of f (range_with_len start 64)
+pub whole_word : (f : ℕ → Bool) (start step word : ℕ) → step ≡ 64 → word ≡ word_of f (range_with_len (start + (64 - step)) step)
+    → word ≡ word_of f (range_with_len start 64)
 whole_word f start step word e w =
     let s : start + (64 - step) ≡ start = omega arith in
     w ∙ ap (λ n. word_of f (range_with_len n step)) s ∙ ap (λ n. word_of f (range_with_len start n)) e
 
 -- one more bit of a word
-pub next_bit : (at count word : ℕ) → at < count → bits_of (count - at) word ≡ (word % 2 == 1) ∷ bits_of (count - (at + 1)) (word / 2)
+pub next_bit : (at count word : ℕ) → at < count
+    → bits_of (count - at) word ≡ (word % 2 == 1) ∷ bits_of (count - (at + 1)) (word / 2)
 next_bit at count word h = let e : count - at ≡ suc (count - (at + 1)) = omega arith in rw e refl
 
 -- a block of no points
@@ -218,22 +235,26 @@ no_points f values start n e = rw e (sym (append-nil values))
 inner_block :
     (f : ℕ → Bool) (values : List Bool) (block count : ℕ)
     → 64 * block < count → values ≡ map f (range_with_len 0 (min (64 * block) count))
-    → values ++ map f (range_with_len (64 * block) (min (count - 64 * block) 64)) ≡ map f (range_with_len 0 (min (64 * (block + 1)) count))
+    → values ++ map f (range_with_len (64 * block) (min (count - 64 * block) 64)) ≡ map f
+    (range_with_len 0 (min (64 * (block + 1)) count))
 inner_block f values block count h v =
     let here : min (64 * block) count ≡ 64 * block = omega arith in
     let all : 64 * block + min (count - 64 * block) 64 ≡ min (64 * (block + 1)) count = omega arith in
     let zero_first : 0 + 64 * block ≡ 64 * block = omega arith in
-    let joint : range_with_len 0 (64 * block) ++ range_with_len (64 * block) (min (count - 64 * block) 64) ≡ range_with_len 0 (64 * block + min (count - 64 * block) 64) =
+    let joint : range_with_len 0 (64 * block) ++ range_with_len (64 * block) (min (count - 64 * block) 64) ≡ range_with_len 0
+    (64 * block + min (count - 64 * block) 64) =
     ap (λ n. range_with_len 0 (64 * block) ++ range_with_len n (min (count - 64 * block) 64)) (sym zero_first)
     ∙ range-append 0 (64 * block) (min (count - 64 * block) 64) in
-    ap (λ vs. vs ++ map f (range_with_len (64 * block) (min (count - 64 * block) 64))) (v ∙ ap (λ n. map f (range_with_len 0 n)) here)
+    ap (λ vs. vs ++ map f (range_with_len (64 * block) (min (count - 64 * block) 64)))
+    (v ∙ ap (λ n. map f (range_with_len 0 n)) here)
     ∙ sym (map-append f (range_with_len 0 (64 * block)) (range_with_len (64 * block) (min (count - 64 * block) 64)))
     ∙ ap (map f) (joint ∙ ap (range_with_len 0) all)
 
 pub next_block :
     (f : ℕ → Bool) (values : List Bool) (block count : ℕ)
     → values ≡ map f (range_with_len 0 (min (64 * block) count))
-    → values ++ map f (range_with_len (64 * block) (min (count - 64 * block) 64)) ≡ map f (range_with_len 0 (min (64 * (block + 1)) count))
+    → values ++ map f (range_with_len (64 * block) (min (count - 64 * block) 64)) ≡ map f
+    (range_with_len 0 (min (64 * (block + 1)) count))
 next_block f values block count v =
     elim (cases_Bool (nat_lt (64 * block) count)) [
       | inl inside ↦ inner_block f values block count (grind (arith, nat_tests)) v
@@ -246,11 +267,15 @@ next_block f values block count v =
 
 pub all_blocks :
     (f : ℕ → Bool) (values : List Bool) (blocks count : ℕ)
-    → 16 ≤ blocks → count ≤ 1024 → values ≡ map f (range_with_len 0 (min (64 * blocks) count)) → values ≡ map f (range_with_len 0 count)
-all_blocks f values blocks count b h v = let same : min (64 * blocks) count ≡ count = omega arith in v ∙ ap (λ n. map f (range_with_len 0 n)) same
+    → 16 ≤ blocks → count ≤ 1024 → values ≡ map f (range_with_len 0 (min (64 * blocks) count))
+    → values ≡ map f (range_with_len 0 count)
+all_blocks f values blocks count b h v = let same : min (64 * blocks) count ≡ count = omega arith
+    in v ∙ ap (λ n. map f (range_with_len 0 n)) same
 
-pub all_got : (f : ℕ → Bool) (values : List Bool) (count k : ℕ) → values ≡ map f (range_with_len 0 count) → k < count → slice_get values k ≡ Some (f k)
-all_got f values count k v h = let e : 0 + k ≡ k = omega arith in ap (λ vs. slice_get vs k) v ∙ range-get f 0 count k h ∙ ap (λ n. Some (f n)) e
+pub all_got : (f : ℕ → Bool) (values : List Bool) (count k : ℕ) → values ≡ map f (range_with_len 0 count) → k < count
+    → slice_get values k ≡ Some (f k)
+all_got f values count k v h = let e : 0 + k ≡ k = omega arith
+    in ap (λ vs. slice_get vs k) v ∙ range-get f 0 count k h ∙ ap (λ n. Some (f n)) e
 
 pub all_count : (f : ℕ → Bool) (values : List Bool) (count : ℕ) → values ≡ map f (range_with_len 0 count) → length values ≡ count
 all_count f values count v = ap length v ∙ length-map (range_with_len 0 count) f ∙ range_length 0 count

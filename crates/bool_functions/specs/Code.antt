@@ -1,5 +1,6 @@
 -- A tree as a list of codes, one for each node, each after those of its parts.
-use Rattle.std.specs.Prelude.{◌≡◌, ℕ, ◌-◌, ◌==◌, ◌&&◌, nat_lt, Bool, true, false, List, [], ◌∷◌, ◌++◌, length, slice_index, Result, Ok, Err}
+use Rattle.std.specs.Prelude.{◌≡◌, ℕ, ◌-◌, ◌==◌, ◌&&◌, nat_lt, Bool, true, false, List, [], ◌∷◌, ◌++◌, length, slice_index}
+use Rattle.std.specs.Prelude.{Result, Ok, Err}
 use Rattle.std.specs.List.{list_all}
 use Rattle.bool_functions.specs.Tree.{value_of}
 use Rattle.bool_functions.specs.declared.codes.Code.{Code}
@@ -125,7 +126,8 @@ is_name_code i c = false
 
 -- the codes of an operator's two parts, of which the second has so many, are cut into those of each
 abbrev pub AreHalves : List Code → ℕ → List Code → List Code → Type 0
-AreHalves cs n first second = (f g : Node) → cs ≡ codes_of f ++ codes_of g → n ≡ length (codes_of g) → (first ≡ codes_of f) × (second ≡ codes_of g)
+AreHalves cs n first second = (f g : Node) → cs ≡ codes_of f ++ codes_of g → n ≡ length (codes_of g) → (first ≡ codes_of f)
+    × (second ≡ codes_of g)
 
 -- where the codes are those of a tree, this is its value
 abbrev pub IsValue : List Bool → List Code → Bool → Type 0

@@ -1,6 +1,7 @@
 -- Function texts over lists of names. That a text has at most 4,096 bytes, the order of its faults and their places are
 -- this project's rules.
-use Rattle.std.specs.Prelude.{◌≡◌, ℕ, ◌-◌, ◌<◌, ◌≤◌, not, ◌&&◌, nat_lt, List, [], ◌∷◌, length, drop, filter, bytes_eq, Option, None, Some, is_none, Result, Ok, Err, if◌then◌else◌}
+use Rattle.std.specs.Prelude.{◌≡◌, ℕ, ◌-◌, ◌<◌, ◌≤◌, not, ◌&&◌, nat_lt, List, [], ◌∷◌, length, drop, filter, bytes_eq, Option}
+use Rattle.std.specs.Prelude.{None, Some, is_none, Result, Ok, Err, if◌then◌else◌}
 use Rattle.bool_functions.specs.declared.tokens.Span.{Span}
 use Rattle.bool_functions.specs.declared.symbol.Symbol.{Symbol}
 use Rattle.bool_functions.specs.declared.tree.Node.{Node}
@@ -69,7 +70,8 @@ reading_of names text =
 abbrev pub TreeOf : List (List ℕ) → List ℕ → Result Node ℕ → Type 0
 TreeOf names text (Ok f) = run start (symbols names text) ≡ Ok f
 TreeOf names text (Err at) =
-    (n : ℕ) × (n ≤ length (symbols names text)) × (run start (symbols names text) ≡ Err (drop n (symbols names text))) × (offset_of text n ≡ at)
+    (n : ℕ) × (n ≤ length (symbols names text)) × (run start (symbols names text) ≡ Err (drop n (symbols names text)))
+    × (offset_of text n ≡ at)
 
 -- an answer is what is wanted, or memory was
 abbrev pub OrMemory : Result Node FunctionFault → Result Node FunctionFault → Type 0

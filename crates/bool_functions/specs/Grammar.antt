@@ -31,12 +31,15 @@ pub data Takes : Rule → List Symbol → Node → List Symbol → Type 0 where
   post : {s rest : List Symbol} {f : Node} → Takes AtPost s f rest → Takes AtNot s f rest
   bang : {s rest : List Symbol} {f : Node} → Takes AtNot s f rest → Takes AtNot (symbol.Bang ∷ s) (node.Not f) rest
   not : {s rest : List Symbol} {f : Node} → Takes AtNot s f rest → Takes AtXor s f rest
-  caret : {s t rest : List Symbol} {f g : Node} → Takes AtXor s f (symbol.Caret ∷ t) → Takes AtNot t g rest → Takes AtXor s (node.Xor f g) rest
+  caret : {s t rest : List Symbol} {f g : Node} → Takes AtXor s f (symbol.Caret ∷ t) → Takes AtNot t g rest
+      → Takes AtXor s (node.Xor f g) rest
   xor : {s rest : List Symbol} {f : Node} → Takes AtXor s f rest → Takes AtAnd s f rest
-  times : {s t rest : List Symbol} {f g : Node} → Takes AtAnd s f (symbol.Times ∷ t) → Takes AtXor t g rest → Takes AtAnd s (node.And f g) rest
+  times : {s t rest : List Symbol} {f g : Node} → Takes AtAnd s f (symbol.Times ∷ t) → Takes AtXor t g rest
+      → Takes AtAnd s (node.And f g) rest
   beside : {s t rest : List Symbol} {f g : Node} → Takes AtAnd s f t → Takes AtXor t g rest → Takes AtAnd s (node.And f g) rest
   and : {s rest : List Symbol} {f : Node} → Takes AtAnd s f rest → Takes AtOr s f rest
-  plus : {s t rest : List Symbol} {f g : Node} → Takes AtOr s f (symbol.Plus ∷ t) → Takes AtAnd t g rest → Takes AtOr s (node.Or f g) rest
+  plus : {s t rest : List Symbol} {f g : Node} → Takes AtOr s f (symbol.Plus ∷ t) → Takes AtAnd t g rest
+      → Takes AtOr s (node.Or f g) rest
 
 -- these symbols are a function text with this tree
 abbrev pub IsText : List Symbol → Node → Type 0

@@ -1,5 +1,6 @@
 -- Laws of the definitions.
-use Rattle.std.specs.Prelude.{◌≡◌, ℕ, ◌<◌, ◌≤◌, ◌↔◌, Bool, false, true, ◌&&◌, List, [], ◌∷◌, ◌++◌, length, map, Ok, Err, slice_index, slice_index_or, Contains}
+use Rattle.std.specs.Prelude.{◌≡◌, ℕ, ◌<◌, ◌≤◌, ◌↔◌, Bool, false, true, ◌&&◌, List, [], ◌∷◌, ◌++◌, length, map, Ok, Err}
+use Rattle.std.specs.Prelude.{slice_index, slice_index_or, Contains}
 use Rattle.std.specs.List.{list_all}
 use Rattle.bool_functions.specs.declared.symbol.Symbol.{Symbol}
 use Rattle.bool_functions.specs.declared.symbol.Symbol.TheVariants as symbol
@@ -19,7 +20,8 @@ OneTree = (names : List (List ℕ)) (text : List ℕ) (f g : Node) → FunctionT
 abbrev pub ReadByGrammar : Type 0
 ReadByGrammar =
     (names : List (List ℕ)) (text : List ℕ) →
-    ((f : Node) → (reading_of names text ≡ Ok f) ↔ FunctionText names text f) × ((e : FunctionFault) → (reading_of names text ≡ Err e) ↔ HasFault names text e)
+    ((f : Node) → (reading_of names text ≡ Ok f) ↔ FunctionText names text f)
+    × ((e : FunctionFault) → (reading_of names text ≡ Err e) ↔ HasFault names text e)
 
 -- the bound is above each written name, and at most any number that is
 abbrev pub BoundIsLeast : Type 0
@@ -27,11 +29,13 @@ BoundIsLeast = (f : Node) → ((i : ℕ) → Has f i → i < name_bound f) × ((
 
 abbrev pub RenamedValues : Type 0
 RenamedValues =
-    (to : List ℕ) (bits : List Bool) (f : Node) → value_of bits (renamed_by to f) ≡ value_by (λ i. slice_index_or bits (slice_index to i) false) f
+    (to : List ℕ) (bits : List Bool) (f : Node)
+    → value_of bits (renamed_by to f) ≡ value_by (λ i. slice_index_or bits (slice_index to i) false) f
 
 -- the names of a text by their first appearances are each there once, and are the text's names
 abbrev pub OwnNames : Type 0
-OwnNames = (text : List ℕ) → AreDistinct (free_names text) × ((w : List ℕ) → Contains (free_names text) w ↔ Contains (words text) w)
+OwnNames = (text : List ℕ) → AreDistinct (free_names text)
+    × ((w : List ℕ) → Contains (free_names text) w ↔ Contains (words text) w)
 
 -- Entry i of the list stands for each name i.
 abbrev pub renamed_symbol : List ℕ → Symbol → Symbol
@@ -59,4 +63,5 @@ JoinedTexts =
 -- a text of letters, digits and `_` alone is one symbol
 abbrev pub WordTexts : Type 0
 WordTexts =
-    (names : List (List ℕ)) (word : List ℕ) → list_all is_word_byte word ≡ true → 0 < length word → symbols names word ≡ symbol_of names word ∷ []
+    (names : List (List ℕ)) (word : List ℕ) → list_all is_word_byte word ≡ true → 0 < length word
+    → symbols names word ≡ symbol_of names word ∷ []

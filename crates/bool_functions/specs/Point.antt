@@ -1,5 +1,6 @@
 -- Points: lists of values, one for each of some places, and their numbers.
-use Rattle.std.specs.Prelude.{ℕ, ◌+◌, ◌*◌, ◌/◌, ◌%◌, ◌==◌, Bool, true, false, List, [], ◌∷◌, map, slice_index_or, slice_get, Some, length, ◌≡◌, if◌then◌else◌}
+use Rattle.std.specs.Prelude.{ℕ, ◌+◌, ◌*◌, ◌/◌, ◌%◌, ◌==◌, Bool, true, false, List, [], ◌∷◌, map, slice_index_or, slice_get, Some}
+use Rattle.std.specs.Prelude.{length, ◌≡◌, if◌then◌else◌}
 use Rattle.bool_functions.specs.declared.tree.Node.{Node}
 use Rattle.bool_functions.specs.Tree.{value_by, value_of}
 
@@ -34,7 +35,8 @@ entry_of (place ∷ places) point i = if place == i then point % 2 == 1 else ent
 
 -- each point over these places has the function's value there, at the point's number
 abbrev pub IsTable : List ℕ → Node → List Bool → Type 0
-IsTable places f values = (point : List Bool) → length point ≡ length places → slice_get values (number point) ≡ Some (value_at places point f)
+IsTable places f values = (point : List Bool) → length point ≡ length places
+    → slice_get values (number point) ≡ Some (value_at places point f)
 
 -- whatever the values of all names are, the point that they make at these places has the function's value for them
 abbrev pub HasValues : List ℕ → Node → List Bool → Type 0

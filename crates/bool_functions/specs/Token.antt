@@ -1,6 +1,7 @@
 -- The tokens of a function text. Which bytes are blanks, and that a run of letters, digits and `_` is one token, is this
 -- project's rule; the Liberty Reference Manual leaves it open.
-use Rattle.std.specs.Prelude.{ℕ, ◌+◌, Bool, false, not, ◌&&◌, ◌||◌, ◌==◌, List, [], ◌∷◌, length, map, filter, slice_range, codes, Option, None, Some, unwrap_or, All, ◌<◌, ◌≤◌, slice_get, if◌then◌else◌}
+use Rattle.std.specs.Prelude.{ℕ, ◌+◌, Bool, false, not, ◌&&◌, ◌||◌, ◌==◌, List, [], ◌∷◌, length, map, filter, slice_range, codes}
+use Rattle.std.specs.Prelude.{Option, None, Some, unwrap_or, All, ◌<◌, ◌≤◌, slice_get, if◌then◌else◌}
 use Rattle.std.specs.Char.{is_ascii_digit, is_ascii_alphanumeric, char_set_contains}
 use Rattle.bool_functions.specs.declared.tokens.Span.{Span}
 use Rattle.bool_functions.specs.declared.symbol.Symbol.{Symbol}

@@ -116,7 +116,8 @@ fn add_block(
     count: usize,
 ) -> Result<(), AllocError>
     requires start { start < 1024 }
-    ensures { OnOk result (values.new.items ≡ values.old.items ++ map (λ k. value_by (entry_of places.now k) node.now) (range_with_len start (min (count - start) 64))) }
+    ensures { OnOk result (values.new.items ≡ values.old.items
+        ++ map (λ k. value_by (entry_of places.now k) node.now) (range_with_len start (min (count - start) 64))) }
 {
     let points = count.saturating_sub(start).min(POINTS);
     if points == 0 {
@@ -141,7 +142,8 @@ fn point_count(places: &[usize]) -> usize
 pub(crate) fn table(node: &Node, alloc: Global, places: &[usize]) -> Result<Vec<bool>, AllocError>
     requires { length places.now ≤ 10 }
     ensures len { IfOk result (λ v. length v.items ≡ 2 ^ length places.now) }
-    ensures entries { IfOk result (λ v. EachIndex v.items (λ k. slice_get v.items k ≡ Some (value_by (entry_of places.now k) node.now))) }
+    ensures entries { IfOk result (λ v. EachIndex v.items
+        (λ k. slice_get v.items k ≡ Some (value_by (entry_of places.now k) node.now))) }
 {
     let count = point_count(places);
     let mut values = Vec::with_capacity(alloc, count)?;

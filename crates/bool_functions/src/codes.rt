@@ -3,7 +3,8 @@ ghost use Rattle.std.specs.Prelude.{◌≡◌, ◌≤◌, ◌-◌, false, true, 
 ghost use Rattle.std.specs.List.{list_any};
 ghost use Rattle.bool_functions.specs.declared.codes.Code.TheVariants as code;
 ghost use Rattle.bool_functions.specs.Support.{insert_all};
-ghost use Rattle.bool_functions.specs.Code.{code_names, code_of, is_name_code, is_small, same_code, same_codes, AreHalves, IsValue, Adds, AddsCode, Closes};
+ghost use Rattle.bool_functions.specs.Code.{code_names, code_of, is_name_code, is_small, same_code, same_codes, AreHalves};
+ghost use Rattle.bool_functions.specs.Code.{IsValue, Adds, AddsCode, Closes};
 
 use crate::ascending::insert;
 use crate::kept_values::bit_at;
@@ -77,7 +78,8 @@ fn close(
     pair: Pair,
     start: usize,
 ) -> Result<bool, AllocError>
-    ensures { IfOk result (λ all. Closes first second all codes.old.items codes.new.items (code_of pair (length codes.old.items - start))) }
+    ensures { IfOk result (λ all. Closes first second all codes.old.items codes.new.items
+        (code_of pair (length codes.old.items - start))) }
 {
     if !(first? && second?) {
         return Ok(false);

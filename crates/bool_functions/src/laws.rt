@@ -1,5 +1,6 @@
 //! Laws of the definitions that the contracts cite.
-ghost use Rattle.bool_functions.specs.Laws.{OneTree, ReadByGrammar, BoundIsLeast, RenamedValues, OwnNames, RenamedTexts, JoinedTexts, WordTexts};
+ghost use Rattle.bool_functions.specs.Laws.{OneTree, ReadByGrammar, BoundIsLeast, RenamedValues, OwnNames, RenamedTexts};
+ghost use Rattle.bool_functions.specs.Laws.{JoinedTexts, WordTexts};
 
 /// No text has two trees over one list of names.
 pub fn one_tree()

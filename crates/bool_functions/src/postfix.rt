@@ -1,5 +1,6 @@
 //! The tree of a long function, held as its codes, of which an operator's stands behind those of its parts.
-ghost use Rattle.std.specs.Prelude.{◌≡◌, ◌≤◌, ◌^◌, ◌↔◌, ℕ, false, true, Some, IsTrue, IfOk, MatchOption, EachIndex, length, slice_get};
+ghost use Rattle.std.specs.Prelude.{◌≡◌, ◌≤◌, ◌^◌, ◌↔◌, ℕ, false, true, Some, IsTrue, IfOk, MatchOption, EachIndex, length};
+ghost use Rattle.std.specs.Prelude.{slice_get};
 ghost use Rattle.bool_functions.specs.Tree.{value_of, value_by, renamed_by, Has};
 ghost use Rattle.bool_functions.specs.Point.{entry_of};
 ghost use Rattle.bool_functions.specs.Support.{support_of};
@@ -35,13 +36,15 @@ impl Model for Postfix {
 
     ghost view = { λ l. tree_of l.spelled.items };
 
-    ghost invariant = { λ l. (l.spelled.items ≡ codes_of (tree_of l.spelled.items)) × AreOfTree (tree_of l.spelled.items) l.kept };
+    ghost invariant = { λ l. (l.spelled.items ≡ codes_of (tree_of l.spelled.items))
+        × AreOfTree (tree_of l.spelled.items) l.kept };
 }
 
 impl Postfix {
     /// A tree as its codes, where they have room for its numbers.
     pub(crate) fn new(alloc: Global, node: &Node) -> Result<Option<Postfix>, AllocError>
-        ensures { IfOk result (λ codes. MatchOption codes (fits node.now ≡ false) (λ c. (c ≡ node.now) × (fits node.now ≡ true))) }
+        ensures { IfOk result (λ codes. MatchOption codes (fits node.now ≡ false) (λ c. (c ≡ node.now)
+            × (fits node.now ≡ true))) }
     {
         let mut spelled = Vec::new(alloc);
         if !add_codes(node, &mut spelled)? {
@@ -79,7 +82,8 @@ impl Postfix {
     pub(crate) fn table(&self, alloc: Global, places: &[usize]) -> Result<Vec<bool>, AllocError>
         requires { length places.now ≤ 10 }
         ensures len { IfOk result (λ v. length v.items ≡ 2 ^ length places.now) }
-        ensures entries { IfOk result (λ v. EachIndex v.items (λ k. slice_get v.items k ≡ Some (value_by (entry_of places.now k) self.now))) }
+        ensures entries { IfOk result (λ v. EachIndex v.items
+            (λ k. slice_get v.items k ≡ Some (value_by (entry_of places.now k) self.now))) }
     {
         if let Some(kept) = &self.kept {
             if kept.are_over(places) {

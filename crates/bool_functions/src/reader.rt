@@ -1,6 +1,7 @@
 //! The tree of a list of symbols, read from left to right with a pile in place of recursion.
 ghost use Rattle.std.specs.Prelude.{◌≡◌, ◌≤◌, ◌↔◌, [], ◌∷◌, Ok, None, Some, IsTrue, IfOk, OnOk, MatchOption, MatchBool};
-ghost use Rattle.bool_functions.specs.Machine.{held, binds, binding, waiting, joined, settled, begin, closed, go_on, step, finished, run, start, Gives, Steps, Holds, IsClosed};
+ghost use Rattle.bool_functions.specs.Machine.{held, binds, binding, waiting, joined, settled, begin, closed, go_on, step};
+ghost use Rattle.bool_functions.specs.Machine.{finished, run, start, Gives, Steps, Holds, IsClosed};
 
 use crate::symbol::Symbol;
 use crate::tree::{Node, Pair};
@@ -64,7 +65,8 @@ impl Pile {
 
     /// Takes the innermost that waits, where it binds at least so tightly.
     fn pop_from(&mut self, least: u8) -> Option<Pending>
-        ensures { MatchOption result (Holds least self.old × (self.new ≡ self.old)) (λ top. (self.old ≡ top ∷ self.new) × (least ≤ binds top)) }
+        ensures { MatchOption result (Holds least self.old × (self.new ≡ self.old)) (λ top. (self.old ≡ top ∷ self.new)
+            × (least ≤ binds top)) }
     {
         let top = self.items.last()?;
         if top.binds() < least {

@@ -3,7 +3,8 @@ ghost use Rattle.std.specs.Prelude.{◌≡◌, ◌≢◌, ◌≤◌, [], ℕ, Ok
 ghost use Rattle.bool_functions.specs.Tree.{name_bound};
 ghost use Rattle.bool_functions.specs.Token.{bytes_at, spans, symbol_of, symbols, offset_of, LieIn};
 ghost use Rattle.bool_functions.specs.Machine.{run, start};
-ghost use Rattle.bool_functions.specs.FunctionText.{FunctionText, HasFault, free_names, reading_of, OrMemory, OrMemoryFree, FaultOrMemory, TreeOf, Answers, AnswersFree};
+ghost use Rattle.bool_functions.specs.FunctionText.{FunctionText, HasFault, free_names, reading_of, OrMemory, OrMemoryFree};
+ghost use Rattle.bool_functions.specs.FunctionText.{FaultOrMemory, TreeOf, Answers, AnswersFree};
 
 use crate::faults::FunctionFault;
 use crate::functions::Function;

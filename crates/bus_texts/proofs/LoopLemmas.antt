@@ -2,7 +2,8 @@
 use Rattle.std.proofs.Common.{◌≡◌, ℕ, zero, suc, ◌+◌, ◌-◌, ◌<◌, ◌≤◌, List, [], ◌∷◌, ◌++◌, refl, sym, ap, ◌∙◌, arith, append_assoc}
 use Rattle.bus_texts.specs.Numbers.{next_bit, bits_towards}
 
-bits_turn : (to count turn bit : ℕ) → turn < count → bits_towards to (count - turn) bit ≡ bit ∷ bits_towards to (count - (turn + 1)) (next_bit to bit)
+bits_turn : (to count turn bit : ℕ) → turn < count
+    → bits_towards to (count - turn) bit ≡ bit ∷ bits_towards to (count - (turn + 1)) (next_bit to bit)
 bits_turn to count turn bit within = let more : count - turn ≡ suc (count - (turn + 1)) = omega arith in rw more refl
 
 -- one more bit

@@ -1,5 +1,6 @@
 -- The vector of a name stands at the place that is kept for the name.
-use Rattle.std.proofs.Common.{◌≡◌, ℕ, zero, suc, ◌≤◌, Bool, true, false, cond, ◌==◌, nat_lt, List, [], ◌∷◌, length, Option, None, Some, if◌then◌else◌, refl, sym, ap, ◌∙◌, arith, slice_get}
+use Rattle.std.proofs.Common.{◌≡◌, ℕ, zero, suc, ◌≤◌, Bool, true, false, cond, ◌==◌, nat_lt, List, [], ◌∷◌, length, Option, None}
+use Rattle.std.proofs.Common.{Some, if◌then◌else◌, refl, sym, ap, ◌∙◌, arith, slice_get}
 use Rattle.std.specs.Prelude.{find, bytes_eq}
 use Rattle.std.specs.List.{position, position_or_len}
 use Rattle.std.specs.Option.{option_and_then}
@@ -20,7 +21,8 @@ get_past (x ∷ xs) (suc n) h = get_past xs n (omega (arith, h))
 found_at : {X : Type 0} (p : X → Bool) (xs : List X) → find p xs ≡ option_and_then (slice_get xs) (position p xs)
 found_at p xs = find_at p xs ∙ by (nat_lt (position_or_len p xs) (length xs)) refl
   where
-    by : (b : Bool) → nat_lt (position_or_len p xs) (length xs) ≡ b → slice_get xs (position_or_len p xs) ≡ option_and_then (slice_get xs) (position p xs)
+    by : (b : Bool) → nat_lt (position_or_len p xs) (length xs) ≡ b
+        → slice_get xs (position_or_len p xs) ≡ option_and_then (slice_get xs) (position p xs)
     by true e = sym (ap (λ within. option_and_then (slice_get xs) (cond within (Some (position_or_len p xs)) None)) e)
     by false e =
         let past : length xs ≤ position_or_len p xs = grind (arith, nat_tests) in
@@ -40,12 +42,14 @@ named_place :
     (name : List ℕ) (vectors : List Vector) (found : FirstNames) → FindsFirst vector_name found vectors
     → option_and_then (slice_get vectors) (place_by found name) ≡ find (has_name name) vectors
 named_place name vectors found f =
-    let same : (λ (vector : Vector). bytes_eq name vector.name) ≡ has_name name = λ i vector. same_either_way name vector.name i in
+    let same : (λ (vector : Vector). bytes_eq name vector.name) ≡ has_name name = λ i vector. same_either_way name vector.name i
+    in
     ap (option_and_then (slice_get vectors)) (f.first name ∙ ap (λ test. position test vectors) same)
     ∙ sym (found_at (has_name name) vectors)
 
 pub named_by :
-    (name : List ℕ) (vectors : List Vector) (found : FirstNames) (empty : Bool) (place : Option ℕ) → FindsFirst vector_name found vectors
+    (name : List ℕ) (vectors : List Vector) (found : FirstNames) (empty : Bool) (place : Option ℕ)
+    → FindsFirst vector_name found vectors
     → empty ≡ (length name == 0) → empty ≡ false → place ≡ place_by found name
     → option_and_then (slice_get vectors) place ≡ vector_named vectors name
 named_by name vectors found empty place f e some p =

@@ -1,5 +1,6 @@
 -- The parts of a text, one by one.
-use Rattle.std.proofs.Common.{◌≡◌, ℕ, zero, suc, ◌+◌, ◌-◌, ◌<◌, ◌≤◌, Bool, true, false, List, [], ◌∷◌, ◌++◌, length, take, drop, refl, sym, ap, ◌∙◌, arith, append_assoc, subst, Option, None, Some}
+use Rattle.std.proofs.Common.{◌≡◌, ℕ, zero, suc, ◌+◌, ◌-◌, ◌<◌, ◌≤◌, Bool, true, false, List, [], ◌∷◌, ◌++◌, length, take, drop}
+use Rattle.std.proofs.Common.{refl, sym, ap, ◌∙◌, arith, append_assoc, subst, Option, None, Some}
 use Rattle.std.specs.List.{prefix_len}
 use Rattle.std.specs.Char.{is_ascii_digit}
 use Rattle.std.proofs.lemmas.List.{length-take, length-drop, drop-drop}
@@ -31,7 +32,8 @@ named_within n s None = take_within n s
 named_within n s (Some digits) = take_within (n + length digits + 2) s
 
 pub digits_first :
-    (b : ℕ) (s : List ℕ) → begins_name b ≡ false → is_ascii_digit b ≡ true → first_part (b ∷ s) ≡ plain_part (b ∷ s) (prefix_len is_ascii_digit (b ∷ s))
+    (b : ℕ) (s : List ℕ) → begins_name b ≡ false → is_ascii_digit b ≡ true
+    → first_part (b ∷ s) ≡ plain_part (b ∷ s) (prefix_len is_ascii_digit (b ∷ s))
 digits_first b s e d = rw (e, d) refl
 
 begins : (p : ℕ → Bool) (b : ℕ) (s : List ℕ) → p b ≡ true → 0 < prefix_len p (b ∷ s)
@@ -55,8 +57,10 @@ pub first_within : (text : List ℕ) → length (first_part text).written ≤ le
 first_within [] = omega arith
 first_within (b ∷ s) = by (begins_name b) (is_ascii_digit b) refl refl
   where
-    by : (named digit : Bool) → begins_name b ≡ named → is_ascii_digit b ≡ digit → length (first_part (b ∷ s)).written ≤ length (b ∷ s)
-    by true digit e d = rw e (named_within (prefix_len is_word_byte (b ∷ s)) (b ∷ s) (digits_in_front (drop (prefix_len is_word_byte (b ∷ s)) (b ∷ s))))
+    by : (named digit : Bool) → begins_name b ≡ named → is_ascii_digit b ≡ digit
+        → length (first_part (b ∷ s)).written ≤ length (b ∷ s)
+    by true digit e d = rw e (named_within (prefix_len is_word_byte (b ∷ s)) (b ∷ s)
+        (digits_in_front (drop (prefix_len is_word_byte (b ∷ s)) (b ∷ s))))
     by false true e d =
         subst (λ (p : Part). length p.written ≤ length (b ∷ s)) (sym (digits_first b s e d))
         (take_within (prefix_len is_ascii_digit (b ∷ s)) (b ∷ s))
@@ -67,7 +71,8 @@ drop_one zero b s h = absurd (omega arith)
 drop_one (suc n) b s h = let e : suc n - 1 ≡ n = omega arith in rw e refl
 
 -- the first part, and those behind it
-pub parts_step : (text : List ℕ) → 0 < length text → parts_of text ≡ first_part text ∷ parts_of (drop (length (first_part text).written) text)
+pub parts_step : (text : List ℕ) → 0 < length text
+    → parts_of text ≡ first_part text ∷ parts_of (drop (length (first_part text).written) text)
 parts_step [] h = absurd (omega arith)
 parts_step (b ∷ s) h =
     ap (λ (ps : List Part). first_part (b ∷ s) ∷ ps)
@@ -81,7 +86,8 @@ pub parts_more :
 parts_more text at within =
     let some : 0 < length (drop at text) = let l = length-drop at text in omega arith in
     parts_step (drop at text) some
-    ∙ ap (λ (rest : List ℕ). first_part (drop at text) ∷ parts_of rest) (drop-drop (length (first_part (drop at text)).written) at text)
+    ∙ ap (λ (rest : List ℕ). first_part (drop at text) ∷ parts_of rest)
+    (drop-drop (length (first_part (drop at text)).written) at text)
 
 pub parts_turn :
     (text : List ℕ) (at : ℕ) (found : List Part) (part : Part) → at < length text → part ≡ first_part (drop at text)

@@ -1,5 +1,6 @@
 -- The symbols of a text whose names are replaced.
-use Rattle.std.proofs.Common.{◌≡◌, ℕ, zero, suc, ◌+◌, ◌-◌, ◌<◌, ◌≤◌, Bool, true, false, ◌&&◌, ◌||◌, List, [], ◌∷◌, ◌++◌, length, take, drop, Option, None, Some, if◌then◌else◌, refl, sym, ap, subst, ◌∙◌, arith, append-nil}
+use Rattle.std.proofs.Common.{◌≡◌, ℕ, zero, suc, ◌+◌, ◌-◌, ◌<◌, ◌≤◌, Bool, true, false, ◌&&◌, ◌||◌, List, [], ◌∷◌, ◌++◌, length}
+use Rattle.std.proofs.Common.{take, drop, Option, None, Some, if◌then◌else◌, refl, sym, ap, subst, ◌∙◌, arith, append-nil}
 use Rattle.std.specs.Prelude.{flat_map, map, Contains}
 use Rattle.std.specs.List.{list_any, list_all, prefix_len}
 use Rattle.std.specs.Char.{is_ascii_digit}
@@ -16,9 +17,11 @@ use Rattle.bool_functions.proofs.RenamedTexts.{renamed_text}
 use Rattle.bool_functions.proofs.JoinedTexts.{symbols_append, symbols_word}
 use Rattle.bus_texts.specs.declared.vectors.Vector.{Vector}
 use Rattle.bus_texts.specs.Parts.{Part, begins_name, is_identifier, plain_part, name_with, digits_in_front, first_part, parts_of}
-use Rattle.bus_texts.specs.Texts.{Replacement, Stays, Becomes, Missing, becomes, member_of, replaced_by, replacement_for, spelled, rewritten_part, rewritten}
+use Rattle.bus_texts.specs.Texts.{Replacement, Stays, Becomes, Missing, becomes, member_of, replaced_by, replacement_for, spelled}
+use Rattle.bus_texts.specs.Texts.{rewritten_part, rewritten}
 use Rattle.bus_texts.specs.Vectors.{vector_named}
-use Rattle.bus_texts.specs.Laws.{runs_into_name, runs_together, part_symbols, replaced_symbols, written_symbols, symbols_over, Replaces}
+use Rattle.bus_texts.specs.Laws.{runs_into_name, runs_together, part_symbols, replaced_symbols, written_symbols, symbols_over}
+use Rattle.bus_texts.specs.Laws.{Replaces}
 use Rattle.bus_texts.proofs.PartLemmas.{first_some, parts_step, digits_first}
 
 pub and_right : (b : Bool) → (b && false) ≡ false
@@ -52,7 +55,8 @@ identifier_word (b ∷ s) h =
 
 -- the symbols of one part
 spaced_symbols : (names : List (List ℕ)) (member : List ℕ) → symbols names (member ++ 32 ∷ []) ≡ symbols names member
-spaced_symbols names member = symbols_append names member (32 ∷ []) (and_right (ends_in_word member)) ∙ append-nil (symbols names member)
+spaced_symbols names member = symbols_append names member (32 ∷ []) (and_right (ends_in_word member))
+    ∙ append-nil (symbols names member)
 
 member_symbols : (names : List (List ℕ)) (member : List ℕ) (followed : Bool) → is_identifier member ≡ true
     → symbols names (if followed then member ++ 32 ∷ [] else member) ≡ symbol_of names member ∷ []
@@ -60,13 +64,15 @@ member_symbols names member true h =
     let word = identifier_word member h in spaced_symbols names member ∙ symbols_word names member word.0 word.1
 member_symbols names member false h = let word = identifier_word member h in symbols_word names member word.0 word.1
 
-spelled_symbols : (names : List (List ℕ)) (part : Part) (replacement : Replacement) → Named replacement → symbols names (spelled part replacement) ≡ part_symbols names part replacement
+spelled_symbols : (names : List (List ℕ)) (part : Part) (replacement : Replacement) → Named replacement
+    → symbols names (spelled part replacement) ≡ part_symbols names part replacement
 spelled_symbols names part Stays h = refl
 spelled_symbols names part (Becomes member) h = member_symbols names member part.followed h
 spelled_symbols names part Missing h = refl
 
 -- no run goes on behind a part
-written_quiet : (followed ends begins : Bool) → (followed && ends) ≡ false → (followed ≡ false → begins ≡ false) → (ends && begins) ≡ false
+written_quiet : (followed ends begins : Bool) → (followed && ends) ≡ false → (followed ≡ false → begins ≡ false)
+    → (ends && begins) ≡ false
 written_quiet true true begins j q = absurd cc
 written_quiet true false begins j q = refl
 written_quiet false ends begins j q = rw (q refl) (and_right ends)
@@ -76,11 +82,13 @@ space_ends [] = refl
 space_ends (b ∷ []) = refl
 space_ends (b ∷ c ∷ s) = space_ends (c ∷ s)
 
-member_quiet : (followed : Bool) (member rest : List ℕ) → (followed ≡ false → begins_word rest ≡ false) → runs_on (if followed then member ++ 32 ∷ [] else member) rest ≡ false
+member_quiet : (followed : Bool) (member rest : List ℕ) → (followed ≡ false → begins_word rest ≡ false)
+    → runs_on (if followed then member ++ 32 ∷ [] else member) rest ≡ false
 member_quiet true member rest q = ap (λ ends. ends && begins_word rest) (space_ends member)
 member_quiet false member rest q = rw (q refl) (and_right (ends_in_word member))
 
-pub spelled_quiet : (part : Part) (replacement : Replacement) (rest : List ℕ) → runs_into_name part ≡ false → (part.followed ≡ false → begins_word rest ≡ false)
+pub spelled_quiet : (part : Part) (replacement : Replacement) (rest : List ℕ) → runs_into_name part ≡ false
+    → (part.followed ≡ false → begins_word rest ≡ false)
     → runs_on (spelled part replacement) rest ≡ false
 spelled_quiet part Stays rest j q = written_quiet part.followed (ends_in_word part.written) (begins_word rest) j q
 spelled_quiet part (Becomes member) rest j q = member_quiet part.followed member rest q
@@ -92,11 +100,13 @@ drop_taken zero text = refl
 drop_taken (suc n) [] = refl
 drop_taken (suc n) (b ∷ s) = drop_taken n s
 
-name_behind : (text : List ℕ) (n : ℕ) (digits : Option (List ℕ)) → (name_with text n digits).followed ≡ begins_word (drop (length (name_with text n digits).written) text)
+name_behind : (text : List ℕ) (n : ℕ) (digits : Option (List ℕ))
+    → (name_with text n digits).followed ≡ begins_word (drop (length (name_with text n digits).written) text)
 name_behind text n None = ap begins_word (sym (drop_taken n text))
 name_behind text n (Some digits) = ap begins_word (sym (drop_taken (n + length digits + 2) text))
 
-plain_behind : (text : List ℕ) (n : ℕ) → (plain_part text n).followed ≡ begins_word (drop (length (plain_part text n).written) text)
+plain_behind : (text : List ℕ) (n : ℕ)
+    → (plain_part text n).followed ≡ begins_word (drop (length (plain_part text n).written) text)
 plain_behind text n = ap begins_word (sym (drop_taken n text))
 
 abbrev pub Behind : List ℕ → Part → Type 0
@@ -106,8 +116,10 @@ pub first_behind : (b : ℕ) (s : List ℕ) → Behind (b ∷ s) (first_part (b 
 first_behind b s = by (begins_name b) (is_ascii_digit b) refl refl
   where
     by : (named digit : Bool) → begins_name b ≡ named → is_ascii_digit b ≡ digit → Behind (b ∷ s) (first_part (b ∷ s))
-    by true digit e d = rw e (name_behind (b ∷ s) (prefix_len is_word_byte (b ∷ s)) (digits_in_front (drop (prefix_len is_word_byte (b ∷ s)) (b ∷ s))))
-    by false true e d = subst (Behind (b ∷ s)) (sym (digits_first b s e d)) (plain_behind (b ∷ s) (prefix_len is_ascii_digit (b ∷ s)))
+    by true digit e d = rw e (name_behind (b ∷ s) (prefix_len is_word_byte (b ∷ s))
+        (digits_in_front (drop (prefix_len is_word_byte (b ∷ s)) (b ∷ s))))
+    by false true e d = subst (Behind (b ∷ s)) (sym (digits_first b s e d))
+        (plain_behind (b ∷ s) (prefix_len is_ascii_digit (b ∷ s)))
     by false false e d = rw (e, d) (plain_behind (b ∷ s) 1)
 
 -- a text that begins with no letter, digit or `_` begins with none when its names are replaced
@@ -128,7 +140,8 @@ first_plain b s w = by (is_ascii_digit b) refl
         (record { unnamed = refl; count = prefix_len is_ascii_digit (b ∷ s); taken = refl })
     by false d = rw (e, d) (record { unnamed = refl; count = 1; taken = refl })
 
-pub begins_taken : (n b : ℕ) (s rest : List ℕ) → 0 < length (take n (b ∷ s)) → begins_word (take n (b ∷ s) ++ rest) ≡ is_word_byte b
+pub begins_taken : (n b : ℕ) (s rest : List ℕ) → 0 < length (take n (b ∷ s))
+    → begins_word (take n (b ∷ s) ++ rest) ≡ is_word_byte b
 begins_taken zero b s rest h = absurd (omega (arith, h))
 begins_taken (suc n) b s rest h = refl
 
@@ -143,7 +156,8 @@ module _ (names : List (List ℕ)) (vectors : List Vector) (at : ℕ) where
       let plain : IsPlain (b ∷ s) part = first_plain b s h in
       let rest : List ℕ = rewritten vectors at (drop (length part.written) (b ∷ s)) in
       let kept : rewritten_part vectors at part ≡ take plain.count (b ∷ s) = plain_stays part plain.unnamed ∙ plain.taken in
-      let some : 0 < length (take plain.count (b ∷ s)) = subst (λ w. 0 < length w) plain.taken (first_some (b ∷ s) (omega arith)) in
+      let some : 0 < length (take plain.count (b ∷ s)) = subst (λ w. 0 < length w) plain.taken (first_some (b ∷ s) (omega arith))
+      in
       ap (λ ps. begins_word (flat_map (rewritten_part vectors at) ps)) (parts_step (b ∷ s) (omega arith))
       ∙ (ap (λ front. begins_word (front ++ rest)) kept ∙ (begins_taken plain.count b s rest some ∙ h))
 
@@ -165,9 +179,12 @@ module _ (names : List (List ℕ)) (vectors : List Vector) (at : ℕ) where
       let apart = or_parts (runs_into_name part) (runs_together others) (sym (ap (λ ps. list_any runs_into_name ps) step) ∙ h) in
       let quiet = λ (e : part.followed ≡ false). begins_same others (sym (first_behind b s) ∙ e) in
       ap (λ ps. symbols names (flat_map (rewritten_part vectors at) ps)) step
-      ∙ (symbols_append names (rewritten_part vectors at part) (rewritten vectors at others) (spelled_quiet part (replacement_for vectors at part) (rewritten vectors at others) apart.0 quiet)
-      ∙ (ap (λ front. front ++ symbols names (rewritten vectors at others)) (spelled_symbols names part (replacement_for vectors at part) (named_by at part.bit (vector_named vectors part.name)))
-      ∙ (ap (λ behind. replaced_symbols names vectors at part ++ behind) (symbols_replaced n others (omega (arith, le, some, left)) apart.1)
+      ∙ (symbols_append names (rewritten_part vectors at part) (rewritten vectors at others)
+      (spelled_quiet part (replacement_for vectors at part) (rewritten vectors at others) apart.0 quiet)
+      ∙ (ap (λ front. front ++ symbols names (rewritten vectors at others))
+      (spelled_symbols names part (replacement_for vectors at part) (named_by at part.bit (vector_named vectors part.name)))
+      ∙ (ap (λ behind. replaced_symbols names vectors at part ++ behind)
+      (symbols_replaced n others (omega (arith, le, some, left)) apart.1)
       ∙ sym (ap (λ ps. flat_map (replaced_symbols names vectors at) ps) step))))
 
 -- the tree
@@ -179,7 +196,8 @@ renamed_all to from into [] each = refl
 renamed_all to from into (part ∷ parts) each =
     map-append (renamed_symbol to) (from part) (flat_map from parts)
     ∙ (ap (λ front. front ++ map (renamed_symbol to) (flat_map from parts)) (each part (contains_here part parts))
-    ∙ ap (λ behind. into part ++ behind) (renamed_all to from into parts (λ other c. each other (contains_later part parts other c))))
+    ∙ ap (λ behind. into part ++ behind)
+    (renamed_all to from into parts (λ other c. each other (contains_later part parts other c))))
 
 pub tree_replaced :
     (to : List ℕ) (names others : List (List ℕ)) (vectors : List Vector) (at : ℕ) (text : List ℕ) (f : Node)

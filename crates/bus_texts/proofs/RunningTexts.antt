@@ -1,5 +1,7 @@
 -- A text in which a number runs into a name is no function text, whatever its names become.
-use Rattle.std.proofs.Common.{◌≡◌, ℕ, zero, suc, ◌+◌, ◌-◌, ◌<◌, ◌≤◌, Bool, true, false, cond, not, ◌&&◌, ◌||◌, ◌==◌, nat_lt, List, [], ◌∷◌, ◌++◌, length, take, drop, map, slice_index, Option, None, Some, Ok, if◌then◌else◌, refl, sym, ap, subst, ◌∙◌, arith, inl, inr, eqb-true}
+use Rattle.std.proofs.Common.{◌≡◌, ℕ, zero, suc, ◌+◌, ◌-◌, ◌<◌, ◌≤◌, Bool, true, false, cond, not, ◌&&◌, ◌||◌, ◌==◌, nat_lt, List}
+use Rattle.std.proofs.Common.{[], ◌∷◌, ◌++◌, length, take, drop, map, slice_index, Option, None, Some, Ok, if◌then◌else◌, refl}
+use Rattle.std.proofs.Common.{sym, ap, subst, ◌∙◌, arith, inl, inr, eqb-true}
 use Rattle.std.specs.Prelude.{flat_map}
 use Rattle.std.specs.List.{list_any, list_all, prefix_len}
 use Rattle.std.specs.Char.{is_ascii_digit}
@@ -17,7 +19,8 @@ use Rattle.bool_functions.specs.Laws.{ends_in_word}
 use Rattle.bool_functions.proofs.Complete.{text_read}
 use Rattle.bool_functions.proofs.JoinedTexts.{symbols_append}
 use Rattle.bus_texts.specs.declared.vectors.Vector.{Vector}
-use Rattle.bus_texts.specs.Parts.{Part, begins_name, is_identifier, plain_part, name_with, closed_digits, digits_in_front, first_part, parts_of}
+use Rattle.bus_texts.specs.Parts.{Part, begins_name, is_identifier, plain_part, name_with, closed_digits, digits_in_front}
+use Rattle.bus_texts.specs.Parts.{first_part, parts_of}
 use Rattle.bus_texts.specs.Texts.{Replacement, Stays, Becomes, Missing, replacement_for, spelled, rewritten_part, rewritten}
 use Rattle.bus_texts.specs.Vectors.{vector_named}
 use Rattle.bus_texts.specs.Laws.{runs_into_name, runs_together}
@@ -59,13 +62,15 @@ abbrev first_by : (word more blank : Bool) → ℕ → List Span → List Span
 first_by word more blank at ts =
     if word then (if more then grown at ts else span at (at + 1) ∷ ts) else (if blank then ts else span at (at + 1) ∷ ts)
 
-end_by : (more blank : Bool) (at : ℕ) (ts : List Span) → (more ≡ true → at + 1 < first_end ts) → at < first_end (first_by true more blank at ts)
+end_by : (more blank : Bool) (at : ℕ) (ts : List Span) → (more ≡ true → at + 1 < first_end ts)
+    → at < first_end (first_by true more blank at ts)
 end_by true blank at ts h = let e = grown_end at ts in let k : at + 1 < first_end ts = h refl in omega arith
 end_by false blank at ts h = omega arith
 
 run_end : (at c : ℕ) (s : List ℕ) → is_word_byte c ≡ true → at < first_end (spans_from at (c ∷ s))
 run_end at c [] w =
-    subst (λ word. at < first_end (first_by word false (is_blank c) at [])) (sym w) (end_by false (is_blank c) at [] (λ e. absurd cc))
+    subst (λ word. at < first_end (first_by word false (is_blank c) at [])) (sym w)
+    (end_by false (is_blank c) at [] (λ e. absurd cc))
 run_end at c (b ∷ s) w =
     subst (λ word. at < first_end (first_by word (is_word_byte b) (is_blank c) at (spans_from (at + 1) (b ∷ s)))) (sym w)
     (end_by (is_word_byte b) (is_blank c) at (spans_from (at + 1) (b ∷ s)) (λ e. run_end (at + 1) b s e))
@@ -91,9 +96,11 @@ module _ (names : List (List ℕ)) (d c : ℕ) (s : List ℕ) (digit : is_ascii_
   stray_run w =
       let ts : List Span = spans_from 1 (c ∷ s) in
       ap (λ word. list_any is_stray (map symbol_at (first_by word (is_word_byte c) (is_blank d) 0 ts))) digit_word
-      ∙ (ap (λ more. list_any is_stray (map symbol_at (first_by true more (is_blank d) 0 ts))) w ∙ grown_stray ts (run_end 1 c s w))
+      ∙ (ap (λ more. list_any is_stray (map symbol_at (first_by true more (is_blank d) 0 ts))) w
+      ∙ grown_stray ts (run_end 1 c s w))
 
-stray_head : (names : List (List ℕ)) (d : ℕ) (s : List ℕ) → is_ascii_digit d ≡ true → begins_word s ≡ true → list_any is_stray (symbols names (d ∷ s)) ≡ true
+stray_head : (names : List (List ℕ)) (d : ℕ) (s : List ℕ) → is_ascii_digit d ≡ true → begins_word s ≡ true
+    → list_any is_stray (symbols names (d ∷ s)) ≡ true
 stray_head names d [] digit w = absurd cc
 stray_head names d (c ∷ s) digit w = stray_run names d c s digit w
 
@@ -126,14 +133,19 @@ closed_by : (b : ℕ) (s : List ℕ) (count : ℕ) (digits : List ℕ) → close
 closed_by b s count digits e = by (nat_lt 0 count) (nat_lt count (length s)) (slice_index s count == 93) refl refl refl e
   where
     by :
-        (some within closes : Bool) → nat_lt 0 count ≡ some → nat_lt count (length s) ≡ within → (slice_index s count == 93) ≡ closes
+        (some within closes : Bool) → nat_lt 0 count ≡ some → nat_lt count (length s) ≡ within
+        → (slice_index s count == 93) ≡ closes
         → (if some && (within && closes) then Some (take count s) else None) ≡ Some digits → IsClosed (b ∷ s) digits
     by true true true p q r e =
         let below : count < length s = ltb-true count (length s) q in
         let same : take count s ≡ digits = cc in
         let long : length digits ≡ count = sym (ap length same) ∙ length-take-le count s (omega arith) in
         let place : length digits + 1 ≡ suc count = omega arith in
-        record { within = omega (arith, below, long); closes = ap (λ n. slice_index (b ∷ s) n) place ∙ eqb-true (slice_index s count) 93 r }
+        record {
+          within = omega (arith, below, long);
+          closes = ap (λ n. slice_index (b ∷ s) n) place
+              ∙ eqb-true (slice_index s count) 93 r;
+        }
     by true true false p q r e = absurd cc
     by true false closes p q r e = absurd cc
     by false within closes p q r e = absurd cc
@@ -142,7 +154,8 @@ closed : (t digits : List ℕ) → digits_in_front t ≡ Some digits → IsClose
 closed [] digits e = absurd cc
 closed (b ∷ s) digits e = by (b == 91) refl e
   where
-    by : (opens : Bool) → (b == 91) ≡ opens → (if opens then closed_digits s (prefix_len is_ascii_digit s) else None) ≡ Some digits → IsClosed (b ∷ s) digits
+    by : (opens : Bool) → (b == 91) ≡ opens
+        → (if opens then closed_digits s (prefix_len is_ascii_digit s) else None) ≡ Some digits → IsClosed (b ∷ s) digits
     by true p e = closed_by b s (prefix_len is_ascii_digit s) digits e
     by false p e = absurd cc
 
@@ -182,17 +195,20 @@ first_taken : (b : ℕ) (s : List ℕ) → IsTaken (b ∷ s) (first_part (b ∷ 
 first_taken b s = by (begins_name b) (is_ascii_digit b) refl refl
   where
     by : (named digit : Bool) → begins_name b ≡ named → is_ascii_digit b ≡ digit → IsTaken (b ∷ s) (first_part (b ∷ s))
-    by true digit e d = rw e (name_taken (b ∷ s) (prefix_len is_word_byte (b ∷ s)) (digits_in_front (drop (prefix_len is_word_byte (b ∷ s)) (b ∷ s))))
+    by true digit e d = rw e (name_taken (b ∷ s) (prefix_len is_word_byte (b ∷ s))
+        (digits_in_front (drop (prefix_len is_word_byte (b ∷ s)) (b ∷ s))))
     by false true e d =
         subst (IsTaken (b ∷ s)) (sym (digits_first b s e d)) (record { count = prefix_len is_ascii_digit (b ∷ s); taken = refl })
     by false false e d = rw (e, d) (record { count = 1; taken = refl })
 
-member_begins : (member rest : List ℕ) (followed : Bool) → is_identifier member ≡ true → begins_word ((if followed then member ++ 32 ∷ [] else member) ++ rest) ≡ true
+member_begins : (member rest : List ℕ) (followed : Bool) → is_identifier member ≡ true
+    → begins_word ((if followed then member ++ 32 ∷ [] else member) ++ rest) ≡ true
 member_begins [] rest followed h = absurd cc
 member_begins (c ∷ m) rest true h = (and_parts (is_word_byte c) _ (and_parts (begins_name c) (list_all is_word_byte m) h).0).0
 member_begins (c ∷ m) rest false h = (and_parts (is_word_byte c) _ (and_parts (begins_name c) (list_all is_word_byte m) h).0).0
 
-begins_spelled : (part : Part) (replacement : Replacement) (rest : List ℕ) → Named replacement → begins_word (part.written ++ rest) ≡ true → begins_word (spelled part replacement ++ rest) ≡ true
+begins_spelled : (part : Part) (replacement : Replacement) (rest : List ℕ) → Named replacement
+    → begins_word (part.written ++ rest) ≡ true → begins_word (spelled part replacement ++ rest) ≡ true
 begins_spelled part Stays rest n h = h
 begins_spelled part (Becomes member) rest n h = member_begins member rest part.followed n
 begins_spelled part Missing rest n h = h
@@ -204,7 +220,8 @@ module _ (names : List (List ℕ)) (vectors : List Vector) (at : ℕ) where
       let part : Part = first_part (b ∷ s) in
       let rest : List ℕ = rewritten vectors at (drop (length part.written) (b ∷ s)) in
       let front : IsTaken (b ∷ s) part = first_taken b s in
-      let some : 0 < length (take front.count (b ∷ s)) = subst (λ w. 0 < length w) front.taken (first_some (b ∷ s) (omega arith)) in
+      let some : 0 < length (take front.count (b ∷ s)) = subst (λ w. 0 < length w) front.taken (first_some (b ∷ s) (omega arith))
+      in
       let written : begins_word (part.written ++ rest) ≡ true =
       ap (λ w. begins_word (w ++ rest)) front.taken ∙ (begins_taken front.count b s rest some ∙ h) in
       ap (λ ps. begins_word (flat_map (rewritten_part vectors at) ps)) (parts_step (b ∷ s) (omega arith))
@@ -214,7 +231,8 @@ module _ (names : List (List ℕ)) (vectors : List Vector) (at : ℕ) where
   digits_then [] rest h = h
   digits_then (c ∷ s) rest h = by (is_ascii_digit c) refl
     where
-      by : (digit : Bool) → is_ascii_digit c ≡ digit → begins_word (take (prefix_len is_ascii_digit (c ∷ s)) (c ∷ s) ++ rest) ≡ true
+      by : (digit : Bool) → is_ascii_digit c ≡ digit
+          → begins_word (take (prefix_len is_ascii_digit (c ∷ s)) (c ∷ s) ++ rest) ≡ true
       by true e =
           let n : ℕ = prefix_len is_ascii_digit s in
           let more : 1 + n ≡ suc n = omega arith in
@@ -233,12 +251,15 @@ module _ (names : List (List ℕ)) (vectors : List Vector) (at : ℕ) where
       ∙ (ap (λ m. list_any is_stray (symbols names (take m (b ∷ s) ++ rest))) more
       ∙ stray_head names b (take n s ++ rest) d (digits_then s rest h))
 
-  first_stray : (b : ℕ) (s : List ℕ) → runs_into_name (first_part (b ∷ s)) ≡ true → list_any is_stray (symbols names (rewritten vectors at (b ∷ s))) ≡ true
+  first_stray : (b : ℕ) (s : List ℕ) → runs_into_name (first_part (b ∷ s)) ≡ true
+      → list_any is_stray (symbols names (rewritten vectors at (b ∷ s))) ≡ true
   first_stray b s h = by (begins_name b) (is_ascii_digit b) refl refl
     where
-      by : (named digit : Bool) → begins_name b ≡ named → is_ascii_digit b ≡ digit → list_any is_stray (symbols names (rewritten vectors at (b ∷ s))) ≡ true
+      by : (named digit : Bool) → begins_name b ≡ named → is_ascii_digit b ≡ digit
+          → list_any is_stray (symbols names (rewritten vectors at (b ∷ s))) ≡ true
       by true digit e d =
-          let apart : runs_into_name (first_part (b ∷ s)) ≡ false = rw e (named_apart (b ∷ s) (digits_in_front (drop (prefix_len is_word_byte (b ∷ s)) (b ∷ s))) refl) in
+          let apart : runs_into_name (first_part (b ∷ s)) ≡ false =
+          rw e (named_apart (b ∷ s) (digits_in_front (drop (prefix_len is_word_byte (b ∷ s)) (b ∷ s))) refl) in
           absurd cc
       by false true e d =
           let part : Part = plain_part (b ∷ s) (prefix_len is_ascii_digit (b ∷ s)) in
@@ -248,8 +269,10 @@ module _ (names : List (List ℕ)) (vectors : List Vector) (at : ℕ) where
           let followed : part.followed ≡ true = (and_parts part.followed (ends_in_word part.written) runs).0 in
           let behind : part.followed ≡ begins_word others =
           subst (λ (p : Part). p.followed ≡ begins_word (drop (length p.written) (b ∷ s))) same (first_behind b s) in
-          ap (λ ps. list_any is_stray (symbols names (flat_map (rewritten_part vectors at) ps))) (parts_step (b ∷ s) (omega arith))
-          ∙ (ap (λ (p : Part). list_any is_stray (symbols names (rewritten_part vectors at p ++ rewritten vectors at (drop (length p.written) (b ∷ s))))) same
+          ap (λ ps. list_any is_stray (symbols names (flat_map (rewritten_part vectors at) ps)))
+          (parts_step (b ∷ s) (omega arith))
+          ∙ (ap (λ (p : Part). list_any is_stray
+          (symbols names (rewritten_part vectors at p ++ rewritten vectors at (drop (length p.written) (b ∷ s))))) same
           ∙ number_stray b s (rewritten vectors at others) d (begins_kept others (sym behind ∙ followed)))
       by false false e d =
           let word : is_word_byte b ≡ false = no_word (is_word_byte b) (is_ascii_digit b) e d in
@@ -258,7 +281,8 @@ module _ (names : List (List ℕ)) (vectors : List Vector) (at : ℕ) where
           let apart : runs_into_name (first_part (b ∷ s)) ≡ false = rw (e, d) ends in
           absurd cc
 
-  pub runs_stray : (n : ℕ) (text : List ℕ) → length text ≤ n → runs_together text ≡ true → list_any is_stray (symbols names (rewritten vectors at text)) ≡ true
+  pub runs_stray : (n : ℕ) (text : List ℕ) → length text ≤ n → runs_together text ≡ true
+      → list_any is_stray (symbols names (rewritten vectors at text)) ≡ true
   runs_stray n [] le h = absurd cc
   runs_stray zero (b ∷ s) le h = absurd (omega (arith, le))
   runs_stray (suc n) (b ∷ s) le h =
@@ -275,14 +299,17 @@ module _ (names : List (List ℕ)) (vectors : List Vector) (at : ℕ) where
         | inl here ↦ first_stray b s here
         | inr apart ↦
             let later : runs_together others ≡ true = sym (ap (λ here. here || runs_together others) apart) ∙ runs in
-            let behind : list_any is_stray (symbols names rest) ≡ true = runs_stray n others (omega (arith, le, some, left)) later in
+            let behind : list_any is_stray (symbols names rest) ≡ true = runs_stray n others (omega (arith, le, some, left)) later
+            in
             ap (λ ps. list_any is_stray (symbols names (flat_map (rewritten_part vectors at) ps))) step
-            ∙ (ap (list_any is_stray) (symbols_append names front rest (spelled_quiet part (replacement_for vectors at part) rest apart quiet))
+            ∙ (ap (list_any is_stray) (symbols_append names front rest
+            (spelled_quiet part (replacement_for vectors at part) rest apart quiet))
             ∙ (list_any-append is_stray (symbols names front) (symbols names rest)
             ∙ or_right (list_any is_stray (symbols names front)) (list_any is_stray (symbols names rest)) behind))
       ]
 
-  pub running_unread : (text : List ℕ) (f : Node) → runs_together text ≡ true → IsText (symbols names (rewritten vectors at text)) f → ⊥
+  pub running_unread : (text : List ℕ) (f : Node) → runs_together text ≡ true
+      → IsText (symbols names (rewritten vectors at text)) f → ⊥
   running_unread text f h is =
       stray_unread (symbols names (rewritten vectors at text)) f (runs_stray (length text) text (omega arith) h) start
       (text_read (symbols names (rewritten vectors at text)) f is)

@@ -1,5 +1,6 @@
 -- The types of buses (Liberty Reference Manual, `type` group, `bit_from` and `bit_to`).
-use Rattle.std.specs.Prelude.{◌≡◌, ◌<◌, ℕ, ◌+◌, ◌-◌, nat_le, List, [], ◌∷◌, length, filter, slice_get, codes, bytes_eq, Option, Some, None, IfSome, if◌then◌else◌}
+use Rattle.std.specs.Prelude.{◌≡◌, ◌<◌, ℕ, ◌+◌, ◌-◌, nat_le, List, [], ◌∷◌, length, filter, slice_get, codes, bytes_eq, Option}
+use Rattle.std.specs.Prelude.{Some, None, IfSome, if◌then◌else◌}
 use Rattle.std.specs.Option.{option_and_then}
 use Rattle.first_names.specs.declared.places.FirstNames.{FirstNames}
 use Rattle.first_names.specs.Places.{place_by}

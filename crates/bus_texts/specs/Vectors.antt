@@ -1,6 +1,7 @@
 -- The names in a cell that stand for several bits: buses, bundles and the variables of banks (Liberty Reference Manual,
 -- `bus`, `bundle`, `ff_bank` and `latch_bank` groups).
-use Rattle.std.specs.Prelude.{ℕ, Bool, ◌||◌, ◌&&◌, ◌==◌, nat_le, List, [], ◌∷◌, ◌++◌, length, map, flat_map, find, codes, decimal, bytes_eq}
+use Rattle.std.specs.Prelude.{ℕ, Bool, ◌||◌, ◌&&◌, ◌==◌, nat_le, List, [], ◌∷◌, ◌++◌, length, map, flat_map, find, codes, decimal}
+use Rattle.std.specs.Prelude.{bytes_eq}
 use Rattle.std.specs.Prelude.{Option, Some, None, if◌then◌else◌}
 use Rattle.liberty_groups.specs.declared.tree.Value.{Value}
 use Rattle.liberty_groups.specs.declared.tree.Item.{Item, out-Item}
@@ -68,7 +69,8 @@ bundles_in bundle = map (bundle_named (bundle_members bundle)) bundle.arguments
 -- The buses or bundles that a group makes.
 abbrev pub pin_vectors : List BusType → Group → List Vector
 pin_vectors types group =
-    if is_called (codes "bus") group then buses_in types group else (if is_called (codes "bundle") group then bundles_in group else [])
+    if is_called (codes "bus") group then buses_in types group
+    else (if is_called (codes "bundle") group then bundles_in group else [])
 
 -- A bank of states: its two variables and its width.
 pub record Bank : Type 0 where
@@ -99,7 +101,8 @@ positions width = bits_towards width width 0
 -- A variable of a bank stands for one of each state: the bit is the position.
 abbrev pub variables_of : Bank → List Vector
 variables_of bank =
-    bit_vector kinds.Variable (positions bank.width) bank.first ∷ bit_vector kinds.Variable (positions bank.width) bank.second ∷ []
+    bit_vector kinds.Variable (positions bank.width) bank.first ∷ bit_vector kinds.Variable (positions bank.width) bank.second
+    ∷ []
 
 abbrev pub variables_as : Option Bank → List Vector
 variables_as None = []

@@ -13,8 +13,8 @@ use sqlite_items::Items;
 use std::alloc::{AllocError, Global};
 use std::marker::Model;
 
-/// A type of buses (Liberty Reference Manual, `type` group): the bit at position 0, and the bit at the last position, to which the
-/// bits between go by one.
+/// A type of buses (Liberty Reference Manual, `type` group): the bit at position 0, and the bit at the last position, to which
+/// the bits between go by one.
 #[derive(Drop)]
 pub struct BusType {
     /// The name by which `bus_type` of a bus names it.

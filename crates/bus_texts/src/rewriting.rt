@@ -108,7 +108,8 @@ fn add_parts(
     at: usize,
     parts: &[Part<'_>],
 ) -> Result<(), AllocError>
-    ensures { OnOk result (text.new.items ≡ text.old.items ++ flat_map (spec.rewritten_part vectors.now at) (map shown parts.now)) }
+    ensures { OnOk result (text.new.items ≡ text.old.items
+        ++ flat_map (spec.rewritten_part vectors.now at) (map shown parts.now)) }
 {
     for part in parts {
         add_part(text, vectors, at, *part)?;

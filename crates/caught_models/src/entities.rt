@@ -25,7 +25,8 @@ pub fn is_entity_caught(
     requires inputs { inputs_of (data_of cell.now) ≡ input_count entity.now.ports }
     requires outputs { length cell.now.outputs ≡ length entity.now.outputs }
     requires proper { IsProperFrom (inputs_of (data_of cell.now)) [] changes.now }
-    ensures { IfOk result (λ caught. caught ≡ is_caught (cell_trace (data_of cell.now) changes.now) (entity_trace entity.now changes.now)) }
+    ensures { IfOk result (λ caught. caught ≡ is_caught (cell_trace (data_of cell.now) changes.now)
+        (entity_trace entity.now changes.now)) }
 {
     let liberty = LibertySim::start(alloc, cell);
     let vital = VitalSim::start(alloc, entity);

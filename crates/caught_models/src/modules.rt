@@ -25,7 +25,8 @@ pub fn is_module_caught(
     requires inputs { inputs_of (data_of cell.now) ≡ input_count model.now.ports }
     requires outputs { length cell.now.outputs ≡ length (output_ports model.now.ports) }
     requires proper { IsProperFrom (inputs_of (data_of cell.now)) [] changes.now }
-    ensures { IfOk result (λ caught. caught ≡ is_caught (cell_trace (data_of cell.now) changes.now) (module_trace model.now changes.now)) }
+    ensures { IfOk result (λ caught. caught ≡ is_caught (cell_trace (data_of cell.now) changes.now)
+        (module_trace model.now changes.now)) }
 {
     let liberty = LibertySim::start(alloc, cell);
     let verilog = VerilogSim::start(alloc, model);

@@ -5,8 +5,8 @@ ghost use Rattle.stimulus.specs.DriveLines.{lines_along};
 ghost use Rattle.stimulus.specs.Differences.{first_difference as first_difference_of};
 
 use cell_machine::Change;
-use stimulus::{TraceSim, first_difference};
 use std::alloc::AllocError;
+use stimulus::{TraceSim, first_difference};
 
 /// Two simulators.
 #[derive(Drop)]
@@ -38,7 +38,8 @@ pub(crate) fn are_unlike<A: TraceSim + Drop, B: TraceSim + Drop>(
     requires left { A.stands both.left [] }
     requires right { B.stands both.right [] }
     requires proper { IsProperFrom (A.machine both.left).inputs [] changes.now }
-    ensures { result ≡ is_some (first_difference_of (lines_along (A.machine both.left).line changes.now) (lines_along (B.machine both.right).line changes.now)) }
+    ensures { result ≡ is_some (first_difference_of (lines_along (A.machine both.left).line changes.now)
+        (lines_along (B.machine both.right).line changes.now)) }
 {
     first_difference(&mut both.left, &mut both.right, changes).is_some()
 }

@@ -1,5 +1,6 @@
 -- The state groups of a cell of which nothing is refused keep the rules of cells.
-use Rattle.std.proofs.Common.{◌≡◌, ℕ, suc, ◌+◌, ◌*◌, ◌≤◌, Bool, true, false, List, [], ◌∷◌, ◌++◌, length, map, refl, sym, ap, subst, arith, IsTrue, Option, Some, None, nat_le, slice_index}
+use Rattle.std.proofs.Common.{◌≡◌, ℕ, suc, ◌+◌, ◌*◌, ◌≤◌, Bool, true, false, List, [], ◌∷◌, ◌++◌, length, map, refl, sym, ap}
+use Rattle.std.proofs.Common.{subst, arith, IsTrue, Option, Some, None, nat_le, slice_index}
 use Rattle.std.specs.Prelude.{flat_map, if◌then◌else◌}
 use Rattle.std.proofs.lemmas.Bool.{and_from, and_parts, le-leb}
 use Rattle.liberty_groups.specs.declared.tree.Group.{Group}
@@ -63,7 +64,11 @@ module _
       let made : groups_with to group (reading_of_table v (length pins) group) (Some a)
       ≡ table_groups group (reading_of_table v (length pins) group) a =
       ap (λ b. if b then table_groups group (reading_of_table v (length pins) group) a
-      else record { kind = kind_of_texts to group (reading_of_table v (length pins) group); support = (reading_of_table v (length pins) group).support } ∷ []) t in
+      else record {
+        kind = kind_of_texts to group (reading_of_table v (length pins) group);
+        support =
+            (reading_of_table v (length pins) group).support;
+      } ∷ []) t in
       subst (λ r. IsTrue (are_groups_from pins n (groups_with to group r (Some a)))) (sym same)
       (subst (λ gs. IsTrue (are_groups_from pins n gs)) (sym made)
       (table_groups_hold states pins v to numbers group a n e t u.sound u.some u.few))
@@ -108,7 +113,8 @@ module _
 
 pub groups_keep_rules : GroupsKeepRules
 groups_keep_rules cell none =
-    let many : length (flat_map state_at (state_groups cell)) ≤ 16 = within_limit 16 (flat_map state_at (state_groups cell)) none.few_states in
+    let many : length (flat_map state_at (state_groups cell)) ≤ 16 =
+    within_limit 16 (flat_map state_at (state_groups cell)) none.few_states in
     let same : length (groups_of cell) ≡ length (flat_map state_at (state_groups cell)) =
     group_count (numbers_of cell) (state_reading (vocabulary cell) (length (pins_of cell))) (state_groups cell) in
     let few : length (groups_of cell) ≤ 16 = omega arith in

@@ -1,5 +1,6 @@
 -- The names with which a name that comes later clashes.
-use Rattle.std.proofs.Common.{◌≡◌, ℕ, ◌+◌, ◌<◌, ◌≤◌, length, map, take, drop, get_or, Bool, true, false, not, ◌&&◌, ◌||◌, List, [], ◌∷◌, ◌++◌, refl, sym, ◌∙◌, ap, subst, inl, inr, Option, Some, None}
+use Rattle.std.proofs.Common.{◌≡◌, ℕ, ◌+◌, ◌<◌, ◌≤◌, length, map, take, drop, get_or, Bool, true, false, not, ◌&&◌, ◌||◌, List}
+use Rattle.std.proofs.Common.{[], ◌∷◌, ◌++◌, refl, sym, ◌∙◌, ap, subst, inl, inr, Option, Some, None}
 use Rattle.std.specs.Prelude.{bytes_eq, is_some}
 use Rattle.std.specs.List.{list_any}
 use Rattle.std.proofs.lemmas.Bool.{cases_Bool}
@@ -49,7 +50,8 @@ is_there names word h =
 added_holds :
     (old new : List (List ℕ)) (word name : List ℕ) (number : Option ℕ)
     → Adds old word number new → list_any (bytes_eq name) new ≡ (list_any (bytes_eq name) old || (bytes_eq name word || false))
-added_holds old new word name (Some i) added = ap (list_any (bytes_eq name)) added.2 ∙ list_any-append (bytes_eq name) old (word ∷ [])
+added_holds old new word name (Some i) added = ap (list_any (bytes_eq name)) added.2
+    ∙ list_any-append (bytes_eq name) old (word ∷ [])
 added_holds old new word name None added =
     ap (list_any (bytes_eq name)) added.1
     ∙ known_before (bytes_eq name word) (list_any (bytes_eq name) old)
@@ -65,7 +67,8 @@ pub kept :
 kept role one old new number apart added earlier against name =
     added_holds old new one.name name number added
     ∙ (ap (λ b. b || (bytes_eq name one.name || false)) (against name)
-    ∙ (ap (λ b. list_any (clashes_as name role) earlier || b) (met_with (bytes_eq name one.name) (may_share role one.role) false apart)
+    ∙ (ap (λ b. list_any (clashes_as name role) earlier || b)
+    (met_with (bytes_eq name one.name) (may_share role one.role) false apart)
     ∙ sym (list_any-append (clashes_as name role) earlier (one ∷ []))))
 
 -- a name clashes where it is among the names with which one of its role clashes

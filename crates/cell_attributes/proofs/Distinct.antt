@@ -1,5 +1,6 @@
 -- Where no declared name clashes and none is bad, the pins of a cell keep the rules of pins.
-use Rattle.std.proofs.Common.{◌≡◌, ℕ, Bool, true, false, not, ◌&&◌, ◌||◌, List, [], ◌∷◌, ◌++◌, map, refl, sym, ◌∙◌, ap, subst, IsTrue, inl, inr, append_assoc, append-nil}
+use Rattle.std.proofs.Common.{◌≡◌, ℕ, Bool, true, false, not, ◌&&◌, ◌||◌, List, [], ◌∷◌, ◌++◌, map, refl, sym, ◌∙◌, ap, subst}
+use Rattle.std.proofs.Common.{IsTrue, inl, inr, append_assoc, append-nil}
 use Rattle.std.specs.Prelude.{bytes_eq, flat_map, filter, if◌then◌else◌}
 use Rattle.std.specs.List.{list_all, list_any}
 use Rattle.std.proofs.lemmas.Slice.Eq.{bytes_eq-Decides}
@@ -16,7 +17,8 @@ use Rattle.cell_attributes.specs.declared.declarations.Role.{Role}
 use Rattle.cell_attributes.specs.declared.declarations.Role.TheVariants.{Bearer, Node, Plain}
 use Rattle.cell_attributes.specs.Groups.{is_pin}
 use Rattle.cell_attributes.specs.Pins.{pin_as, pins_in, pin_names}
-use Rattle.cell_attributes.specs.Declarations.{Declared, bears, declared_pin, declared_in, may_share, clashes, clashes_after, bad_name_in}
+use Rattle.cell_attributes.specs.Declarations.{Declared, bears, declared_pin, declared_in, may_share, clashes, clashes_after}
+use Rattle.cell_attributes.specs.Declarations.{bad_name_in}
 
 -- the parts of an empty list are empty
 pub nil_parts : {A : Type 0} (xs ys : List A) → xs ++ ys ≡ [] → (xs ≡ []) × (ys ≡ [])
@@ -25,12 +27,14 @@ nil_parts (x ∷ xs) ys h = absurd cc
 
 -- Names of pins.
 
-pin_is_named : (group : Group) (values : List Value) → flat_map bad_name_in (map (declared_pin group) values) ≡ [] → IsTrue (list_all (λ (pin : Pin). is_name pin.name) (map (pin_as group) values))
+pin_is_named : (group : Group) (values : List Value) → flat_map bad_name_in (map (declared_pin group) values) ≡ []
+    → IsTrue (list_all (λ (pin : Pin). is_name pin.name) (map (pin_as group) values))
 pin_is_named group [] h = refl
 pin_is_named group (value ∷ values) h =
     let parts = nil_parts (bad_name_in (declared_pin group value)) (flat_map bad_name_in (map (declared_pin group) values)) h in
     elim (cases_Bool (is_name value.bytes)) [
-      | inl e ↦ and_from (is_name value.bytes) (list_all (λ (pin : Pin). is_name pin.name) (map (pin_as group) values)) e (pin_is_named group values parts.1)
+      | inl e ↦ and_from (is_name value.bytes) (list_all (λ (pin : Pin). is_name pin.name) (map (pin_as group) values)) e
+          (pin_is_named group values parts.1)
       | inr e ↦ absurd (let k : group.at ∷ [] ≡ [] = rw e at parts.0 in cc)
     ]
 
@@ -48,7 +52,8 @@ pins_are_named (group ∷ groups) h =
           let here : flat_map bad_name_in (map (declared_pin group) group.arguments) ≡ [] = rw e at parts.0 in
           rw e
           (list_all-append (λ (pin : Pin). is_name pin.name) (pins_in group) (flat_map pins_in (filter is_pin groups))
-          ∙ and_from (list_all (λ (pin : Pin). is_name pin.name) (pins_in group)) (list_all (λ (pin : Pin). is_name pin.name) (flat_map pins_in (filter is_pin groups)))
+          ∙ and_from (list_all (λ (pin : Pin). is_name pin.name) (pins_in group))
+          (list_all (λ (pin : Pin). is_name pin.name) (flat_map pins_in (filter is_pin groups)))
           (pin_is_named group group.arguments here) later)
       | inr e ↦ rw e later
     ]
@@ -119,7 +124,8 @@ solid_are_fresh earlier (d ∷ ds) h =
     let alone : list_any (clashes d) earlier ≡ false = no_place (list_any (clashes d) earlier) d.at parts.0 in
     let later = solid_are_fresh (earlier ++ d ∷ []) ds parts.1 in
     let more : solid (earlier ++ d ∷ []) ≡ solid earlier ++ solid (d ∷ []) = solid_append earlier (d ∷ []) in
-    let later2 : IsTrue (are_fresh (solid earlier ++ solid (d ∷ [])) (solid ds)) = subst (λ s. IsTrue (are_fresh s (solid ds))) more later in
+    let later2 : IsTrue (are_fresh (solid earlier ++ solid (d ∷ [])) (solid ds)) =
+    subst (λ s. IsTrue (are_fresh s (solid ds))) more later in
     elim (cases_Bool (is_solid d)) [
       | inl t ↦
           let later3 : IsTrue (are_fresh (solid earlier ++ d.name ∷ []) (solid ds)) = rw t at later2 in
@@ -145,7 +151,8 @@ fresh_less :
     → IsTrue (are_fresh (seen ++ after) xs)
 fresh_less seen extra after [] h = refl
 fresh_less seen extra after (x ∷ xs) h =
-    let parts = and_parts (not (list_any (bytes_eq x) (seen ++ (extra ++ after)))) (are_fresh ((seen ++ (extra ++ after)) ++ x ∷ []) xs) h in
+    let parts = and_parts (not (list_any (bytes_eq x) (seen ++ (extra ++ after))))
+    (are_fresh ((seen ++ (extra ++ after)) ++ x ∷ []) xs) h in
     let none : IsTrue (not (list_any (bytes_eq x) seen || list_any (bytes_eq x) (extra ++ after))) =
     subst (λ b. IsTrue (not b)) (list_any-append (bytes_eq x) seen (extra ++ after)) parts.0 in
     let first = not_parts (list_any (bytes_eq x) seen) (list_any (bytes_eq x) (extra ++ after)) none in
@@ -210,13 +217,15 @@ pins_are_fresh (group ∷ groups) seen h =
           subst (λ s. IsTrue (are_fresh (seen ++ s) (solid (flat_map declared_in groups)))) same parts.1 in
           let later = pins_are_fresh groups (seen ++ pin_names (pins_in group)) rest in
           rw e
-          (subst (λ s. IsTrue (are_fresh seen s)) (sym (pin_names_append (pins_in group) (flat_map pins_in (filter is_pin groups))))
+          (subst (λ s. IsTrue (are_fresh seen s))
+          (sym (pin_names_append (pins_in group) (flat_map pins_in (filter is_pin groups))))
           (fresh_from seen (pin_names (pins_in group)) (pin_names (flat_map pins_in (filter is_pin groups))) first later))
       | inr e ↦
           let less : IsTrue (are_fresh seen (solid (flat_map declared_in groups))) =
           subst (λ s. IsTrue (are_fresh s (solid (flat_map declared_in groups)))) (append-nil seen)
           (fresh_less seen (solid (declared_in group)) [] (solid (flat_map declared_in groups))
-          (subst (λ s. IsTrue (are_fresh (seen ++ s) (solid (flat_map declared_in groups)))) (sym (append-nil (solid (declared_in group)))) parts.1)) in
+          (subst (λ s. IsTrue (are_fresh (seen ++ s) (solid (flat_map declared_in groups))))
+          (sym (append-nil (solid (declared_in group)))) parts.1)) in
           rw e (pins_are_fresh groups seen less)
     ]
 
@@ -241,7 +250,8 @@ not_among :
     → list_any (bytes_eq x) xs ≡ false
 not_among seen x after [] h = refl
 not_among seen x after (y ∷ ys) h =
-    let parts = and_parts (not (list_any (bytes_eq y) (seen ++ (x ∷ after)))) (are_fresh ((seen ++ (x ∷ after)) ++ y ∷ []) ys) h in
+    let parts = and_parts (not (list_any (bytes_eq y) (seen ++ (x ∷ after)))) (are_fresh ((seen ++ (x ∷ after)) ++ y ∷ []) ys) h
+    in
     let none =
     not_parts (list_any (bytes_eq y) seen) (list_any (bytes_eq y) (x ∷ after))
     (subst (λ b. IsTrue (not b)) (list_any-append (bytes_eq y) seen (x ∷ after)) parts.0) in

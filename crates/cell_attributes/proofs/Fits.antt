@@ -1,5 +1,6 @@
 -- The numbers of the names of a text that reads are below the number of names.
-use Rattle.std.proofs.Common.{◌≡◌, ℕ, ◌<◌, ◌≤◌, Bool, true, false, ◌&&◌, ◌==◌, List, [], ◌∷◌, length, map, refl, sym, subst, arith, IsTrue, Option, Some, None, nat_lt, inl, inr, eqb-true, Result, Ok, Err}
+use Rattle.std.proofs.Common.{◌≡◌, ℕ, ◌<◌, ◌≤◌, Bool, true, false, ◌&&◌, ◌==◌, List, [], ◌∷◌, length, map, refl, sym, subst}
+use Rattle.std.proofs.Common.{arith, IsTrue, Option, Some, None, nat_lt, inl, inr, eqb-true, Result, Ok, Err}
 use Rattle.std.specs.Prelude.{codes}
 use Rattle.std.specs.List.{list_all, list_any, AllByRecursion}
 use Rattle.std.proofs.lemmas.Bool.{cases_Bool, and_parts, and_from, ltb-true}
@@ -26,12 +27,14 @@ use Rattle.cell_attributes.specs.Groups.{names_in}
 use Rattle.cell_attributes.specs.States.{Arguments, arguments_of, is_table}
 use Rattle.cell_attributes.specs.Vocabulary.{Vocabulary}
 use Rattle.cell_attributes.specs.declared.texts.Text.{Text}
-use Rattle.cell_attributes.specs.Texts.{text_as, node_text, use_at, use_of, class_at, is_unknown, is_node_class, has_unknown, has_coupled, judged_tree, judged, node_at}
+use Rattle.cell_attributes.specs.Texts.{text_as, node_text, use_at, use_of, class_at, is_unknown, is_node_class, has_unknown}
+use Rattle.cell_attributes.specs.Texts.{has_coupled, judged_tree, judged, node_at}
 use Rattle.cell_machine.specs.declared.pins.Direction.{Direction}
 use Rattle.cell_machine.specs.declared.pins.Direction.TheVariants as direction
 use Rattle.cell_attributes.specs.Pins.{direction_of}
 use Rattle.cell_attributes.specs.Outputs.{node_as, output_with, pin_text_as, pin_text}
-use Rattle.cell_attributes.specs.StateReadings.{is_uncoupled, table_judged, table_text, table_with, own_scope, data_name, control_name, state_reading}
+use Rattle.cell_attributes.specs.StateReadings.{is_uncoupled, table_judged, table_text, table_with, own_scope, data_name}
+use Rattle.cell_attributes.specs.StateReadings.{control_name, state_reading}
 use Rattle.cell_attributes.specs.Building.{FitsText, FitsReading}
 
 -- what all numbers pass that were put into a list, and all that were there, all pass
@@ -77,7 +80,8 @@ driven_is_unknown (scope.Data first second) i = refl
 driven_is_unknown scope.Function i = refl
 driven_is_unknown scope.StateFunction i = refl
 
-known_is_below : (classes : List Class) (s : Scope) (i : ℕ) → is_unknown (use_at classes s i) ≡ false → IsTrue (nat_lt i (length classes))
+known_is_below : (classes : List Class) (s : Scope) (i : ℕ) → is_unknown (use_at classes s i) ≡ false
+    → IsTrue (nat_lt i (length classes))
 known_is_below classes s i h =
     elim (cases_Bool (nat_lt i (length classes))) [
       | inl e ↦ e
@@ -96,7 +100,8 @@ known_are_below classes s (x ∷ xs) h =
       | inl e ↦ absurd (let k : true ≡ false = rw e at h in cc)
       | inr e ↦
           let k : list_any (λ i. is_unknown (use_at classes s i)) xs ≡ false = rw e at h in
-          and_from (nat_lt x (length classes)) (list_all (λ i. nat_lt i (length classes)) xs) (known_is_below classes s x e) (known_are_below classes s xs k)
+          and_from (nat_lt x (length classes)) (list_all (λ i. nat_lt i (length classes)) xs) (known_is_below classes s x e)
+          (known_are_below classes s xs k)
     ]
 
 judged_tree_fits : (classes : List Class) (s : Scope) (at : ℕ) (f : Tree) → FitsText (length classes) (judged_tree classes s at f)
@@ -114,7 +119,8 @@ judged_tree_fits classes s at f =
     ]
 
 pub judged_fits :
-    (classes : List Class) (s : Scope) (at : ℕ) (r : Result Tree FunctionFault) → FitsText (length classes) (judged classes s at r)
+    (classes : List Class) (s : Scope) (at : ℕ) (r : Result Tree FunctionFault)
+    → FitsText (length classes) (judged classes s at r)
 judged_fits classes s at (Ok f) = judged_tree_fits classes s at f
 judged_fits classes s at (Err fault.TooLong) = tt
 judged_fits classes s at (Err (fault.Malformed n)) = tt
@@ -138,7 +144,8 @@ node_at_fits classes at (Some i) =
       | inr e ↦ rw e tt
     ]
 
-pub text_as_fits : (v : Vocabulary) (s : Scope) (attribute : Option Attribute) → FitsText (length v.classes) (text_as v s attribute)
+pub text_as_fits : (v : Vocabulary) (s : Scope) (attribute : Option Attribute)
+    → FitsText (length v.classes) (text_as v s attribute)
 text_as_fits v s None = tt
 text_as_fits v s (Some attribute) = judged_fits v.classes s attribute.at (reading_of v.names attribute.text)
 
@@ -154,7 +161,8 @@ table_text_fits : (n inputs nodes : ℕ) (attribute : Option Attribute) → Fits
 table_text_fits n inputs nodes None = tt
 table_text_fits n inputs nodes (Some attribute) = table_judged_fits n attribute.at (table_of attribute.text inputs nodes)
 
-table_with_fits : (n : ℕ) (arguments : Option Arguments) (attribute : Option Attribute) → FitsText n (table_with arguments attribute)
+table_with_fits : (n : ℕ) (arguments : Option Arguments) (attribute : Option Attribute)
+    → FitsText n (table_with arguments attribute)
 table_with_fits n None attribute = tt
 table_with_fits n (Some arguments) attribute =
     table_text_fits n (length (names_in arguments.first)) (length (names_in arguments.second)) attribute
@@ -186,7 +194,8 @@ pub readings_fit :
 readings_fit v pins [] = tt
 readings_fit v pins (group ∷ groups) = (reading_fits v pins group, readings_fit v pins groups)
 
-output_fits : (v : Vocabulary) (state node function : Option Attribute) → FitsText (length v.classes) (output_with v state node function)
+output_fits : (v : Vocabulary) (state node function : Option Attribute)
+    → FitsText (length v.classes) (output_with v state node function)
 output_fits v (Some state) internal function = text_as_fits v scope.StateFunction (Some state)
 output_fits v None (Some internal) function = node_text_fits v internal
 output_fits v None None function = text_as_fits v scope.Function function
@@ -207,5 +216,7 @@ pub pin_text_fits : (v : Vocabulary) (group : Group) → FitsText (length v.clas
 pin_text_fits v group = pin_text_as_fits v group (direction_of group)
 
 -- so it does where it is read, over as many numbers as there are names
-pub read_text_fits : (n : ℕ) (v : Vocabulary) (group : Group) (t : Text) → n ≡ length v.classes → t ≡ pin_text v group → FitsText n t
-read_text_fits n v group t count is = subst (λ m. FitsText m t) (sym count) (subst (λ u. FitsText (length v.classes) u) (sym is) (pin_text_fits v group))
+pub read_text_fits : (n : ℕ) (v : Vocabulary) (group : Group) (t : Text) → n ≡ length v.classes → t ≡ pin_text v group
+    → FitsText n t
+read_text_fits n v group t count is =
+    subst (λ m. FitsText m t) (sym count) (subst (λ u. FitsText (length v.classes) u) (sym is) (pin_text_fits v group))

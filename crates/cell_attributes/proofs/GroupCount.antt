@@ -1,5 +1,6 @@
 -- A cell has as many state groups as it declares states.
-use Rattle.std.proofs.Common.{◌≡◌, ℕ, suc, ◌+◌, false, List, [], ◌∷◌, length, map, refl, sym, ◌∙◌, ap, Option, Some, None, length-append}
+use Rattle.std.proofs.Common.{◌≡◌, ℕ, suc, ◌+◌, false, List, [], ◌∷◌, length, map, refl, sym, ◌∙◌, ap, Option, Some, None}
+use Rattle.std.proofs.Common.{length-append}
 use Rattle.std.specs.Prelude.{flat_map, codes}
 use Rattle.std.proofs.lemmas.Bool.{cases_Bool}
 use Rattle.std.proofs.Common.{inl, inr}
@@ -17,7 +18,8 @@ use Rattle.cell_attributes.proofs.Turns.{count_shown}
 use Rattle.cell_attributes.proofs.Numbering.{state_flags}
 use Rattle.cell_attributes.proofs.SourceRules.{group_flags}
 
-node_flags : (table : StateTable) (r : StateReading) (node : ℕ) (names : List (List ℕ)) → group_flags (node_groups table r node names) ≡ state_flags (map node_named names)
+node_flags : (table : StateTable) (r : StateReading) (node : ℕ) (names : List (List ℕ))
+    → group_flags (node_groups table r node names) ≡ state_flags (map node_named names)
 node_flags table r node [] = refl
 node_flags table r node (name ∷ names) = ap (λ bs. false ∷ bs) (node_flags table r (node + 1) names)
 
@@ -58,7 +60,8 @@ pub group_count :
     → length (groups_from to groups (map reading groups)) ≡ length (flat_map state_at groups)
 group_count to reading [] = refl
 group_count to reading (group ∷ groups) =
-    let here : length (groups_in to group (reading group)) ≡ length (states_in group) = count_with to group (reading group) (arguments_of group) in
+    let here : length (groups_in to group (reading group)) ≡ length (states_in group) =
+    count_with to group (reading group) (arguments_of group) in
     let places : length (state_at group) ≡ length (states_in group) = count_shown (place_of_state group) (states_in group) in
     let later = group_count to reading groups in
     length-append (groups_in to group (reading group)) (groups_from to groups (map reading groups))

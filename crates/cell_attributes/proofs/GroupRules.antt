@@ -1,12 +1,15 @@
 -- A state group of which nothing is refused keeps the rules of state groups: groups from `ff` and `latch`.
-use Rattle.std.proofs.Common.{◌≡◌, ℕ, zero, suc, ◌+◌, ◌<◌, ◌≤◌, Bool, true, false, ◌&&◌, ◌||◌, ◌==◌, List, [], ◌∷◌, ◌++◌, length, map, filter, refl, sym, ◌∙◌, ap, subst, arith, IsTrue, Option, Some, None, inl, inr, nat_eq, nat_lt, nat_le, slice_index, eqb-true}
+use Rattle.std.proofs.Common.{◌≡◌, ℕ, zero, suc, ◌+◌, ◌<◌, ◌≤◌, Bool, true, false, ◌&&◌, ◌||◌, ◌==◌, List, [], ◌∷◌, ◌++◌, length}
+use Rattle.std.proofs.Common.{map, filter, refl, sym, ◌∙◌, ap, subst, arith, IsTrue, Option, Some, None, inl, inr, nat_eq, nat_lt}
+use Rattle.std.proofs.Common.{nat_le, slice_index, eqb-true}
 use Rattle.std.specs.Prelude.{option_to_list}
 use Rattle.std.specs.List.{list_all}
 use Rattle.std.proofs.lemmas.Bool.{cases_Bool, and_from, and_parts, or_left, or_right, or_cases, ltb-true, lt-ltb, leb-true}
 use Rattle.cell_machine.specs.declared.groups.GroupKind.{GroupKind}
 use Rattle.cell_machine.specs.declared.pins.Pin.{Pin}
 use Rattle.cell_machine.specs.Names.{has}
-use Rattle.cell_machine.specs.CellRules.{is_ascending, is_input_pin, is_support, control_names, data_names, names_support, is_kind, is_group}
+use Rattle.cell_machine.specs.CellRules.{is_ascending, is_input_pin, is_support, control_names, data_names, names_support}
+use Rattle.cell_machine.specs.CellRules.{is_kind, is_group}
 use Rattle.cell_machine.proofs.CellFacts.{list_all-implied, has-all, input-below}
 use Rattle.cell_attributes.specs.declared.texts.Text.{Text}
 use Rattle.cell_attributes.specs.declared.state_readings.StateReading.{StateReading}
@@ -15,9 +18,12 @@ use Rattle.cell_attributes.specs.TextFaults.{malformed_in, unknown_in, coupled_i
 use Rattle.cell_attributes.specs.StateReadings.{pins_among, names_read}
 use Rattle.cell_attributes.specs.Limits.{no_support_in, wide_support_in}
 use Rattle.cell_attributes.proofs.Distinct.{nil_parts}
-use Rattle.cell_attributes.proofs.Members.{stand_in, all_from, all_both, in_passes, in_left, in_right, in_itself, all_insert_all, in_placed, placed_ascend, in_filter, filter_in, filter_all, has_map, all_map, has_append_left, has_append_right}
+use Rattle.cell_attributes.proofs.Members.{stand_in, all_from, all_both, in_passes, in_left, in_right, in_itself, all_insert_all}
+use Rattle.cell_attributes.proofs.Members.{in_placed, placed_ascend, in_filter, filter_in, filter_all, has_map, all_map}
+use Rattle.cell_attributes.proofs.Members.{has_append_left, has_append_right}
 use Rattle.cell_attributes.proofs.OwnNames.{no_place}
-use Rattle.cell_attributes.proofs.TextNames.{text_names, names_in_support, support_in_names, IsSound, is_kept_input, is_input_or_own}
+use Rattle.cell_attributes.proofs.TextNames.{text_names, names_in_support, support_in_names, IsSound, is_kept_input}
+use Rattle.cell_attributes.proofs.TextNames.{is_input_or_own}
 
 -- Nothing is wrong with a reading.
 pub record IsSoundReading (r : StateReading) : Type 0 where
@@ -104,7 +110,8 @@ is_no_other_pin pins i = is_input_pin pins i || nat_le (length pins) i
 not_both : (n i : ℕ) → IsTrue (nat_lt i n) → IsTrue (nat_le n i) → ⊥
 not_both n i h k = let a : i < n = ltb-true i n h in let b : n ≤ i = leb-true n i k in absurd (omega arith)
 
-pin_among : (pins : List Pin) (i : ℕ) → IsTrue (nat_lt i (length pins)) → IsTrue (is_no_other_pin pins i) → IsTrue (is_input_pin pins i)
+pin_among : (pins : List Pin) (i : ℕ) → IsTrue (nat_lt i (length pins)) → IsTrue (is_no_other_pin pins i)
+    → IsTrue (is_input_pin pins i)
 pin_among pins i h k =
     elim (or_cases (is_input_pin pins i) (nat_le (length pins) i) k) [
       | inl e ↦ e
@@ -118,7 +125,8 @@ pub support_of_inputs :
 support_of_inputs pins names h =
     let below : ℕ → Bool = λ i. nat_lt i (length pins) in
     all_insert_all (is_input_pin pins) [] (filter below names) refl
-    (all_both below (is_no_other_pin pins) (is_input_pin pins) (filter below names) (λ i. pin_among pins i) (filter_all below names)
+    (all_both below (is_no_other_pin pins) (is_input_pin pins) (filter below names) (λ i. pin_among pins i)
+    (filter_all below names)
     (in_passes (is_no_other_pin pins) (filter below names) names (filter_in below names) h))
 
 -- input pins among some names stand in the support that these give
@@ -161,7 +169,8 @@ is_support_from pins names some few inputs =
 
 -- Names of texts.
 
-kept_parts : (pins : List Pin) (to : List ℕ) (i : ℕ) → IsTrue (is_kept_input pins to i) → (slice_index to i ≡ i) × IsTrue (is_input_pin pins i)
+kept_parts : (pins : List Pin) (to : List ℕ) (i : ℕ) → IsTrue (is_kept_input pins to i) → (slice_index to i ≡ i)
+    × IsTrue (is_input_pin pins i)
 kept_parts pins to i h =
     let p = and_parts (nat_eq (slice_index to i) i) (is_input_pin pins i) h in
     (eqb-true (slice_index to i) i p.0, p.1)
@@ -180,12 +189,15 @@ pub record NamesAre (pins : List Pin) (to : List ℕ) (m : ℕ) (d c l p : Text)
   pub of_clear : IsTrue (list_all (is_kept_input pins to) (text_names l))
   pub of_preset : IsTrue (list_all (is_kept_input pins to) (text_names p))
 
-kept_is_input : (pins : List Pin) (to xs : List ℕ) → IsTrue (list_all (is_kept_input pins to) xs) → IsTrue (list_all (is_input_pin pins) xs)
+kept_is_input : (pins : List Pin) (to xs : List ℕ) → IsTrue (list_all (is_kept_input pins to) xs)
+    → IsTrue (list_all (is_input_pin pins) xs)
 kept_is_input pins to xs h = list_all-implied (is_kept_input pins to) (is_input_pin pins) xs (λ i k. (kept_parts pins to i k).1) h
 
-input_is_no_other : (pins : List Pin) (xs : List ℕ) → IsTrue (list_all (is_input_pin pins) xs) → IsTrue (list_all (is_no_other_pin pins) xs)
+input_is_no_other : (pins : List Pin) (xs : List ℕ) → IsTrue (list_all (is_input_pin pins) xs)
+    → IsTrue (list_all (is_no_other_pin pins) xs)
 input_is_no_other pins xs h =
-    list_all-implied (is_input_pin pins) (is_no_other_pin pins) xs (λ i k. or_left (is_input_pin pins i) (nat_le (length pins) i) k) h
+    list_all-implied (is_input_pin pins) (is_no_other_pin pins) xs
+    (λ i k. or_left (is_input_pin pins i) (nat_le (length pins) i) k) h
 
 own_is_no_other :
     (pins : List Pin) (to : List ℕ) (m i : ℕ) → IsTrue (is_input_or_own pins to m i) → IsTrue (is_no_other_pin pins i)
@@ -212,7 +224,8 @@ module _ (pins : List Pin) (to : List ℕ) (m : ℕ) (d c l p : Text) (n : Names
 
   -- what each text's names pass, all names pass that were read
   reads_pass :
-      (q : ℕ → Bool) → IsTrue (list_all q (text_names d)) → IsTrue (list_all q (text_names c)) → IsTrue (list_all q (text_names l))
+      (q : ℕ → Bool) → IsTrue (list_all q (text_names d)) → IsTrue (list_all q (text_names c))
+      → IsTrue (list_all q (text_names l))
       → IsTrue (list_all q (text_names p)) → IsTrue (list_all q (names_read d c l p))
   reads_pass q a b e f =
       all_from q (text_support d) (text_support c ++ (text_support l ++ text_support p)) (in_text q d a)
@@ -222,7 +235,8 @@ module _ (pins : List Pin) (to : List ℕ) (m : ℕ) (d c l p : Text) (n : Names
   reads_are_inputs : IsTrue (list_all (is_no_other_pin pins) (names_read d c l p))
   reads_are_inputs =
       reads_pass (is_no_other_pin pins)
-      (list_all-implied (is_input_or_own pins to m) (is_no_other_pin pins) (text_names d) (λ i. own_is_no_other pins to m i) n.of_data)
+      (list_all-implied (is_input_or_own pins to m) (is_no_other_pin pins) (text_names d) (λ i. own_is_no_other pins to m i)
+      n.of_data)
       (input_is_no_other pins (text_names c) (kept_is_input pins to (text_names c) n.of_control))
       (input_is_no_other pins (text_names l) (kept_is_input pins to (text_names l) n.of_clear))
       (input_is_no_other pins (text_names p) (kept_is_input pins to (text_names p) n.of_preset))
@@ -250,7 +264,8 @@ module _ (pins : List Pin) (to : List ℕ) (m : ℕ) (d c l p : Text) (n : Names
   control_in_support : IsTrue (list_all (has support) control)
   control_in_support =
       all_from (has support) (text_names c) (text_names l ++ text_names p)
-      (inputs_in_support pins (text_names c) (names_read d c l p) control_read (kept_is_input pins to (text_names c) n.of_control))
+      (inputs_in_support pins (text_names c) (names_read d c l p) control_read
+      (kept_is_input pins to (text_names c) n.of_control))
       (all_from (has support) (text_names l) (text_names p)
       (inputs_in_support pins (text_names l) (names_read d c l p) clear_read (kept_is_input pins to (text_names l) n.of_clear))
       (inputs_in_support pins (text_names p) (names_read d c l p) preset_read (kept_is_input pins to (text_names p) n.of_preset)))
@@ -260,7 +275,8 @@ module _ (pins : List Pin) (to : List ℕ) (m : ℕ) (d c l p : Text) (n : Names
   is_own_or_held x = has support x || (nat_eq x m || nat_eq x (m + 1))
 
   data_number_held :
-      (i : ℕ) → IsTrue (has (names_read d c l p) i) → IsTrue (is_input_or_own pins to m i) → IsTrue (is_own_or_held (slice_index to i))
+      (i : ℕ) → IsTrue (has (names_read d c l p) i) → IsTrue (is_input_or_own pins to m i)
+      → IsTrue (is_own_or_held (slice_index to i))
   data_number_held i there h =
       let x : ℕ = slice_index to i in
       let own : Bool = nat_eq (slice_index to i) m || nat_eq (slice_index to i) (m + 1) in
@@ -285,7 +301,8 @@ module _ (pins : List Pin) (to : List ℕ) (m : ℕ) (d c l p : Text) (n : Names
   abbrev is_named : ℕ → Bool
   is_named i = has (control ++ written) i
 
-  data_named : (i : ℕ) → IsTrue (has (text_names d) i) → IsTrue (is_input_or_own pins to m i) → IsTrue (is_named i || nat_le (length pins) i)
+  data_named : (i : ℕ) → IsTrue (has (text_names d) i) → IsTrue (is_input_or_own pins to m i)
+      → IsTrue (is_named i || nat_le (length pins) i)
   data_named i there h =
       let own : Bool = nat_eq (slice_index to i) m || nat_eq (slice_index to i) (m + 1) in
       elim (or_cases (is_kept_input pins to i) (nat_le (length pins) i && own) h) [
@@ -308,7 +325,8 @@ module _ (pins : List Pin) (to : List ℕ) (m : ℕ) (d c l p : Text) (n : Names
       (reads_pass (λ i. is_named i || nat_le (length pins) i)
       (all_both (has (text_names d)) (is_input_or_own pins to m) (λ i. is_named i || nat_le (length pins) i) (text_names d)
       data_named (in_itself (text_names d)) n.of_data)
-      (control_named (text_names c) (in_left (text_names c) (text_names c) (text_names l ++ text_names p) (in_itself (text_names c))))
+      (control_named (text_names c) (in_left (text_names c) (text_names c) (text_names l ++ text_names p)
+      (in_itself (text_names c))))
       (control_named (text_names l)
       (in_right (text_names l) (text_names c) (text_names l ++ text_names p)
       (in_left (text_names l) (text_names l) (text_names p) (in_itself (text_names l)))))
@@ -318,7 +336,8 @@ module _ (pins : List Pin) (to : List ℕ) (m : ℕ) (d c l p : Text) (n : Names
 
   -- The group of these texts, where the kind names what they do.
   pub group_from :
-      (k : GroupKind) → control_names k ≡ text_names c ++ (text_names l ++ text_names p) → data_names k ≡ map (slice_index to) (text_names d)
+      (k : GroupKind) → control_names k ≡ text_names c ++ (text_names l ++ text_names p)
+      → data_names k ≡ map (slice_index to) (text_names d)
       → IsTrue (is_kind k)
       → IsTrue (nat_lt 0 (length (pins_among (length pins) (names_read d c l p))))
       → IsTrue (nat_le (length (pins_among (length pins) (names_read d c l p))) 8)
@@ -326,7 +345,8 @@ module _ (pins : List Pin) (to : List ℕ) (m : ℕ) (d c l p : Text) (n : Names
   group_from k e f ok some few =
       and_from (is_support pins support) _ (is_support_from pins (names_read d c l p) some few reads_are_inputs)
       (and_from (names_support m (record { kind = k; support = support })) (is_kind k)
-      (and_from (list_all (has support) (control_names k)) _ (subst (λ xs. IsTrue (list_all (has support) xs)) (sym e) control_in_support)
+      (and_from (list_all (has support) (control_names k)) _
+      (subst (λ xs. IsTrue (list_all (has support) xs)) (sym e) control_in_support)
       (and_from (list_all is_own_or_held (data_names k)) (list_all (has (control_names k ++ data_names k)) support)
       (subst (λ xs. IsTrue (list_all is_own_or_held xs)) (sym f) data_in_support)
       (subst (λ xs. IsTrue (list_all (has (xs ++ data_names k)) support)) (sym e)

@@ -1,5 +1,6 @@
 -- Lists whose numbers all stand in another list, and numbers put at their places.
-use Rattle.std.proofs.Common.{◌≡◌, ℕ, ◌<◌, Bool, true, ◌==◌, List, [], ◌∷◌, ◌++◌, map, filter, refl, sym, ◌∙◌, ap, subst, arith, IsTrue, nat_lt, inl, inr, eqb-true}
+use Rattle.std.proofs.Common.{◌≡◌, ℕ, ◌<◌, Bool, true, ◌==◌, List, [], ◌∷◌, ◌++◌, map, filter, refl, sym, ◌∙◌, ap, subst, arith}
+use Rattle.std.proofs.Common.{IsTrue, nat_lt, inl, inr, eqb-true}
 use Rattle.std.specs.Prelude.{flat_map}
 use Rattle.std.specs.List.{list_all}
 use Rattle.std.proofs.lemmas.List.Folds.{list_all-append, list_any-append}
@@ -22,10 +23,12 @@ pub has_append_right : (xs ys : List ℕ) (i : ℕ) → IsTrue (has ys i) → Is
 has_append_right xs ys i h = list_any-append (λ j. j == i) xs ys ∙ or_right (has xs i) (has ys i) h
 
 -- the parts of a list that was put together pass
-pub all_parts : {X : Type 0} (p : X → Bool) (xs ys : List X) → IsTrue (list_all p (xs ++ ys)) → IsTrue (list_all p xs) × IsTrue (list_all p ys)
+pub all_parts : {X : Type 0} (p : X → Bool) (xs ys : List X) → IsTrue (list_all p (xs ++ ys)) → IsTrue (list_all p xs)
+    × IsTrue (list_all p ys)
 all_parts p xs ys h = and_parts (list_all p xs) (list_all p ys) (sym (list_all-append p xs ys) ∙ h)
 
-pub all_from : {X : Type 0} (p : X → Bool) (xs ys : List X) → IsTrue (list_all p xs) → IsTrue (list_all p ys) → IsTrue (list_all p (xs ++ ys))
+pub all_from : {X : Type 0} (p : X → Bool) (xs ys : List X) → IsTrue (list_all p xs) → IsTrue (list_all p ys)
+    → IsTrue (list_all p (xs ++ ys))
 all_from p xs ys h k = list_all-append p xs ys ∙ and_from (list_all p xs) (list_all p ys) h k
 
 -- where two tests pass, so does what follows from both
@@ -76,7 +79,8 @@ all_inserted p i (j ∷ js) h k =
           ]
     ]
 
-pub all_insert_all : (p : ℕ → Bool) (js is : List ℕ) → IsTrue (list_all p js) → IsTrue (list_all p is) → IsTrue (list_all p (insert_all js is))
+pub all_insert_all : (p : ℕ → Bool) (js is : List ℕ) → IsTrue (list_all p js) → IsTrue (list_all p is)
+    → IsTrue (list_all p (insert_all js is))
 all_insert_all p js [] h k = h
 all_insert_all p js (i ∷ is) h k =
     let parts = and_parts (p i) (list_all p is) k in
@@ -124,7 +128,8 @@ ascending_inserted i (j ∷ js) h =
             | inr l ↦
                 let less : j < i = grind (arith, nat_tests) in
                 rw (e, l)
-                (ascending_from j (inserted i js) (above_inserted j i js (lt-ltb j i less) parts.0) (ascending_inserted i js parts.1))
+                (ascending_from j (inserted i js) (above_inserted j i js (lt-ltb j i less) parts.0)
+                (ascending_inserted i js parts.1))
           ]
     ]
 

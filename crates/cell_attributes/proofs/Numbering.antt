@@ -1,5 +1,7 @@
 -- What the names of a cell's vocabulary are, and which numbers they have in the cell.
-use Rattle.std.proofs.Common.{◌≡◌, ℕ, zero, suc, ◌+◌, ◌≤◌, Bool, true, false, ◌&&◌, ◌||◌, List, [], ◌∷◌, ◌++◌, length, map, get_or, refl, sym, ◌∙◌, ap, subst, arith, IsTrue, Option, Some, None, inl, inr, nat_eq, slice_get, slice_index}
+use Rattle.std.proofs.Common.{◌≡◌, ℕ, zero, suc, ◌+◌, ◌≤◌, Bool, true, false, ◌&&◌, ◌||◌, List, [], ◌∷◌, ◌++◌, length, map}
+use Rattle.std.proofs.Common.{get_or, refl, sym, ◌∙◌, ap, subst, arith, IsTrue, Option, Some, None, inl, inr, nat_eq, slice_get}
+use Rattle.std.proofs.Common.{slice_index}
 use Rattle.std.specs.Prelude.{⊤, flat_map, codes, bytes_eq, is_some, unwrap_or, if◌then◌else◌}
 use Rattle.std.specs.Option.{option_map_or}
 use Rattle.std.specs.List.{list_any, AllByRecursion}
@@ -19,7 +21,9 @@ use Rattle.cell_attributes.specs.declared.vocabulary.Class.TheVariants.{Input, D
 use Rattle.cell_attributes.specs.Groups.{pin_groups}
 use Rattle.cell_attributes.specs.Pins.{direction_of, pin_as, pins_in, pins_of, pin_names}
 use Rattle.cell_attributes.specs.States.{StateName, states_of}
-use Rattle.cell_attributes.specs.Vocabulary.{Entry, is_node_as, is_node_named, is_node, internal_class, class_as, is_bound, target_as, pin_entry, pin_entries, state_entries_as, state_entries, firsts_after, vocabulary_of, entry_names, entry_classes, entry_targets, vocabulary}
+use Rattle.cell_attributes.specs.Vocabulary.{Entry, is_node_as, is_node_named, is_node, internal_class, class_as, is_bound}
+use Rattle.cell_attributes.specs.Vocabulary.{target_as, pin_entry, pin_entries, state_entries_as, state_entries, firsts_after}
+use Rattle.cell_attributes.specs.Vocabulary.{vocabulary_of, entry_names, entry_classes, entry_targets, vocabulary}
 use Rattle.cell_attributes.specs.Texts.{class_at}
 use Rattle.cell_attributes.specs.Building.{is_second_name, number_in, number_as, numbers_from, cell_numbers}
 use Rattle.cell_attributes.proofs.FirstNames.{pins_first}
@@ -58,7 +62,8 @@ found_number (state ∷ states) m i name h =
     elim (cases_Bool (bytes_eq state.first name)) [
       | inl e ↦
           rw e
-          (or_left (nat_eq m m) (has_second_name state.second && nat_eq m (m + 1) || is_variable (state_flags states) (m + 2) m) (eq-eqb m m refl))
+          (or_left (nat_eq m m) (has_second_name state.second && nat_eq m (m + 1) || is_variable (state_flags states) (m + 2) m)
+          (eq-eqb m m refl))
       | inr e ↦
           let k : IsTrue (is_second_name name state.second || is_found states name) = rw e at h in
           elim (cases_Bool (is_second_name name state.second)) [
@@ -68,14 +73,16 @@ found_number (state ∷ states) m i name h =
                 rw (e, s)
                 (or_right (nat_eq (m + 1) m)
                 (has_second_name state.second && nat_eq (m + 1) (m + 1) || is_variable (state_flags states) (m + 2) (m + 1))
-                (or_left (has_second_name state.second && nat_eq (m + 1) (m + 1)) (is_variable (state_flags states) (m + 2) (m + 1))
+                (or_left (has_second_name state.second && nat_eq (m + 1) (m + 1))
+                (is_variable (state_flags states) (m + 2) (m + 1))
                 (and_from (has_second_name state.second) (nat_eq (m + 1) (m + 1)) there same)))
             | inr s ↦
                 let l : IsTrue (is_found states name) = rw s at k in
                 let later = found_number states (m + 2) i name l in
                 let n : ℕ = unwrap_or (number_in states (m + 2) name) i in
                 rw (e, s)
-                (or_right (nat_eq n m) (has_second_name state.second && nat_eq n (m + 1) || is_variable (state_flags states) (m + 2) n)
+                (or_right (nat_eq n m) (has_second_name state.second && nat_eq n (m + 1)
+                || is_variable (state_flags states) (m + 2) n)
                 (or_right (has_second_name state.second && nat_eq n (m + 1)) (is_variable (state_flags states) (m + 2) n) later))
           ]
     ]
@@ -139,7 +146,8 @@ internal_entry states name (Some attribute) =
 
 entry_by_direction :
     (states : List StateName) (group : Group) (name : List ℕ) (d : Option Direction)
-    → PinEntryIs states (unwrap_or d direction.Input) (target_as group name (class_as states group name d)) (class_as states group name d)
+    → PinEntryIs states (unwrap_or d direction.Input) (target_as group name (class_as states group name d))
+    (class_as states group name d)
 entry_by_direction states group name None = refl
 entry_by_direction states group name (Some direction.Input) = refl
 entry_by_direction states group name (Some direction.Output) = tt
@@ -173,10 +181,12 @@ entries_of_pins :
     → ArePinEntries states (flat_map (pin_entries states) groups) (flat_map pins_in groups)
 entries_of_pins states [] = tt
 entries_of_pins states (group ∷ groups) =
-    entries_append states (pin_entries states group) (flat_map (pin_entries states) groups) (pins_in group) (flat_map pins_in groups)
+    entries_append states (pin_entries states group) (flat_map (pin_entries states) groups) (pins_in group)
+    (flat_map pins_in groups)
     (entries_in_group states group group.arguments) (entries_of_pins states groups)
 
-recursion_append : {X : Type 0} (P : X → Type 0) (xs ys : List X) → AllByRecursion P xs → AllByRecursion P ys → AllByRecursion P (xs ++ ys)
+recursion_append : {X : Type 0} (P : X → Type 0) (xs ys : List X) → AllByRecursion P xs → AllByRecursion P ys
+    → AllByRecursion P (xs ++ ys)
 recursion_append P [] ys h k = k
 recursion_append P (x ∷ xs) ys h k = (h.0, recursion_append P xs ys h.1 k)
 
@@ -198,7 +208,8 @@ entries_of_states states (state ∷ some) h =
     recursion_append (IsStateEntry states) (state_entries state) (flat_map state_entries some)
     (entries_of_state states state.first state.second
     (h state.first
-    (or_left (bytes_eq state.first state.first) (is_second_name state.first state.second || is_found some state.first) (same_name state.first)))
+    (or_left (bytes_eq state.first state.first) (is_second_name state.first state.second || is_found some state.first)
+    (same_name state.first)))
     (λ name e. h name
     (or_right (bytes_eq state.first name) (is_second_name name state.second || is_found some name)
     (or_left (is_second_name name state.second) (is_found some name) e))))
@@ -207,7 +218,8 @@ entries_of_states states (state ∷ some) h =
     (or_right (bytes_eq state.first name) (is_second_name name state.second || is_found some name)
     (or_right (is_second_name name state.second) (is_found some name) e))))
 
-firsts_keep : (P : Entry → Type 0) (known : List (List ℕ)) (es : List Entry) → AllByRecursion P es → AllByRecursion P (firsts_after known es)
+firsts_keep : (P : Entry → Type 0) (known : List (List ℕ)) (es : List Entry) → AllByRecursion P es
+    → AllByRecursion P (firsts_after known es)
 firsts_keep P known [] h = tt
 firsts_keep P known (e ∷ es) h =
     elim (cases_Bool (is_some (number_of known e.name))) [
@@ -256,7 +268,8 @@ of_later states pin pins i name target Variable h =
     let far : length pins ≤ i = h.2 in (h.0, h.1, omega arith)
 
 state_entry_at :
-    (states : List StateName) (es : List Entry) (i : ℕ) (e : Entry) → AllByRecursion (IsStateEntry states) es → slice_get es i ≡ Some e
+    (states : List StateName) (es : List Entry) (i : ℕ) (e : Entry) → AllByRecursion (IsStateEntry states) es
+    → slice_get es i ≡ Some e
     → IsStateEntry states e
 state_entry_at states [] i e h k = absurd cc
 state_entry_at states (f ∷ es) zero e h k = let same : f ≡ e = cc in subst (λ x. IsStateEntry states x) same h.0
@@ -296,7 +309,8 @@ name_of_entry (f ∷ es) (suc i) e h = name_of_entry es i e h
 number_at :
     (states : List StateName) (pins : ℕ) (classes : List Class) (k : ℕ) (es : List Entry) (i : ℕ) (e : Entry)
     → slice_get es i ≡ Some e
-    → slice_index (numbers_from states pins classes k (entry_targets es)) i ≡ number_as states pins (k + i) (class_at classes (k + i)) e.target
+    → slice_index (numbers_from states pins classes k (entry_targets es)) i ≡ number_as states pins (k + i)
+    (class_at classes (k + i)) e.target
 number_at states pins classes k [] i e h = absurd cc
 number_at states pins classes k (f ∷ es) zero e h =
     let same : f ≡ e = cc in
@@ -358,7 +372,8 @@ number_of_entry states pins es i (Some e) h entries =
     ∙ ap (λ n. number_as states (length pins) n (class_at (entry_classes es) n) e.target) here
     ∙ ap (λ c. number_as states (length pins) i c e.target) class in
     let whole = number_is states pins (entry_names es) i e.name e.target e.class (named_at es i e h) (entries e h) in
-    subst (λ c. NumberIs states pins (entry_names es) i (slice_index (numbers_from states (length pins) (entry_classes es) 0 (entry_targets es)) i) c)
+    subst (λ c. NumberIs states pins (entry_names es) i
+    (slice_index (numbers_from states (length pins) (entry_classes es) 0 (entry_targets es)) i) c)
     (sym class)
     (subst (λ n. NumberIs states pins (entry_names es) i n e.class) (sym place) whole)
 
@@ -366,13 +381,15 @@ number_of_entry states pins es i (Some e) h entries =
 pub numbers_are :
     (cell : Group) → IsTrue (are_distinct (pin_names (pins_of cell))) → (i : ℕ)
     → NumberIs (states_of cell) (pins_of cell) (vocabulary cell).names i
-    (slice_index (cell_numbers (states_of cell) (length (pins_of cell)) (vocabulary cell)) i) (class_at (vocabulary cell).classes i)
+    (slice_index (cell_numbers (states_of cell) (length (pins_of cell)) (vocabulary cell)) i)
+    (class_at (vocabulary cell).classes i)
 numbers_are cell distinct i =
     let states : List StateName = states_of cell in
     let first : List Entry = flat_map (pin_entries states) (pin_groups cell) in
     let later : List Entry = firsts_after (pin_names (pins_of cell)) (flat_map state_entries states) in
     let split : vocabulary_of states (pin_groups cell) ≡ first ++ later = pins_first states (pin_groups cell) distinct in
-    number_of_entry states (pins_of cell) (vocabulary_of states (pin_groups cell)) i (slice_get (vocabulary_of states (pin_groups cell)) i) refl
+    number_of_entry states (pins_of cell) (vocabulary_of states (pin_groups cell)) i
+    (slice_get (vocabulary_of states (pin_groups cell)) i) refl
     (λ e h. entry_at states first later (pins_of cell) i e (entries_of_pins states (pin_groups cell))
     (firsts_keep (IsStateEntry states) (pin_names (pins_of cell)) (flat_map state_entries states)
     (entries_of_states states states (λ name found. found)))

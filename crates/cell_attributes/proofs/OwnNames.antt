@@ -1,5 +1,6 @@
 -- Where no declared name clashes, the names of a group's own variables have the numbers of its state.
-use Rattle.std.proofs.Common.{◌≡◌, ℕ, suc, ◌+◌, ◌*◌, Bool, true, false, ◌&&◌, ◌||◌, List, [], ◌∷◌, ◌++◌, length, filter, refl, sym, ◌∙◌, ap, subst, arith, Option, Some, None, inl, inr, append_assoc, append-nil, length-append}
+use Rattle.std.proofs.Common.{◌≡◌, ℕ, suc, ◌+◌, ◌*◌, Bool, true, false, ◌&&◌, ◌||◌, List, [], ◌∷◌, ◌++◌, length, filter, refl}
+use Rattle.std.proofs.Common.{sym, ◌∙◌, ap, subst, arith, Option, Some, None, inl, inr, append_assoc, append-nil, length-append}
 use Rattle.std.specs.Prelude.{⊤, flat_map, codes, bytes_eq, if◌then◌else◌}
 use Rattle.std.specs.List.{list_any}
 use Rattle.std.proofs.lemmas.Bool.{cases_Bool, or_cases, or_parts, or_from, and_cases}
@@ -8,8 +9,10 @@ use Rattle.std.proofs.lemmas.Slice.Eq.{bytes_eq-Decides}
 use Rattle.liberty_groups.specs.declared.tree.Group.{Group}
 use Rattle.cell_attributes.specs.declared.declarations.Role.TheVariants.{Plain}
 use Rattle.cell_attributes.specs.Groups.{is_called, inner_groups, is_pin, is_state, state_groups}
-use Rattle.cell_attributes.specs.States.{Arguments, StateName, arguments_of, is_table, variables, states_with, states_in, states_of}
-use Rattle.cell_attributes.specs.Declarations.{Declared, clashes, clashes_after, declared_as, declared_state, declared_in, declared_of}
+use Rattle.cell_attributes.specs.States.{Arguments, StateName, arguments_of, is_table, variables, states_with, states_in}
+use Rattle.cell_attributes.specs.States.{states_of}
+use Rattle.cell_attributes.specs.Declarations.{Declared, clashes, clashes_after, declared_as, declared_state, declared_in}
+use Rattle.cell_attributes.specs.Declarations.{declared_of}
 use Rattle.cell_attributes.specs.Building.{is_second_name, number_in}
 use Rattle.cell_attributes.proofs.Distinct.{nil_parts}
 use Rattle.cell_attributes.proofs.FirstNames.{other_names}
@@ -42,12 +45,14 @@ unlike name first h =
 
 -- a plain name that clashes with none of some states is none of their names
 unlike_states :
-    (at place : ℕ) (name : List ℕ) (states : List StateName) → list_any (clashes (plain at name)) (flat_map (declared_state place) states) ≡ false
+    (at place : ℕ) (name : List ℕ) (states : List StateName)
+    → list_any (clashes (plain at name)) (flat_map (declared_state place) states) ≡ false
     → is_found states name ≡ false
 unlike_states at place name [] h = refl
 unlike_states at place name (state ∷ states) h =
     let split = list_any-append (clashes (plain at name)) (declared_state place state) (flat_map (declared_state place) states) in
-    let parts = or_parts (list_any (clashes (plain at name)) (declared_state place state)) (list_any (clashes (plain at name)) (flat_map (declared_state place) states)) (sym split ∙ h) in
+    let parts = or_parts (list_any (clashes (plain at name)) (declared_state place state))
+    (list_any (clashes (plain at name)) (flat_map (declared_state place) states)) (sym split ∙ h) in
     by state.first state.second parts.0 (unlike_states at place name states parts.1)
   where
     by :
@@ -63,7 +68,8 @@ unlike_states at place name (state ∷ states) h =
         or_from (bytes_eq first name) (bytes_eq second name || is_found states name) (unlike name first one.0)
         (or_from (bytes_eq second name) (is_found states name) (unlike name second two.0) l)
 
-found_append : (xs ys : List StateName) (name : List ℕ) → is_found xs name ≡ false → is_found ys name ≡ false → is_found (xs ++ ys) name ≡ false
+found_append : (xs ys : List StateName) (name : List ℕ) → is_found xs name ≡ false → is_found ys name ≡ false
+    → is_found (xs ++ ys) name ≡ false
 found_append [] ys name h k = k
 found_append (x ∷ xs) ys name h k =
     let one = or_parts (bytes_eq x.first name) (is_second_name name x.second || is_found xs name) h in
@@ -96,7 +102,8 @@ OwnNumbers states pins n (group ∷ groups) =
     OwnIn states pins n (is_table group) (arguments_of group) × OwnNumbers states pins (n + 2 * length (states_in group)) groups
 
 own_in :
-    (states : List StateName) (pins at : ℕ) (before after : List StateName) (earlier : List Declared) (table : Bool) (arguments : Option Arguments)
+    (states : List StateName) (pins at : ℕ) (before after : List StateName) (earlier : List Declared) (table : Bool)
+    (arguments : Option Arguments)
     → ((name : List ℕ) → list_any (clashes (plain at name)) earlier ≡ false → is_found before name ≡ false)
     → clashes_after earlier (flat_map (declared_state at) (states_with table arguments)) ≡ []
     → states ≡ before ++ (states_with table arguments ++ after)
@@ -106,7 +113,8 @@ own_in states pins at before after earlier true (Some a) h k e = tt
 own_in states pins at before after earlier false (Some a) h k e =
     let first : Declared = plain at a.first in
     let second : Declared = plain at a.second in
-    let one = nil_parts (if list_any (clashes first) earlier then at ∷ [] else []) (clashes_after (earlier ++ first ∷ []) (second ∷ [])) k in
+    let one = nil_parts (if list_any (clashes first) earlier then at ∷ [] else [])
+    (clashes_after (earlier ++ first ∷ []) (second ∷ [])) k in
     let two = nil_parts (if list_any (clashes second) (earlier ++ first ∷ []) then at ∷ [] else []) [] one.1 in
     let first_new : list_any (clashes first) earlier ≡ false = no_place (list_any (clashes first) earlier) at one.0 in
     let second_new : list_any (clashes second) (earlier ++ first ∷ []) ≡ false =
@@ -126,7 +134,8 @@ own_in states pins at before after earlier false (Some a) h k e =
           ∙ (number_after before (variables a ∷ after) pins a.second (h a.second parts.0) ∙ at_second),
     )
 
-called_otherwise : (name word other : List ℕ) → bytes_eq name word ≡ true → bytes_eq word other ≡ false → bytes_eq name other ≡ false
+called_otherwise : (name word other : List ℕ) → bytes_eq name word ≡ true → bytes_eq word other ≡ false
+    → bytes_eq name other ≡ false
 called_otherwise name word other h k =
     subst (λ x. bytes_eq x other ≡ false) (sym ((bytes_eq-Decides name word).0 h)) k
 
@@ -161,7 +170,8 @@ own_numbers states pins before earlier (group ∷ groups) h k e =
           let whole : states ≡ before ++ (states_in group ++ after) = rw s at e in
           let here : clashes_after earlier (flat_map (declared_state group.at) (states_in group)) ≡ [] =
           subst (λ ds. clashes_after earlier ds ≡ []) declared parts.0 in
-          let own = own_in states pins group.at before after earlier (is_table group) (arguments_of group) (h group.at) here whole in
+          let own = own_in states pins group.at before after earlier (is_table group) (arguments_of group) (h group.at) here whole
+          in
           let next : states ≡ (before ++ states_in group) ++ after = whole ∙ sym (append_assoc before (states_in group) after) in
           let later = own_numbers states pins (before ++ states_in group) (earlier ++ declared_in group) groups
           (λ at name none.
@@ -171,8 +181,10 @@ own_numbers states pins before earlier (group ∷ groups) h k e =
           (unlike_states at group.at name (states_in group)
           (subst (λ ds. list_any (clashes (plain at name)) ds ≡ false) declared one.1)))
           parts.1 next in
-          let count : length (before ++ states_in group) ≡ length before + length (states_in group) = length-append before (states_in group) in
-          let place : pins + 2 * length (before ++ states_in group) ≡ pins + 2 * length before + 2 * length (states_in group) = omega arith in
+          let count : length (before ++ states_in group) ≡ length before + length (states_in group) =
+          length-append before (states_in group) in
+          let place : pins + 2 * length (before ++ states_in group) ≡ pins + 2 * length before + 2 * length (states_in group) =
+          omega arith in
           rw s (own, subst (λ n. OwnNumbers states pins n (filter is_state groups)) place later)
       | inr s ↦
           let whole : states ≡ before ++ flat_map states_in (filter is_state groups) = rw s at e in
@@ -187,7 +199,8 @@ own_numbers states pins before earlier (group ∷ groups) h k e =
 
 -- Where no declared name of a cell clashes, each group's variables have the numbers of its own state.
 pub own_numbers_of :
-    (cell : Group) (pins : ℕ) → clashes_after [] (declared_of cell) ≡ [] → OwnNumbers (states_of cell) pins pins (state_groups cell)
+    (cell : Group) (pins : ℕ) → clashes_after [] (declared_of cell) ≡ []
+    → OwnNumbers (states_of cell) pins pins (state_groups cell)
 own_numbers_of cell pins h =
     let start : pins + 2 * 0 ≡ pins = omega arith in
     subst (λ n. OwnNumbers (states_of cell) pins n (state_groups cell)) start

@@ -1,5 +1,6 @@
 -- The pins of a cell keep the rules of pins where nothing refuses them.
-use Rattle.std.proofs.Common.{IsTrue, ◌≡◌, ℕ, zero, suc, ◌+◌, ◌≤◌, List, [], ◌∷◌, length, map, refl, ap, arith, nat_le, length-append}
+use Rattle.std.proofs.Common.{IsTrue, ◌≡◌, ℕ, zero, suc, ◌+◌, ◌≤◌, List, [], ◌∷◌, length, map, refl, ap, arith, nat_le}
+use Rattle.std.proofs.Common.{length-append}
 use Rattle.std.specs.Prelude.{flat_map}
 use Rattle.std.specs.List.{list_all}
 use Rattle.std.proofs.lemmas.List.{length-map}
@@ -9,7 +10,8 @@ use Rattle.cell_machine.specs.declared.pins.Pin.{Pin}
 use Rattle.cell_machine.specs.CellRules.{is_name, are_distinct, are_pins}
 use Rattle.cell_attributes.specs.Groups.{inner_groups, pin_groups}
 use Rattle.cell_attributes.specs.Pins.{pins_in, pins_of, pin_names, owners_in, owners_of}
-use Rattle.cell_attributes.specs.Declarations.{declared_of, clashes_after, known_cell, bad_cell_name, bad_name_in, bad_names, duplicates}
+use Rattle.cell_attributes.specs.Declarations.{declared_of, clashes_after, known_cell, bad_cell_name, bad_name_in, bad_names}
+use Rattle.cell_attributes.specs.Declarations.{duplicates}
 use Rattle.cell_attributes.specs.Limits.{first_past, place_of_group}
 use Rattle.cell_attributes.proofs.Distinct.{nil_parts, pins_are_named, pins_are_distinct}
 
@@ -33,7 +35,8 @@ pub pins_are_sound :
 pins_are_sound earlier cell twice bad many =
     let clash = nil_parts (known_cell earlier cell) (clashes_after [] (declared_of cell)) twice in
     let named = nil_parts (bad_cell_name cell) (flat_map bad_name_in (declared_of cell)) bad in
-    let offsets : length (map place_of_group (owners_of cell)) ≤ 64 = within_limit 64 (map place_of_group (owners_of cell)) many in
+    let offsets : length (map place_of_group (owners_of cell)) ≤ 64 = within_limit 64 (map place_of_group (owners_of cell)) many
+    in
     let count : length (owners_of cell) ≤ 64 = simp length-map at offsets in
     let owners : length (owners_of cell) ≡ length (pins_of cell) = owners_count (pin_groups cell) in
     let few : length (pins_of cell) ≤ 64 = omega arith in

@@ -1,8 +1,11 @@
 -- What the names of an output's function stand for: input pins and states.
-use Rattle.std.proofs.Common.{◌≡◌, ℕ, suc, ◌+◌, ◌-◌, ◌*◌, ◌/◌, ◌<◌, ◌≤◌, Bool, true, false, ◌&&◌, ◌||◌, List, [], ◌∷◌, ◌++◌, length, map, refl, sym, ◌∙◌, ap, subst, arith, IsTrue, Option, Some, None, if◌then◌else◌, inl, inr, nat_eq, nat_lt, nat_le, eqb-true}
+use Rattle.std.proofs.Common.{◌≡◌, ℕ, suc, ◌+◌, ◌-◌, ◌*◌, ◌/◌, ◌<◌, ◌≤◌, Bool, true, false, ◌&&◌, ◌||◌, List, [], ◌∷◌, ◌++◌}
+use Rattle.std.proofs.Common.{length, map, refl, sym, ◌∙◌, ap, subst, arith, IsTrue, Option, Some, None, if◌then◌else◌, inl, inr}
+use Rattle.std.proofs.Common.{nat_eq, nat_lt, nat_le, eqb-true}
 use Rattle.std.specs.Prelude.{flat_map}
 use Rattle.std.specs.List.{list_all}
-use Rattle.std.proofs.lemmas.Bool.{cases_Bool, and_from, and_parts, or_left, or_right, or_cases, lt-ltb, le-ltb, le-leb, eq-eqb, ne_eqb}
+use Rattle.std.proofs.lemmas.Bool.{cases_Bool, and_from, and_parts, or_left, or_right, or_cases, lt-ltb, le-ltb, le-leb, eq-eqb}
+use Rattle.std.proofs.lemmas.Bool.{ne_eqb}
 use Rattle.std.proofs.lemmas.List.{length-map}
 use Rattle.bool_functions.specs.declared.tree.Node.{Node as Tree}
 use Rattle.bool_functions.specs.Tree.{names_of}
@@ -12,10 +15,12 @@ use Rattle.cell_machine.specs.declared.groups.GroupKind.TheVariants as kind
 use Rattle.cell_machine.specs.declared.groups.StateGroup.{StateGroup}
 use Rattle.cell_machine.specs.declared.pins.Pin.{Pin}
 use Rattle.cell_machine.specs.Names.{has, source_name, names_of_optional}
-use Rattle.cell_machine.specs.CellRules.{is_input_pin, is_ascending, is_support, names_support, control_names, is_kind, is_group, are_groups_from, names_of_both, second_names, names_behind, is_source, is_output_of}
+use Rattle.cell_machine.specs.CellRules.{is_input_pin, is_ascending, is_support, names_support, control_names, is_kind, is_group}
+use Rattle.cell_machine.specs.CellRules.{are_groups_from, names_of_both, second_names, names_behind, is_source, is_output_of}
 use Rattle.cell_machine.proofs.CellFacts.{list_all-implied, input-below}
 use Rattle.cell_attributes.specs.Building.{source_of, supports_of_both, second_support, stands_for, sources_of}
-use Rattle.cell_attributes.proofs.Members.{stand_in, all_parts, all_from, in_passes, all_insert_all, placed_in, in_placed, placed_ascend, in_flat_map, all_flat_map}
+use Rattle.cell_attributes.proofs.Members.{stand_in, all_parts, all_from, in_passes, all_insert_all, placed_in, in_placed}
+use Rattle.cell_attributes.proofs.Members.{placed_ascend, in_flat_map, all_flat_map}
 use Rattle.cell_attributes.proofs.Numbering.{is_variable}
 use Rattle.cell_attributes.proofs.TextNames.{is_value_number}
 
@@ -45,13 +50,15 @@ abbrev are_plain : List Pin → List StateGroup → Bool
 are_plain pins [] = true
 are_plain pins (group ∷ groups) = is_plain_second pins group.kind && are_plain pins groups
 
-both_pass : (p : ℕ → Bool) (f g : Option Tree) → IsTrue (list_all p (names_of_optional f ++ names_of_optional g)) → IsTrue (list_all p (names_of_both f g))
+both_pass : (p : ℕ → Bool) (f g : Option Tree) → IsTrue (list_all p (names_of_optional f ++ names_of_optional g))
+    → IsTrue (list_all p (names_of_both f g))
 both_pass p (Some f) (Some g) h = h
 both_pass p None None h = refl
 both_pass p None (Some g) h = refl
 both_pass p (Some f) None h = refl
 
-plain_second : (pins : List Pin) (k : GroupKind) → IsTrue (list_all (is_input_pin pins) (control_names k)) → IsTrue (is_plain_second pins k)
+plain_second : (pins : List Pin) (k : GroupKind) → IsTrue (list_all (is_input_pin pins) (control_names k))
+    → IsTrue (is_plain_second pins k)
 plain_second pins (kind.Ff k) h =
     both_pass (is_input_pin pins) k.clear k.preset
     (all_parts (is_input_pin pins) (names_of k.clocked_on) (names_of_optional k.clear ++ names_of_optional k.preset) h).1
@@ -60,7 +67,8 @@ plain_second pins (kind.Latch k) h =
     (all_parts (is_input_pin pins) (names_of_optional k.enable) (names_of_optional k.clear ++ names_of_optional k.preset) h).1
 plain_second pins (kind.Table table node inputs) h = refl
 
-group_is_plain : (pins : List Pin) (m : ℕ) (group : StateGroup) → IsTrue (is_group pins m group) → IsTrue (is_plain_second pins group.kind)
+group_is_plain : (pins : List Pin) (m : ℕ) (group : StateGroup) → IsTrue (is_group pins m group)
+    → IsTrue (is_plain_second pins group.kind)
 group_is_plain pins m group h =
     let whole = and_parts (is_support pins group.support) (names_support m group && is_kind group.kind) h in
     let one = and_parts (nat_lt 0 (length group.support)) _ whole.0 in
@@ -70,7 +78,8 @@ group_is_plain pins m group h =
     let control = and_parts (list_all (has group.support) (control_names group.kind)) _ named.0 in
     plain_second pins group.kind (in_passes (is_input_pin pins) (control_names group.kind) group.support control.0 three.1)
 
-pub groups_are_plain : (pins : List Pin) (m : ℕ) (groups : List StateGroup) → IsTrue (are_groups_from pins m groups) → IsTrue (are_plain pins groups)
+pub groups_are_plain : (pins : List Pin) (m : ℕ) (groups : List StateGroup) → IsTrue (are_groups_from pins m groups)
+    → IsTrue (are_plain pins groups)
 groups_are_plain pins m [] h = refl
 groups_are_plain pins m (group ∷ groups) h =
     let parts = and_parts (is_group pins m group) (are_groups_from pins (m + 2) groups) h in
@@ -87,47 +96,64 @@ two_pass p one other pass f g h =
     let parts = all_parts p (one f) (one g) h in
     all_from p (other f) (other g) (pass f parts.0) (pass g parts.1)
 
-supports_pass : (p : ℕ → Bool) (f g : Option Tree) → IsTrue (list_all p (names_of_both f g)) → IsTrue (list_all p (supports_of_both f g))
-supports_pass p (Some f) (Some g) h = two_pass p names_of support_of (λ f. in_passes p (support_of f) (names_of f) (placed_in (names_of f))) f g h
+supports_pass : (p : ℕ → Bool) (f g : Option Tree) → IsTrue (list_all p (names_of_both f g))
+    → IsTrue (list_all p (supports_of_both f g))
+supports_pass p (Some f) (Some g) h =
+    two_pass p names_of support_of (λ f. in_passes p (support_of f) (names_of f) (placed_in (names_of f))) f g h
 supports_pass p _ _ h = refl
 
-names_pass : (p : ℕ → Bool) (f g : Option Tree) → IsTrue (list_all p (supports_of_both f g)) → IsTrue (list_all p (names_of_both f g))
-names_pass p (Some f) (Some g) h = two_pass p support_of names_of (λ f. in_passes p (names_of f) (support_of f) (in_placed (names_of f))) f g h
+names_pass : (p : ℕ → Bool) (f g : Option Tree) → IsTrue (list_all p (supports_of_both f g))
+    → IsTrue (list_all p (names_of_both f g))
+names_pass p (Some f) (Some g) h =
+    two_pass p support_of names_of (λ f. in_passes p (names_of f) (support_of f) (in_placed (names_of f))) f g h
 names_pass p None None h = refl
 names_pass p None (Some g) h = refl
 names_pass p (Some f) None h = refl
 
 -- what passes behind a number that stands for itself
-behind_own : (p : ℕ → Bool) (m : ℕ) (xs ys : List ℕ) → (IsTrue (list_all p xs) → IsTrue (list_all p ys)) → IsTrue (list_all p (m ∷ xs)) → IsTrue (list_all p (m ∷ ys))
-behind_own p m xs ys pass h = let parts = and_parts (p m) (list_all p xs) h in and_from (p m) (list_all p ys) parts.0 (pass parts.1)
+behind_own : (p : ℕ → Bool) (m : ℕ) (xs ys : List ℕ) → (IsTrue (list_all p xs) → IsTrue (list_all p ys))
+    → IsTrue (list_all p (m ∷ xs)) → IsTrue (list_all p (m ∷ ys))
+behind_own p m xs ys pass h = let parts = and_parts (p m) (list_all p xs) h
+    in and_from (p m) (list_all p ys) parts.0 (pass parts.1)
 
-second_names_pass : (p : ℕ → Bool) (m : ℕ) (k : GroupKind) → IsTrue (list_all p (second_support m k)) → IsTrue (list_all p (second_names m k))
-second_names_pass p m (kind.Ff k) h = behind_own p m (supports_of_both k.clear k.preset) (names_of_both k.clear k.preset) (names_pass p k.clear k.preset) h
-second_names_pass p m (kind.Latch k) h = behind_own p m (supports_of_both k.clear k.preset) (names_of_both k.clear k.preset) (names_pass p k.clear k.preset) h
+second_names_pass : (p : ℕ → Bool) (m : ℕ) (k : GroupKind) → IsTrue (list_all p (second_support m k))
+    → IsTrue (list_all p (second_names m k))
+second_names_pass p m (kind.Ff k) h =
+    behind_own p m (supports_of_both k.clear k.preset) (names_of_both k.clear k.preset) (names_pass p k.clear k.preset) h
+second_names_pass p m (kind.Latch k) h =
+    behind_own p m (supports_of_both k.clear k.preset) (names_of_both k.clear k.preset) (names_pass p k.clear k.preset) h
 second_names_pass p m (kind.Table table node inputs) h = h
 
-second_support_passes : (p : ℕ → Bool) (m : ℕ) (k : GroupKind) → IsTrue (list_all p (second_names m k)) → IsTrue (list_all p (second_support m k))
-second_support_passes p m (kind.Ff k) h = behind_own p m (names_of_both k.clear k.preset) (supports_of_both k.clear k.preset) (supports_pass p k.clear k.preset) h
-second_support_passes p m (kind.Latch k) h = behind_own p m (names_of_both k.clear k.preset) (supports_of_both k.clear k.preset) (supports_pass p k.clear k.preset) h
+second_support_passes : (p : ℕ → Bool) (m : ℕ) (k : GroupKind) → IsTrue (list_all p (second_names m k))
+    → IsTrue (list_all p (second_support m k))
+second_support_passes p m (kind.Ff k) h =
+    behind_own p m (names_of_both k.clear k.preset) (supports_of_both k.clear k.preset) (supports_pass p k.clear k.preset) h
+second_support_passes p m (kind.Latch k) h =
+    behind_own p m (names_of_both k.clear k.preset) (supports_of_both k.clear k.preset) (supports_pass p k.clear k.preset) h
 second_support_passes p m (kind.Table table node inputs) h = h
 
 -- what passes of whichever of two lists is taken
 either_passes :
-    (p : ℕ → Bool) (b : Bool) (a c x y : List ℕ) → (IsTrue (list_all p a) → IsTrue (list_all p x)) → (IsTrue (list_all p c) → IsTrue (list_all p y))
+    (p : ℕ → Bool) (b : Bool) (a c x y : List ℕ) → (IsTrue (list_all p a) → IsTrue (list_all p x))
+    → (IsTrue (list_all p c) → IsTrue (list_all p y))
     → IsTrue (list_all p (if b then a else c)) → IsTrue (list_all p (if b then x else y))
 either_passes p true a c x y first second h = first h
 either_passes p false a c x y first second h = second h
 
-behind_pass : (p : ℕ → Bool) (m : ℕ) (groups : List StateGroup) (i : ℕ) → IsTrue (list_all p (stands_for m groups i)) → IsTrue (list_all p (names_behind m groups i))
+behind_pass : (p : ℕ → Bool) (m : ℕ) (groups : List StateGroup) (i : ℕ) → IsTrue (list_all p (stands_for m groups i))
+    → IsTrue (list_all p (names_behind m groups i))
 behind_pass p m [] i h = h
 behind_pass p m (group ∷ groups) i h =
-    either_passes p (nat_eq i (m + 1)) (second_support m group.kind) (stands_for (m + 2) groups i) (second_names m group.kind) (names_behind (m + 2) groups i)
+    either_passes p (nat_eq i (m + 1)) (second_support m group.kind) (stands_for (m + 2) groups i) (second_names m group.kind)
+    (names_behind (m + 2) groups i)
     (second_names_pass p m group.kind) (λ k. behind_pass p (m + 2) groups i k) h
 
-stands_pass : (p : ℕ → Bool) (m : ℕ) (groups : List StateGroup) (i : ℕ) → IsTrue (list_all p (names_behind m groups i)) → IsTrue (list_all p (stands_for m groups i))
+stands_pass : (p : ℕ → Bool) (m : ℕ) (groups : List StateGroup) (i : ℕ) → IsTrue (list_all p (names_behind m groups i))
+    → IsTrue (list_all p (stands_for m groups i))
 stands_pass p m [] i h = h
 stands_pass p m (group ∷ groups) i h =
-    either_passes p (nat_eq i (m + 1)) (second_names m group.kind) (names_behind (m + 2) groups i) (second_support m group.kind) (stands_for (m + 2) groups i)
+    either_passes p (nat_eq i (m + 1)) (second_names m group.kind) (names_behind (m + 2) groups i) (second_support m group.kind)
+    (stands_for (m + 2) groups i)
     (second_support_passes p m group.kind) (λ k. stands_pass p (m + 2) groups i k) h
 
 -- What values stand for.
@@ -156,7 +182,8 @@ one_passes q i h = and_from (q i) true h refl
 second_passes :
     (pins : List Pin) (q : ℕ → Bool) (m : ℕ) (flags : List Bool) (k : GroupKind)
     → length pins ≤ m → ((x : ℕ) → IsTrue (is_input_pin pins x) → IsTrue (q x)) → IsTrue (q m) → IsTrue (is_plain_second pins k)
-    → IsTrue (is_input_pin pins (m + 1) || is_variable (has_second k ∷ flags) m (m + 1)) → IsTrue (list_all q (second_support m k))
+    → IsTrue (is_input_pin pins (m + 1) || is_variable (has_second k ∷ flags) m (m + 1))
+    → IsTrue (list_all q (second_support m k))
 second_passes pins q m flags (kind.Ff k) far inputs here plain h =
     and_from (q m) (list_all q (supports_of_both k.clear k.preset)) here
     (supports_pass q k.clear k.preset (list_all-implied (is_input_pin pins) q (names_of_both k.clear k.preset) inputs plain))
@@ -186,7 +213,8 @@ value_stands pins q m (group ∷ groups) i far plain inputs states h =
     let first : IsTrue (q m) = states m (or_left (nat_eq m m) (is_state_number groups (m + 2) m) (eq-eqb m m refl)) in
     let states_later : (x : ℕ) → IsTrue (is_state_number groups (m + 2) x) → IsTrue (q x) =
     λ x k. states x (or_right (nat_eq x m) (is_state_number groups (m + 2) x) k) in
-    let later : IsTrue (is_input_pin pins i || is_variable (group_flags groups) (m + 2) i) → IsTrue (list_all q (stands_for (m + 2) groups i)) =
+    let later : IsTrue (is_input_pin pins i || is_variable (group_flags groups) (m + 2) i)
+    → IsTrue (list_all q (stands_for (m + 2) groups i)) =
     value_stands pins q (m + 2) groups i (omega arith) parts.1 inputs states_later in
     elim (cases_Bool (nat_eq i (m + 1))) [
       | inl e ↦
@@ -199,7 +227,8 @@ value_stands pins q m (group ∷ groups) i far plain inputs states h =
           (elim (or_cases (is_input_pin pins i) (is_variable (has_second group.kind ∷ group_flags groups) m i) h) [
             | inl k ↦ later (or_left (is_input_pin pins i) (is_variable (group_flags groups) (m + 2) i) k)
             | inr k ↦
-                elim (or_cases (nat_eq i m) (has_second group.kind && nat_eq i (m + 1) || is_variable (group_flags groups) (m + 2) i) k) [
+                elim (or_cases (nat_eq i m) (has_second group.kind && nat_eq i (m + 1)
+                || is_variable (group_flags groups) (m + 2) i) k) [
                   | inl l ↦
                       let same : i ≡ m = eqb-true i m l in
                       let below : i < m + 2 = omega arith in
@@ -218,7 +247,8 @@ value_stands pins q m (group ∷ groups) i far plain inputs states h =
 -- Sources.
 
 -- which group a state's number is of
-state_of : (groups : List StateGroup) (m n : ℕ) → IsTrue (is_state_number groups m n) → (g : ℕ) × ((g < length groups) × (n ≡ m + 2 * g))
+state_of : (groups : List StateGroup) (m n : ℕ) → IsTrue (is_state_number groups m n) → (g : ℕ)
+    × ((g < length groups) × (n ≡ m + 2 * g))
 state_of [] m n h = absurd cc
 state_of (group ∷ groups) m n h =
     elim (or_cases (nat_eq n m) (is_state_number groups (m + 2) n) h) [
@@ -236,7 +266,8 @@ record SourceIs (pins : List Pin) (groups : List StateGroup) (n : ℕ) : Type 0 
   pub same : source_name (length pins) (source_of (length pins) n) ≡ n
   pub fits : IsTrue (is_source pins groups (source_of (length pins) n))
 
-source_is : (pins : List Pin) (groups : List StateGroup) (n : ℕ) → IsTrue (is_source_number pins groups n) → SourceIs pins groups n
+source_is : (pins : List Pin) (groups : List StateGroup) (n : ℕ) → IsTrue (is_source_number pins groups n)
+    → SourceIs pins groups n
 source_is pins groups n h =
     elim (or_cases (is_input_pin pins n) (is_state_number groups (length pins) n) h) [
       | inl e ↦
@@ -269,7 +300,8 @@ sources_fit :
 sources_fit pins groups [] h = refl
 sources_fit pins groups (x ∷ xs) h =
     let parts = and_parts (is_source_number pins groups x) (list_all (is_source_number pins groups) xs) h in
-    and_from (is_source pins groups (source_of (length pins) x)) _ (source_is pins groups x parts.0).fits (sources_fit pins groups xs parts.1)
+    and_from (is_source pins groups (source_of (length pins) x)) _ (source_is pins groups x parts.0).fits
+    (sources_fit pins groups xs parts.1)
 
 -- The support of a function keeps the rules, where its names are values of the cell and it is not too wide.
 module _ (pins : List Pin) (groups : List StateGroup) (f : Tree) where
@@ -287,7 +319,8 @@ module _ (pins : List Pin) (groups : List StateGroup) (f : Tree) where
       all_flat_map (has held) (names_behind (length pins) groups) (names_of f)
       (list_all-implied (has (support_of f)) (λ i. list_all (has held) (names_behind (length pins) groups i)) (names_of f)
       (λ i h. behind_pass (has held) (length pins) groups i
-      (in_passes (has held) (stands_for (length pins) groups i) stood (in_flat_map (stands_for (length pins) groups) (support_of f) i h)
+      (in_passes (has held) (stands_for (length pins) groups i) stood
+      (in_flat_map (stands_for (length pins) groups) (support_of f) i h)
       (in_placed stood)))
       (in_placed (names_of f)))
 
@@ -313,13 +346,16 @@ module _ (pins : List Pin) (groups : List StateGroup) (f : Tree) where
       (in_passes (is_value_number (group_flags groups) pins) (support_of f) (names_of f) (placed_in (names_of f)) values)))
 
   pub output_keeps_rules :
-      (p : ℕ) → IsTrue (are_groups_from pins (length pins) groups) → IsTrue (list_all (is_value_number (group_flags groups) pins) (names_of f))
+      (p : ℕ) → IsTrue (are_groups_from pins (length pins) groups)
+      → IsTrue (list_all (is_value_number (group_flags groups) pins) (names_of f))
       → length (sources_of (length pins) groups f) ≤ 10
       → IsTrue (is_output_of pins groups (record { pin = p; function = f; support = sources_of (length pins) groups f }))
   output_keeps_rules p kept values few =
       let sources = held_are_sources (groups_are_plain pins (length pins) groups kept) values in
-      let same : map (source_name (length pins)) (sources_of (length pins) groups f) ≡ held = same_sources pins groups held sources in
-      let count : length (map (source_name (length pins)) (sources_of (length pins) groups f)) ≡ length (sources_of (length pins) groups f) =
+      let same : map (source_name (length pins)) (sources_of (length pins) groups f) ≡ held =
+      same_sources pins groups held sources in
+      let count : length (map (source_name (length pins)) (sources_of (length pins) groups f)) ≡ length
+      (sources_of (length pins) groups f) =
       length-map (sources_of (length pins) groups f) (source_name (length pins)) in
       let short : length (map (source_name (length pins)) (sources_of (length pins) groups f)) ≤ 10 = omega arith in
       let names : List ℕ = map (source_name (length pins)) (sources_of (length pins) groups f) in

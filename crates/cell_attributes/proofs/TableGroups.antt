@@ -1,5 +1,7 @@
 -- The groups from a `statetable` of which nothing is refused keep the rules of state groups.
-use Rattle.std.proofs.Common.{◌≡◌, ℕ, suc, ◌+◌, ◌<◌, Bool, true, false, not, ◌||◌, ◌==◌, List, [], ◌∷◌, ◌++◌, length, map, refl, sym, ◌∙◌, ap, subst, arith, IsTrue, Option, Some, None, Result, Ok, Err, inl, inr, nat_eq, nat_lt, nat_le, slice_index, append-nil}
+use Rattle.std.proofs.Common.{◌≡◌, ℕ, suc, ◌+◌, ◌<◌, Bool, true, false, not, ◌||◌, ◌==◌, List, [], ◌∷◌, ◌++◌, length, map, refl}
+use Rattle.std.proofs.Common.{sym, ◌∙◌, ap, subst, arith, IsTrue, Option, Some, None, Result, Ok, Err, inl, inr, nat_eq, nat_lt}
+use Rattle.std.proofs.Common.{nat_le, slice_index, append-nil}
 use Rattle.std.specs.Prelude.{codes, is_none, All}
 use Rattle.std.specs.Option.{option_map_or}
 use Rattle.std.specs.List.{list_all}
@@ -17,7 +19,8 @@ use Rattle.cell_machine.specs.declared.groups.GroupKind.TheVariants as kind
 use Rattle.cell_machine.specs.declared.groups.StateGroup.{StateGroup}
 use Rattle.cell_machine.specs.declared.pins.Pin.{Pin}
 use Rattle.cell_machine.specs.Names.{has}
-use Rattle.cell_machine.specs.CellRules.{is_input_pin, is_support, names_support, has_widths, is_table as keeps_table_rules, is_kind, is_group, are_groups_from}
+use Rattle.cell_machine.specs.CellRules.{is_input_pin, is_support, names_support, has_widths, is_table as keeps_table_rules}
+use Rattle.cell_machine.specs.CellRules.{is_kind, is_group, are_groups_from}
 use Rattle.liberty_groups.specs.Attributes.{Attribute, attribute_of}
 use Rattle.cell_attributes.specs.declared.vocabulary.Class.{Class}
 use Rattle.cell_attributes.specs.declared.vocabulary.Class.TheVariants.{Input, Driven, Alias, Shared, Node, Variable}
@@ -27,24 +30,28 @@ use Rattle.cell_attributes.specs.Groups.{names_in}
 use Rattle.cell_attributes.specs.States.{Arguments, StateName, arguments_of, is_table, states_with, node_named}
 use Rattle.cell_attributes.specs.Vocabulary.{Vocabulary}
 use Rattle.cell_attributes.specs.Texts.{control_use, class_at, is_unknown, is_coupled, malformed_at, coupled_at}
-use Rattle.cell_attributes.specs.StateReadings.{word_use, input_words, has_unknown_word, has_coupled_word, is_uncoupled, table_judged, table_text, table_with, number_in, numbers_of, reading_of_table}
+use Rattle.cell_attributes.specs.StateReadings.{word_use, input_words, has_unknown_word, has_coupled_word, is_uncoupled}
+use Rattle.cell_attributes.specs.StateReadings.{table_judged, table_text, table_with, number_in, numbers_of, reading_of_table}
 use Rattle.cell_attributes.specs.Limits.{no_support_in, wide_support_in}
 use Rattle.cell_attributes.specs.Building.{table_or, table_in, node_groups, table_groups}
 use Rattle.cell_attributes.proofs.Members.{stand_in, in_itself}
 use Rattle.cell_attributes.proofs.Numbering.{NumberIs}
 use Rattle.cell_attributes.proofs.TextNames.{is_allowed, allowed_use}
-use Rattle.cell_attributes.proofs.GroupRules.{IsSoundReading, some_support, narrow_support, is_no_other_pin, inputs_in_support, support_passes, is_support_from}
+use Rattle.cell_attributes.proofs.GroupRules.{IsSoundReading, some_support, narrow_support, is_no_other_pin, inputs_in_support}
+use Rattle.cell_attributes.proofs.GroupRules.{support_passes, is_support_from}
 use Rattle.cell_attributes.proofs.TextGroups.{not_placed, lacks_none}
 
 -- Tables.
 
-row_widths : (inputs nodes : ℕ) (rows : List TableRow) → All (HasWidths inputs nodes) rows → IsTrue (list_all (has_widths inputs nodes) rows)
+row_widths : (inputs nodes : ℕ) (rows : List TableRow) → All (HasWidths inputs nodes) rows
+    → IsTrue (list_all (has_widths inputs nodes) rows)
 row_widths inputs nodes [] h = refl
 row_widths inputs nodes (row ∷ rows) h =
     let first : HasWidths inputs nodes row = All-head (HasWidths inputs nodes) row rows h in
     and_from (has_widths inputs nodes row) (list_all (has_widths inputs nodes) rows)
     (and_from (nat_eq (length row.inputs) inputs) _ (eq-eqb (length row.inputs) inputs first.of_inputs)
-    (and_from (nat_eq (length row.current) nodes) (nat_eq (length row.next) nodes) (eq-eqb (length row.current) nodes first.of_current)
+    (and_from (nat_eq (length row.current) nodes) (nat_eq (length row.next) nodes)
+    (eq-eqb (length row.current) nodes first.of_current)
     (eq-eqb (length row.next) nodes first.of_next)))
     (row_widths inputs nodes rows (All-tail (HasWidths inputs nodes) row rows h))
 
@@ -56,7 +63,8 @@ record TableIs (inputs nodes : ℕ) (table : StateTable) : Type 0 where
 
 table_is :
     (text : List ℕ) (inputs nodes at : ℕ) (answer : Result StateTable TableFault) → table_of text inputs nodes ≡ answer
-    → malformed_at (table_judged at answer) ≡ [] → coupled_at (table_judged at answer) ≡ [] → TableIs inputs nodes (table_or inputs nodes answer)
+    → malformed_at (table_judged at answer) ≡ [] → coupled_at (table_judged at answer) ≡ []
+    → TableIs inputs nodes (table_or inputs nodes answer)
 table_is text inputs nodes at (Err e) h k l = absurd cc
 table_is text inputs nodes at (Ok table) h k l =
     let law = tables_read text inputs nodes table h in
@@ -73,7 +81,8 @@ table_is text inputs nodes at (Ok table) h k l =
     }
 
 table_in_is :
-    (inputs nodes : ℕ) (attribute : Option Attribute) → is_none attribute ≡ false → malformed_at (table_text inputs nodes attribute) ≡ []
+    (inputs nodes : ℕ) (attribute : Option Attribute) → is_none attribute ≡ false
+    → malformed_at (table_text inputs nodes attribute) ≡ []
     → coupled_at (table_text inputs nodes attribute) ≡ [] → TableIs inputs nodes (table_in inputs nodes attribute)
 table_in_is inputs nodes None h k l = absurd cc
 table_in_is inputs nodes (Some attribute) h k l =
@@ -90,7 +99,8 @@ nodes_hold pins n table r node (name ∷ names) s a b c k e =
     let within : node < table.nodes = omega arith in
     let next : node + 1 + length names ≡ table.nodes = omega arith in
     let group : StateGroup = record { kind = kind.Table table node r.inputs; support = r.support } in
-    let named : IsTrue (stand_in (r.inputs ++ []) r.support) = subst (λ xs. IsTrue (stand_in xs r.support)) (sym (append-nil r.inputs)) b in
+    let named : IsTrue (stand_in (r.inputs ++ []) r.support) =
+    subst (λ xs. IsTrue (stand_in xs r.support)) (sym (append-nil r.inputs)) b in
     and_from (is_group pins n group) (are_groups_from pins (n + 2) (node_groups table r (node + 1) names))
     (and_from (is_support pins r.support) _ s
     (and_from (names_support n group) (is_kind group.kind)
@@ -101,7 +111,8 @@ nodes_hold pins n table r node (name ∷ names) s a b c k e =
 
 -- Inputs of a table.
 
-input_number : (pins : List Pin) (states : List StateName) (names : List (List ℕ)) (i n : ℕ) (c : Class) → is_allowed (control_use c) ≡ true → NumberIs states pins names i n c → IsTrue (is_input_pin pins i)
+input_number : (pins : List Pin) (states : List StateName) (names : List (List ℕ)) (i n : ℕ) (c : Class)
+    → is_allowed (control_use c) ≡ true → NumberIs states pins names i n c → IsTrue (is_input_pin pins i)
 input_number pins states names i n Input h k = k.1
 input_number pins states names i n Driven h k = absurd cc
 input_number pins states names i n Alias h k = absurd cc
@@ -128,14 +139,17 @@ module _
           (o : Option ℕ) → number_of v.names word ≡ o
           → is_allowed (option_map_or (λ i. control_use (class_at v.classes i)) (number_of v.names word) use_.Unknown) ≡ true
           → length (numbers_of v words) ≡ length words → IsTrue (list_all (is_input_pin pins) (numbers_of v words))
-          → (length (numbers_of v (word ∷ words)) ≡ suc (length words)) × IsTrue (list_all (is_input_pin pins) (numbers_of v (word ∷ words)))
+          → (length (numbers_of v (word ∷ words)) ≡ suc (length words))
+          × IsTrue (list_all (is_input_pin pins) (numbers_of v (word ∷ words)))
       by None e u l p = absurd (let q : false ≡ true = rw e at u in cc)
       by (Some i) e u l p =
           let q : is_allowed (control_use (class_at v.classes i)) ≡ true = rw e at u in
-          let input : IsTrue (is_input_pin pins i) = input_number pins states v.names i (slice_index to i) (class_at v.classes i) q (numbers i) in
+          let input : IsTrue (is_input_pin pins i) =
+          input_number pins states v.names i (slice_index to i) (class_at v.classes i) q (numbers i) in
           let whole : numbers_of v (word ∷ words) ≡ i ∷ numbers_of v words = rw e refl in (
             ap length whole ∙ ap suc l,
-            subst (λ xs. IsTrue (list_all (is_input_pin pins) xs)) (sym whole) (and_from (is_input_pin pins i) (list_all (is_input_pin pins) (numbers_of v words)) input p),
+            subst (λ xs. IsTrue (list_all (is_input_pin pins) xs)) (sym whole)
+                (and_from (is_input_pin pins i) (list_all (is_input_pin pins) (numbers_of v words)) input p),
           )
 
 more_than_none : (n : ℕ) → suc n == 0 ≡ false
@@ -145,7 +159,8 @@ some_nodes : (names : List (List ℕ)) → length names == 0 ≡ false → not (
 some_nodes [] h = absurd cc
 some_nodes (name ∷ names) h = ap not (more_than_none (length (map node_named names)))
 
-no_nodes : (pins : List Pin) (n : ℕ) (table : StateTable) (r : StateReading) (names : List (List ℕ)) → length names == 0 ≡ true → IsTrue (are_groups_from pins n (node_groups table r 0 names))
+no_nodes : (pins : List Pin) (n : ℕ) (table : StateTable) (r : StateReading) (names : List (List ℕ)) → length names == 0 ≡ true
+    → IsTrue (are_groups_from pins n (node_groups table r 0 names))
 no_nodes pins n table r [] h = refl
 no_nodes pins n table r (name ∷ names) h = absurd (let k : true ≡ false = sym h ∙ more_than_none (length names) in cc)
 
@@ -158,7 +173,8 @@ module _
   some_table : is_none (attribute_of group (codes "table")) ≡ false
   some_table = rw t at (lacks_none group sound.whole)
 
-  inputs : (length (numbers_of v (names_in a.first)) ≡ length (names_in a.first)) × IsTrue (list_all (is_input_pin pins) (numbers_of v (names_in a.first)))
+  inputs : (length (numbers_of v (names_in a.first)) ≡ length (names_in a.first))
+      × IsTrue (list_all (is_input_pin pins) (numbers_of v (names_in a.first)))
   inputs =
       inputs_of_words states pins v to numbers (names_in a.first)
       (subst (λ (o : Option Arguments). has_unknown_word v (input_words o) ≡ false) e
@@ -186,7 +202,8 @@ module _
       let nodes_count : ℕ = length (names_in a.second) in
       let attribute : Option Attribute = attribute_of group (codes "table") in
       elim (cases_Bool (length (names_in a.second) == 0)) [
-        | inl empty ↦ no_nodes pins n (table_in inputs_count nodes_count attribute) (reading_of_table v (length pins) group) (names_in a.second) empty
+        | inl empty ↦ no_nodes pins n (table_in inputs_count nodes_count attribute) (reading_of_table v (length pins) group)
+            (names_in a.second) empty
         | inr full ↦
             let held = holds full in
             let well : malformed_at (table_text inputs_count nodes_count attribute) ≡ [] =
@@ -195,7 +212,8 @@ module _
             subst (λ (o : Option Arguments). coupled_at (table_with o attribute) ≡ []) e sound.of_data.apart in
             let table = table_in_is inputs_count nodes_count attribute some_table well apart in
             let all_inputs : List ℕ = (reading_of_table v (length pins) group).inputs in
-            nodes_hold pins n (table_in inputs_count nodes_count attribute) (reading_of_table v (length pins) group) 0 (names_in a.second)
+            nodes_hold pins n (table_in inputs_count nodes_count attribute) (reading_of_table v (length pins) group) 0
+            (names_in a.second)
             (is_support_from pins all_inputs (some_support (reading_of_table v (length pins) group) held some)
             (narrow_support (reading_of_table v (length pins) group) held few)
             (no_others all_inputs are_inputs))

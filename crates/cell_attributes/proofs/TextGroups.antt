@@ -1,5 +1,6 @@
 -- A group from an `ff` or a `latch` of which nothing is refused keeps the rules of state groups.
-use Rattle.std.proofs.Common.{◌≡◌, ℕ, ◌+◌, Bool, true, false, not, ◌||◌, ◌==◌, List, [], ◌++◌, length, refl, sym, ◌∙◌, ap, subst, IsTrue, Option, Some, None, nat_lt, nat_le, slice_index}
+use Rattle.std.proofs.Common.{◌≡◌, ℕ, ◌+◌, Bool, true, false, not, ◌||◌, ◌==◌, List, [], ◌++◌, length, refl, sym, ◌∙◌, ap, subst}
+use Rattle.std.proofs.Common.{IsTrue, Option, Some, None, nat_lt, nat_le, slice_index}
 use Rattle.std.specs.Prelude.{codes, is_none, unwrap_or, if◌then◌else◌}
 use Rattle.std.specs.List.{list_all}
 use Rattle.std.proofs.lemmas.Bool.{and_from, or_parts}
@@ -16,14 +17,17 @@ use Rattle.liberty_groups.specs.Attributes.{Attribute, attribute_of}
 use Rattle.cell_attributes.specs.declared.texts.Scope.TheVariants as scope
 use Rattle.cell_attributes.specs.declared.texts.Text.{Text}
 use Rattle.cell_attributes.specs.Scans.{is_missing}
-use Rattle.cell_attributes.specs.States.{Arguments, StateName, arguments_of, is_table, states_with, unless_kept, both_named, both_with, second_both}
+use Rattle.cell_attributes.specs.States.{Arguments, StateName, arguments_of, is_table, states_with, unless_kept, both_named}
+use Rattle.cell_attributes.specs.States.{both_with, second_both}
 use Rattle.cell_attributes.specs.Vocabulary.{Vocabulary}
 use Rattle.cell_attributes.specs.Texts.{class_at, text_as}
-use Rattle.cell_attributes.specs.StateReadings.{is_ff, data_name, control_name, both_or_none, lacks_attribute, place_if, group_malformed, own_scope, reading_of_texts}
+use Rattle.cell_attributes.specs.StateReadings.{is_ff, data_name, control_name, both_or_none, lacks_attribute, place_if}
+use Rattle.cell_attributes.specs.StateReadings.{group_malformed, own_scope, reading_of_texts}
 use Rattle.cell_attributes.specs.Limits.{no_support_in, wide_support_in}
 use Rattle.cell_attributes.specs.Building.{number_in, function_in, function_of, clocked, gated, kind_of_texts}
 use Rattle.cell_attributes.proofs.Numbering.{NumberIs}
-use Rattle.cell_attributes.proofs.TextNames.{text_names, names_of_function, is_absent, sound_has_function, names_of_written, absent_text, is_kept_input, is_input_or_own, control_names_are, data_names_are}
+use Rattle.cell_attributes.proofs.TextNames.{text_names, names_of_function, is_absent, sound_has_function, names_of_written}
+use Rattle.cell_attributes.proofs.TextNames.{absent_text, is_kept_input, is_input_or_own, control_names_are, data_names_are}
 use Rattle.cell_attributes.proofs.GroupRules.{IsSoundReading, some_support, narrow_support, map_kept, NamesAre, group_from}
 
 -- the second variable is never one that keeps its value
@@ -34,7 +38,8 @@ second_unkept (Some both.High) = refl
 second_unkept (Some both.Keep) = refl
 second_unkept (Some both.Unknown) = refl
 
-second_of : (attribute : Option Attribute) → IsTrue (is_second (unwrap_or (both_with (λ text. unless_kept (both_named text)) attribute) both.Unknown))
+second_of : (attribute : Option Attribute)
+    → IsTrue (is_second (unwrap_or (both_with (λ text. unless_kept (both_named text)) attribute) both.Unknown))
 second_of None = refl
 second_of (Some attribute) = second_unkept (both_named attribute.text)
 
@@ -74,7 +79,8 @@ three :
 three a b c x y z e f g = ap (λ l. l ++ (b ++ c)) e ∙ ap (λ l. x ++ (l ++ c)) f ∙ ap (λ l. x ++ (y ++ l)) g
 
 -- a text that names pins alone has a function that names what it does
-kept_names : (pins : List Pin) (to : List ℕ) (t : Text) → IsTrue (list_all (is_kept_input pins to) (text_names t)) → names_of_optional (function_in to t) ≡ text_names t
+kept_names : (pins : List Pin) (to : List ℕ) (t : Text) → IsTrue (list_all (is_kept_input pins to) (text_names t))
+    → names_of_optional (function_in to t) ≡ text_names t
 kept_names pins to t h = names_of_function to t ∙ map_kept pins to (text_names t) h
 
 module _
@@ -98,7 +104,8 @@ module _
 
   data_are : IsTrue (list_all (is_input_or_own pins to m) (text_names data_text))
   data_are =
-      subst (λ (o : Option Arguments). IsTrue (list_all (is_input_or_own pins to m) (text_names (text_as v (own_scope v o) (attribute_of group (data_name group))))))
+      subst (λ (o : Option Arguments). IsTrue
+      (list_all (is_input_or_own pins to m) (text_names (text_as v (own_scope v o) (attribute_of group (data_name group))))))
       (sym e) (data_names_are states pins v to numbers m a first second (attribute_of group (data_name group)))
 
   names : NamesAre pins to m data_text control_text clear_text preset_text
@@ -131,7 +138,8 @@ module _
       → (few : IsTrue (nat_le (length (reading_of_texts v (length pins) group).support) 8))
       → (ff : Bool) → is_ff group ≡ ff
       → IsTrue (is_group pins m (record {
-        kind = if ff then kind.Ff (clocked to group (reading_of_texts v (length pins) group)) else kind.Latch (gated to group (reading_of_texts v (length pins) group));
+        kind = if ff then kind.Ff (clocked to group (reading_of_texts v (length pins) group))
+            else kind.Latch (gated to group (reading_of_texts v (length pins) group));
         support = (reading_of_texts v (length pins) group).support;
       }))
   group_of_kind some few true f =
@@ -142,12 +150,14 @@ module _
       let there = or_parts (is_missing (data_name group) group) (is_missing (control_name group) group) lack in
       let data_there : is_absent data_text ≡ false =
       absent_text v (own_scope v (arguments_of group)) (attribute_of group (data_name group)) ∙ there.0 in
-      let control_there : is_absent control_text ≡ false = absent_text v scope.Control (attribute_of group (control_name group)) ∙ there.1 in
+      let control_there : is_absent control_text ≡ false = absent_text v scope.Control (attribute_of group (control_name group))
+      ∙ there.1 in
       let control_written : names_of (function_of to control_text) ≡ text_names control_text =
       names_of_written to control_text sound.of_control control_there ∙ map_kept pins to (text_names control_text) control_kept in
       group_from pins to m data_text control_text clear_text preset_text names
       (kind.Ff (clocked to group (reading_of_texts v (length pins) group)))
-      (three (names_of (function_of to control_text)) (names_of_optional (function_in to clear_text)) (names_of_optional (function_in to preset_text))
+      (three (names_of (function_of to control_text)) (names_of_optional (function_in to clear_text))
+      (names_of_optional (function_in to preset_text))
       (text_names control_text) (text_names clear_text) (text_names preset_text) control_written clear_names preset_names)
       (names_of_written to data_text sound.of_data data_there)
       (second_of (attribute_of group (codes "clear_preset_var2")))
@@ -163,7 +173,8 @@ module _
       sound_has_function to data_text sound.of_data
       ∙ absent_text v (own_scope v (arguments_of group)) (attribute_of group (data_name group)) in
       let control_none : is_none (function_in to control_text) ≡ is_missing (control_name group) group =
-      sound_has_function to control_text sound.of_control ∙ absent_text v scope.Control (attribute_of group (control_name group)) in
+      sound_has_function to control_text sound.of_control ∙ absent_text v scope.Control (attribute_of group (control_name group))
+      in
       let neither : IsTrue (both_or_neither (function_in to data_text) (function_in to control_text)) =
       neither_or_both (function_in to data_text) (function_in to control_text)
       ∙ ap (λ b. both_or_none b (is_none (function_in to control_text))) data_none
@@ -171,10 +182,13 @@ module _
       ∙ both_there in
       group_from pins to m data_text control_text clear_text preset_text names
       (kind.Latch (gated to group (reading_of_texts v (length pins) group)))
-      (three (names_of_optional (function_in to control_text)) (names_of_optional (function_in to clear_text)) (names_of_optional (function_in to preset_text))
-      (text_names control_text) (text_names clear_text) (text_names preset_text) (kept_names pins to control_text control_kept) clear_names preset_names)
+      (three (names_of_optional (function_in to control_text)) (names_of_optional (function_in to clear_text))
+      (names_of_optional (function_in to preset_text))
+      (text_names control_text) (text_names clear_text) (text_names preset_text) (kept_names pins to control_text control_kept)
+      clear_names preset_names)
       (names_of_function to data_text)
-      (and_from (is_second (unwrap_or (second_both group) both.Unknown)) (both_or_neither (function_in to data_text) (function_in to control_text))
+      (and_from (is_second (unwrap_or (second_both group) both.Unknown))
+      (both_or_neither (function_in to data_text) (function_in to control_text))
       (second_of (attribute_of group (codes "clear_preset_var2"))) neither)
       some few
 

@@ -1,5 +1,6 @@
 -- What the names of a text that reads are, by what the text may name.
-use Rattle.std.proofs.Common.{◌≡◌, ℕ, ◌+◌, Bool, true, false, ◌&&◌, ◌||◌, List, [], ◌∷◌, ◌++◌, length, map, refl, sym, ◌∙◌, ap, subst, IsTrue, Option, Some, None, Result, Ok, Err, inl, inr, nat_eq, nat_le, slice_index, eqb-true}
+use Rattle.std.proofs.Common.{◌≡◌, ℕ, ◌+◌, Bool, true, false, ◌&&◌, ◌||◌, List, [], ◌∷◌, ◌++◌, length, map, refl, sym, ◌∙◌, ap}
+use Rattle.std.proofs.Common.{subst, IsTrue, Option, Some, None, Result, Ok, Err, inl, inr, nat_eq, nat_le, slice_index, eqb-true}
 use Rattle.std.specs.Prelude.{is_none, unwrap_or}
 use Rattle.std.specs.List.{list_all, list_any}
 use Rattle.std.proofs.lemmas.Bool.{cases_Bool, and_from, or_left, or_right, or_cases, or_parts, eq-eqb, le-leb}
@@ -11,7 +12,8 @@ use Rattle.bool_functions.specs.Tree.{names_of, renamed_step, renamed_by}
 use Rattle.bool_functions.specs.Support.{support_of}
 use Rattle.bool_functions.specs.NameList.{number_of}
 use Rattle.bool_functions.specs.FunctionText.{reading_of}
-use Rattle.bool_functions.proofs.Trees.{every_tree, names_Zero, names_One, names_Name, names_Not, names_Xor, names_And, names_Or, fold-Zero, fold-One, fold-Name, fold-Not, fold-Xor, fold-And, fold-Or}
+use Rattle.bool_functions.proofs.Trees.{every_tree, names_Zero, names_One, names_Name, names_Not, names_Xor, names_And, names_Or}
+use Rattle.bool_functions.proofs.Trees.{fold-Zero, fold-One, fold-Name, fold-Not, fold-Xor, fold-And, fold-Or}
 use Rattle.cell_machine.specs.declared.pins.Pin.{Pin}
 use Rattle.cell_machine.specs.Names.{names_of_optional}
 use Rattle.cell_machine.specs.CellRules.{is_input_pin}
@@ -27,7 +29,9 @@ use Rattle.cell_attributes.specs.declared.texts.Text.{Text}
 use Rattle.cell_attributes.specs.declared.texts.Text.TheVariants as text
 use Rattle.cell_attributes.specs.States.{Arguments, StateName}
 use Rattle.cell_attributes.specs.Vocabulary.{Vocabulary}
-use Rattle.cell_attributes.specs.Texts.{control_use, own_use, function_use, state_function_use, is_number, is_unknown, is_coupled, class_at, use_at, has_unknown, has_coupled, judged_tree, judged, text_as, is_node_class, node_at, node_text, malformed_at, unknown_at, coupled_at, text_support}
+use Rattle.cell_attributes.specs.Texts.{control_use, own_use, function_use, state_function_use, is_number, is_unknown, is_coupled}
+use Rattle.cell_attributes.specs.Texts.{class_at, use_at, has_unknown, has_coupled, judged_tree, judged, text_as, is_node_class}
+use Rattle.cell_attributes.specs.Texts.{node_at, node_text, malformed_at, unknown_at, coupled_at, text_support}
 use Rattle.cell_attributes.specs.StateReadings.{own_scope}
 use Rattle.cell_attributes.specs.Building.{number_in, function_in, function_of}
 use Rattle.cell_attributes.proofs.Fits.{support_all}
@@ -54,11 +58,14 @@ module _ (to : List ℕ) where
         ∙ ap (map (slice_index to)) (sym (names_Name i));
     not_of = λ f p. ap names_of (fold-Not Tree (renamed_step to) f) ∙ names_Not (renamed_by to f) ∙ p
         ∙ ap (map (slice_index to)) (sym (names_Not f));
-    xor_of = λ f g p q. ap names_of (fold-Xor Tree (renamed_step to) f g) ∙ names_Xor (renamed_by to f) (renamed_by to g) ∙ two f g p q
+    xor_of = λ f g p q. ap names_of (fold-Xor Tree (renamed_step to) f g) ∙ names_Xor (renamed_by to f) (renamed_by to g)
+        ∙ two f g p q
         ∙ ap (map (slice_index to)) (sym (names_Xor f g));
-    and_of = λ f g p q. ap names_of (fold-And Tree (renamed_step to) f g) ∙ names_And (renamed_by to f) (renamed_by to g) ∙ two f g p q
+    and_of = λ f g p q. ap names_of (fold-And Tree (renamed_step to) f g) ∙ names_And (renamed_by to f) (renamed_by to g)
+        ∙ two f g p q
         ∙ ap (map (slice_index to)) (sym (names_And f g));
-    or_of = λ f g p q. ap names_of (fold-Or Tree (renamed_step to) f g) ∙ names_Or (renamed_by to f) (renamed_by to g) ∙ two f g p q
+    or_of = λ f g p q. ap names_of (fold-Or Tree (renamed_step to) f g) ∙ names_Or (renamed_by to f) (renamed_by to g)
+        ∙ two f g p q
         ∙ ap (map (slice_index to)) (sym (names_Or f g));
   })
 
@@ -112,12 +119,14 @@ tree_is_there classes s at f =
       | inr e ↦ elim (cases_Bool (has_coupled classes s f)) [ inl k ↦ rw (e, k) refl | inr k ↦ rw (e, k) refl ]
     ]
 
-judged_is_there : (classes : List Class) (s : Scope) (at : ℕ) (r : Result Tree FunctionFault) → is_absent (judged classes s at r) ≡ false
+judged_is_there : (classes : List Class) (s : Scope) (at : ℕ) (r : Result Tree FunctionFault)
+    → is_absent (judged classes s at r) ≡ false
 judged_is_there classes s at (Ok f) = tree_is_there classes s at f
 judged_is_there classes s at (Err fault.TooLong) = refl
 judged_is_there classes s at (Err _) = refl
 
-pub absent_text : (v : Vocabulary) (s : Scope) (attribute : Option Attribute) → is_absent (text_as v s attribute) ≡ is_none attribute
+pub absent_text : (v : Vocabulary) (s : Scope) (attribute : Option Attribute)
+    → is_absent (text_as v s attribute) ≡ is_none attribute
 absent_text v s None = refl
 absent_text v s (Some attribute) = judged_is_there v.classes s attribute.at (reading_of v.names attribute.text)
 
@@ -148,7 +157,8 @@ tree_allowed classes s at f =
       | inl e ↦ rw e refl
       | inr e ↦ elim (cases_Bool (has_coupled classes s f)) [
         | inl k ↦ rw (e, k) refl
-        | inr k ↦ rw (e, k) (support_all (λ i. is_allowed (use_at classes s i)) f (allowed_all (use_at classes s) (support_of f) e k))
+        | inr k ↦ rw (e, k) (support_all (λ i. is_allowed (use_at classes s i)) f
+            (allowed_all (use_at classes s) (support_of f) e k))
       ]
     ]
 
@@ -211,9 +221,11 @@ module _
   control_number i n Variable h k = absurd cc
 
   -- the names of a text that names pins alone
-  pub control_names_are : (attribute : Option Attribute) → IsTrue (list_all (is_kept_input pins to) (text_names (text_as v scope.Control attribute)))
+  pub control_names_are : (attribute : Option Attribute)
+      → IsTrue (list_all (is_kept_input pins to) (text_names (text_as v scope.Control attribute)))
   control_names_are attribute =
-      list_all-implied (λ i. is_allowed (use_at v.classes scope.Control i)) (is_kept_input pins to) (text_names (text_as v scope.Control attribute))
+      list_all-implied (λ i. is_allowed (use_at v.classes scope.Control i)) (is_kept_input pins to)
+      (text_names (text_as v scope.Control attribute))
       (λ i h. control_number i (slice_index to i) (class_at v.classes i) h (numbers i)) (text_allowed v scope.Control attribute)
 
   own_number :
@@ -237,7 +249,8 @@ module _
             let same : n ≡ m = k.2 a.first (number_is_there i (number_of v.names a.first) one) ∙ ap (λ x. unwrap_or x i) f in
             or_left (nat_eq n m) (nat_eq n (m + 1)) (eq-eqb n m same)
         | inr one ↦
-            let same : n ≡ m + 1 = k.2 a.second (number_is_there i (number_of v.names a.second) one) ∙ ap (λ x. unwrap_or x i) s in
+            let same : n ≡ m + 1 = k.2 a.second (number_is_there i (number_of v.names a.second) one) ∙ ap (λ x. unwrap_or x i) s
+            in
             or_right (nat_eq n m) (nat_eq n (m + 1)) (eq-eqb n (m + 1) same)
       ] in
       or_right (nat_eq n i && is_input_pin pins i) (nat_le (length pins) i && (nat_eq n m || nat_eq n (m + 1)))
@@ -245,23 +258,29 @@ module _
 
   -- the names of a text that may name the own variables beside pins
   pub data_names_are :
-      (m : ℕ) (a : Arguments) → number_in states (length pins) a.first ≡ Some m → number_in states (length pins) a.second ≡ Some (m + 1)
-      → (attribute : Option Attribute) → IsTrue (list_all (is_input_or_own pins to m) (text_names (text_as v (own_scope v (Some a)) attribute)))
+      (m : ℕ) (a : Arguments) → number_in states (length pins) a.first ≡ Some m
+      → number_in states (length pins) a.second ≡ Some (m + 1)
+      → (attribute : Option Attribute)
+      → IsTrue (list_all (is_input_or_own pins to m) (text_names (text_as v (own_scope v (Some a)) attribute)))
   data_names_are m a f s attribute =
       list_all-implied (λ i. is_allowed (use_at v.classes (own_scope v (Some a)) i)) (is_input_or_own pins to m)
       (text_names (text_as v (own_scope v (Some a)) attribute))
-      (λ i h. own_number m i (slice_index to i) a (is_number i (number_of v.names a.first) || is_number i (number_of v.names a.second)) f s refl
+      (λ i h. own_number m i (slice_index to i) a
+      (is_number i (number_of v.names a.first) || is_number i (number_of v.names a.second)) f s refl
       (class_at v.classes i) h (numbers i))
       (text_allowed v (own_scope v (Some a)) attribute)
 
   pin_value : (i n : ℕ) → n ≡ i → IsTrue (is_input_pin pins i) → IsTrue (is_value_number (state_flags states) pins n)
   pin_value i n e h =
-      or_left (is_input_pin pins n) (is_variable (state_flags states) (length pins) n) (subst (λ x. IsTrue (is_input_pin pins x)) (sym e) h)
+      or_left (is_input_pin pins n) (is_variable (state_flags states) (length pins) n)
+      (subst (λ x. IsTrue (is_input_pin pins x)) (sym e) h)
 
-  variable_value : (n : ℕ) → IsTrue (is_variable (state_flags states) (length pins) n) → IsTrue (is_value_number (state_flags states) pins n)
+  variable_value : (n : ℕ) → IsTrue (is_variable (state_flags states) (length pins) n)
+      → IsTrue (is_value_number (state_flags states) pins n)
   variable_value n h = or_right (is_input_pin pins n) (is_variable (state_flags states) (length pins) n) h
 
-  function_number : (i n : ℕ) (c : Class) → is_allowed (function_use c) ≡ true → NumberIs states pins v.names i n c → IsTrue (is_value_number (state_flags states) pins n)
+  function_number : (i n : ℕ) (c : Class) → is_allowed (function_use c) ≡ true → NumberIs states pins v.names i n c
+      → IsTrue (is_value_number (state_flags states) pins n)
   function_number i n Input h k = pin_value i n k.0 k.1
   function_number i n Driven h k = absurd cc
   function_number i n Alias h k = absurd cc
@@ -269,7 +288,8 @@ module _
   function_number i n Node h k = absurd cc
   function_number i n Variable h k = variable_value n k.0
 
-  state_function_number : (i n : ℕ) (c : Class) → is_allowed (state_function_use c) ≡ true → NumberIs states pins v.names i n c → IsTrue (is_value_number (state_flags states) pins n)
+  state_function_number : (i n : ℕ) (c : Class) → is_allowed (state_function_use c) ≡ true → NumberIs states pins v.names i n c
+      → IsTrue (is_value_number (state_flags states) pins n)
   state_function_number i n Input h k = pin_value i n k.0 k.1
   state_function_number i n Driven h k = absurd cc
   state_function_number i n Alias h k = variable_value n k
@@ -277,7 +297,8 @@ module _
   state_function_number i n Node h k = absurd cc
   state_function_number i n Variable h k = absurd cc
 
-  node_number : (i n : ℕ) (c : Class) → is_node_class c ≡ true → NumberIs states pins v.names i n c → IsTrue (is_value_number (state_flags states) pins n)
+  node_number : (i n : ℕ) (c : Class) → is_node_class c ≡ true → NumberIs states pins v.names i n c
+      → IsTrue (is_value_number (state_flags states) pins n)
   node_number i n Input h k = absurd cc
   node_number i n Driven h k = absurd cc
   node_number i n Alias h k = absurd cc
@@ -285,26 +306,34 @@ module _
   node_number i n Node h k = variable_value n k
   node_number i n Variable h k = absurd cc
 
-  pub function_names_are : (attribute : Option Attribute) → IsTrue (names_values (state_flags states) pins to (text_as v scope.Function attribute))
+  pub function_names_are : (attribute : Option Attribute)
+      → IsTrue (names_values (state_flags states) pins to (text_as v scope.Function attribute))
   function_names_are attribute =
-      list_all-implied (λ i. is_allowed (use_at v.classes scope.Function i)) (λ i. is_value_number (state_flags states) pins (slice_index to i))
+      list_all-implied (λ i. is_allowed (use_at v.classes scope.Function i))
+      (λ i. is_value_number (state_flags states) pins (slice_index to i))
       (text_names (text_as v scope.Function attribute))
       (λ i h. function_number i (slice_index to i) (class_at v.classes i) h (numbers i)) (text_allowed v scope.Function attribute)
 
-  pub state_function_names_are : (attribute : Option Attribute) → IsTrue (names_values (state_flags states) pins to (text_as v scope.StateFunction attribute))
+  pub state_function_names_are : (attribute : Option Attribute)
+      → IsTrue (names_values (state_flags states) pins to (text_as v scope.StateFunction attribute))
   state_function_names_are attribute =
-      list_all-implied (λ i. is_allowed (use_at v.classes scope.StateFunction i)) (λ i. is_value_number (state_flags states) pins (slice_index to i))
+      list_all-implied (λ i. is_allowed (use_at v.classes scope.StateFunction i))
+      (λ i. is_value_number (state_flags states) pins (slice_index to i))
       (text_names (text_as v scope.StateFunction attribute))
-      (λ i h. state_function_number i (slice_index to i) (class_at v.classes i) h (numbers i)) (text_allowed v scope.StateFunction attribute)
+      (λ i h. state_function_number i (slice_index to i) (class_at v.classes i) h (numbers i))
+      (text_allowed v scope.StateFunction attribute)
 
   node_names_at : (at : ℕ) (number : Option ℕ) → IsTrue (names_values (state_flags states) pins to (node_at v.classes at number))
   node_names_at at None = refl
   node_names_at at (Some i) =
       elim (cases_Bool (is_node_class (class_at v.classes i))) [
         | inl e ↦
-            let here : IsTrue (is_value_number (state_flags states) pins (slice_index to i)) = node_number i (slice_index to i) (class_at v.classes i) e (numbers i) in
-            let one : IsTrue (list_all (λ j. is_value_number (state_flags states) pins (slice_index to j)) (i ∷ [])) = and_from (is_value_number (state_flags states) pins (slice_index to i)) true here refl in
-            rw e (subst (λ xs. IsTrue (list_all (λ j. is_value_number (state_flags states) pins (slice_index to j)) xs)) (sym (names_Name i)) one)
+            let here : IsTrue (is_value_number (state_flags states) pins (slice_index to i)) =
+            node_number i (slice_index to i) (class_at v.classes i) e (numbers i) in
+            let one : IsTrue (list_all (λ j. is_value_number (state_flags states) pins (slice_index to j)) (i ∷ [])) =
+            and_from (is_value_number (state_flags states) pins (slice_index to i)) true here refl in
+            rw e (subst (λ xs. IsTrue (list_all (λ j. is_value_number (state_flags states) pins (slice_index to j)) xs))
+            (sym (names_Name i)) one)
         | inr e ↦ rw e refl
       ]
 

@@ -1,5 +1,6 @@
 -- One more turn of the loops over the groups and names of a cell.
-use Rattle.std.proofs.Common.{◌≡◌, ℕ, suc, ◌+◌, ◌*◌, ◌<◌, false, List, [], ◌∷◌, ◌++◌, length, map, drop, get_or, refl, sym, ap, arith, nat_eq, append_assoc}
+use Rattle.std.proofs.Common.{◌≡◌, ℕ, suc, ◌+◌, ◌*◌, ◌<◌, false, List, [], ◌∷◌, ◌++◌, length, map, drop, get_or, refl, sym, ap}
+use Rattle.std.proofs.Common.{arith, nat_eq, append_assoc}
 use Rattle.std.specs.Prelude.{flat_map, bytes_eq}
 use Rattle.std.proofs.lemmas.List.{drop_more}
 use Rattle.bool_functions.specs.Support.{insert_all}
@@ -33,7 +34,8 @@ pub number_turn :
     → place < length states
     → bytes_eq (shown (get_or states place d)).first name ≡ false
     → is_second_name name (shown (get_or states place d)).second ≡ false
-    → number_in (map shown (drop (place + 1) states)) (pins + 2 * (place + 1)) name ≡ number_in (map shown (drop place states)) (pins + 2 * place) name
+    → number_in (map shown (drop (place + 1) states)) (pins + 2 * (place + 1)) name ≡ number_in (map shown (drop place states))
+    (pins + 2 * place) name
 number_turn shown pins place states name d within first second =
     let more : pins + 2 * (place + 1) ≡ pins + 2 * place + 2 = omega arith in
     rw (drop_more states place d within, first, second) (ap (λ n. number_in (map shown (drop (place + 1) states)) n name) more)
@@ -60,7 +62,8 @@ pub node_turn :
     {A : Type 0} (s : A → List ℕ) (table : StateTable) (r : StateReading) (names : List A) (node : ℕ)
     (done next : List StateGroup)
     → node < length names → next ≡ done ++ node_state r node table ∷ []
-    → next ++ node_groups table r (node + 1) (map s (drop (node + 1) names)) ≡ done ++ node_groups table r node (map s (drop node names))
+    → next ++ node_groups table r (node + 1) (map s (drop (node + 1) names)) ≡ done
+    ++ node_groups table r node (map s (drop node names))
 node_turn s table r [] node done next within more = absurd (omega arith)
 node_turn s table r (x ∷ xs) node done next within more =
     rw (drop_more (x ∷ xs) node x within)

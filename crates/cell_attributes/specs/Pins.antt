@@ -12,7 +12,8 @@ use Rattle.cell_attributes.specs.Groups.{pin_groups}
 abbrev pub direction_named : List ℕ → Option Direction
 direction_named text =
     if bytes_eq text (codes "input") then Some Input
-    else (if bytes_eq text (codes "output") then Some Output else (if bytes_eq text (codes "internal") then Some Internal else None))
+    else (if bytes_eq text (codes "output") then Some Output
+    else (if bytes_eq text (codes "internal") then Some Internal else None))
 
 abbrev pub direction_as : Option Attribute → Option Direction
 direction_as None = None

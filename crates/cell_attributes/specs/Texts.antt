@@ -1,6 +1,7 @@
 -- The function texts of a cell: what each may name, and what is wrong with it (Liberty Reference Manual, `ff`, `latch`,
 -- `function`, `state_function` and `internal_node`; this project's rules).
-use Rattle.std.specs.Prelude.{ℕ, Bool, true, false, ◌||◌, ◌==◌, List, [], ◌∷◌, Option, Some, None, unwrap_or, slice_get, Result, Ok, Err, if◌then◌else◌}
+use Rattle.std.specs.Prelude.{ℕ, Bool, true, false, ◌||◌, ◌==◌, List, [], ◌∷◌, Option, Some, None, unwrap_or, slice_get, Result}
+use Rattle.std.specs.Prelude.{Ok, Err, if◌then◌else◌}
 use Rattle.std.specs.Option.{option_map_or}
 use Rattle.std.specs.List.{list_any}
 use Rattle.bool_functions.specs.declared.tree.Node.{Node as Tree}

@@ -1,6 +1,7 @@
 -- The names that the function texts of a cell may name, and what each is (Liberty Reference Manual, `function`,
 -- `state_function`, `next_state` and the other function texts).
-use Rattle.std.specs.Prelude.{ℕ, Bool, true, false, List, [], ◌∷◌, ◌++◌, map, flat_map, codes, bytes_eq, Option, Some, None, is_some, if◌then◌else◌}
+use Rattle.std.specs.Prelude.{ℕ, Bool, true, false, List, [], ◌∷◌, ◌++◌, map, flat_map, codes, bytes_eq, Option, Some, None}
+use Rattle.std.specs.Prelude.{is_some, if◌then◌else◌}
 use Rattle.std.specs.Option.{option_map_or}
 use Rattle.std.specs.List.{list_any}
 use Rattle.liberty_groups.specs.declared.tree.Value.{Value}

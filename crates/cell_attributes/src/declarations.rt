@@ -3,18 +3,20 @@ ghost use Rattle.std.specs.Prelude.{◌≡◌, ◌++◌, ◌∷◌, ◌&&◌, []
 ghost use Rattle.std.specs.List.{list_all, list_any};
 ghost use Rattle.cell_machine.specs.Delay.{least};
 ghost use Rattle.cell_machine.specs.CellRules.{is_name as is_name_of};
-ghost use Rattle.cell_attributes.specs.Declarations.{Declared as DeclaredName, bears as bears_of, declared_pin, declared_state, declared_in as declared_in_of, may_share as may_share_of, clashes as clashes_of, clashes_after, bad_name_in as bad_name_in_of};
+ghost use Rattle.cell_attributes.specs.Declarations.{Declared as DeclaredName, bears as bears_of, declared_pin, declared_state};
+ghost use Rattle.cell_attributes.specs.Declarations.{declared_in as declared_in_of, may_share as may_share_of};
+ghost use Rattle.cell_attributes.specs.Declarations.{clashes as clashes_of, clashes_after, bad_name_in as bad_name_in_of};
 ghost use Rattle.cell_attributes.specs.KnownNames.{clash_in, IsAgainst, IsKnown};
 ghost use Rattle.cell_attributes.specs.States.{states_in as states_in_of};
 ghost use Rattle.cell_attributes.specs.Shown.{shown_name, shown_state};
 
 use crate::groups::{is_pin, is_state};
-use cell_machine::least::lesser;
 use crate::limits::MOST_NAME_BYTES;
 use crate::pins::direction_of;
 use crate::states::{StateName, states_in};
 use bool_functions::Names;
 use cell_machine::Direction;
+use cell_machine::least::lesser;
 use liberty_groups::{Group, last_attribute};
 use std::alloc::{AllocError, Global};
 
@@ -53,7 +55,8 @@ fn bears(group: &Group, name: &[u8]) -> bool
 
 /// Adds the names of the pins of a group.
 fn declare_pins<'a>(declared: &mut Vec<Declared<'a>>, group: &'a Group) -> Result<(), AllocError>
-    ensures { OnOk result (map shown_name declared.new.items ≡ map shown_name declared.old.items ++ map (declared_pin group.now) group.now.arguments) }
+    ensures { OnOk result (map shown_name declared.new.items ≡ map shown_name declared.old.items
+        ++ map (declared_pin group.now) group.now.arguments) }
 {
     for value in group.arguments.as_slice() {
         let name = value.bytes.as_slice();
@@ -77,7 +80,8 @@ fn declare_state<'a>(
     state: StateName<'a>,
     at: usize,
 ) -> Result<(), AllocError>
-    ensures { OnOk result (map shown_name declared.new.items ≡ map shown_name declared.old.items ++ declared_state at (shown_state state.entry)) }
+    ensures { OnOk result (map shown_name declared.new.items ≡ map shown_name declared.old.items
+        ++ declared_state at (shown_state state.entry)) }
 {
     let name = state.first;
     match state.second {
@@ -110,7 +114,8 @@ fn declare_states<'a>(
     declared: &mut Vec<Declared<'a>>,
     group: &'a Group,
 ) -> Result<(), AllocError>
-    ensures { OnOk result (map shown_name declared.new.items ≡ map shown_name declared.old.items ++ flat_map (declared_state group.now.at) (states_in_of group.now)) }
+    ensures { OnOk result (map shown_name declared.new.items ≡ map shown_name declared.old.items
+        ++ flat_map (declared_state group.now.at) (states_in_of group.now)) }
 {
     let states = states_in(alloc, group)?;
     for state in &states {
@@ -138,7 +143,8 @@ fn declare_group<'a>(
 
 /// The names that the groups of a cell declare, in order.
 pub fn declared_of<'a>(alloc: Global, groups: &[&'a Group]) -> Result<Vec<Declared<'a>>, AllocError>
-    ensures { IfOk result (λ declared. map shown_name declared.items ≡ flat_map declared_in_of (map (λ group. group.now) groups.now)) }
+    ensures { IfOk result (λ declared. map shown_name declared.items ≡ flat_map declared_in_of
+        (map (λ group. group.now) groups.now)) }
 {
     let mut declared = Vec::new(alloc);
     for group in groups {
@@ -180,7 +186,8 @@ impl Known {
 
 /// Adds a name to those with which a name of this role clashes, unless the two may share it.
 fn keep(names: &mut Names, role: Role, one: &Declared<'_>) -> Result<(), AllocError>
-    ensures { OnOk result ((earlier : List DeclaredName) → IsAgainst role earlier names.old → IsAgainst role (earlier ++ shown_name one.now ∷ []) names.new) }
+    ensures { OnOk result ((earlier : List DeclaredName) → IsAgainst role earlier names.old
+        → IsAgainst role (earlier ++ shown_name one.now ∷ []) names.new) }
 {
     if !may_share(role, one.role) {
         names.add(one.name)?;
@@ -190,7 +197,8 @@ fn keep(names: &mut Names, role: Role, one: &Declared<'_>) -> Result<(), AllocEr
 
 /// Adds a declared name.
 fn add(known: &mut Known, one: &Declared<'_>) -> Result<(), AllocError>
-    ensures { OnOk result ((earlier : List DeclaredName) → IsKnown earlier known.old → IsKnown (earlier ++ shown_name one.now ∷ []) known.new) }
+    ensures { OnOk result ((earlier : List DeclaredName) → IsKnown earlier known.old
+        → IsKnown (earlier ++ shown_name one.now ∷ []) known.new) }
 {
     keep(&mut known.plain, Role::Plain, one)?;
     keep(&mut known.bearers, Role::Bearer, one)?;
@@ -199,7 +207,8 @@ fn add(known: &mut Known, one: &Declared<'_>) -> Result<(), AllocError>
 
 /// Whether a declared name clashes with one of those that are declared so far.
 fn clashes_with(known: &Known, one: &Declared<'_>) -> bool
-    ensures { (earlier : List DeclaredName) → IsKnown earlier known.now → result ≡ list_any (clashes_of (shown_name one.now)) earlier }
+    ensures { (earlier : List DeclaredName) → IsKnown earlier known.now
+        → result ≡ list_any (clashes_of (shown_name one.now)) earlier }
 {
     known.against(one.role).number(one.name).is_some()
 }

@@ -71,10 +71,14 @@ pub(crate) fn group_texts(
     group: &Group,
     names: DrivingNames,
 ) -> Result<GroupTexts, AllocError>
-    ensures data_text { IfOk result (λ texts. texts.data_text ≡ text_as_of (shown_vocabulary vocabulary.now) (own_scope_of (shown_vocabulary vocabulary.now) (arguments_of_group group.now)) (attribute_of group.now names.data.now)) }
-    ensures control { IfOk result (λ texts. texts.control ≡ text_as_of (shown_vocabulary vocabulary.now) scope_of.Control (attribute_of group.now names.control.now)) }
-    ensures clear { IfOk result (λ texts. texts.clear ≡ text_as_of (shown_vocabulary vocabulary.now) scope_of.Control (attribute_of group.now (codes "clear"))) }
-    ensures preset { IfOk result (λ texts. texts.preset ≡ text_as_of (shown_vocabulary vocabulary.now) scope_of.Control (attribute_of group.now (codes "preset"))) }
+    ensures data_text { IfOk result (λ texts. texts.data_text ≡ text_as_of (shown_vocabulary vocabulary.now)
+        (own_scope_of (shown_vocabulary vocabulary.now) (arguments_of_group group.now)) (attribute_of group.now names.data.now)) }
+    ensures control { IfOk result (λ texts. texts.control ≡ text_as_of (shown_vocabulary vocabulary.now) scope_of.Control
+        (attribute_of group.now names.control.now)) }
+    ensures clear { IfOk result (λ texts. texts.clear ≡ text_as_of (shown_vocabulary vocabulary.now) scope_of.Control
+        (attribute_of group.now (codes "clear"))) }
+    ensures preset { IfOk result (λ texts. texts.preset ≡ text_as_of (shown_vocabulary vocabulary.now) scope_of.Control
+        (attribute_of group.now (codes "preset"))) }
 {
     let own = own_scope(vocabulary, arguments_of(group));
     let data_text = named_text(alloc, vocabulary, own, group, names.data);

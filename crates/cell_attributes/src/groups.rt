@@ -1,6 +1,7 @@
 //! The groups in a cell's group.
 ghost use Rattle.std.specs.Prelude.{◌≡◌, IfOk, map, filter};
-ghost use Rattle.cell_attributes.specs.Groups.{inner_groups as inner_groups_of, is_called as is_called_of, is_pin as is_pin_of, is_state as is_state_of, is_bank as is_bank_of, cell_name as cell_name_of};
+ghost use Rattle.cell_attributes.specs.Groups.{inner_groups as inner_groups_of, is_called as is_called_of, is_pin as is_pin_of};
+ghost use Rattle.cell_attributes.specs.Groups.{is_state as is_state_of, is_bank as is_bank_of, cell_name as cell_name_of};
 ghost use Rattle.cell_attributes.specs.Scans.{is_missing as is_missing_of};
 
 use liberty_groups::{Group, Item, last_attribute};
@@ -89,7 +90,8 @@ pub fn pins_among<'a>(alloc: Global, groups: &[&'a Group]) -> Result<Vec<&'a Gro
 
 /// Those of some groups that hold states, in order.
 pub fn states_among<'a>(alloc: Global, groups: &[&'a Group]) -> Result<Vec<&'a Group>, AllocError>
-    ensures { IfOk result (λ states. map (λ group. group.now) states.items ≡ filter is_state_of (map (λ group. group.now) groups.now)) }
+    ensures { IfOk result (λ states. map (λ group. group.now) states.items ≡ filter is_state_of
+        (map (λ group. group.now) groups.now)) }
 {
     groups_that!(alloc, groups, is_state)
 }

@@ -4,8 +4,8 @@ ghost use Rattle.cell_attributes.specs.Held.{IsKept};
 
 use std::alloc::AllocError;
 
-/// Both values, where the second one was made. It is a function of any types, so that what the first one owns is let go at one place
-/// where the second one was not made.
+/// Both values, where the second one was made. It is a function of any types, so that what the first one owns is let go at one
+/// place where the second one was not made.
 pub fn held_with<T: Drop, U>(held: T, made: Result<U, AllocError>) -> Result<(T, U), AllocError>
     ensures held { IfOk result (λ both. both.0 ≡ held) }
     ensures made { IfOk result (λ both. made ≡ Ok both.1) }

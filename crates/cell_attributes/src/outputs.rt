@@ -2,7 +2,8 @@
 ghost use Rattle.std.specs.Prelude.{◌≡◌, IfOk, map};
 ghost use Rattle.std.specs.Option.{option_map};
 ghost use Rattle.liberty_groups.specs.Attributes.{shown};
-ghost use Rattle.cell_attributes.specs.Outputs.{node_as as node_as_of, function_or as function_or_of, output_text as output_text_of, pin_text as pin_text_of};
+ghost use Rattle.cell_attributes.specs.Outputs.{node_as as node_as_of, function_or as function_or_of};
+ghost use Rattle.cell_attributes.specs.Outputs.{output_text as output_text_of, pin_text as pin_text_of};
 ghost use Rattle.cell_attributes.specs.Shown.{shown_vocabulary};
 
 use crate::pins::direction_of;
@@ -30,7 +31,8 @@ fn function_or(
     node: Option<Attribute<'_>>,
     function: Option<Attribute<'_>>,
 ) -> Result<Text, AllocError>
-    ensures { IfOk result (λ text. text ≡ function_or_of (shown_vocabulary vocabulary.now) (option_map shown node.entry) (option_map shown function.entry)) }
+    ensures { IfOk result (λ text. text ≡ function_or_of (shown_vocabulary vocabulary.now) (option_map shown node.entry)
+        (option_map shown function.entry)) }
 {
     match node {
         None => text_as(alloc, vocabulary, Scope::Function, function),
@@ -80,7 +82,8 @@ pub fn pin_texts(
     vocabulary: &Vocabulary<'_>,
     pins: &[&Group],
 ) -> Result<Items<Text>, AllocError>
-    ensures { IfOk result (λ texts. texts ≡ map (pin_text_of (shown_vocabulary vocabulary.now)) (map (λ group. group.now) pins.now)) }
+    ensures { IfOk result (λ texts. texts ≡ map (pin_text_of (shown_vocabulary vocabulary.now))
+        (map (λ group. group.now) pins.now)) }
 {
     let mut texts = Items::new(alloc);
     for pin in pins {

@@ -1,6 +1,7 @@
 //! The pins of a cell.
 ghost use Rattle.std.specs.Prelude.{◌≡◌, ◌++◌, OnOk, IfOk, map, flat_map};
-ghost use Rattle.cell_attributes.specs.Pins.{direction_named as direction_named_of, direction_of as direction_of_group, pins_in, owners_in};
+ghost use Rattle.cell_attributes.specs.Pins.{direction_named as direction_named_of, direction_of as direction_of_group, pins_in};
+ghost use Rattle.cell_attributes.specs.Pins.{owners_in};
 
 use cell_machine::{Direction, Pin};
 use liberty_groups::{Group, last_attribute};
@@ -58,7 +59,8 @@ pub fn pins_of(alloc: Global, groups: &[&Group]) -> Result<Items<Pin>, AllocErro
 
 /// Adds a group for each pin that it makes.
 fn add_owner<'a>(owners: &mut Vec<&'a Group>, group: &'a Group) -> Result<(), AllocError>
-    ensures { OnOk result (map (λ owner. owner.now) owners.new.items ≡ map (λ owner. owner.now) owners.old.items ++ owners_in group.now) }
+    ensures { OnOk result (map (λ owner. owner.now) owners.new.items ≡ map (λ owner. owner.now) owners.old.items
+        ++ owners_in group.now) }
 {
     for _value in group.arguments.as_slice() {
         owners.push(group)?;
@@ -68,7 +70,8 @@ fn add_owner<'a>(owners: &mut Vec<&'a Group>, group: &'a Group) -> Result<(), Al
 
 /// For each pin of some groups the group that makes it.
 pub fn owners_of<'a>(alloc: Global, groups: &[&'a Group]) -> Result<Vec<&'a Group>, AllocError>
-    ensures { IfOk result (λ owners. map (λ owner. owner.now) owners.items ≡ flat_map owners_in (map (λ group. group.now) groups.now)) }
+    ensures { IfOk result (λ owners. map (λ owner. owner.now) owners.items ≡ flat_map owners_in
+        (map (λ group. group.now) groups.now)) }
 {
     let mut owners = Vec::new(alloc);
     for group in groups {

@@ -1,6 +1,10 @@
 //! What the groups that hold states say.
 ghost use Rattle.std.specs.Prelude.{◌≡◌, IfOk, map};
-ghost use Rattle.cell_attributes.specs.StateReadings.{is_ff as is_ff_of, data_name as data_name_of, control_name as control_name_of, lacks_attribute as lacks_attribute_of, group_malformed as group_malformed_of, place_if as place_if_of, holds_state as holds_state_of, reading_of_texts, reading_of_table, state_reading};
+ghost use Rattle.cell_attributes.specs.StateReadings.{is_ff as is_ff_of, data_name as data_name_of};
+ghost use Rattle.cell_attributes.specs.StateReadings.{control_name as control_name_of, lacks_attribute as lacks_attribute_of};
+ghost use Rattle.cell_attributes.specs.StateReadings.{group_malformed as group_malformed_of, place_if as place_if_of};
+ghost use Rattle.cell_attributes.specs.StateReadings.{holds_state as holds_state_of, reading_of_texts, reading_of_table};
+ghost use Rattle.cell_attributes.specs.StateReadings.{state_reading};
 ghost use Rattle.cell_attributes.specs.Shown.{shown_vocabulary};
 
 use crate::group_texts::{DrivingNames, group_texts};
@@ -119,7 +123,8 @@ struct Readings<'a, 'b> {
 impl Readings<'_, '_> {
     /// What an `ff` or `latch` says.
     fn of_texts(&self, group: &Group) -> Result<StateReading, AllocError>
-        ensures { IfOk result (λ reading. reading ≡ reading_of_texts (shown_vocabulary self.now.vocabulary.now) self.now.pins group.now) }
+        ensures { IfOk result (λ reading. reading ≡ reading_of_texts (shown_vocabulary self.now.vocabulary.now) self.now.pins
+            group.now) }
     {
         let holds = holds_state(self.alloc, group)?;
         let texts = group_texts(self.alloc, self.vocabulary, group, driving_names(group))?;
@@ -149,7 +154,8 @@ impl Readings<'_, '_> {
 
     /// What a `statetable` says.
     fn of_table(&self, group: &Group) -> Result<StateReading, AllocError>
-        ensures { IfOk result (λ reading. reading ≡ reading_of_table (shown_vocabulary self.now.vocabulary.now) self.now.pins group.now) }
+        ensures { IfOk result (λ reading. reading ≡ reading_of_table (shown_vocabulary self.now.vocabulary.now) self.now.pins
+            group.now) }
     {
         let holds = holds_state(self.alloc, group)?;
         let arguments = arguments_of(group);
@@ -175,7 +181,8 @@ impl Readings<'_, '_> {
 
     /// What a group that holds states says.
     fn of_group(&self, group: &Group) -> Result<StateReading, AllocError>
-        ensures { IfOk result (λ reading. reading ≡ state_reading (shown_vocabulary self.now.vocabulary.now) self.now.pins group.now) }
+        ensures { IfOk result (λ reading. reading ≡ state_reading (shown_vocabulary self.now.vocabulary.now) self.now.pins
+            group.now) }
     {
         if is_table(group) {
             self.of_table(group)
@@ -192,7 +199,8 @@ pub fn state_readings(
     pins: usize,
     groups: &[&Group],
 ) -> Result<Items<StateReading>, AllocError>
-    ensures { IfOk result (λ readings. readings ≡ map (state_reading (shown_vocabulary vocabulary.now) pins) (map (λ group. group.now) groups.now)) }
+    ensures { IfOk result (λ readings. readings ≡ map (state_reading (shown_vocabulary vocabulary.now) pins)
+        (map (λ group. group.now) groups.now)) }
 {
     let with = Readings {
         alloc,

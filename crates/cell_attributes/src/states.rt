@@ -2,7 +2,8 @@
 ghost use Rattle.std.specs.Prelude.{◌≡◌, ◌++◌, OnOk, IfOk, map, flat_map};
 ghost use Rattle.std.specs.Option.{option_map};
 ghost use Rattle.cell_attributes.specs.Groups.{names_in as names_in_of};
-ghost use Rattle.cell_attributes.specs.States.{both_named as both_named_of, states_in as states_in_of, is_table as is_table_of, arguments_of as arguments_of_group, node_named};
+ghost use Rattle.cell_attributes.specs.States.{both_named as both_named_of, states_in as states_in_of, is_table as is_table_of};
+ghost use Rattle.cell_attributes.specs.States.{arguments_of as arguments_of_group, node_named};
 ghost use Rattle.cell_attributes.specs.Shown.{shown_state, shown_arguments};
 
 use crate::groups::is_called;

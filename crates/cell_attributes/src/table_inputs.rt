@@ -1,7 +1,9 @@
 //! The names of the inputs of a `statetable`.
 ghost use Rattle.std.specs.Prelude.{◌≡◌, IfOk, map};
 ghost use Rattle.std.specs.Option.{option_map};
-ghost use Rattle.cell_attributes.specs.StateReadings.{word_use as word_use_of, has_unknown_word as has_unknown_word_of, has_coupled_word as has_coupled_word_of, input_words as input_words_of, number_in as number_in_names, numbers_of as numbers_of_words};
+ghost use Rattle.cell_attributes.specs.StateReadings.{word_use as word_use_of, has_unknown_word as has_unknown_word_of};
+ghost use Rattle.cell_attributes.specs.StateReadings.{has_coupled_word as has_coupled_word_of, input_words as input_words_of};
+ghost use Rattle.cell_attributes.specs.StateReadings.{number_in as number_in_names, numbers_of as numbers_of_words};
 ghost use Rattle.cell_attributes.specs.Shown.{shown_vocabulary, shown_arguments};
 
 use crate::states::{Arguments, names_in};
@@ -11,7 +13,8 @@ use std::alloc::{AllocError, Global};
 
 /// The names of the inputs of a table.
 fn input_words(alloc: Global, arguments: Option<Arguments<'_>>) -> Result<Vec<&[u8]>, AllocError>
-    ensures { IfOk result (λ words. map (λ word. word.now) words.items ≡ input_words_of (option_map shown_arguments arguments.entry)) }
+    ensures { IfOk result (λ words. map (λ word. word.now) words.items ≡ input_words_of
+        (option_map shown_arguments arguments.entry)) }
 {
     match arguments {
         None => Ok(Vec::new(alloc)),
@@ -70,7 +73,8 @@ fn numbers_of(
     vocabulary: &Vocabulary<'_>,
     words: &[&[u8]],
 ) -> Result<Vec<usize>, AllocError>
-    ensures { IfOk result (λ numbers. numbers.items ≡ numbers_of_words (shown_vocabulary vocabulary.now) (map (λ word. word.now) words.now)) }
+    ensures { IfOk result (λ numbers. numbers.items ≡ numbers_of_words (shown_vocabulary vocabulary.now)
+        (map (λ word. word.now) words.now)) }
 {
     let mut numbers = Vec::new(alloc);
     for word in words {
@@ -98,9 +102,12 @@ pub(crate) fn table_inputs(
     vocabulary: &Vocabulary<'_>,
     arguments: Option<Arguments<'_>>,
 ) -> Result<TableInputs, AllocError>
-    ensures numbers { IfOk result (λ inputs. inputs.numbers.items ≡ numbers_of_words (shown_vocabulary vocabulary.now) (input_words_of (option_map shown_arguments arguments.entry))) }
-    ensures unknown { IfOk result (λ inputs. inputs.unknown ≡ has_unknown_word_of (shown_vocabulary vocabulary.now) (input_words_of (option_map shown_arguments arguments.entry))) }
-    ensures coupled { IfOk result (λ inputs. inputs.coupled ≡ has_coupled_word_of (shown_vocabulary vocabulary.now) (input_words_of (option_map shown_arguments arguments.entry))) }
+    ensures numbers { IfOk result (λ inputs. inputs.numbers.items ≡ numbers_of_words (shown_vocabulary vocabulary.now)
+        (input_words_of (option_map shown_arguments arguments.entry))) }
+    ensures unknown { IfOk result (λ inputs. inputs.unknown ≡ has_unknown_word_of (shown_vocabulary vocabulary.now)
+        (input_words_of (option_map shown_arguments arguments.entry))) }
+    ensures coupled { IfOk result (λ inputs. inputs.coupled ≡ has_coupled_word_of (shown_vocabulary vocabulary.now)
+        (input_words_of (option_map shown_arguments arguments.entry))) }
 {
     let words = input_words(alloc, arguments)?;
     let numbers = numbers_of(alloc, vocabulary, &words)?;

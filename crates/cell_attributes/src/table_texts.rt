@@ -4,7 +4,8 @@ ghost use Rattle.std.specs.List.{list_all};
 ghost use Rattle.std.specs.Option.{option_map};
 ghost use Rattle.cell_machine.specs.CellRules.{is_free as is_free_symbol};
 ghost use Rattle.liberty_groups.specs.Attributes.{shown};
-ghost use Rattle.cell_attributes.specs.StateReadings.{is_uncoupled as is_uncoupled_of, table_text as table_text_of, table_with as table_with_of};
+ghost use Rattle.cell_attributes.specs.StateReadings.{is_uncoupled as is_uncoupled_of, table_text as table_text_of};
+ghost use Rattle.cell_attributes.specs.StateReadings.{table_with as table_with_of};
 ghost use Rattle.cell_attributes.specs.Shown.{shown_arguments};
 
 use crate::states::{Arguments, names_in};
@@ -86,7 +87,8 @@ pub(crate) fn table_with(
     arguments: Option<Arguments<'_>>,
     attribute: Option<Attribute<'_>>,
 ) -> Result<Text, AllocError>
-    ensures { IfOk result (λ text. text ≡ table_with_of (option_map shown_arguments arguments.entry) (option_map shown attribute.entry)) }
+    ensures { IfOk result (λ text. text ≡ table_with_of (option_map shown_arguments arguments.entry)
+        (option_map shown attribute.entry)) }
 {
     let Some(arguments) = arguments else {
         return Ok(Text::Absent);

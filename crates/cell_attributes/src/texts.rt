@@ -4,7 +4,14 @@ ghost use Rattle.std.specs.List.{list_any};
 ghost use Rattle.std.specs.Option.{option_map};
 ghost use Rattle.cell_machine.specs.Delay.{least};
 ghost use Rattle.liberty_groups.specs.Attributes.{shown};
-ghost use Rattle.cell_attributes.specs.Texts.{control_use as control_use_of, own_use as own_use_of, function_use as function_use_of, state_function_use as state_function_use_of, use_of as use_of_name, use_at as use_at_place, is_unknown as is_unknown_use, is_coupled as is_coupled_use, class_at as class_at_place, is_number as is_number_of, text_with, judged_tree, text_as as text_of, is_node_class as is_node_class_of, node_text as node_text_of, malformed_at as malformed_at_of, unknown_at as unknown_at_of, coupled_at as coupled_at_of};
+ghost use Rattle.cell_attributes.specs.Texts.{control_use as control_use_of, own_use as own_use_of};
+ghost use Rattle.cell_attributes.specs.Texts.{function_use as function_use_of, state_function_use as state_function_use_of};
+ghost use Rattle.cell_attributes.specs.Texts.{use_of as use_of_name, use_at as use_at_place, is_unknown as is_unknown_use};
+ghost use Rattle.cell_attributes.specs.Texts.{is_coupled as is_coupled_use, class_at as class_at_place};
+ghost use Rattle.cell_attributes.specs.Texts.{is_number as is_number_of, text_with, judged_tree, text_as as text_of};
+ghost use Rattle.cell_attributes.specs.Texts.{is_node_class as is_node_class_of, node_text as node_text_of};
+ghost use Rattle.cell_attributes.specs.Texts.{malformed_at as malformed_at_of, unknown_at as unknown_at_of};
+ghost use Rattle.cell_attributes.specs.Texts.{coupled_at as coupled_at_of};
 ghost use Rattle.cell_attributes.specs.Shown.{shown_vocabulary};
 
 use crate::held::kept_unless;

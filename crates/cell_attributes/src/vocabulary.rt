@@ -1,7 +1,10 @@
 //! The names that the function texts of a cell may name, and what each is.
 ghost use Rattle.std.specs.Prelude.{◌≡◌, ◌++◌, [], OnOk, IfOk, map, flat_map};
 ghost use Rattle.std.specs.Option.{option_map};
-ghost use Rattle.cell_attributes.specs.Vocabulary.{is_node as is_node_of, internal_class as internal_class_of, class_as, is_bound as is_bound_of, target_as as target_as_of, pin_entries, state_entries, entries_of as entries_of_cell, firsts_after, entry_names, entry_classes, entry_targets, vocabulary_of as vocabulary_of_cell};
+ghost use Rattle.cell_attributes.specs.Vocabulary.{is_node as is_node_of, internal_class as internal_class_of, class_as};
+ghost use Rattle.cell_attributes.specs.Vocabulary.{is_bound as is_bound_of, target_as as target_as_of, pin_entries};
+ghost use Rattle.cell_attributes.specs.Vocabulary.{state_entries, entries_of as entries_of_cell, firsts_after, entry_names};
+ghost use Rattle.cell_attributes.specs.Vocabulary.{entry_classes, entry_targets, vocabulary_of as vocabulary_of_cell};
 ghost use Rattle.liberty_groups.specs.Attributes.{shown};
 ghost use Rattle.cell_attributes.specs.Pins.{direction_of as direction_of_group};
 ghost use Rattle.cell_attributes.specs.Shown.{shown_state, shown_entry};
@@ -119,7 +122,8 @@ fn add_pins<'a>(
     states: &[StateName<'_>],
     group: &'a Group,
 ) -> Result<(), AllocError>
-    ensures { OnOk result (map shown_entry entries.new.items ≡ map shown_entry entries.old.items ++ pin_entries (map shown_state states.now) group.now) }
+    ensures { OnOk result (map shown_entry entries.new.items ≡ map shown_entry entries.old.items
+        ++ pin_entries (map shown_state states.now) group.now) }
 {
     for value in group.arguments.as_slice() {
         let name = value.bytes.as_slice();
@@ -136,7 +140,8 @@ fn add_pins<'a>(
 
 /// Adds the variables of a state, or its node.
 fn add_state<'a>(entries: &mut Vec<Entry<'a>>, state: StateName<'a>) -> Result<(), AllocError>
-    ensures { OnOk result (map shown_entry entries.new.items ≡ map shown_entry entries.old.items ++ state_entries (shown_state state.entry)) }
+    ensures { OnOk result (map shown_entry entries.new.items ≡ map shown_entry entries.old.items
+        ++ state_entries (shown_state state.entry)) }
 {
     let name = state.first;
     match state.second {
@@ -171,7 +176,8 @@ fn all_pins<'a>(
     states: &[StateName<'_>],
     pins: &[&'a Group],
 ) -> Result<Vec<Entry<'a>>, AllocError>
-    ensures { IfOk result (λ entries. map shown_entry entries.items ≡ flat_map (pin_entries (map shown_state states.now)) (map (λ group. group.now) pins.now)) }
+    ensures { IfOk result (λ entries. map shown_entry entries.items ≡ flat_map (pin_entries (map shown_state states.now))
+        (map (λ group. group.now) pins.now)) }
 {
     let mut entries = Vec::new(alloc);
     for pin in pins {
@@ -186,7 +192,8 @@ fn entries_of<'a>(
     states: &[StateName<'a>],
     pins: &[&'a Group],
 ) -> Result<Vec<Entry<'a>>, AllocError>
-    ensures { IfOk result (λ entries. map shown_entry entries.items ≡ entries_of_cell (map shown_state states.now) (map (λ group. group.now) pins.now)) }
+    ensures { IfOk result (λ entries. map shown_entry entries.items ≡ entries_of_cell (map shown_state states.now)
+        (map (λ group. group.now) pins.now)) }
 {
     let mut entries = all_pins(alloc, states, pins)?;
     for state in states {
@@ -197,9 +204,13 @@ fn entries_of<'a>(
 
 /// Adds the entries whose names are not there yet, in order.
 fn add_entries<'a>(vocabulary: &mut Vocabulary<'a>, entries: &[Entry<'a>]) -> Result<(), AllocError>
-    ensures names { OnOk result (vocabulary.new.names ≡ vocabulary.old.names ++ entry_names (firsts_after vocabulary.old.names (map shown_entry entries.now))) }
-    ensures classes { OnOk result (vocabulary.new.classes.items ≡ vocabulary.old.classes.items ++ entry_classes (firsts_after vocabulary.old.names (map shown_entry entries.now))) }
-    ensures targets { OnOk result (map (λ name. name.now) vocabulary.new.targets.items ≡ map (λ name. name.now) vocabulary.old.targets.items ++ entry_targets (firsts_after vocabulary.old.names (map shown_entry entries.now))) }
+    ensures names { OnOk result (vocabulary.new.names ≡ vocabulary.old.names
+        ++ entry_names (firsts_after vocabulary.old.names (map shown_entry entries.now))) }
+    ensures classes { OnOk result (vocabulary.new.classes.items ≡ vocabulary.old.classes.items
+        ++ entry_classes (firsts_after vocabulary.old.names (map shown_entry entries.now))) }
+    ensures targets { OnOk result (map (λ name. name.now) vocabulary.new.targets.items ≡ map
+        (λ name. name.now) vocabulary.old.targets.items
+        ++ entry_targets (firsts_after vocabulary.old.names (map shown_entry entries.now))) }
 {
     for entry in entries {
         if vocabulary.names.add(entry.name)?.is_some() {
@@ -214,7 +225,8 @@ fn add_entries<'a>(vocabulary: &mut Vocabulary<'a>, entries: &[Entry<'a>]) -> Re
 fn vocabulary_of<'a>(alloc: Global, entries: &[Entry<'a>]) -> Result<Vocabulary<'a>, AllocError>
     ensures names { IfOk result (λ v. v.names ≡ entry_names (firsts_after [] (map shown_entry entries.now))) }
     ensures classes { IfOk result (λ v. v.classes.items ≡ entry_classes (firsts_after [] (map shown_entry entries.now))) }
-    ensures targets { IfOk result (λ v. map (λ name. name.now) v.targets.items ≡ entry_targets (firsts_after [] (map shown_entry entries.now))) }
+    ensures targets { IfOk result (λ v. map (λ name. name.now) v.targets.items ≡ entry_targets
+        (firsts_after [] (map shown_entry entries.now))) }
 {
     let mut vocabulary = Vocabulary {
         names: Names::new(alloc),
@@ -231,9 +243,12 @@ pub fn read_vocabulary<'a>(
     states: &[StateName<'a>],
     pins: &[&'a Group],
 ) -> Result<Vocabulary<'a>, AllocError>
-    ensures names { IfOk result (λ v. v.names ≡ entry_names (vocabulary_of_cell (map shown_state states.now) (map (λ group. group.now) pins.now))) }
-    ensures classes { IfOk result (λ v. v.classes.items ≡ entry_classes (vocabulary_of_cell (map shown_state states.now) (map (λ group. group.now) pins.now))) }
-    ensures targets { IfOk result (λ v. map (λ name. name.now) v.targets.items ≡ entry_targets (vocabulary_of_cell (map shown_state states.now) (map (λ group. group.now) pins.now))) }
+    ensures names { IfOk result (λ v. v.names ≡ entry_names
+        (vocabulary_of_cell (map shown_state states.now) (map (λ group. group.now) pins.now))) }
+    ensures classes { IfOk result (λ v. v.classes.items ≡ entry_classes
+        (vocabulary_of_cell (map shown_state states.now) (map (λ group. group.now) pins.now))) }
+    ensures targets { IfOk result (λ v. map (λ name. name.now) v.targets.items ≡ entry_targets
+        (vocabulary_of_cell (map shown_state states.now) (map (λ group. group.now) pins.now))) }
 {
     let entries = entries_of(alloc, states, pins)?;
     vocabulary_of(alloc, &entries)

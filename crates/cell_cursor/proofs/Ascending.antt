@@ -1,5 +1,6 @@
 -- The items of a library stand in the order of their offsets, and are no more than its bytes.
-use Rattle.std.proofs.Common.{◌≡◌, ℕ, zero, suc, ◌+◌, ◌≤◌, Bool, true, false, List, [], ◌∷◌, ◌++◌, length, Option, Some, None, Ok, Err, cond, codes, refl, sym, ap, subst, ◌∙◌, length-append, arith}
+use Rattle.std.proofs.Common.{◌≡◌, ℕ, zero, suc, ◌+◌, ◌≤◌, Bool, true, false, List, [], ◌∷◌, ◌++◌, length, Option, Some, None, Ok}
+use Rattle.std.proofs.Common.{Err, cond, codes, refl, sym, ap, subst, ◌∙◌, length-append, arith}
 use Rattle.std.specs.Str.{bytes_eq}
 use Rattle.std.specs.List.{AllByRecursion}
 use Rattle.std.proofs.lemmas.List.{append-nil, append_assoc, length-map}
@@ -27,7 +28,8 @@ use Rattle.liberty_groups.specs.Grammar.{expect, start_by, begun_by, starts, sta
 use Rattle.liberty_groups.specs.Library.{levels_inside, header, one_text}
 use Rattle.cell_cursor.specs.declared.item.LibraryItem.{LibraryItem}
 use Rattle.cell_cursor.specs.declared.item.LibraryItem.TheVariants as given_item
-use Rattle.cell_cursor.specs.Items.{named_item, given_by, given, item_statement, adding, statements_after, file_end, library_end, rest_inside, items_in, items_outcome, items_of_bytes, Ascend}
+use Rattle.cell_cursor.specs.Items.{named_item, given_by, given, item_statement, adding, statements_after, file_end, library_end}
+use Rattle.cell_cursor.specs.Items.{rest_inside, items_in, items_outcome, items_of_bytes, Ascend}
 use Rattle.cell_cursor.proofs.Prefix.{Told}
 use Rattle.cell_cursor.proofs.StatementOffsets.{AllAt, given_at, reads_at}
 
@@ -41,7 +43,8 @@ sorted_from : (m n : ℕ) (s : List Lexeme) → n ≤ m → Sorted m s → Sorte
 sorted_from m n [] h i = tt
 sorted_from m n (x ∷ s) h i = let k = i.0 in (omega (arith, h, k), i.1)
 
-sorted_tokens : (from len : ℕ) (text : List ℕ) (ts : List Token) → AreInOrder from ts → AllByRecursion (IsInside len) ts → Sorted from (lexemes_of text ts)
+sorted_tokens : (from len : ℕ) (text : List ℕ) (ts : List Token) → AreInOrder from ts → AllByRecursion (IsInside len) ts
+    → Sorted from (lexemes_of text ts)
 sorted_tokens from len text [] h i = tt
 sorted_tokens from len text (t ∷ ts) h i =
     let some = i.0.some in
@@ -72,7 +75,8 @@ adds_nothing : (items : List LibraryItem) (from most : ℕ) (o : Told) → items
 adds_nothing items from most o e = record { added = []; is = e ∙ sym (append-nil items); ascend = tt; few = omega arith }
 
 adds_earlier :
-    (items : List LibraryItem) (m n few most : ℕ) (o : Told) → n ≤ m → few ≤ most → AddsFrom items m few o → AddsFrom items n most o
+    (items : List LibraryItem) (m n few most : ℕ) (o : Told) → n ≤ m → few ≤ most → AddsFrom items m few o
+    → AddsFrom items n most o
 adds_earlier items m n few most o h i a = record {
   added = a.added;
   is = a.is;
@@ -80,7 +84,8 @@ adds_earlier items m n few most o h i a = record {
   few = let k = a.few in omega (arith, k, i);
 }
 
-joined : (from at : ℕ) (one more : List LibraryItem) → from ≤ at → AllAt at one → length one ≤ 1 → Ascend (at + 1) more → Ascend from (one ++ more)
+joined : (from at : ℕ) (one more : List LibraryItem) → from ≤ at → AllAt at one → length one ≤ 1 → Ascend (at + 1) more
+    → Ascend from (one ++ more)
 joined from at [] more h i l a = ascend_from (at + 1) from more (omega (arith, h)) a
 joined from at (x ∷ []) more h i l a =
     let e = i.0 in (omega (arith, h, e), subst (λ (k : ℕ). Ascend (k + 1) more) (sym e) a)
@@ -104,13 +109,17 @@ few_named : (name : List ℕ) (at : ℕ) → length (named_item name at) ≤ 1
 few_named name at = few_cond (bytes_eq name (codes "include_file")) (given_item.LeftOut at ∷ []) [] (omega arith) (omega arith)
 
 few_by : (one : Item-F Item Group) → length (given_by one) ≤ 1
-few_by (Item-F.Simple name values at) = few_cond (bytes_eq name (codes "time_unit")) (given_item.Unit (record { value = one_text values; at = at }) ∷ []) (named_item name at) (omega arith) (few_named name at)
+few_by (Item-F.Simple name values at) =
+    few_cond (bytes_eq name (codes "time_unit")) (given_item.Unit (record { value = one_text values; at = at }) ∷ [])
+    (named_item name at) (omega arith) (few_named name at)
 few_by (Item-F.Complex name _ at) = few_named name at
 few_by (Item-F.Inner group) =
     let name = (out-Group group).name in
     let at = (out-Group group).at in
-    few_cond (bytes_eq name (codes "cell")) (given_item.Cell group ∷ []) (cond (bytes_eq name (codes "type")) (given_item.BusType group ∷ []) (named_item name at)) (omega arith)
-    (few_cond (bytes_eq name (codes "type")) (given_item.BusType group ∷ []) (named_item name at) (omega arith) (few_named name at))
+    few_cond (bytes_eq name (codes "cell")) (given_item.Cell group ∷ [])
+    (cond (bytes_eq name (codes "type")) (given_item.BusType group ∷ []) (named_item name at)) (omega arith)
+    (few_cond (bytes_eq name (codes "type")) (given_item.BusType group ∷ []) (named_item name at) (omega arith)
+    (few_named name at))
 
 few_given : (one : Item) → length (given one) ≤ 1
 unfolding given
@@ -123,7 +132,8 @@ abbrev onward : Told → Told
 onward o = and_then o (λ w q. turns (λ _. starts) go w q)
 
 named_adds : (items : List LibraryItem) (from most : ℕ) (x : Lexeme) (o : Outcome Lexeme Refusal Item) → from ≤ x.token.at →
-    ((one : Item) (left : List Lexeme) → o ≡ Ok (one, left) → AllAt x.token.at (given one) × AddsFrom (items ++ given one) (x.token.at + 1) most (turns (λ _. starts) go (items ++ given one) left)) →
+    ((one : Item) (left : List Lexeme) → o ≡ Ok (one, left) → AllAt x.token.at (given one)
+    × AddsFrom (items ++ given one) (x.token.at + 1) most (turns (λ _. starts) go (items ++ given one) left)) →
     AddsFrom items from (suc most) (onward (marked (λ k. (items, k)) (and_then o (λ one q. Ok (items ++ given one, q)))))
 named_adds items from most x (Ok p) h i =
     let k = i p.0 p.1 refl in
@@ -131,7 +141,9 @@ named_adds items from most x (Ok p) h i =
 named_adds items from most x (Err e) h i = adds_nothing items from (suc most) (Err ((items, e.0), e.1)) refl
 
 statement_adds : (items : List LibraryItem) (from most : ℕ) (x : Lexeme) (s : List Lexeme) → from ≤ x.token.at →
-    ((one : Item) (left : List Lexeme) → read (statement levels_inside x.bytes x.token.at) s ≡ Ok (one, left) → AllAt x.token.at (given one) × AddsFrom (items ++ given one) (x.token.at + 1) most (turns (λ _. starts) go (items ++ given one) left)) →
+    ((one : Item) (left : List Lexeme) → read (statement levels_inside x.bytes x.token.at) s ≡ Ok (one, left)
+    → AllAt x.token.at (given one) × AddsFrom (items ++ given one) (x.token.at + 1) most
+    (turns (λ _. starts) go (items ++ given one) left)) →
     AddsFrom items from (suc most) (onward (read (item_statement items x.bytes x.token.at) s))
 unfolding item_statement
 statement_adds items from most x s h i = named_adds items from most x (read (statement levels_inside x.bytes x.token.at) s) h i
@@ -150,25 +162,31 @@ turns_add n items [] from l h = adds_nothing items from 0 (Ok (items, [])) refl
 turns_add zero items (x ∷ s) from l h = absurd (omega (arith, l))
 turns_add (suc n) items (x ∷ s) from l h =
     let first = h.0 in
-    subst (λ (o : Told). AddsFrom items from (suc (length s)) o) (sym (unroll (λ _. starts) go (parts_shrink adding) items (x ∷ s)))
+    subst (λ (o : Told). AddsFrom items from (suc (length s)) o)
+    (sym (unroll (λ _. starts) go (parts_shrink adding) items (x ∷ s)))
     (first_adds items from (suc (length s)) (start_by x.token.kind) x s
-    (adds_earlier items (x.token.at + 1) from (length s) (suc (length s)) (turns (λ _. starts) go items s) (omega (arith, first)) (omega arith)
+    (adds_earlier items (x.token.at + 1) from (length s) (suc (length s)) (turns (λ _. starts) go items s) (omega (arith, first))
+    (omega arith)
     (turns_add n items s (x.token.at + 1) (omega (arith, l)) h.1))
     (statement_adds items from (length s) x s first
     (λ one left e.
     let short = shrinks (statement levels_inside x.bytes x.token.at) s one left e in
-    let end : Suffix s left = subst (λ (o : Outcome Lexeme Refusal Item). Suffix s (rest_of o)) e (suffix (statement levels_inside x.bytes x.token.at) s) in (
+    let end : Suffix s left = subst (λ (o : Outcome Lexeme Refusal Item). Suffix s (rest_of o)) e
+    (suffix (statement levels_inside x.bytes x.token.at) s) in (
       given_at one x.token.at (reads_at levels_inside x.bytes x.token.at s one left e),
       adds_earlier (items ++ given one) (x.token.at + 1) (x.token.at + 1) (length left) (length s)
           (turns (λ _. starts) go (items ++ given one) left) (omega arith) (omega (arith, short))
-          (turns_add n (items ++ given one) left (x.token.at + 1) (omega (arith, l, short)) (sorted_suffix (x.token.at + 1) s left end h.1)),
+          (turns_add n (items ++ given one) left (x.token.at + 1) (omega (arith, l, short))
+          (sorted_suffix (x.token.at + 1) s left end h.1)),
     ))))
 
-then_in : (o : Told) (g : List LibraryItem → List Lexeme → Told) → ((a : List LibraryItem) (m : List Lexeme) → items_in (g a m) ≡ a) → items_in (and_then o g) ≡ items_in o
+then_in : (o : Told) (g : List LibraryItem → List Lexeme → Told)
+    → ((a : List LibraryItem) (m : List Lexeme) → items_in (g a m) ≡ a) → items_in (and_then o g) ≡ items_in o
 then_in (Ok p) g h = h p.0 p.1
 then_in (Err e) g h = refl
 
-end_in_by : (items : List LibraryItem) (o : Outcome Lexeme Refusal (Unit {0})) → items_in (and_then (marked (λ k. (items, k)) o) (λ _ m. read (file_end items) m)) ≡ items
+end_in_by : (items : List LibraryItem) (o : Outcome Lexeme Refusal (Unit {0}))
+    → items_in (and_then (marked (λ k. (items, k)) o) (λ _ m. read (file_end items) m)) ≡ items
 end_in_by items (Ok p) = file_in items p.1
   where
     file_in : (items : List LibraryItem) (s : List Lexeme) → items_in (read (file_end items) s) ≡ items
@@ -189,7 +207,8 @@ inside_few : (from : ℕ) (s : List Lexeme) → Sorted from s → AreFew from (l
 unfolding rest_inside
 inside_few from s h =
     let a = turns_add (length s) [] s from (omega arith) h in
-    subst (λ (l : List LibraryItem). AreFew from (length s) l) (sym (then_in (read (statements_after []) s) (λ all m. read (library_end all) m) end_in ∙ a.is))
+    subst (λ (l : List LibraryItem). AreFew from (length s) l)
+    (sym (then_in (read (statements_after []) s) (λ all m. read (library_end all) m) end_in ∙ a.is))
     (record { ascend = a.ascend; few = a.few })
 
 suffix_short : (s left : List Lexeme) → Suffix s left → length left ≤ length s
@@ -203,7 +222,8 @@ start_few from s (Ok p) h i =
 start_few from s (Err e) h i = record { ascend = tt; few = omega arith }
 
 -- tokens are no more than the bytes
-tokens_few : (from len : ℕ) (ts : List Token) → from ≤ len → AreInOrder from ts → AllByRecursion (IsInside len) ts → from + length ts ≤ len
+tokens_few : (from len : ℕ) (ts : List Token) → from ≤ len → AreInOrder from ts → AllByRecursion (IsInside len) ts
+    → from + length ts ≤ len
 tokens_few from len [] h order inside = omega (arith, h)
 tokens_few from len (t ∷ ts) h order inside =
     let first = order.0 in
@@ -217,7 +237,8 @@ unfolding items_outcome
 items_kept bytes =
     let ts = (scan_of bytes).0 in
     start_few 0 (lexemes_of bytes ts) (read header (lexemes_of bytes ts)) (suffix header (lexemes_of bytes ts))
-    (sorted_tokens 0 (length bytes) bytes ts (all_in_order bytes ts refl) (recursion_from_All (IsInside (length bytes)) ts (all_inside bytes ts refl)))
+    (sorted_tokens 0 (length bytes) bytes ts (all_in_order bytes ts refl)
+    (recursion_from_All (IsInside (length bytes)) ts (all_inside bytes ts refl)))
 
 pub items_ascend : (bytes : List ℕ) → Ascend 0 (items_of_bytes bytes)
 items_ascend bytes = (items_kept bytes).ascend
@@ -227,5 +248,6 @@ items_few bytes =
     let ts = (scan_of bytes).0 in
     let few = (items_kept bytes).few in
     let same = length-map ts (lexeme_of bytes) in
-    let tokens = tokens_few 0 (length bytes) ts (omega arith) (all_in_order bytes ts refl) (recursion_from_All (IsInside (length bytes)) ts (all_inside bytes ts refl)) in
+    let tokens = tokens_few 0 (length bytes) ts (omega arith) (all_in_order bytes ts refl)
+    (recursion_from_All (IsInside (length bytes)) ts (all_inside bytes ts refl)) in
     omega (arith, few, same, tokens)

@@ -1,5 +1,6 @@
 -- A part is cut where a statement ended, before a token that is in it.
-use Rattle.std.proofs.Common.{◌≡◌, ℕ, ◌+◌, ◌≤◌, false, List, [], ◌∷◌, ◌++◌, map, reverse, length, take, drop, Option, None, Some, IfSome, refl, sym, ap, subst, ◌∙◌, arith, length-append}
+use Rattle.std.proofs.Common.{◌≡◌, ℕ, ◌+◌, ◌≤◌, false, List, [], ◌∷◌, ◌++◌, map, reverse, length, take, drop, Option, None, Some}
+use Rattle.std.proofs.Common.{IfSome, refl, sym, ap, subst, ◌∙◌, arith, length-append}
 use Rattle.std.proofs.lemmas.List.{append-nil, append_assoc, append_cancel_left, take-append-drop, length-take-le, map-append}
 use Rattle.std.proofs.Math.Seq.{take-append_seam, drop-append_seam}
 use Rattle.grammar_rules.specs.Reading.{and_then, read}
@@ -43,7 +44,8 @@ pub record Restarts (b : List ℕ) (front : List Token) (n : ℕ) : Type 0 where
   pub within : n ≤ length b
   pub inside : LieInside (take n b) front
 
-pub restarts : (b : List ℕ) (E : List Token) (t : Token) (V : List Token) → (scan_of b).0 ≡ E ++ t ∷ V → Restarts b (E ++ t ∷ []) t.end
+pub restarts : (b : List ℕ) (E : List Token) (t : Token) (V : List Token) → (scan_of b).0 ≡ E ++ t ∷ V
+    → Restarts b (E ++ t ∷ []) t.end
 restarts b E t V e =
     let c = around (reads b (scan_of b).0 (scan_of b).1 refl refl) E t V e in
     let head = c.q ++ c.w in
@@ -54,7 +56,8 @@ restarts b E t V e =
     let us = (run (Between false) t.end c.r).0 in
     let stop = (run (Between false) t.end c.r).1 in
     let lexes : Lexes 0 false b (E ++ t ∷ us) stop =
-    subst (λ (s : List ℕ). Lexes 0 false s (E ++ t ∷ us) stop) (sym c.split) (c.goes (c.w ++ c.r) (t ∷ us) stop (c.begins c.r) (c.spells c.r us stop c.ends (sound c.r (Between false) t.end))) in
+    subst (λ (s : List ℕ). Lexes 0 false s (E ++ t ∷ us) stop) (sym c.split)
+    (c.goes (c.w ++ c.r) (t ∷ us) stop (c.begins c.r) (c.spells c.r us stop c.ends (sound c.r (Between false) t.end))) in
     let short : Reads head (E ++ t ∷ []) End =
     subst (λ (s : List ℕ). Lexes 0 false s (E ++ t ∷ []) End) (ap (λ (s : List ℕ). c.q ++ s) (append-nil c.w))
     (c.goes (c.w ++ []) (t ∷ []) End (c.begins []) (c.spells [] [] End (λ _. refl) lex.end)) in
@@ -76,19 +79,26 @@ drop_more n xs ys h =
     ∙ drop-append_seam (take n xs) (drop n xs ++ ys)
 
 -- the bytes before the cut lead on
-leads_past : (before front tail : List ℕ) (ts : List Token) (items all : List LibraryItem) → LeadTo before (front ++ tail) place.Inside items →
+leads_past : (before front tail : List ℕ) (ts : List Token) (items all : List LibraryItem)
+    → LeadTo before (front ++ tail) place.Inside items →
     scan_of (front ++ tail) ≡ after_tokens ts (all_moved (length front) (scan_of tail)) → LieInside front ts →
-    read (rest_at place.Inside []) (lexemes_behind (length before) front ts ++ lexemes_behind (length before + length front) tail (scan_of tail).0) ≡ read (rest_at place.Inside all) (lexemes_behind (length before + length front) tail (scan_of tail).0) →
+    read (rest_at place.Inside []) (lexemes_behind (length before) front ts
+    ++ lexemes_behind (length before + length front) tail (scan_of tail).0) ≡ read (rest_at place.Inside all)
+    (lexemes_behind (length before + length front) tail (scan_of tail).0) →
     LeadTo (before ++ front) tail place.Inside (items ++ all)
 leads_past before front tail ts items all leads scanned inside comes = record {
   outcome =
       ap items_outcome (append_assoc before front tail)
       ∙ leads.outcome
-      ∙ ap (read (rest_at place.Inside items)) (ap (λ (p : List Token × Stop). lexemes_behind (length before) (front ++ tail) p.0) scanned ∙ lexemes_split (length before) front tail ts (scan_of tail).0 inside)
-      ∙ rest_behind place.Inside items (lexemes_behind (length before) front ts ++ lexemes_behind (length before + length front) tail (scan_of tail).0)
+      ∙ ap (read (rest_at place.Inside items))
+      (ap (λ (p : List Token × Stop). lexemes_behind (length before) (front ++ tail) p.0) scanned
+      ∙ lexemes_split (length before) front tail ts (scan_of tail).0 inside)
+      ∙ rest_behind place.Inside items
+      (lexemes_behind (length before) front ts ++ lexemes_behind (length before + length front) tail (scan_of tail).0)
       ∙ ap (prefixed items) comes
       ∙ sym (rest_prefixed place.Inside items all (lexemes_behind (length before + length front) tail (scan_of tail).0))
-      ∙ ap (λ (n : ℕ). read (rest_at place.Inside (items ++ all)) (lexemes_behind n tail (scan_of tail).0)) (sym (length-append before front));
+      ∙ ap (λ (n : ℕ). read (rest_at place.Inside (items ++ all)) (lexemes_behind n tail (scan_of tail).0))
+      (sym (length-append before front));
   stop =
       ap (λ (b : List ℕ). (scan_of b).1) (append_assoc before front tail)
       ∙ leads.stop
@@ -104,7 +114,8 @@ reads_past : (all : List LibraryItem) (s k others : List Lexeme) → ReadsOn [] 
     read (rest_at place.Inside []) (s ++ (k ++ others)) ≡ read (rest_at place.Inside all) (k ++ others)
 unfolding rest_inside
 reads_past all s k others h =
-    ap (λ (l : List Lexeme). and_then (read (statements_after []) l) (λ found m. read (library_end found) m)) (sym (append_assoc s k others))
+    ap (λ (l : List Lexeme). and_then (read (statements_after []) l) (λ found m. read (library_end found) m))
+    (sym (append_assoc s k others))
     ∙ ap (λ o. and_then o (λ found m. read (library_end found) m)) (h others)
 
 -- of lists of one length the ends of a list are equal
@@ -131,29 +142,38 @@ inside_back text [] us h = h
 inside_back text (t ∷ ts) us h = inside_back text ts us h.2
 
 -- what stands behind the cut, whatever follows
-cut_leads : (before bytes more : List ℕ) (E : List Token) (t : Token) (back : List Token) (mode : Mode) (items all : List LibraryItem) →
-    LeadTo before (bytes ++ more) place.Inside items → AreScanned bytes ((E ++ t ∷ []) ++ back) mode → LieInside bytes ((E ++ t ∷ []) ++ back) →
+cut_leads : (before bytes more : List ℕ) (E : List Token) (t : Token) (back : List Token) (mode : Mode)
+    (items all : List LibraryItem) →
+    LeadTo before (bytes ++ more) place.Inside items → AreScanned bytes ((E ++ t ∷ []) ++ back) mode
+    → LieInside bytes ((E ++ t ∷ []) ++ back) →
     ReadsUpTo [] (lexemes_behind (length before) bytes ((E ++ t ∷ []) ++ back)) all (length back) →
     LeadTo (before ++ take t.end bytes) (drop t.end bytes ++ more) place.Inside (items ++ all)
 cut_leads before bytes more E t back mode items all leads scanned inside (s, k, split, size, on) =
     let front = E ++ t ∷ [] in
     let nb = length before in
     let short : Restarts bytes front t.end =
-    restarts bytes E t (back ++ (closing mode (length bytes)).0) (ap (λ (p : List Token × Stop). p.0) (scan_splits bytes (front ++ back) mode scanned) ∙ append_assoc front back (closing mode (length bytes)).0 ∙ append_assoc E (t ∷ []) (back ++ (closing mode (length bytes)).0)) in
+    restarts bytes E t (back ++ (closing mode (length bytes)).0)
+    (ap (λ (p : List Token × Stop). p.0) (scan_splits bytes (front ++ back) mode scanned)
+    ∙ append_assoc front back (closing mode (length bytes)).0
+    ∙ append_assoc E (t ∷ []) (back ++ (closing mode (length bytes)).0)) in
     let us = (run mode (length bytes) more).0 in
-    let tokens : (scan_of (bytes ++ more)).0 ≡ front ++ (back ++ us) = ap (λ (p : List Token × Stop). p.0) (scanned more) ∙ append_assoc front back us in
-    let long : Restarts (bytes ++ more) front t.end = restarts (bytes ++ more) E t (back ++ us) (tokens ∙ append_assoc E (t ∷ []) (back ++ us)) in
+    let tokens : (scan_of (bytes ++ more)).0 ≡ front ++ (back ++ us) = ap (λ (p : List Token × Stop). p.0) (scanned more)
+    ∙ append_assoc front back us in
+    let long : Restarts (bytes ++ more) front t.end =
+    restarts (bytes ++ more) E t (back ++ us) (tokens ∙ append_assoc E (t ∷ []) (back ++ us)) in
     let head = take t.end bytes in
     let tail = drop t.end bytes ++ more in
     let head_size : length head ≡ t.end = length-take-le t.end bytes short.within in
-    let whole : bytes ++ more ≡ head ++ tail = ap (λ (b : List ℕ). b ++ more) (sym (take-append-drop t.end bytes)) ∙ append_assoc head (drop t.end bytes) more in
+    let whole : bytes ++ more ≡ head ++ tail = ap (λ (b : List ℕ). b ++ more) (sym (take-append-drop t.end bytes))
+    ∙ append_assoc head (drop t.end bytes) more in
     let again : scan_of (bytes ++ more) ≡ after_tokens front (all_moved (length head) (scan_of tail)) =
     long.scanned
     ∙ ap (λ (b : List ℕ). after_tokens front (run (Between false) t.end b)) (drop_more t.end bytes more short.within)
     ∙ ap (λ (n : ℕ). after_tokens front (run (Between false) n tail)) (sym head_size)
     ∙ ap (after_tokens front) (scan_behind (length head) tail) in
     let moved : map (behind (length head)) (scan_of tail).0 ≡ back ++ us =
-    append_cancel_left front (map (behind (length head)) (scan_of tail).0) (back ++ us) (sym (ap (λ (p : List Token × Stop). p.0) again) ∙ tokens) in
+    append_cancel_left front (map (behind (length head)) (scan_of tail).0) (back ++ us)
+    (sym (ap (λ (p : List Token × Stop). p.0) again) ∙ tokens) in
     let others = lexemes_behind nb (bytes ++ more) us in
     let behind_all : lexemes_behind (nb + length head) tail (scan_of tail).0 ≡ lexemes_behind nb bytes back ++ others =
     sym (lexemes_moved nb head tail (scan_of tail).0)
@@ -162,33 +182,45 @@ cut_leads before bytes more E t back mode items all leads scanned inside (s, k, 
     ∙ map-append (lexeme_behind nb (bytes ++ more)) back us
     ∙ ap (λ (l : List Lexeme). l ++ others) (lexemes_longer nb bytes more back (inside_back bytes front back inside)) in
     let parts : (lexemes_behind nb bytes front ≡ s) × (lexemes_behind nb bytes back ≡ k) =
-    same_end (lexemes_behind nb bytes front) (lexemes_behind nb bytes back) s k (sym (map-append (lexeme_behind nb bytes) front back) ∙ split) (length_map nb bytes back ∙ sym size) in
+    same_end (lexemes_behind nb bytes front) (lexemes_behind nb bytes back) s k
+    (sym (map-append (lexeme_behind nb bytes) front back) ∙ split) (length_map nb bytes back ∙ sym size) in
     let front_same : lexemes_behind nb head front ≡ s =
-    sym (lexemes_longer nb head (drop t.end bytes) front short.inside) ∙ ap (λ (b : List ℕ). lexemes_behind nb b front) (take-append-drop t.end bytes) ∙ parts.0 in
+    sym (lexemes_longer nb head (drop t.end bytes) front short.inside)
+    ∙ ap (λ (b : List ℕ). lexemes_behind nb b front) (take-append-drop t.end bytes) ∙ parts.0 in
     let on' : ReadsOn [] (s ++ k) all k = subst (λ (l : List Lexeme). ReadsOn [] l all k) split on in
-    let all_same : lexemes_behind (nb + length head) tail (scan_of tail).0 ≡ k ++ others = behind_all ∙ ap (λ (l : List Lexeme). l ++ others) parts.1 in
+    let all_same : lexemes_behind (nb + length head) tail (scan_of tail).0 ≡ k ++ others =
+    behind_all ∙ ap (λ (l : List Lexeme). l ++ others) parts.1 in
     leads_past before head tail front items all (subst (λ (b : List ℕ). LeadTo before b place.Inside items) whole leads)
     (ap scan_of (sym whole) ∙ again) short.inside
-    (ap (λ (l : List Lexeme). read (rest_at place.Inside []) (l ++ lexemes_behind (nb + length head) tail (scan_of tail).0)) front_same
+    (ap (λ (l : List Lexeme). read (rest_at place.Inside []) (l ++ lexemes_behind (nb + length head) tail (scan_of tail).0))
+    front_same
     ∙ ap (λ (l : List Lexeme). read (rest_at place.Inside []) (s ++ l)) all_same
     ∙ reads_past all s k others on'
     ∙ ap (read (rest_at place.Inside all)) (sym all_same))
 
-end_within : (text : List ℕ) (E : List Token) (t : Token) (back : List Token) → LieInside text ((E ++ t ∷ []) ++ back) → t.end ≤ length text
+end_within : (text : List ℕ) (E : List Token) (t : Token) (back : List Token) → LieInside text ((E ++ t ∷ []) ++ back)
+    → t.end ≤ length text
 end_within text [] t back h = h.1
 end_within text (u ∷ E) t back h = end_within text E t back h.2
 
 -- statements were taken before a name, and what is behind them was scanned anew
-pub stands_past : (o n : CellCursor) (front back E : List Token) (t : Token) (all : List LibraryItem) → o.answer ≡ None → o.place ≡ place.Inside →
-    AreScanned o.part.bytes o.part.tokens o.part.mode → LieInside o.part.bytes o.part.tokens → o.part.tokens ≡ front ++ back → front ≡ E ++ t ∷ [] →
+pub stands_past : (o n : CellCursor) (front back E : List Token) (t : Token) (all : List LibraryItem) → o.answer ≡ None
+    → o.place ≡ place.Inside →
+    AreScanned o.part.bytes o.part.tokens o.part.mode → LieInside o.part.bytes o.part.tokens → o.part.tokens ≡ front ++ back
+    → front ≡ E ++ t ∷ [] →
     ReadsUpTo [] (lexemes_behind o.part.before o.part.bytes o.part.tokens) all (length back) →
-    n.limit ≡ o.limit → n.answer ≡ o.answer → n.place ≡ o.place → n.piece ≡ o.piece → n.part.before ≡ o.part.before + t.end → n.part.bytes ≡ drop t.end o.part.bytes →
-    has_outer place.Inside (kinds_of n.part.tokens) ≡ false → n.waiting.items ≡ reverse all → (bytes : List ℕ) (items : List LibraryItem) → Goes o bytes items → Stands n bytes items
-stands_past o n front back E t all going here scanned inside split last reach limit_is answer_is place_is piece_is before_is bytes_are none waits bytes items goes =
+    n.limit ≡ o.limit → n.answer ≡ o.answer → n.place ≡ o.place → n.piece ≡ o.piece → n.part.before ≡ o.part.before + t.end
+    → n.part.bytes ≡ drop t.end o.part.bytes →
+    has_outer place.Inside (kinds_of n.part.tokens) ≡ false → n.waiting.items ≡ reverse all
+    → (bytes : List ℕ) (items : List LibraryItem) → Goes o bytes items → Stands n bytes items
+stands_past o n front back E t all going here scanned inside split last reach limit_is answer_is place_is piece_is before_is
+    bytes_are none waits bytes items goes =
     let g = goes.keeps in
     let tokens : o.part.tokens ≡ (E ++ t ∷ []) ++ back = split ∙ ap (λ (l : List Token). l ++ back) last in
-    let scanned' : AreScanned o.part.bytes ((E ++ t ∷ []) ++ back) o.part.mode = subst (λ (l : List Token). AreScanned o.part.bytes l o.part.mode) tokens scanned in
-    let inside' : LieInside o.part.bytes ((E ++ t ∷ []) ++ back) = subst (λ (l : List Token). LieInside o.part.bytes l) tokens inside in
+    let scanned' : AreScanned o.part.bytes ((E ++ t ∷ []) ++ back) o.part.mode =
+    subst (λ (l : List Token). AreScanned o.part.bytes l o.part.mode) tokens scanned in
+    let inside' : LieInside o.part.bytes ((E ++ t ∷ []) ++ back) =
+    subst (λ (l : List Token). LieInside o.part.bytes l) tokens inside in
     let reach' : ReadsUpTo [] (lexemes_behind (length g.before) o.part.bytes ((E ++ t ∷ []) ++ back)) all (length back) =
     subst (λ (k : ℕ). ReadsUpTo [] (lexemes_behind k o.part.bytes ((E ++ t ∷ []) ++ back)) all (length back)) g.size
     (subst (λ (l : List Token). ReadsUpTo [] (lexemes_behind o.part.before o.part.bytes l) all (length back)) tokens reach) in
@@ -196,7 +228,8 @@ stands_past o n front back E t all going here scanned inside split last reach li
     let head = take t.end o.part.bytes in
     let head_size : length head ≡ t.end = length-take-le t.end o.part.bytes within in
     let sizes : length o.part.bytes ≡ t.end + length n.part.bytes =
-    (let k = ap length (take-append-drop t.end o.part.bytes) in let j = ap length bytes_are in omega (arith, k, j, head_size, length-append head (drop t.end o.part.bytes))) in
+    (let k = ap length (take-append-drop t.end o.part.bytes) in let j = ap length bytes_are
+    in omega (arith, k, j, head_size, length-append head (drop t.end o.part.bytes))) in
     let same : scanned_by o ≡ scanned_by n = omega (arith, before_is, sizes) in
     let keeps : Keeps n bytes (items ++ all) = record {
       before = g.before ++ head;
@@ -211,43 +244,55 @@ stands_past o n front back E t all going here scanned inside split last reach li
       leads = λ more.
           subst (λ (p : Place). LeadTo (g.before ++ head) (n.part.bytes ++ more) p (items ++ all)) (sym (place_is ∙ here))
           (subst (λ (b : List ℕ). LeadTo (g.before ++ head) (b ++ more) place.Inside (items ++ all)) (sym bytes_are)
-          (cut_leads g.before o.part.bytes more E t back o.part.mode items all (subst (λ (p : Place). LeadTo g.before (o.part.bytes ++ more) p items) here (g.leads more)) scanned' inside' reach'));
+          (cut_leads g.before o.part.bytes more E t back o.part.mode items all
+          (subst (λ (p : Place). LeadTo g.before (o.part.bytes ++ more) p items) here (g.leads more)) scanned' inside'
+          reach'));
     } in
     let k = taken_within o bytes items o.limit g o.within in
     stands_by n None bytes items all (answer_is ∙ going) waits
     (record {
       keeps = keeps;
       inner = subst (λ (p : Place). has_outer p (kinds_of n.part.tokens) ≡ false) (sym (place_is ∙ here)) none;
-      seen = subst (λ (m : ℕ). HasSeen (m + 1) bytes (items ++ all)) same (seen_items (scanned_by o + 1) bytes items all goes.seen);
+      seen = subst (λ (m : ℕ). HasSeen (m + 1) bytes (items ++ all)) same
+          (seen_items (scanned_by o + 1) bytes items all goes.seen);
     })
     (omega (arith, k, limit_is))
     (subst (λ (b : List ℕ). HasGiven b items) (append-nil bytes) (given_of_going o bytes [] items (omega arith) goes))
 
 -- as found by the code
 
-some_cut : (here : Place) (part rest : Scanned) (all : List LibraryItem) (found : Option Scanned) → IfSome found (λ r. IsCut here part r all) → found ≡ Some rest → IsCut here part rest all
+some_cut : (here : Place) (part rest : Scanned) (all : List LibraryItem) (found : Option Scanned)
+    → IfSome found (λ r. IsCut here part r all) → found ≡ Some rest → IsCut here part rest all
 some_cut here part rest all found h e = subst (λ (v : Option Scanned). IfSome v (λ r. IsCut here part r all)) e h
 
-pub stands_cut : (o n : CellCursor) (part rest : Scanned) (all : List LibraryItem) (found : Option Scanned) → o.answer ≡ None → part ≡ o.part → IfSome found (λ r. IsCut o.place part r all) → found ≡ Some rest → n.part ≡ rest →
-    n.limit ≡ o.limit → n.answer ≡ o.answer → n.place ≡ o.place → n.piece ≡ o.piece → n.waiting.items ≡ reverse all → (bytes : List ℕ) (items : List LibraryItem) → Goes o bytes items → Stands n bytes items
+pub stands_cut : (o n : CellCursor) (part rest : Scanned) (all : List LibraryItem) (found : Option Scanned) → o.answer ≡ None
+    → part ≡ o.part → IfSome found (λ r. IsCut o.place part r all) → found ≡ Some rest → n.part ≡ rest →
+    n.limit ≡ o.limit → n.answer ≡ o.answer → n.place ≡ o.place → n.piece ≡ o.piece → n.waiting.items ≡ reverse all
+    → (bytes : List ℕ) (items : List LibraryItem) → Goes o bytes items → Stands n bytes items
 stands_cut o n part rest all found going part_is cut is rest_is limit_is answer_is place_is piece_is waits bytes items goes =
     let c : IsCut o.place o.part n.part all =
-    subst (λ (p : Scanned). IsCut o.place o.part p all) (sym rest_is) (subst (λ (p : Scanned). IsCut o.place p rest all) part_is (some_cut o.place part rest all found cut is)) in
-    stands_past o n (c.before_last ++ c.last ∷ []) c.back c.before_last c.last all going c.inside_library c.scanned c.lie_inside c.split refl c.reach limit_is answer_is place_is piece_is c.before c.bytes c.inner waits bytes items goes
+    subst (λ (p : Scanned). IsCut o.place o.part p all) (sym rest_is)
+    (subst (λ (p : Scanned). IsCut o.place p rest all) part_is (some_cut o.place part rest all found cut is)) in
+    stands_past o n (c.before_last ++ c.last ∷ []) c.back c.before_last c.last all going c.inside_library c.scanned c.lie_inside
+    c.split refl c.reach limit_is answer_is place_is piece_is c.before c.bytes c.inner waits bytes items goes
 
 -- a cut takes no byte and adds none
-pub cut_size : (here : Place) (part rest : Scanned) (all : List LibraryItem) (found : Option Scanned) → IfSome found (λ r. IsCut here part r all) → found ≡ Some rest →
+pub cut_size : (here : Place) (part rest : Scanned) (all : List LibraryItem) (found : Option Scanned)
+    → IfSome found (λ r. IsCut here part r all) → found ≡ Some rest →
     rest.before + length rest.bytes ≡ part.before + length part.bytes
 cut_size here part rest all found h e =
     let c = some_cut here part rest all found h e in
-    let within : c.last.end ≤ length part.bytes = end_within part.bytes c.before_last c.last c.back (subst (λ (l : List Token). LieInside part.bytes l) c.split c.lie_inside) in
+    let within : c.last.end ≤ length part.bytes =
+    end_within part.bytes c.before_last c.last c.back
+    (subst (λ (l : List Token). LieInside part.bytes l) c.split c.lie_inside) in
     let head_size : length (take c.last.end part.bytes) ≡ c.last.end = length-take-le c.last.end part.bytes within in
     let k = ap length (take-append-drop c.last.end part.bytes) in
     let j = ap length c.bytes in
     let b = c.before in
     omega (arith, k, j, b, head_size, length-append (take c.last.end part.bytes) (drop c.last.end part.bytes))
 
-pub going_as : (o n : CellCursor) → o.answer ≡ None → o.waiting.items ≡ [] → n.limit ≡ o.limit → n.place ≡ o.place → n.piece ≡ o.piece → n.part ≡ o.part → n.answer ≡ o.answer → n.waiting.items ≡ o.waiting.items →
+pub going_as : (o n : CellCursor) → o.answer ≡ None → o.waiting.items ≡ [] → n.limit ≡ o.limit → n.place ≡ o.place
+    → n.piece ≡ o.piece → n.part ≡ o.part → n.answer ≡ o.answer → n.waiting.items ≡ o.waiting.items →
     (bytes : List ℕ) (items : List LibraryItem) → Goes o bytes items → Stands n bytes items
 going_as o n going no_item limit_is place_is piece_is part_is answer_is waits bytes items g =
     stands_same o n bytes items limit_is place_is piece_is part_is answer_is waits (going_still o going no_item bytes items g)

@@ -1,5 +1,6 @@
 -- Braces of tokens one after another.
-use Rattle.std.proofs.Common.{◌≡◌, ℕ, ◌+◌, ◌-◌, ◌==◌, ◌&&◌, ◌||◌, Bool, true, false, cond, List, [], ◌∷◌, ◌++◌, refl, sym, ap, subst, ◌∙◌, arith}
+use Rattle.std.proofs.Common.{◌≡◌, ℕ, ◌+◌, ◌-◌, ◌==◌, ◌&&◌, ◌||◌, Bool, true, false, cond, List, [], ◌∷◌, ◌++◌, refl, sym, ap}
+use Rattle.std.proofs.Common.{subst, ◌∙◌, arith}
 use Rattle.std.proofs.lemmas.Bool.Decides.{nat_tests}
 use Rattle.liberty_text.specs.declared.token.Token.{Token}
 use Rattle.liberty_text.specs.declared.token.TokenKind.{TokenKind}
@@ -7,7 +8,8 @@ use Rattle.liberty_text.specs.declared.token.TokenKind.TheVariants.{Word, Brace}
 use Rattle.liberty_groups.specs.Lexeme.{Lexeme, lexemes_behind}
 use Rattle.cell_cursor.specs.declared.part.Place.{Place}
 use Rattle.cell_cursor.specs.declared.part.Place.TheVariants as place
-use Rattle.cell_cursor.specs.Braces.{begins_group, ends_group, depth_behind, depth_after, is_outer, shows, has_outer, LastIsNotOuter, kinds_of, lexeme_kinds}
+use Rattle.cell_cursor.specs.Braces.{begins_group, ends_group, depth_behind, depth_after, is_outer, shows, has_outer}
+use Rattle.cell_cursor.specs.Braces.{LastIsNotOuter, kinds_of, lexeme_kinds}
 
 pub or_false : (x : Bool) → (x || false) ≡ x
 or_false true = refl
@@ -29,12 +31,15 @@ pub depth_append : (d : ℕ) (u v : List TokenKind) → depth_after d (u ++ v) �
 depth_append d [] v = refl
 depth_append d (k ∷ u) v = depth_append (depth_behind d k) u v
 
-pub shows_append : (is : ℕ → TokenKind → Bool) (d : ℕ) (u v : List TokenKind) → shows is d (u ++ v) ≡ (shows is d u || shows is (depth_after d u) v)
+pub shows_append : (is : ℕ → TokenKind → Bool) (d : ℕ) (u v : List TokenKind)
+    → shows is d (u ++ v) ≡ (shows is d u || shows is (depth_after d u) v)
 shows_append is d [] v = refl
-shows_append is d (k ∷ u) v = ap (λ (x : Bool). is d k || x) (shows_append is (depth_behind d k) u v) ∙ or_assoc (is d k) (shows is (depth_behind d k) u) (shows is (depth_after (depth_behind d k) u) v)
+shows_append is d (k ∷ u) v = ap (λ (x : Bool). is d k || x) (shows_append is (depth_behind d k) u v)
+    ∙ or_assoc (is d k) (shows is (depth_behind d k) u) (shows is (depth_after (depth_behind d k) u) v)
 
 -- the first tokens, where others follow
-pub front_shows : (is : ℕ → TokenKind → Bool) (d : ℕ) (m : List TokenKind) (y : TokenKind) (r front : List TokenKind) (last : TokenKind) →
+pub front_shows : (is : ℕ → TokenKind → Bool) (d : ℕ) (m : List TokenKind) (y : TokenKind) (r front : List TokenKind)
+    (last : TokenKind) →
     m ++ (y ∷ r) ≡ front ++ last ∷ [] → shows is d front ≡ false → shows is d m ≡ false
 front_shows is d [] y r front last e h = refl
 front_shows is d (k ∷ m) y r [] last e h = absurd (none_left m y r (ap tail_of e))
@@ -48,9 +53,12 @@ front_shows is d (k ∷ m) y r [] last e h = absurd (none_left m y r (ap tail_of
     none_left (x ∷ m) y r e = cc
 front_shows is d (k ∷ m) y r (j ∷ front) last e h =
     let same : k ≡ j = ap head_or e in
-    let i : (is d k || shows is (depth_behind d k) front) ≡ false = subst (λ (x : TokenKind). (is d x || shows is (depth_behind d x) front) ≡ false) (sym same) h in
+    let i : (is d k || shows is (depth_behind d k) front) ≡ false =
+    subst (λ (x : TokenKind). (is d x || shows is (depth_behind d x) front) ≡ false) (sym same) h in
     let one : is d k ≡ false = left_false (is d k) (shows is (depth_behind d k) front) i in
-    let all : shows is (depth_behind d k) m ≡ false = front_shows is (depth_behind d k) m y r front last (ap tail_of e) (right_false (is d k) (shows is (depth_behind d k) front) i) in
+    let all : shows is (depth_behind d k) m ≡ false =
+    front_shows is (depth_behind d k) m y r front last (ap tail_of e)
+    (right_false (is d k) (shows is (depth_behind d k) front) i) in
     ap (λ (x : Bool). x || shows is (depth_behind d k) m) one ∙ all
   where
     tail_of : List TokenKind → List TokenKind
@@ -78,7 +86,8 @@ abbrev pub IsPlain : TokenKind → Type 0
 IsPlain k = (begins_group k ≡ false) × (ends_group k ≡ false)
 
 pub plain_depth : (d : ℕ) (k : TokenKind) → IsPlain k → depth_behind d k ≡ d
-plain_depth d k (b, e) = ap (λ (x : Bool). cond x (d + 1) (cond (ends_group k) (d - 1) d)) b ∙ ap (λ (x : Bool). cond x (d - 1) d) e
+plain_depth d k (b, e) = ap (λ (x : Bool). cond x (d + 1) (cond (ends_group k) (d - 1) d)) b
+    ∙ ap (λ (x : Bool). cond x (d - 1) d) e
 
 pub plain_outer : (here : Place) (d : ℕ) (k : TokenKind) → IsPlain k → is_outer here d k ≡ false
 plain_outer place.Start d k (b, e) = b
@@ -108,7 +117,8 @@ begin_ends _ e = absurd cc
 pub end_depth : (d : ℕ) (k : TokenKind) → ends_group k ≡ true → depth_behind (d + 1) k ≡ d
 end_depth d k e =
     let less : d + 1 - 1 ≡ d = omega arith in
-    ap (λ (x : Bool). cond x (d + 1 + 1) (cond (ends_group k) (d + 1 - 1) (d + 1))) (end_begins k e) ∙ ap (λ (x : Bool). cond x (d + 1 - 1) (d + 1)) e ∙ less
+    ap (λ (x : Bool). cond x (d + 1 + 1) (cond (ends_group k) (d + 1 - 1) (d + 1))) (end_begins k e)
+    ∙ ap (λ (x : Bool). cond x (d + 1 - 1) (d + 1)) e ∙ less
 
 -- a Word behind others changes nothing
 pub word_last : (here : Place) (d : ℕ) (u : List TokenKind) → shows (is_outer here) d (u ++ Word ∷ []) ≡ shows (is_outer here) d u

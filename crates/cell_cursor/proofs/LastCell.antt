@@ -12,11 +12,13 @@ use Rattle.cell_cursor.specs.Given.{up_to_a_cell, up_to_last_cell, IsFrontOf}
 use Rattle.cell_cursor.specs.Items.{named_item, given_by, given, is_group_by, is_group}
 
 -- items behind which no cell stands
-pub no_cell_behind : (items more : List LibraryItem) → up_to_last_cell more ≡ [] → up_to_last_cell (items ++ more) ≡ up_to_last_cell items
+pub no_cell_behind : (items more : List LibraryItem) → up_to_last_cell more ≡ []
+    → up_to_last_cell (items ++ more) ≡ up_to_last_cell items
 no_cell_behind [] more h = h
 no_cell_behind (one ∷ items) more h = ap (up_to_a_cell one) (no_cell_behind items more h)
 
-front_by : (one : LibraryItem) (front items : List LibraryItem) → IsFrontOf front items → IsFrontOf (up_to_a_cell one front) (one ∷ items)
+front_by : (one : LibraryItem) (front items : List LibraryItem) → IsFrontOf front items
+    → IsFrontOf (up_to_a_cell one front) (one ∷ items)
 front_by (item.Cell group) front items h = (h.0, ap (λ (l : List LibraryItem). item.Cell group ∷ l) h.1)
 front_by (item.Unit unit) [] items h = (item.Unit unit ∷ items, refl)
 front_by (item.Unit unit) (next ∷ front) items h = (h.0, ap (λ (l : List LibraryItem). item.Unit unit ∷ l) h.1)
@@ -32,7 +34,8 @@ last_cell_front (one ∷ items) = front_by one (up_to_last_cell items) items (la
 pub front_of_more : (front items more : List LibraryItem) → IsFrontOf front items → IsFrontOf front (items ++ more)
 front_of_more front items more h = (h.0 ++ more, sym (append_assoc front h.0 more) ∙ ap (λ (l : List LibraryItem). l ++ more) h.1)
 
-choice_no_cell : (x : Bool) (p q : List LibraryItem) → up_to_last_cell p ≡ [] → up_to_last_cell q ≡ [] → up_to_last_cell (cond x p q) ≡ []
+choice_no_cell : (x : Bool) (p q : List LibraryItem) → up_to_last_cell p ≡ [] → up_to_last_cell q ≡ []
+    → up_to_last_cell (cond x p q) ≡ []
 choice_no_cell true p q h i = h
 choice_no_cell false p q h i = i
 
@@ -41,7 +44,8 @@ named_no_cell name at = choice_no_cell (bytes_eq name (codes "include_file")) (i
 
 given_no_cell : (layer : Item-F Item Group) → is_group_by layer ≡ false → up_to_last_cell (given_by layer) ≡ []
 given_no_cell (Item-F.Simple name value at) h =
-    choice_no_cell (bytes_eq name (codes "time_unit")) (item.Unit (record { value = one_text value; at = at }) ∷ []) (named_item name at) refl (named_no_cell name at)
+    choice_no_cell (bytes_eq name (codes "time_unit")) (item.Unit (record { value = one_text value; at = at }) ∷ [])
+    (named_item name at) refl (named_no_cell name at)
 given_no_cell (Item-F.Complex name values at) h = named_no_cell name at
 given_no_cell (Item-F.Inner group) h = absurd cc
 

@@ -1,5 +1,6 @@
 -- How far a library has come, one part after another.
-use Rattle.std.proofs.Common.{◌≡◌, ◌≢◌, ℕ, ◌+◌, Bool, true, false, List, [], ◌∷◌, ◌++◌, length, slice_range, Ok, Err, ◌⊎◌, inl, inr, not, refl, sym, ap, subst, ◌∙◌, arith, length-append}
+use Rattle.std.proofs.Common.{◌≡◌, ◌≢◌, ℕ, ◌+◌, Bool, true, false, List, [], ◌∷◌, ◌++◌, length, slice_range, Ok, Err, ◌⊎◌, inl}
+use Rattle.std.proofs.Common.{inr, not, refl, sym, ap, subst, ◌∙◌, arith, length-append}
 use Rattle.std.proofs.lemmas.List.{append-nil, append_assoc, map-append}
 use Rattle.grammar_rules.specs.Rule.{Verdict, Fits, Foul, Misfit}
 use Rattle.grammar_rules.specs.Reading.{Outcome, and_then, marked, judge, read}
@@ -52,18 +53,28 @@ unfolding items_outcome
 begin_outcome more = ap (read (rest_at place.Start [])) (lexemes_zero more (scan_of more).0)
 
 pub leads_first : (more : List ℕ) → LeadTo [] more place.Start []
-leads_first more = record { outcome = begin_outcome more; stop = stop_zero (scan_of more).1; several = λ e. absurd cc; begins = λ e. refl }
+leads_first more = record {
+  outcome = begin_outcome more;
+  stop = stop_zero (scan_of more).1;
+  several = λ e. absurd cc;
+  begins =
+      λ e. refl;
+}
 
 -- bytes that lead on whatever follows the first of the others, where no more follow
-pub leads_here : (before bytes : List ℕ) (here : Place) (items : List LibraryItem) → ((more : List ℕ) → LeadTo before (bytes ++ more) here items) → LeadTo before bytes here items
+pub leads_here : (before bytes : List ℕ) (here : Place) (items : List LibraryItem)
+    → ((more : List ℕ) → LeadTo before (bytes ++ more) here items) → LeadTo before bytes here items
 leads_here before bytes here items leads = subst (λ (b : List ℕ). LeadTo before b here items) (append-nil bytes) (leads [])
 
 -- a part whatever is open at its end: its tokens are the first ones
-part_tokens : (bytes : List ℕ) (tokens : List Token) (mode : Mode) (more : List ℕ) → AreScanned bytes tokens mode → (scan_of (bytes ++ more)).0 ≡ tokens ++ (run mode (length bytes) more).0
+part_tokens : (bytes : List ℕ) (tokens : List Token) (mode : Mode) (more : List ℕ) → AreScanned bytes tokens mode
+    → (scan_of (bytes ++ more)).0 ≡ tokens ++ (run mode (length bytes) more).0
 part_tokens bytes tokens mode more h = ap (λ (p : List Token × Stop). p.0) (h more)
 
-pub part_lexemes : (n : ℕ) (bytes : List ℕ) (tokens : List Token) (mode : Mode) (more : List ℕ) → AreScanned bytes tokens mode → LieInside bytes tokens →
-    (others : List Lexeme) × (lexemes_behind n (bytes ++ more) (scan_of (bytes ++ more)).0 ≡ lexemes_behind n bytes tokens ++ others)
+pub part_lexemes : (n : ℕ) (bytes : List ℕ) (tokens : List Token) (mode : Mode) (more : List ℕ) → AreScanned bytes tokens mode
+    → LieInside bytes tokens →
+    (others : List Lexeme) × (lexemes_behind n (bytes ++ more) (scan_of (bytes ++ more)).0 ≡ lexemes_behind n bytes tokens
+    ++ others)
 part_lexemes n bytes tokens mode more h i =
     let us = (run mode (length bytes) more).0 in (
       lexemes_behind n (bytes ++ more) us,
@@ -73,8 +84,10 @@ part_lexemes n bytes tokens mode more h i =
     )
 
 -- a part with nothing open at its end
-closed_lexemes : (n : ℕ) (bytes : List ℕ) (tokens : List Token) (more : List ℕ) → AreScanned bytes tokens (Between false) → LieInside bytes tokens →
-    lexemes_behind n (bytes ++ more) (scan_of (bytes ++ more)).0 ≡ lexemes_behind n bytes tokens ++ lexemes_behind (n + length bytes) more (scan_of more).0
+closed_lexemes : (n : ℕ) (bytes : List ℕ) (tokens : List Token) (more : List ℕ) → AreScanned bytes tokens (Between false)
+    → LieInside bytes tokens →
+    lexemes_behind n (bytes ++ more) (scan_of (bytes ++ more)).0 ≡ lexemes_behind n bytes tokens
+    ++ lexemes_behind (n + length bytes) more (scan_of more).0
 closed_lexemes n bytes tokens more h i =
     ap (λ (p : List Token × Stop). lexemes_behind n (bytes ++ more) p.0) (scan_on bytes tokens h more)
     ∙ lexemes_split n bytes more tokens (scan_of more).0 i
@@ -102,23 +115,28 @@ Taking = Unit {0} → List Lexeme → Outcome Lexeme Refusal (Unit {0})
 abbrev first_of : Verdict (Unit {0}) Refusal → Lexeme → Taking → (List Lexeme → Told) → Told
 first_of v x g q = and_then (marked (λ k. ([], k)) (and_then (judge v (λ a. Ok (a, [])) (λ j. Err (j, x ∷ []))) g)) (λ _ m. q m)
 
-first_kind : (v : Verdict (Unit {0}) Refusal) (x : Lexeme) (g : Taking) (q : List Lexeme → Told) → ((a : Unit {0}) → g a [] ≡ Err (Syntax expected.Opening, [])) →
+first_kind : (v : Verdict (Unit {0}) Refusal) (x : Lexeme) (g : Taking) (q : List Lexeme → Told)
+    → ((a : Unit {0}) → g a [] ≡ Err (Syntax expected.Opening, [])) →
     (kind_of (first_of v x g q) ≡ Syntax expected.Opening) ⊎ (left_of (first_of v x g q) ≡ x ∷ [])
-first_kind (Fits a) x g q h = inl (ap (λ (o : Outcome Lexeme Refusal (Unit {0})). kind_of (and_then (marked (λ k. ([], k)) o) (λ _ m. q m))) (h a))
+first_kind (Fits a) x g q h = inl
+    (ap (λ (o : Outcome Lexeme Refusal (Unit {0})). kind_of (and_then (marked (λ k. ([], k)) o) (λ _ m. q m))) (h a))
 first_kind (Foul k a) x g q h = inr refl
 first_kind (Misfit k) x g q h = inr refl
 
-one_token : (x : Lexeme) → (kind_of (read (rest_at place.Start []) (x ∷ [])) ≡ Syntax expected.Opening) ⊎ (left_of (read (rest_at place.Start []) (x ∷ [])) ≡ x ∷ [])
+one_token : (x : Lexeme) → (kind_of (read (rest_at place.Start []) (x ∷ [])) ≡ Syntax expected.Opening)
+    ⊎ (left_of (read (rest_at place.Start []) (x ∷ [])) ≡ x ∷ [])
 unfolding header
 one_token x =
-    first_kind (library_name x) x (λ _ m. read (expect mark.Open (Syntax expected.Opening) >>= λ _. arguments >>= λ _. expect mark.Begin (Syntax expected.Opening)) m)
+    first_kind (library_name x) x (λ _ m. read
+    (expect mark.Open (Syntax expected.Opening) >>= λ _. arguments >>= λ _. expect mark.Begin (Syntax expected.Opening)) m)
     (λ m. read (rest_inside []) m) (λ a. refl)
 
 is_syntax : Refusal → Bool
 is_syntax (Syntax e) = true
 is_syntax _ = false
 
-at_end_kind : (there : Place) (all : List LibraryItem) → is_start there ≡ false → kind_of (read (rest_at there all) []) ≢ Syntax expected.Opening
+at_end_kind : (there : Place) (all : List LibraryItem) → is_start there ≡ false
+    → kind_of (read (rest_at there all) []) ≢ Syntax expected.Opening
 unfolding rest_inside library_end
 at_end_kind place.Start all e h = absurd cc
 at_end_kind place.Inside all e h = absurd cc
@@ -138,7 +156,8 @@ no_token_first : refused_first (read (rest_at place.Start []) []) ≡ true
 unfolding header refused_first is_syntax
 no_token_first = refl
 
-at_end_first : (there : Place) (all : List LibraryItem) → is_start there ≡ false → refused_first (read (rest_at there all) []) ≡ false
+at_end_first : (there : Place) (all : List LibraryItem) → is_start there ≡ false
+    → refused_first (read (rest_at there all) []) ≡ false
 unfolding rest_inside library_end refused_first is_syntax
 at_end_first place.Start all e = absurd cc
 at_end_first place.Inside all e = refl
@@ -147,7 +166,8 @@ at_end_first place.Behind all e = refl
 -- tokens that lead from the beginning to another place are several, also with others behind them
 pub several_lead : (s : List Lexeme) (there : Place) (all : List LibraryItem) (others : List Lexeme) → is_start there ≡ false →
     read (rest_at place.Start []) s ≡ read (rest_at there all) [] → is_last (s ++ others) ≡ false
-several_lead [] there all others h e = absurd (let f : true ≡ false = sym no_token_first ∙ ap refused_first e ∙ at_end_first there all h in cc)
+several_lead [] there all others h e =
+    absurd (let f : true ≡ false = sym no_token_first ∙ ap refused_first e ∙ at_end_first there all h in cc)
 several_lead (x ∷ []) there all others h e =
     elim (one_token x) [
       | inl k ↦ absurd (at_end_kind there all h (sym (ap kind_of e) ∙ k))
@@ -156,8 +176,10 @@ several_lead (x ∷ []) there all others h e =
 several_lead (x ∷ y ∷ s) there all others h e = refl
 
 several_on : (before bytes : List ℕ) (tokens : List Token) (here there : Place) (items all : List LibraryItem) (more : List ℕ) →
-    LeadTo before (bytes ++ more) here items → AreScanned bytes tokens (Between false) → LieInside bytes tokens → is_start there ≡ false →
-    ((more : List Lexeme) → read (rest_at here []) (lexemes_behind (length before) bytes tokens ++ more) ≡ read (rest_at there all) more) →
+    LeadTo before (bytes ++ more) here items → AreScanned bytes tokens (Between false) → LieInside bytes tokens
+    → is_start there ≡ false →
+    ((more : List Lexeme) → read (rest_at here []) (lexemes_behind (length before) bytes tokens ++ more) ≡ read
+    (rest_at there all) more) →
     is_last (lexemes_of (before ++ (bytes ++ more)) (scan_of (before ++ (bytes ++ more))).0) ≡ false
 several_on before bytes tokens place.Start there items all more leads scanned inside not_start comes =
     let none : before ≡ [] = leads.begins refl in
@@ -167,24 +189,29 @@ several_on before bytes tokens place.Start there items all more leads scanned in
     ap (λ (b : List ℕ). is_last (lexemes_of (b ++ (bytes ++ more)) (scan_of (b ++ (bytes ++ more))).0)) none
     ∙ ap is_last (lexemes_zero (bytes ++ more) (scan_of (bytes ++ more)).0 ∙ closed_lexemes 0 bytes tokens more scanned inside
     ∙ ap (λ (n : ℕ). lexemes_behind n bytes tokens ++ lexemes_behind (0 + length bytes) more (scan_of more).0) (sym size))
-    ∙ several_lead (lexemes_behind (length before) bytes tokens) there all (lexemes_behind (0 + length bytes) more (scan_of more).0) not_start lead
+    ∙ several_lead (lexemes_behind (length before) bytes tokens) there all
+    (lexemes_behind (0 + length bytes) more (scan_of more).0) not_start lead
 several_on before bytes tokens place.Inside there items all more leads scanned inside not_start comes = leads.several refl
 several_on before bytes tokens place.Behind there items all more leads scanned inside not_start comes = leads.several refl
 
 -- a part with nothing open at its end leads on
 pub leads_on : (before bytes : List ℕ) (tokens : List Token) (here there : Place) (items all : List LibraryItem) (more : List ℕ) →
-    LeadTo before (bytes ++ more) here items → AreScanned bytes tokens (Between false) → LieInside bytes tokens → is_start there ≡ false →
-    ((more : List Lexeme) → read (rest_at here []) (lexemes_behind (length before) bytes tokens ++ more) ≡ read (rest_at there all) more) →
+    LeadTo before (bytes ++ more) here items → AreScanned bytes tokens (Between false) → LieInside bytes tokens
+    → is_start there ≡ false →
+    ((more : List Lexeme) → read (rest_at here []) (lexemes_behind (length before) bytes tokens ++ more) ≡ read
+    (rest_at there all) more) →
     LeadTo (before ++ bytes) more there (items ++ all)
 leads_on before bytes tokens here there items all more leads scanned inside not_start comes = record {
   outcome =
       ap items_outcome (append_assoc before bytes more)
       ∙ leads.outcome
       ∙ ap (read (rest_at here items)) (closed_lexemes (length before) bytes tokens more scanned inside)
-      ∙ rest_behind here items (lexemes_behind (length before) bytes tokens ++ lexemes_behind (length before + length bytes) more (scan_of more).0)
+      ∙ rest_behind here items (lexemes_behind (length before) bytes tokens
+      ++ lexemes_behind (length before + length bytes) more (scan_of more).0)
       ∙ ap (prefixed items) (comes (lexemes_behind (length before + length bytes) more (scan_of more).0))
       ∙ sym (rest_prefixed there items all (lexemes_behind (length before + length bytes) more (scan_of more).0))
-      ∙ ap (λ (n : ℕ). read (rest_at there (items ++ all)) (lexemes_behind n more (scan_of more).0)) (sym (length-append before bytes));
+      ∙ ap (λ (n : ℕ). read (rest_at there (items ++ all)) (lexemes_behind n more (scan_of more).0))
+      (sym (length-append before bytes));
   stop =
       ap (λ (b : List ℕ). (scan_of b).1) (append_assoc before bytes more)
       ∙ leads.stop

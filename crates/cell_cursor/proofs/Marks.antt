@@ -1,5 +1,6 @@
 -- Behind a token with which a statement may end nothing stands open.
-use Rattle.std.proofs.Common.{◌≡◌, ℕ, ◌+◌, ◌==◌, ◌&&◌, ◌||◌, not, Bool, true, false, List, [], ◌∷◌, Some, None, cond, refl, ap, ◌∙◌}
+use Rattle.std.proofs.Common.{◌≡◌, ℕ, ◌+◌, ◌==◌, ◌&&◌, ◌||◌, not, Bool, true, false, List, [], ◌∷◌, Some, None, cond, refl, ap}
+use Rattle.std.proofs.Common.{◌∙◌}
 use Rattle.liberty_text.specs.declared.token.TokenKind.{TokenKind}
 use Rattle.liberty_text.specs.declared.token.TokenKind.TheVariants.{Word, Text}
 use Rattle.liberty_text.specs.declared.token.Token.{Token}
@@ -7,7 +8,8 @@ use Rattle.liberty_text.specs.declared.class.Class.{Class}
 use Rattle.liberty_text.specs.declared.class.Class.TheVariants.{LineEnd, Blank, Mark, Quote, Backslash, WordByte, Bad}
 use Rattle.liberty_text.specs.declared.scanner.Mode.{Mode}
 use Rattle.liberty_text.specs.declared.scanner.Mode.TheVariants.{Between, InWord, InText, InComment, InContinuation, Stopped}
-use Rattle.liberty_text.specs.Scanner.{class_of, token, opened_by, after_token, in_word_by, comment_in_word, in_continuation, step}
+use Rattle.liberty_text.specs.Scanner.{class_of, token, opened_by, after_token, in_word_by, comment_in_word, in_continuation}
+use Rattle.liberty_text.specs.Scanner.{step}
 use Rattle.cell_cursor.specs.Scanned.{ends_by, last_kind}
 
 abbrev Closes : Mode × List Token → Type 0
@@ -31,7 +33,8 @@ not_word k e h = let f : false ≡ true = ap ends_by (some_same Word k e) ∙ h 
 not_text : (k : TokenKind) → Some Text ≡ Some k → ends_by k ≡ true → ⊥
 not_text k e h = let f : false ≡ true = ap ends_by (some_same Text k e) ∙ h in absurd cc
 
-word_closes : (begun at b : ℕ) (line : Bool) (c : Class) → Closes (after_token (token Word begun at line) (opened_by false at b c))
+word_closes : (begun at b : ℕ) (line : Bool) (c : Class)
+    → Closes (after_token (token Word begun at line) (opened_by false at b c))
 word_closes begun at b line (Mark kind) k e h = refl
 word_closes begun at b line _ k e h = absurd (not_word k e h)
 
@@ -48,13 +51,15 @@ step_closes (Between line) at b = opened_closes line at b (class_of b)
 step_closes (InWord begun line None) at b = in_word_closes begun at b line (class_of b)
 step_closes (InWord begun line (Some slash)) at b =
     choice_closes (b == 42) (comment_in_word begun line slash) (in_word_by begun line at b (class_of b))
-    (choice_closes (begun == slash) (InComment slash line false, []) (InComment slash false false, token Word begun slash line ∷ []) (λ k e h. absurd cc) (λ k e h. absurd (not_word k e h)))
+    (choice_closes (begun == slash) (InComment slash line false, [])
+    (InComment slash false false, token Word begun slash line ∷ []) (λ k e h. absurd cc) (λ k e h. absurd (not_word k e h)))
     (in_word_closes begun at b line (class_of b))
 step_closes (InText begun line escaped) at b =
     choice_closes (b == 34 && not escaped) (Between false, token Text begun (at + 1) line ∷ []) (InText begun line (b == 92), [])
     (λ k e h. absurd (not_text k e h)) (λ k e h. absurd cc)
 step_closes (InComment begun line star) at b =
-    choice_closes (b == 47 && star) (Between line, []) (InComment begun (line || b == 10) (b == 42), []) (λ k e h. absurd cc) (λ k e h. absurd cc)
+    choice_closes (b == 47 && star) (Between line, []) (InComment begun (line || b == 10) (b == 42), []) (λ k e h. absurd cc)
+    (λ k e h. absurd cc)
 step_closes (InContinuation begun line) at b = blanks_close begun line (class_of b)
   where
     blanks_close : (begun : ℕ) (line : Bool) (c : Class) → Closes (in_continuation begun line c)

@@ -27,15 +27,19 @@ more_scanned bytes tokens mode run h more =
     ∙ ap (λ (n : ℕ). after_tokens (tokens ++ new) (steps now n more)) (sym (length-append bytes run))
 
 -- as found by the code
-pub run_scanned : (bytes bytes' : List ℕ) (tokens tokens' : List Token) (mode mode' : Mode) (run : List ℕ) → AreScanned bytes tokens mode →
-    bytes' ≡ bytes ++ run → tokens' ≡ tokens ++ tokens_ended mode (length bytes) run → mode' ≡ mode_behind mode (length bytes) run → AreScanned bytes' tokens' mode'
+pub run_scanned : (bytes bytes' : List ℕ) (tokens tokens' : List Token) (mode mode' : Mode) (run : List ℕ)
+    → AreScanned bytes tokens mode →
+    bytes' ≡ bytes ++ run → tokens' ≡ tokens ++ tokens_ended mode (length bytes) run → mode' ≡ mode_behind mode (length bytes) run
+    → AreScanned bytes' tokens' mode'
 run_scanned bytes bytes' tokens tokens' mode mode' run h e f g =
     subst (λ (s : List ℕ). AreScanned s tokens' mode') (sym e)
     (subst (λ (ts : List Token). AreScanned (bytes ++ run) ts mode') (sym f)
-    (subst (λ (m : Mode). AreScanned (bytes ++ run) (tokens ++ tokens_ended mode (length bytes) run) m) (sym g) (more_scanned bytes tokens mode run h)))
+    (subst (λ (m : Mode). AreScanned (bytes ++ run) (tokens ++ tokens_ended mode (length bytes) run) m) (sym g)
+    (more_scanned bytes tokens mode run h)))
 
 -- with the first bytes no outer brace ends
-pub none_outer_ends : (here : Place) (bytes more : List ℕ) (tokens : List Token) (mode : Mode) (count : ℕ) → AreScanned bytes tokens mode →
+pub none_outer_ends : (here : Place) (bytes more : List ℕ) (tokens : List Token) (mode : Mode) (count : ℕ)
+    → AreScanned bytes tokens mode →
     NoneOuterEnds here tokens mode (length bytes) more count → NoneOuter here bytes more count
 none_outer_ends here bytes more tokens mode count h none n less = (
   tokens ++ tokens_ended mode (length bytes) (take n more),
@@ -45,11 +49,13 @@ none_outer_ends here bytes more tokens mode count h none n less = (
 )
 
 -- the tokens of all bytes are those that have ended, and what is open at the end
-pub scan_splits : (bytes : List ℕ) (tokens : List Token) (mode : Mode) → AreScanned bytes tokens mode → scan_of bytes ≡ after_tokens tokens (closing mode (length bytes))
+pub scan_splits : (bytes : List ℕ) (tokens : List Token) (mode : Mode) → AreScanned bytes tokens mode
+    → scan_of bytes ≡ after_tokens tokens (closing mode (length bytes))
 scan_splits bytes tokens mode h = ap (steps (Between false) 0) (sym (append-nil bytes)) ∙ h []
 
 pub scanned_inside : (bytes : List ℕ) (tokens : List Token) (mode : Mode) → AreScanned bytes tokens mode → LieInside bytes tokens
 scanned_inside bytes tokens mode h =
-    let e : (scan_of bytes).0 ≡ tokens ++ (closing mode (length bytes)).0 = ap (λ (p : List Token × Stop). p.0) (scan_splits bytes tokens mode h) in
+    let e : (scan_of bytes).0 ≡ tokens ++ (closing mode (length bytes)).0 =
+    ap (λ (p : List Token × Stop). p.0) (scan_splits bytes tokens mode h) in
     let i : LieInside bytes (scan_of bytes).0 = inside_reads (reads bytes (scan_of bytes).0 (scan_of bytes).1 refl refl) in
     inside_front bytes tokens (closing mode (length bytes)).0 (subst (λ (ts : List Token). LieInside bytes ts) e i)

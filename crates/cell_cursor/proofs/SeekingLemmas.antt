@@ -1,5 +1,6 @@
 -- What a call of a cursor has read and has still to do.
-use Rattle.std.proofs.Common.{◌≡◌, ℕ, ◌+◌, ◌-◌, ◌*◌, ◌<◌, ◌≤◌, Bool, true, false, not, ◌&&◌, cond, List, [], length, Option, Some, None, refl, sym, ap, subst, ◌∙◌, arith}
+use Rattle.std.proofs.Common.{◌≡◌, ℕ, ◌+◌, ◌-◌, ◌*◌, ◌<◌, ◌≤◌, Bool, true, false, not, ◌&&◌, cond, List, [], length, Option, Some}
+use Rattle.std.proofs.Common.{None, refl, sym, ap, subst, ◌∙◌, arith}
 use Rattle.text_io.specs.Desk.{Rose}
 use Rattle.liberty_groups.specs.declared.fault.LibraryFault.{LibraryFault}
 use Rattle.liberty_groups.specs.Answer.{fault_of}
@@ -17,17 +18,20 @@ use Rattle.cell_cursor.specs.Items.{next_of}
 use Rattle.cell_cursor.specs.Stands.{given_next, is_going, is_failed, is_ended}
 
 -- a byte was scanned, and the rest of the piece is shorter
-pub less_to_do : (o m n : CellCursor) → m.limit ≡ o.limit → taken_by m ≡ taken_by o → length m.piece < length o.piece → n.limit ≡ m.limit → taken_by n ≡ taken_by m → n.piece ≡ m.piece → to_do n < to_do o
+pub less_to_do : (o m n : CellCursor) → m.limit ≡ o.limit → taken_by m ≡ taken_by o → length m.piece < length o.piece
+    → n.limit ≡ m.limit → taken_by n ≡ taken_by m → n.piece ≡ m.piece → to_do n < to_do o
 unfolding to_do
 less_to_do o m n a b c d e f =
     let size = ap length f in
     let taken : taken_by n ≡ taken_by o = e ∙ b in
     let limit : n.limit ≡ o.limit = d ∙ a in
-    let same : 2 * (n.limit - taken_by n) ≡ 2 * (o.limit - taken_by o) = ap (λ (l : ℕ). 2 * (l - taken_by n)) limit ∙ ap (λ (t : ℕ). 2 * (o.limit - t)) taken in
+    let same : 2 * (n.limit - taken_by n) ≡ 2 * (o.limit - taken_by o) = ap (λ (l : ℕ). 2 * (l - taken_by n)) limit
+    ∙ ap (λ (t : ℕ). 2 * (o.limit - t)) taken in
     omega (arith, same, size, c)
 
 -- a piece was read
-pub read_to_do : (o m n : CellCursor) (count : ℕ) → m.limit ≡ o.limit → taken_by m ≡ taken_by o → m.piece ≡ [] → n.limit ≡ m.limit → n.part ≡ m.part → length n.piece ≡ count → 0 < count →
+pub read_to_do : (o m n : CellCursor) (count : ℕ) → m.limit ≡ o.limit → taken_by m ≡ taken_by o → m.piece ≡ [] → n.limit ≡ m.limit
+    → n.part ≡ m.part → length n.piece ≡ count → 0 < count →
     count ≤ m.limit - (m.part.before + length m.part.bytes) → to_do n < to_do o
 unfolding to_do
 read_to_do o m n count a b c d e f some most =
@@ -45,11 +49,13 @@ to_do_same o m a b c =
     let left : 2 * (o.limit - taken_by m) ≡ 2 * (o.limit - taken_by o) = ap (λ (t : ℕ). 2 * (o.limit - t)) taken in
     omega (arith, limit, left, piece)
 
-smaller_by : (n : CellCursor) (b : Bool) (k : ℕ) → is_going n.answer ≡ b → (is_going n.answer ≡ true → to_do n < k) → cond b (to_do n + 1) 0 < k + 1
+smaller_by : (n : CellCursor) (b : Bool) (k : ℕ) → is_going n.answer ≡ b → (is_going n.answer ≡ true → to_do n < k)
+    → cond b (to_do n + 1) 0 < k + 1
 smaller_by n true k e h = let i = h e in omega (arith, i)
 smaller_by n false k e h = omega arith
 
-pub smaller : (o m n : CellCursor) → m.limit ≡ o.limit → m.part ≡ o.part → m.piece ≡ o.piece → o.answer ≡ None → (is_going n.answer ≡ true → to_do n < to_do m) →
+pub smaller : (o m n : CellCursor) → m.limit ≡ o.limit → m.part ≡ o.part → m.piece ≡ o.piece → o.answer ≡ None
+    → (is_going n.answer ≡ true → to_do n < to_do m) →
     cond (is_going n.answer) (to_do n + 1) 0 < cond (is_going o.answer) (to_do o + 1) 0
 smaller o m n a b c e h =
     subst (λ (v : Option Answer). cond (is_going n.answer) (to_do n + 1) 0 < cond (is_going v) (to_do o + 1) 0) (sym e)
@@ -92,7 +98,8 @@ front_goes here n bytes =
     (answer_by false (fault_of (n + length bytes) (part_halt here n bytes) (stop_behind n (scan_of bytes).1)))
     (front_answered (fault_of (n + length bytes) (part_halt here n bytes) (stop_behind n (scan_of bytes).1)))
 
-pub never_by : (a : Option Answer) (here : Place) (n : ℕ) (bytes : List ℕ) (w : Bool) → a ≡ Some (answer_at here n bytes w) → is_failed a ≡ false
+pub never_by : (a : Option Answer) (here : Place) (n : ℕ) (bytes : List ℕ) (w : Bool) → a ≡ Some (answer_at here n bytes w)
+    → is_failed a ≡ false
 never_by a here n bytes w e = ap is_failed e ∙ never_failed here n bytes w
 
 -- a count that stood still before it rose

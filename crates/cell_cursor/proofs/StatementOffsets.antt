@@ -15,7 +15,8 @@ use Rattle.liberty_groups.specs.declared.tree.Item.TheOpen.{Item-F}
 use Rattle.liberty_groups.specs.declared.tree.Item.TheViews.{outs-Simple, outs-Complex, outs-Inner, out-roll-Group}
 use Rattle.liberty_groups.specs.declared.tree.Group.{Group, out-Group, roll-Group}
 use Rattle.liberty_groups.specs.Lexeme.{Lexeme}
-use Rattle.liberty_groups.specs.Grammar.{◌>>=◌, expect, arguments, value, colon, simple, opens, group_of, complex_or_group, bracketed, body, statement}
+use Rattle.liberty_groups.specs.Grammar.{◌>>=◌, expect, arguments, value, colon, simple, opens, group_of, complex_or_group}
+use Rattle.liberty_groups.specs.Grammar.{bracketed, body, statement}
 use Rattle.liberty_groups.specs.Library.{one_text}
 use Rattle.cell_cursor.specs.declared.item.LibraryItem.{LibraryItem}
 use Rattle.cell_cursor.specs.declared.item.LibraryItem.TheVariants as given_item
@@ -31,19 +32,23 @@ named_at : (x : Bool) (at : ℕ) → AllAt at (cond x (given_item.LeftOut at ∷
 named_at true at = (refl, tt)
 named_at false at = tt
 
-unit_at : (x : Bool) (name : List ℕ) (values : List Value) (at : ℕ) → AllAt at (cond x (given_item.Unit (record { value = one_text values; at = at }) ∷ []) (named_item name at))
+unit_at : (x : Bool) (name : List ℕ) (values : List Value) (at : ℕ)
+    → AllAt at (cond x (given_item.Unit (record { value = one_text values; at = at }) ∷ []) (named_item name at))
 unit_at true name values at = (refl, tt)
 unit_at false name values at = named_at (bytes_eq name (codes "include_file")) at
 
 item_of_group_at_by : (is_cell is_type is_left_out : Bool) (group : Group) →
-    AllAt (out-Group group).at (cond is_cell (given_item.Cell group ∷ []) (cond is_type (given_item.BusType group ∷ []) (cond is_left_out (given_item.LeftOut (out-Group group).at ∷ []) [])))
+    AllAt (out-Group group).at (cond is_cell (given_item.Cell group ∷ [])
+    (cond is_type (given_item.BusType group ∷ []) (cond is_left_out (given_item.LeftOut (out-Group group).at ∷ []) [])))
 item_of_group_at_by true is_type is_left_out group = (refl, tt)
 item_of_group_at_by false true is_left_out group = (refl, tt)
 item_of_group_at_by false false is_left_out group = named_at is_left_out (out-Group group).at
 
 item_of_group_at : (group : Group) → AllAt (out-Group group).at (group_item group)
 item_of_group_at group =
-    let name = (out-Group group).name in item_of_group_at_by (bytes_eq name (codes "cell")) (bytes_eq name (codes "type")) (bytes_eq name (codes "include_file")) group
+    let name = (out-Group group).name
+    in item_of_group_at_by (bytes_eq name (codes "cell")) (bytes_eq name (codes "type"))
+    (bytes_eq name (codes "include_file")) group
 
 -- the offset of a statement
 abbrev at_by : Item-F Item Group → ℕ
@@ -74,7 +79,8 @@ group_at name found items at =
     ap at_by (outs-Inner (roll-Group (record { name = name; arguments = found; items = items; at = at })))
     ∙ ap (λ g. g.at) (out-roll-Group (record { name = name; arguments = found; items = items; at = at }))
 
-reads_simple : (name : List ℕ) (at : ℕ) (s : List Lexeme) (one : Item) (left : List Lexeme) → read (simple name at) s ≡ Ok (one, left) → IsAt at one
+reads_simple : (name : List ℕ) (at : ℕ) (s : List Lexeme) (one : Item) (left : List Lexeme)
+    → read (simple name at) s ≡ Ok (one, left) → IsAt at one
 unfolding simple
 reads_simple name at s one left e =
     let t = and_then_ok (read value s) (λ found m. read (r.Gives (item.Simple name found at)) m) (one, left) e in
@@ -84,9 +90,11 @@ reads_complex : (levels : ℕ) (name : List ℕ) (found : List Value) (at : ℕ)
     read (complex_or_group levels (body levels) name found at) s ≡ Ok (one, left) → IsAt at one
 unfolding complex_or_group
 reads_complex levels name found at s one left e =
-    elim (choose_ok (opens levels) s (λ _ m. read (body levels >>= λ items. r.Gives (group_of name found items at)) m) (read (r.Gives (item.Complex name found at)) s) (one, left) e) [
+    elim (choose_ok (opens levels) s (λ _ m. read (body levels >>= λ items. r.Gives (group_of name found items at)) m)
+    (read (r.Gives (item.Complex name found at)) s) (one, left) e) [
       | inl (x, a, m, is, fits, h) ↦
-          (let t = and_then_ok (read (body levels) m) (λ items q. read (r.Gives (group_of name found items at)) q) (one, left) h in
+          (let t = and_then_ok (read (body levels) m) (λ items q. read (r.Gives (group_of name found items at)) q) (one, left) h
+          in
           subst (λ (x : Item). IsAt at x) (value_is t.3) (group_at name found t.0 at))
       | inr h ↦ subst (λ (x : Item). IsAt at x) (value_is h.1) (complex_at name found at)
     ]
@@ -95,11 +103,14 @@ reads_bracketed : (levels : ℕ) (name : List ℕ) (at : ℕ) (s : List Lexeme) 
     read (bracketed levels (body levels) name at) s ≡ Ok (one, left) → IsAt at one
 unfolding bracketed
 reads_bracketed levels name at s one left e =
-    let t = and_then_ok (read (expect mark.Open (Syntax expected.AfterName)) s) (λ _ m. read (arguments >>= λ found. complex_or_group levels (body levels) name found at) m) (one, left) e in
-    let u = and_then_ok (read arguments t.1) (λ found m. read (complex_or_group levels (body levels) name found at) m) (one, left) t.3 in
+    let t = and_then_ok (read (expect mark.Open (Syntax expected.AfterName)) s)
+    (λ _ m. read (arguments >>= λ found. complex_or_group levels (body levels) name found at) m) (one, left) e in
+    let u = and_then_ok (read arguments t.1) (λ found m. read (complex_or_group levels (body levels) name found at) m)
+    (one, left) t.3 in
     reads_complex levels name u.0 at u.1 one left u.3
 
-pub reads_at : (levels : ℕ) (name : List ℕ) (at : ℕ) (s : List Lexeme) (one : Item) (left : List Lexeme) → read (statement levels name at) s ≡ Ok (one, left) → IsAt at one
+pub reads_at : (levels : ℕ) (name : List ℕ) (at : ℕ) (s : List Lexeme) (one : Item) (left : List Lexeme)
+    → read (statement levels name at) s ≡ Ok (one, left) → IsAt at one
 reads_at levels name at s one left e =
     elim (choose_ok colon s (λ _ m. read (simple name at) m) (read (bracketed levels (body levels) name at) s) (one, left) e) [
       | inl (x, a, m, is, fits, h) ↦ reads_simple name at m one left h

@@ -44,11 +44,13 @@ has_outer here kinds = shows (is_outer here) 0 kinds
 
 -- none of the tokens but the last one is an outer brace
 abbrev pub LastMayBeOuter : Place → List TokenKind → Type 0
-LastMayBeOuter here kinds = (front : List TokenKind) × (last : TokenKind) × (kinds ≡ front ++ last ∷ []) × (has_outer here front ≡ false)
+LastMayBeOuter here kinds = (front : List TokenKind) × (last : TokenKind) × (kinds ≡ front ++ last ∷ [])
+    × (has_outer here front ≡ false)
 
 -- the last of the tokens is no outer brace, where none before it is one
 abbrev pub LastIsNotOuter : Place → List TokenKind → Type 0
-LastIsNotOuter here kinds = (front : List TokenKind) (last : TokenKind) → kinds ≡ front ++ last ∷ [] → has_outer here front ≡ false → has_outer here kinds ≡ false
+LastIsNotOuter here kinds = (front : List TokenKind) (last : TokenKind) → kinds ≡ front ++ last ∷ []
+    → has_outer here front ≡ false → has_outer here kinds ≡ false
 
 -- whether the last of the tokens may be an outer brace; none before it is one
 abbrev pub ShowsOuter : Bool → Place → List TokenKind → Type 0

@@ -20,4 +20,5 @@ pub record ReadsSo (limit : ℕ) (bytes : List ℕ) (items : List LibraryItem) (
 
 -- these items are the first ones of a library that begins with these bytes, whatever follows
 abbrev pub AreFirst : ℕ → List ℕ → List LibraryItem → Type 0
-AreFirst limit bytes items = (more : List ℕ) → (others : List LibraryItem) × (items ++ others ≡ items_within limit (bytes ++ more))
+AreFirst limit bytes items = (more : List ℕ) → (others : List LibraryItem)
+    × (items ++ others ≡ items_within limit (bytes ++ more))

@@ -34,7 +34,8 @@ halt_in len is_only (Ok p) = halt.Whole
 halt_in len is_only (Err e) = halt_at len is_only e.0.1 e.1
 
 unfoldable pub part_halt : Place → ℕ → List ℕ → Halt
-part_halt here n bytes = halt_in (n + length bytes) (is_start here && is_last (lexemes_behind n bytes (scan_of bytes).0)) (part_outcome here n bytes)
+part_halt here n bytes = halt_in (n + length bytes) (is_start here && is_last (lexemes_behind n bytes (scan_of bytes).0))
+    (part_outcome here n bytes)
 
 -- some library goes on with a part that ends in an open text, once that is closed
 abbrev pub goes_on_closed : Place → ℕ → List ℕ → Bool

@@ -1,6 +1,7 @@
 -- The items of a library in the order of the file: cells, types, time units, and statements that name other files (Liberty
 -- Reference Manual, the `library` group).
-use Rattle.std.specs.Prelude.{◌≡◌, ℕ, ◌+◌, ◌≤◌, ◌++◌, Bool, true, false, List, [], ◌∷◌, Option, Some, None, Result, Ok, Err, codes, if◌then◌else◌}
+use Rattle.std.specs.Prelude.{◌≡◌, ℕ, ◌+◌, ◌≤◌, ◌++◌, Bool, true, false, List, [], ◌∷◌, Option, Some, None, Result, Ok, Err}
+use Rattle.std.specs.Prelude.{codes, if◌then◌else◌}
 use Rattle.std.specs.Str.{bytes_eq}
 use Rattle.grammar_rules.specs.Rule.{Rule}
 use Rattle.grammar_rules.specs.Rule as r
@@ -18,7 +19,8 @@ use Rattle.liberty_groups.specs.declared.tree.Group.{Group, out-Group}
 use Rattle.liberty_groups.specs.Lexeme.{Lexeme, lexemes_of}
 use Rattle.liberty_groups.specs.Grammar.{Grammar, ◌>>=◌, expect, starts, statement}
 use Rattle.liberty_groups.specs.Answer.{found_of_bytes}
-use Rattle.liberty_groups.specs.Library.{Found, nothing_found, with_cell, with_left_out, with_type, one_text, levels_inside, header}
+use Rattle.liberty_groups.specs.Library.{Found, nothing_found, with_cell, with_left_out, with_type, one_text, levels_inside}
+use Rattle.liberty_groups.specs.Library.{header}
 use Rattle.cell_cursor.specs.declared.item.LibraryItem.{LibraryItem}
 use Rattle.cell_cursor.specs.declared.item.LibraryItem.TheVariants as item
 use Rattle.cell_cursor.specs.declared.part.Place.{Place}
@@ -34,7 +36,8 @@ named_item name at = if bytes_eq name (codes "include_file") then item.LeftOut a
 abbrev pub group_item : Group → List LibraryItem
 group_item group =
     if bytes_eq (out-Group group).name (codes "cell") then item.Cell group ∷ []
-    else (if bytes_eq (out-Group group).name (codes "type") then item.BusType group ∷ [] else named_item (out-Group group).name (out-Group group).at)
+    else (if bytes_eq (out-Group group).name (codes "type") then item.BusType group ∷ []
+    else named_item (out-Group group).name (out-Group group).at)
 
 abbrev pub given_by : Item-F Item Group → List LibraryItem
 given_by (Item-F.Simple name value at) =
@@ -137,7 +140,8 @@ item_at (item.LeftOut at) = at
 item_at (item.BusType group) = (out-Group group).at
 
 -- what is read of the next statements is what was returned, with these items and these tokens left, unless memory ran out
-abbrev pub Adds : {T : Type 0} → Outcome Lexeme (List LibraryItem × Refusal) (List LibraryItem) → Result T Stop → List LibraryItem → List Lexeme → Type 0
+abbrev pub Adds : {T : Type 0} → Outcome Lexeme (List LibraryItem × Refusal) (List LibraryItem) → Result T Stop → List LibraryItem
+    → List Lexeme → Type 0
 Adds outcome (Ok u) items left = outcome ≡ Ok (items, left)
 Adds outcome (Err (Refused k)) items left = outcome ≡ Err ((items, k), left)
 Adds outcome (Err Memory) items left = Unit {0}

@@ -21,7 +21,8 @@ use Rattle.cell_cursor.specs.Leads.{is_start}
 -- Whatever follows these tokens: the statements from them on, behind these items, are those from the tokens left on, behind
 -- all items.
 abbrev pub ReadsOn : List LibraryItem → List Lexeme → List LibraryItem → List Lexeme → Type 0
-ReadsOn items s all left = (more : List Lexeme) → read (statements_after items) (s ++ more) ≡ read (statements_after all) (left ++ more)
+ReadsOn items s all left = (more : List Lexeme)
+    → read (statements_after items) (s ++ more) ≡ read (statements_after all) (left ++ more)
 
 -- The tokens are read on up to the last so many of them, where a statement ends.
 abbrev pub ReadsUpTo : List LibraryItem → List Lexeme → List LibraryItem → ℕ → Type 0
@@ -36,12 +37,14 @@ abbrev pub is_settled : ℕ → Lexeme → List Lexeme → Bool
 is_settled end x left = not (is_nil left) || is_final end x.token
 
 -- From a place on, behind these items, the tokens of a part that ends at an offset come to this, with all items: what follows is
--- read from another place on; or a token is refused, with this fault, that is the same whatever follows; or a statement may go on,
--- and no group of the library ends with the last token.
+-- read from another place on; or a token is refused, with this fault, that is the same whatever follows; or a statement may go
+-- on, and no group of the library ends with the last token.
 abbrev pub Comes : Reached → Place → List LibraryItem → List Lexeme → List LibraryItem → ℕ → Type 0
-Comes (reached.To there) here items s all end = (is_start there ≡ false) × ((more : List Lexeme) → read (rest_at here items) (s ++ more) ≡ read (rest_at there all) more)
+Comes (reached.To there) here items s all end = (is_start there ≡ false)
+    × ((more : List Lexeme) → read (rest_at here items) (s ++ more) ≡ read (rest_at there all) more)
 Comes (reached.Refused fault) here items s all end =
-    (k : Refusal) × (x : Lexeme) × (m : List Lexeme) × (fault ≡ fault_at k x.token.at) × (read (rest_at here items) s ≡ Err ((all, k), x ∷ m)) × (is_settled end x m ≡ true)
+    (k : Refusal) × (x : Lexeme) × (m : List Lexeme) × (fault ≡ fault_at k x.token.at)
+    × (read (rest_at here items) s ≡ Err ((all, k), x ∷ m)) × (is_settled end x m ≡ true)
 Comes reached.Unfinished here items s all end = LastIsNotOuter here (lexeme_kinds s)
 
 -- where a reading stops at the end of the tokens, no group of the library ends with the last of them
@@ -56,7 +59,8 @@ EndsInner (Err Memory) s left = Unit {0}
 
 -- what tokens come to in a reading that stops where it is refused, with these tokens left
 abbrev pub ComesSo : Result Reached Stop → Place → List LibraryItem → List Lexeme → List LibraryItem → List Lexeme → Type 0
-ComesSo (Ok (reached.To there)) here items s all left = (is_start there ≡ false) × ((more : List Lexeme) → read (rest_at here items) (s ++ more) ≡ read (rest_at there all) more)
+ComesSo (Ok (reached.To there)) here items s all left = (is_start there ≡ false)
+    × ((more : List Lexeme) → read (rest_at here items) (s ++ more) ≡ read (rest_at there all) more)
 ComesSo (Ok (reached.Refused fault)) here items s all left = ⊥
 ComesSo (Ok reached.Unfinished) here items s all left = LastIsNotOuter here (lexeme_kinds s)
 ComesSo (Err (Refused k)) here items s all left = (read (rest_at here items) s ≡ Err ((all, k), left)) × StopsInner here s left

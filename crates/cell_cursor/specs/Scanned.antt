@@ -24,15 +24,18 @@ pub record Scanned : Type 0 where
 -- Whatever follows these bytes: the tokens of all are these tokens, and then those of what follows, where this much stands
 -- open.
 abbrev pub AreScanned : List ℕ → List Token → Mode → Type 0
-AreScanned bytes tokens mode = (more : List ℕ) → run (Between false) 0 (bytes ++ more) ≡ after_tokens tokens (run mode (length bytes) more)
+AreScanned bytes tokens mode = (more : List ℕ)
+    → run (Between false) 0 (bytes ++ more) ≡ after_tokens tokens (run mode (length bytes) more)
 
 -- With fewer than so many of the bytes that follow these no outer brace ends.
 abbrev pub NoneOuter : Place → List ℕ → List ℕ → ℕ → Type 0
-NoneOuter here bytes more count = (n : ℕ) → n < count → (tokens : List Token) × (mode : Mode) × AreScanned (bytes ++ take n more) tokens mode × (has_outer here (kinds_of tokens) ≡ false)
+NoneOuter here bytes more count = (n : ℕ) → n < count → (tokens : List Token) × (mode : Mode)
+    × AreScanned (bytes ++ take n more) tokens mode × (has_outer here (kinds_of tokens) ≡ false)
 
 -- The same of the tokens that have ended before them, where this much stands open behind those.
 abbrev pub NoneOuterEnds : Place → List Token → Mode → ℕ → List ℕ → ℕ → Type 0
-NoneOuterEnds here tokens mode at more count = (n : ℕ) → n < count → has_outer here (kinds_of (tokens ++ tokens_ended mode at (take n more))) ≡ false
+NoneOuterEnds here tokens mode at more count = (n : ℕ) → n < count
+    → has_outer here (kinds_of (tokens ++ tokens_ended mode at (take n more))) ≡ false
 
 -- a stop in bytes that so many others stand before
 abbrev pub stop_behind : ℕ → Stop → Stop

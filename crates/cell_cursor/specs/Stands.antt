@@ -1,5 +1,6 @@
 -- Where a cursor stands in a library, and what a call does to it.
-use Rattle.std.specs.Prelude.{◌≡◌, ℕ, ◌+◌, ◌≤◌, Bool, true, false, List, [], ◌∷◌, ◌++◌, reverse, length, Option, Some, None, Result, Ok, Err, IfSome}
+use Rattle.std.specs.Prelude.{◌≡◌, ℕ, ◌+◌, ◌≤◌, Bool, true, false, List, [], ◌∷◌, ◌++◌, reverse, length, Option, Some, None}
+use Rattle.std.specs.Prelude.{Result, Ok, Err, IfSome}
 use Rattle.text_io.specs.declared.slots.InSlot.TheVariants.{Library}
 use Rattle.text_io.specs.Desk.{DeskState}
 use Rattle.liberty_groups.specs.declared.read.End.TheVariants.{Whole, Cut, Fault}
@@ -155,7 +156,8 @@ abbrev pub IsAnswered : CellCursor → Result Next CursorFault → Type 0
 IsAnswered c result = (a : Answer) × IsSettled c a × (result ≡ answered a)
 
 -- A settled cursor answers as before, and reads nothing.
-pub record StaysSettled (a : Answer) (new : CellCursor) (before after : DeskState) (result : Result Next CursorFault) : Type 0 where
+pub record StaysSettled (a : Answer) (new : CellCursor) (before after : DeskState) (result : Result Next CursorFault) :
+    Type 0 where
   pub same : IsSettled new a
   pub answer : result ≡ answered a
   pub state : after ≡ before

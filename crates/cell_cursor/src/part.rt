@@ -135,8 +135,10 @@ impl Part {
         ensures lost { OnErr result (self.new.bytes ≡ []) }
         ensures mode { IfOk result (λ run. run.may_end ≡ true → self.new.mode ≡ Between false) }
         ensures scanned { AreScanned self.new.bytes self.new.tokens self.new.mode }
-        ensures none_before { IfOk result (λ run. has_outer place (kinds_of self.old.tokens) ≡ false → NoneOuter place self.old.bytes bytes.now run.count) }
-        ensures outer { IfOk result (λ run. has_outer place (kinds_of self.old.tokens) ≡ false → ShowsOuter run.may_end place (kinds_of self.new.tokens)) }
+        ensures none_before { IfOk result (λ run. has_outer place (kinds_of self.old.tokens) ≡ false
+            → NoneOuter place self.old.bytes bytes.now run.count) }
+        ensures outer { IfOk result (λ run. has_outer place (kinds_of self.old.tokens) ≡ false
+            → ShowsOuter run.may_end place (kinds_of self.new.tokens)) }
     {
         let ended = self.scanner.tokens().len();
         match scan_run(&mut self.bytes, &mut self.scanner, place, self.depth, bytes) {
@@ -236,7 +238,8 @@ fn scan_token(
     requires { at + length more.now < 2 ^ 64 }
     ensures count { IfOk result (λ run. run.0 ≤ length more.now) }
     ensures some { IfOk result (λ run. 0 < length more.now → 0 < run.0) }
-    ensures tokens { IfOk result (λ run. scanner.new.tokens.items ≡ scanner.old.tokens.items ++ tokens_ended scanner.old.mode at (take run.0 more.now)) }
+    ensures tokens { IfOk result (λ run. scanner.new.tokens.items ≡ scanner.old.tokens.items
+        ++ tokens_ended scanner.old.mode at (take run.0 more.now)) }
     ensures mode { IfOk result (λ run. scanner.new.mode ≡ mode_behind scanner.old.mode at (take run.0 more.now)) }
     ensures none_before { IfOk result (λ run. (n : ℕ) → n < run.0 → tokens_ended scanner.old.mode at (take n more.now) ≡ []) }
     ensures kind { IfOk result (λ run. run.1 ≡ last_kind (tokens_ended scanner.old.mode at (take run.0 more.now))) }
@@ -264,13 +267,16 @@ fn scan_tokens(
     requires counted { depth ≡ depth_after 0 (kinds_of scanner.old.tokens.items) }
     ensures count { IfOk result (λ run. run.count ≤ length more.now) }
     ensures some { IfOk result (λ run. 0 < length more.now → 0 < run.count) }
-    ensures tokens { IfOk result (λ run. scanner.new.tokens.items ≡ scanner.old.tokens.items ++ tokens_ended scanner.old.mode at (take run.count more.now)) }
+    ensures tokens { IfOk result (λ run. scanner.new.tokens.items ≡ scanner.old.tokens.items
+        ++ tokens_ended scanner.old.mode at (take run.count more.now)) }
     ensures mode { IfOk result (λ run. scanner.new.mode ≡ mode_behind scanner.old.mode at (take run.count more.now)) }
     ensures few { IfOk result (λ run. run.depth ≤ at + run.count) }
     ensures counted { IfOk result (λ run. run.depth ≡ depth_after 0 (kinds_of scanner.new.tokens.items)) }
     ensures closes { IfOk result (λ run. run.may_end ≡ true → scanner.new.mode ≡ Between false) }
-    ensures none_before { IfOk result (λ run. has_outer place (kinds_of scanner.old.tokens.items) ≡ false → NoneOuterEnds place scanner.old.tokens.items scanner.old.mode at more.now run.count) }
-    ensures outer { IfOk result (λ run. has_outer place (kinds_of scanner.old.tokens.items) ≡ false → ShowsOuter run.may_end place (kinds_of scanner.new.tokens.items)) }
+    ensures none_before { IfOk result (λ run. has_outer place (kinds_of scanner.old.tokens.items) ≡ false
+        → NoneOuterEnds place scanner.old.tokens.items scanner.old.mode at more.now run.count) }
+    ensures outer { IfOk result (λ run. has_outer place (kinds_of scanner.old.tokens.items) ≡ false
+        → ShowsOuter run.may_end place (kinds_of scanner.new.tokens.items)) }
 {
     let mut open = depth;
     let mut count = 0;
@@ -311,13 +317,17 @@ fn scan_run(
     ensures count { IfOk result (λ run. run.count ≤ length more.now) }
     ensures some { IfOk result (λ run. 0 < length more.now → 0 < run.count) }
     ensures bytes { IfOk result (λ run. bytes.new.items ≡ bytes.old.items ++ take run.count more.now) }
-    ensures tokens { IfOk result (λ run. scanner.new.tokens.items ≡ scanner.old.tokens.items ++ tokens_ended scanner.old.mode (length bytes.old.items) (take run.count more.now)) }
-    ensures mode { IfOk result (λ run. scanner.new.mode ≡ mode_behind scanner.old.mode (length bytes.old.items) (take run.count more.now)) }
+    ensures tokens { IfOk result (λ run. scanner.new.tokens.items ≡ scanner.old.tokens.items
+        ++ tokens_ended scanner.old.mode (length bytes.old.items) (take run.count more.now)) }
+    ensures mode { IfOk result (λ run. scanner.new.mode ≡ mode_behind scanner.old.mode (length bytes.old.items)
+        (take run.count more.now)) }
     ensures few { IfOk result (λ run. run.depth ≤ length bytes.old.items + run.count) }
     ensures counted { IfOk result (λ run. run.depth ≡ depth_after 0 (kinds_of scanner.new.tokens.items)) }
     ensures closes { IfOk result (λ run. run.may_end ≡ true → scanner.new.mode ≡ Between false) }
-    ensures none_before { IfOk result (λ run. has_outer place (kinds_of scanner.old.tokens.items) ≡ false → NoneOuterEnds place scanner.old.tokens.items scanner.old.mode (length bytes.old.items) more.now run.count) }
-    ensures outer { IfOk result (λ run. has_outer place (kinds_of scanner.old.tokens.items) ≡ false → ShowsOuter run.may_end place (kinds_of scanner.new.tokens.items)) }
+    ensures none_before { IfOk result (λ run. has_outer place (kinds_of scanner.old.tokens.items) ≡ false
+        → NoneOuterEnds place scanner.old.tokens.items scanner.old.mode (length bytes.old.items) more.now run.count) }
+    ensures outer { IfOk result (λ run. has_outer place (kinds_of scanner.old.tokens.items) ≡ false
+        → ShowsOuter run.may_end place (kinds_of scanner.new.tokens.items)) }
 {
     let run = scan_tokens(scanner, place, depth, bytes.len(), more)?;
     bytes.extend_from_slice(&more[..run.count])?;

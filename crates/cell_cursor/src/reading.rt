@@ -49,7 +49,8 @@ fn halt_of(
     end: usize,
     items: &mut Vec<LibraryItem>,
 ) -> Result<Halt, AllocError>
-    ensures halt { IfOk result (λ halt. halt ≡ halt_in end (is_start place && is_last cursor.old) (read (rest_at place items.old.items) cursor.old)) }
+    ensures halt { IfOk result (λ halt. halt ≡ halt_in end (is_start place && is_last cursor.old)
+        (read (rest_at place items.old.items) cursor.old)) }
     ensures items { OnOk result (items.new.items ≡ items_in (read (rest_at place items.old.items) cursor.old)) }
 {
     let is_only = place == Place::Start && cursor.is_last();
@@ -123,7 +124,8 @@ fn answer_by(whole: bool, fault: Option<LibraryFault>) -> Answer
     }
 }
 
-/// The items of a part of these bytes, before which so many others stand, that ends where the file does or, where that is not `whole`, where the limit is, and how it ends.
+/// The items of a part of these bytes, before which so many others stand, that ends where the file does or, where that is not
+/// `whole`, where the limit is, and how it ends.
 #[tactic(auto, using(liberty_groups::proofs::Inside::lie_inside), unfolding(crate::specs::Finish::part_outcome, crate::specs::Finish::part_halt, crate::specs::Finish::answer_at))]
 pub(crate) fn read_end(
     alloc: Global,

@@ -1,13 +1,16 @@
 //! The next item.
 
-ghost use Rattle.std.specs.Prelude.{◌≡◌, ℕ, true, false, ◌<◌, ◌≤◌, ◌+◌, List, [], length, IsTrue, IsOk, OnOk, OnErr, IfOk, IfErr, Some, None, ◌⊎◌};
+ghost use Rattle.std.specs.Prelude.{◌≡◌, ℕ, true, false, ◌<◌, ◌≤◌, ◌+◌, List, [], length, IsTrue, IsOk, OnOk, OnErr, IfOk, IfErr};
+ghost use Rattle.std.specs.Prelude.{Some, None, ◌⊎◌};
 ghost use Rattle.text_io.specs.declared.slots.InSlot.TheVariants.{Library};
 ghost use Rattle.text_io.specs.declared.slots.Slot.TheVariants.{Input};
 ghost use Rattle.text_io.specs.Desk.{is_bound, Rose};
 ghost use Rattle.liberty_text.specs.declared.scanner.Mode.TheVariants.{Between};
 ghost use Rattle.cell_cursor.specs.Progress.{taken_by, to_do, may_have_ended, is_whole};
 ghost use Rattle.cell_cursor.specs.declared.item.LibraryItem.{LibraryItem as Given};
-ghost use Rattle.cell_cursor.specs.Stands.{answered, given_by, is_going, is_failed, is_failure, tells_failure, is_ended, is_library, Goes, GoesBy, Stands, Advances, Moves, IsSettled, IsAnswered, StaysSettled};
+ghost use Rattle.cell_cursor.specs.Stands.{answered, given_by, is_going, is_failed, is_failure, tells_failure, is_ended};
+ghost use Rattle.cell_cursor.specs.Stands.{is_library, Goes, GoesBy, Stands, Advances, Moves, IsSettled, IsAnswered};
+ghost use Rattle.cell_cursor.specs.Stands.{StaysSettled};
 
 use crate::cursor::{Answer, CellCursor};
 use crate::fault::CursorFault;
@@ -32,7 +35,8 @@ pub(crate) enum Scanned {
 }
 
 impl CellCursor {
-    /// A cursor that has read nothing. It will read at most `limit` bytes of the library, and one more. So far it takes no memory.
+    /// A cursor that has read nothing. It will read at most `limit` bytes of the library, and one more. So far it takes no
+    /// memory.
     pub fn new(alloc: Global, limit: usize) -> Result<CellCursor, AllocError>
         ensures made { IsOk result }
         ensures stands { IfOk result (λ cursor. Stands cursor [] []) }
@@ -55,7 +59,8 @@ impl CellCursor {
         ensures limit { self.new.limit ≡ self.old.limit }
         ensures answer { self.new.answer ≡ self.old.answer }
         ensures waiting { self.new.waiting.items ≡ self.old.waiting.items }
-        ensures goes { IfOk result (λ scanned. (bytes : List ℕ) (items : List Given) → Goes self.old bytes items → GoesBy (may_have_ended scanned) self.new bytes items) }
+        ensures goes { IfOk result (λ scanned. (bytes : List ℕ) (items : List Given) → Goes self.old bytes items
+            → GoesBy (may_have_ended scanned) self.new bytes items) }
         ensures taken { OnOk result (taken_by self.new ≡ taken_by self.old) }
         ensures some { IfOk result (λ scanned. is_whole scanned ≡ false → length self.new.piece < length self.old.piece) }
         ensures mode { IfOk result (λ scanned. may_have_ended scanned ≡ true → self.new.part.mode ≡ Between false) }
@@ -148,22 +153,26 @@ impl CellCursor {
 
     /// The next item of the library in the slot `Library`, or how it ends.
     ///
-    /// It reads at most 16,384 bytes at once, and at most the limit and one byte in all. It does not read far ahead: when it answers
-    /// a cell, the bytes that were read end at most 65,536 bytes behind the closing brace of the cell. After any call, also one that
-    /// ends with a fault, each cell was given whose closing brace has 65,536 bytes or more behind it among the bytes that were read.
+    /// It reads at most 16,384 bytes at once, and at most the limit and one byte in all. It does not read far ahead: when it
+    /// answers a cell, the bytes that were read end at most 65,536 bytes behind the closing brace of the cell. After any call,
+    /// also one that ends with a fault, each cell was given whose closing brace has 65,536 bytes or more behind it among the
+    /// bytes that were read.
     ///
-    /// Faults: `Library` with the first fault of the library, `Failed` where a read failed, `Memory`. After a fault, and after `Over`
-    /// and `End`, it answers the same and reads nothing. A call in which a read fails gives no item: every other answer of a cursor
-    /// comes only where no read of it has failed.
+    /// Faults: `Library` with the first fault of the library, `Failed` where a read failed, `Memory`. After a fault, and after
+    /// `Over` and `End`, it answers the same and reads nothing. A call in which a read fails gives no item: every other answer of
+    /// a cursor comes only where no read of it has failed.
     pub fn next_cell<D: Desk>(&mut self, desk: &mut D) -> Result<Next, CursorFault>
         requires { IsTrue (is_bound (D.state desk.old) (Input Library)) }
         ensures moves { Moves self.old self.new (D.state desk.old) (D.state desk.new) (given_by result) }
         ensures answered { given_by result ≡ [] → IsAnswered self.new result }
         ensures kept { is_going self.old.answer ≡ false → self.new.answer ≡ self.old.answer }
-        ensures settled { (a : Answer) → IsSettled self.old a → StaysSettled a self.new (D.state desk.old) (D.state desk.new) result }
+        ensures settled { (a : Answer) → IsSettled self.old a
+            → StaysSettled a self.new (D.state desk.old) (D.state desk.new) result }
         ensures later { D.faults desk.old ≤ D.faults desk.new }
-        ensures failed { IfErr result (λ fault. fault ≡ CursorFault.Failed → (is_failed self.old.answer ≡ true) ⊎ Rose (D.faults desk.old) (D.faults desk.new)) }
-        ensures failing { is_failed self.new.answer ≡ true → (is_failed self.old.answer ≡ true) ⊎ Rose (D.faults desk.old) (D.faults desk.new) }
+        ensures failed { IfErr result (λ fault. fault ≡ CursorFault.Failed → (is_failed self.old.answer ≡ true)
+            ⊎ Rose (D.faults desk.old) (D.faults desk.new)) }
+        ensures failing { is_failed self.new.answer ≡ true → (is_failed self.old.answer ≡ true)
+            ⊎ Rose (D.faults desk.old) (D.faults desk.new) }
         ensures clean { is_failed self.new.answer ≡ false → D.faults desk.new ≡ D.faults desk.old }
         ensures unfailed { tells_failure result ≡ false → is_failed self.old.answer ≡ false → is_failed self.new.answer ≡ false }
     {

@@ -59,8 +59,11 @@ fn read_statement(
     alloc: Global,
     items: &mut Vec<LibraryItem>,
 ) -> Result<bool, Stop>
-    ensures added { Adds (read (item_statement items.old.items (next_bytes cursor.old) (next_at cursor.old)) (rest cursor.old)) result items.new.items cursor.new }
-    ensures ended { IfOk result (λ ended. ended ≡ true → (more : List Lexeme) → read (item_statement items.old.items (next_bytes cursor.old) (next_at cursor.old)) (rest cursor.old ++ more) ≡ Ok (items.new.items, cursor.new ++ more)) }
+    ensures added { Adds (read (item_statement items.old.items (next_bytes cursor.old) (next_at cursor.old)) (rest cursor.old))
+        result items.new.items cursor.new }
+    ensures ended { IfOk result (λ ended. ended ≡ true → (more : List Lexeme)
+        → read (item_statement items.old.items (next_bytes cursor.old) (next_at cursor.old)) (rest cursor.old ++ more) ≡ Ok
+        (items.new.items, cursor.new ++ more)) }
     ensures open { IfOk result (λ ended. ended ≡ false → cursor.new ≡ []) }
     ensures inner { IfOk result (λ ended. ended ≡ false → has_outer place.Inside (lexeme_kinds (rest cursor.old)) ≡ false) }
 {
@@ -102,7 +105,9 @@ fn statement_ends(
     alloc: Global,
     items: &mut Vec<LibraryItem>,
 ) -> Result<bool, AllocError>
-    ensures { IfOk result (λ ends. ends ≡ true → (more : List Lexeme) → read (item_statement items.old.items (next_bytes cursor.old) (next_at cursor.old)) (rest cursor.old ++ more) ≡ Ok (items.new.items, cursor.new ++ more)) }
+    ensures { IfOk result (λ ends. ends ≡ true → (more : List Lexeme)
+        → read (item_statement items.old.items (next_bytes cursor.old) (next_at cursor.old)) (rest cursor.old ++ more) ≡ Ok
+        (items.new.items, cursor.new ++ more)) }
 {
     match read_statement(cursor, alloc, items) {
         Ok(ended) => Ok(ended),

@@ -22,13 +22,14 @@ use std::mem::replace;
 const MOST_KEPT: usize = 1_048_576;
 
 impl CellCursor {
-    /// Sees which token of the part is refused, if one is, and else takes its statements, if the last one may have ended and they have
-    /// all ended.
+    /// Sees which token of the part is refused, if one is, and else takes its statements, if the last one may have ended and they
+    /// have all ended.
     pub(crate) fn take_part(&mut self, may_have_ended: bool) -> Result<(), AllocError>
         requires none_waits { self.old.waiting.items ≡ [] }
         requires going { self.old.answer ≡ None }
         requires mode { may_have_ended ≡ true → self.old.part.mode ≡ Between false }
-        ensures stands { OnOk result ((bytes : List ℕ) (items : List Given) → GoesBy may_have_ended self.old bytes items → Stands self.new bytes items) }
+        ensures stands { OnOk result ((bytes : List ℕ) (items : List Given) → GoesBy may_have_ended self.old bytes items
+            → Stands self.new bytes items) }
         ensures err { OnErr result (self.new.waiting.items ≡ []) }
         ensures open { OnOk result (is_ended self.new.answer ≡ false) }
         ensures reading { ReadsNothing self.old self.new }
@@ -57,7 +58,8 @@ impl CellCursor {
     pub(crate) fn take_before_name(&mut self) -> Result<(), AllocError>
         requires none_waits { self.old.waiting.items ≡ [] }
         requires going { self.old.answer ≡ None }
-        ensures stands { OnOk result ((bytes : List ℕ) (items : List Given) → Goes self.old bytes items → Stands self.new bytes items) }
+        ensures stands { OnOk result ((bytes : List ℕ) (items : List Given) → Goes self.old bytes items
+            → Stands self.new bytes items) }
         ensures err { OnErr result (self.new.waiting.items ≡ []) }
         ensures open { OnOk result (is_ended self.new.answer ≡ false) }
         ensures reading { ReadsNothing self.old self.new }
@@ -128,8 +130,10 @@ impl CellCursor {
     pub(crate) fn take_end(&mut self, whole: bool) -> Result<(), AllocError>
         ensures err { OnErr result (self.new.waiting.items ≡ self.old.waiting.items) }
         ensures limit { self.new.limit ≡ self.old.limit }
-        ensures answer { OnOk result (self.new.answer ≡ Some (answer_at self.old.place self.old.part.before self.old.part.bytes whole)) }
-        ensures items { OnOk result (self.new.waiting.items ≡ reverse (items_in (part_outcome self.old.place self.old.part.before self.old.part.bytes))) }
+        ensures answer { OnOk result (self.new.answer ≡ Some
+            (answer_at self.old.place self.old.part.before self.old.part.bytes whole)) }
+        ensures items { OnOk result (self.new.waiting.items ≡ reverse
+            (items_in (part_outcome self.old.place self.old.part.before self.old.part.bytes))) }
     {
         let mut items = Vec::new(self.alloc);
         let nothing = Part::new(self.alloc, self.part.before(), self.place);

@@ -1,7 +1,8 @@
 //! The numbers of the names of a cell.
 ghost use Rattle.std.specs.Prelude.{◌≡◌, ◌≤◌, IfOk, length, map};
 ghost use Rattle.std.specs.Option.{option_map};
-ghost use Rattle.cell_attributes.specs.Building.{is_second_name as is_second_name_of, number_in as number_in_of, number_as as number_as_of, cell_numbers as cell_numbers_of};
+ghost use Rattle.cell_attributes.specs.Building.{is_second_name as is_second_name_of, number_in as number_in_of};
+ghost use Rattle.cell_attributes.specs.Building.{number_as as number_as_of, cell_numbers as cell_numbers_of};
 ghost use Rattle.cell_attributes.specs.Shown.{shown_state, shown_vocabulary};
 
 use cell_attributes::states::StateName;
@@ -59,7 +60,8 @@ pub fn cell_numbers(
 ) -> Result<Vec<usize>, AllocError>
     requires pins { pins ≤ 64 }
     requires states { length states.now ≤ 16 }
-    ensures { IfOk result (λ numbers. numbers.items ≡ cell_numbers_of (map shown_state states.now) pins (shown_vocabulary vocabulary.now)) }
+    ensures { IfOk result (λ numbers. numbers.items ≡ cell_numbers_of (map shown_state states.now) pins
+        (shown_vocabulary vocabulary.now)) }
 {
     let mut numbers = Vec::new(alloc);
     for (i, target) in vocabulary.targets.iter().enumerate() {

@@ -2,21 +2,22 @@
 ghost use Rattle.std.specs.Prelude.{◌≡◌, [], ◌∷◌, ◌++◌, OnOk, IfOk, length, map, flat_map, nat_lt, if◌then◌else◌};
 ghost use Rattle.cell_machine.specs.Delay.{least};
 ghost use Rattle.cell_attributes.specs.Building.{FitsText, output_pin as output_pin_of, output_in as output_in_of, outputs_from};
-ghost use Rattle.cell_attributes.specs.Limits.{wide_text as wide_text_of, wide_function as wide_function_of, wide_output as wide_output_of};
+ghost use Rattle.cell_attributes.specs.Limits.{wide_text as wide_text_of, wide_function as wide_function_of};
+ghost use Rattle.cell_attributes.specs.Limits.{wide_output as wide_output_of};
 ghost use Rattle.cell_attributes.specs.Outputs.{pin_text as pin_text_of};
 ghost use Rattle.cell_attributes.specs.Shown.{shown_vocabulary};
 ghost use Rattle.cell_functions.specs.Within.{IsWithin};
 
 use crate::sources::sources_of;
 use crate::text_kinds::Numbering;
-use cell_machine::{Direction, OutputPin, StateGroup};
 use cell_attributes::held::held_with;
-use cell_machine::least::lesser;
 use cell_attributes::limits::MOST_OUTPUT_SOURCES;
 use cell_attributes::outputs::pin_text;
 use cell_attributes::pins::direction_of;
 use cell_attributes::texts::Text;
 use cell_attributes::vocabulary::Vocabulary;
+use cell_machine::least::lesser;
+use cell_machine::{Direction, OutputPin, StateGroup};
 use liberty_groups::Group;
 use sqlite_items::Items;
 use std::alloc::{AllocError, Global};
@@ -74,7 +75,8 @@ impl OutputReader<'_, '_> {
     ) -> Result<(), AllocError>
         requires within { IsWithin self.now }
         requires fits { FitsText (length self.now.to.now) text.now }
-        ensures { OnOk result (outputs.new ≡ outputs.old ++ output_pin_of self.now.pins self.now.groups.now self.now.to.now pin text.now ∷ []) }
+        ensures { OnOk result (outputs.new ≡ outputs.old
+            ++ output_pin_of self.now.pins self.now.groups.now self.now.to.now pin text.now ∷ []) }
     {
         let output = self.pin(pin, text)?;
         outputs.push(output)?;
@@ -105,7 +107,9 @@ impl OutputReader<'_, '_> {
         owner: &Group,
     ) -> Result<(), AllocError>
         requires { IsWithin self.now }
-        ensures { OnOk result (outputs.new ≡ outputs.old ++ output_in_of (shown_vocabulary self.now.vocabulary.now) self.now.pins self.now.groups.now self.now.to.now pin owner.now) }
+        ensures { OnOk result (outputs.new ≡ outputs.old
+            ++ output_in_of (shown_vocabulary self.now.vocabulary.now) self.now.pins self.now.groups.now self.now.to.now pin
+            owner.now) }
     {
         if direction_of(owner) != Some(Direction::Output) {
             return Ok(());
@@ -116,7 +120,8 @@ impl OutputReader<'_, '_> {
     /// The outputs, from the groups of the pins.
     pub fn all(&self, owners: &[&Group]) -> Result<Items<OutputPin>, AllocError>
         requires { IsWithin self.now }
-        ensures { IfOk result (λ outputs. outputs ≡ outputs_from (shown_vocabulary self.now.vocabulary.now) self.now.pins self.now.groups.now self.now.to.now 0 (map (λ group. group.now) owners.now)) }
+        ensures { IfOk result (λ outputs. outputs ≡ outputs_from (shown_vocabulary self.now.vocabulary.now) self.now.pins
+            self.now.groups.now self.now.to.now 0 (map (λ group. group.now) owners.now)) }
     {
         let mut outputs = Items::new(self.alloc);
         for (pin, owner) in owners.iter().enumerate() {
@@ -129,7 +134,8 @@ impl OutputReader<'_, '_> {
     fn wide_function(&self, text: &Text, at: usize) -> Result<Option<usize>, AllocError>
         requires within { IsWithin self.now }
         requires fits { FitsText (length self.now.to.now) text.now }
-        ensures { IfOk result (λ wide. wide ≡ least (wide_function_of self.now.pins self.now.groups.now self.now.to.now text.now at)) }
+        ensures { IfOk result (λ wide. wide ≡ least
+            (wide_function_of self.now.pins self.now.groups.now self.now.to.now text.now at)) }
     {
         let output = self.pin(0, text)?;
         Ok(wide_output_at(&output, at))
@@ -150,7 +156,9 @@ impl OutputReader<'_, '_> {
     /// Where the text of the pins of a group has more than 10 names in its support.
     fn wide_pin_text(&self, owner: &Group) -> Result<Option<usize>, AllocError>
         requires { IsWithin self.now }
-        ensures { IfOk result (λ wide. wide ≡ least (wide_text_of self.now.pins self.now.groups.now self.now.to.now (pin_text_of (shown_vocabulary self.now.vocabulary.now) owner.now))) }
+        ensures { IfOk result (λ wide. wide ≡ least
+            (wide_text_of self.now.pins self.now.groups.now self.now.to.now
+            (pin_text_of (shown_vocabulary self.now.vocabulary.now) owner.now))) }
     {
         let text = pin_text(self.alloc, self.vocabulary, owner)?;
         self.wide_text(&text)
@@ -160,7 +168,9 @@ impl OutputReader<'_, '_> {
     #[tactic(auto, unfolding(cell_attributes::specs::Limits::wide_output))]
     fn wide_output(&self, owner: &Group) -> Result<Option<usize>, AllocError>
         requires { IsWithin self.now }
-        ensures { IfOk result (λ wide. wide ≡ least (wide_output_of (shown_vocabulary self.now.vocabulary.now) self.now.pins self.now.groups.now self.now.to.now owner.now)) }
+        ensures { IfOk result (λ wide. wide ≡ least
+            (wide_output_of (shown_vocabulary self.now.vocabulary.now) self.now.pins self.now.groups.now self.now.to.now
+            owner.now)) }
     {
         if direction_of(owner) != Some(Direction::Output) {
             return Ok(None);
@@ -171,7 +181,9 @@ impl OutputReader<'_, '_> {
     /// Where an output has more than 10 names in its support.
     pub fn wide_outputs(&self, owners: &[&Group]) -> Result<Option<usize>, AllocError>
         requires { IsWithin self.now }
-        ensures { IfOk result (λ wide. wide ≡ least (flat_map (wide_output_of (shown_vocabulary self.now.vocabulary.now) self.now.pins self.now.groups.now self.now.to.now) (map (λ group. group.now) owners.now))) }
+        ensures { IfOk result (λ wide. wide ≡ least
+            (flat_map (wide_output_of (shown_vocabulary self.now.vocabulary.now) self.now.pins self.now.groups.now
+            self.now.to.now) (map (λ group. group.now) owners.now))) }
     {
         let mut found = None;
         for owner in owners {

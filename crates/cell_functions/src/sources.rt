@@ -1,7 +1,8 @@
 //! What the functions of outputs depend on.
 ghost use Rattle.std.specs.Prelude.{◌≡◌, ◌≤◌, ◌<◌, [], OnOk, IfOk, length, flat_map};
 ghost use Rattle.bool_functions.specs.Support.{insert_all};
-ghost use Rattle.cell_attributes.specs.Building.{supports_of_both, second_support, stands_for, source_of as source_of_number, sources_of as sources_of_function};
+ghost use Rattle.cell_attributes.specs.Building.{supports_of_both, second_support, stands_for, source_of as source_of_number};
+ghost use Rattle.cell_attributes.specs.Building.{sources_of as sources_of_function};
 
 use bool_functions::Function;
 use bool_functions::ascending::insert;

@@ -1,15 +1,17 @@
 //! The state groups of a cell.
 ghost use Rattle.std.specs.Prelude.{◌≡◌, IfOk, length, map, codes, All};
 ghost use Rattle.liberty_groups.specs.Attributes.{attribute_of};
-ghost use Rattle.cell_attributes.specs.Building.{table_in as table_in_of, table_groups as table_groups_of, groups_in as groups_in_of, node_groups, groups_from as groups_from_of, FitsReading};
+ghost use Rattle.cell_attributes.specs.Building.{table_in as table_in_of, table_groups as table_groups_of};
+ghost use Rattle.cell_attributes.specs.Building.{groups_in as groups_in_of, node_groups, groups_from as groups_from_of};
+ghost use Rattle.cell_attributes.specs.Building.{FitsReading};
 ghost use Rattle.cell_machine.specs.declared.groups.GroupKind.TheVariants as kind_of;
 ghost use Rattle.cell_attributes.specs.Shown.{shown_arguments};
 
 use crate::table_copies::copy_table;
 use crate::text_kinds::Numbering;
-use cell_machine::{GroupKind, StateGroup};
 use cell_attributes::state_readings::StateReading;
 use cell_attributes::states::{Arguments, arguments_of, is_table, names_in};
+use cell_machine::{GroupKind, StateGroup};
 use liberty_groups::{Group, last_attribute};
 use sqlite_items::Items;
 use statetables::{StateTable, TableFault, read_table};
@@ -48,7 +50,11 @@ fn node_group(
     node: usize,
     reading: &StateReading,
 ) -> Result<StateGroup, AllocError>
-    ensures { IfOk result (λ g. g ≡ record { kind = kind_of.Table table.now node reading.now.inputs; support = reading.now.support }) }
+    ensures { IfOk result (λ g. g ≡ record {
+      kind = kind_of.Table table.now node reading.now.inputs;
+      support =
+          reading.now.support;
+    }) }
 {
     let table = copy_table(alloc, table)?;
     let inputs = Items::from_slice(alloc, reading.inputs.as_slice())?;

@@ -1,15 +1,17 @@
 //! The texts of an `ff` or `latch` as functions.
 ghost use Rattle.std.specs.Prelude.{◌≡◌, IfOk, length, unwrap_or};
 ghost use Rattle.cell_attributes.specs.States.{first_both as first_both_of, second_both as second_both_of};
-ghost use Rattle.cell_attributes.specs.Building.{function_in as function_in_of, function_of as function_of_text, clocked as clocked_of, gated as gated_of, kind_of_texts as kind_of_texts_of, FitsText, FitsReading};
+ghost use Rattle.cell_attributes.specs.Building.{function_in as function_in_of, function_of as function_of_text};
+ghost use Rattle.cell_attributes.specs.Building.{clocked as clocked_of, gated as gated_of, kind_of_texts as kind_of_texts_of};
+ghost use Rattle.cell_attributes.specs.Building.{FitsText, FitsReading};
 ghost use Rattle.cell_machine.specs.declared.groups.Both.TheVariants as both;
 
 use bool_functions::Function;
-use cell_machine::{Both, Clocked, Gated, GroupKind, StateGroup};
 use cell_attributes::held::held_with;
 use cell_attributes::state_readings::{StateReading, is_ff};
 use cell_attributes::states::both_named;
 use cell_attributes::texts::Text;
+use cell_machine::{Both, Clocked, Gated, GroupKind, StateGroup};
 use liberty_groups::{Group, last_attribute};
 use sqlite_items::Items;
 use std::alloc::{AllocError, Global};
@@ -151,7 +153,11 @@ impl Numbering<'_> {
         reading: &StateReading,
     ) -> Result<StateGroup, AllocError>
         requires { FitsReading (length self.now.to.now) reading.now }
-        ensures { IfOk result (λ g. g ≡ record { kind = kind_of_texts_of self.now.to.now group.now reading.now; support = reading.now.support }) }
+        ensures { IfOk result (λ g. g ≡ record {
+          kind = kind_of_texts_of self.now.to.now group.now reading.now;
+          support =
+              reading.now.support;
+        }) }
     {
         let support = Items::from_slice(self.alloc, reading.support.as_slice())?;
         let kind = self.kind(group, reading)?;

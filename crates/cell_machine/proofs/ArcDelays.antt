@@ -1,5 +1,6 @@
 -- The least delay of arcs, arc by arc.
-use Rattle.std.proofs.Common.{◌≡◌, ℕ, min, true, false, ◌&&◌, List, [], ◌∷◌, map, refl, sym, ap, ◌∙◌, Option, Some, None, arith, add-one, zero, suc, ◌+◌, ◌<◌, length, drop, slice_get, cond, if◌then◌else◌}
+use Rattle.std.proofs.Common.{◌≡◌, ℕ, min, true, false, ◌&&◌, List, [], ◌∷◌, map, refl, sym, ap, ◌∙◌, Option, Some, None, arith}
+use Rattle.std.proofs.Common.{add-one, zero, suc, ◌+◌, ◌<◌, length, drop, slice_get, cond, if◌then◌else◌}
 use Rattle.std.specs.Prelude.{filter}
 use Rattle.trit_cubes.specs.declared.trits.Trit.{Trit}
 use Rattle.cell_machine.specs.declared.pins.Pin.{Pin}

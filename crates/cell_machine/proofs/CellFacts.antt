@@ -1,5 +1,6 @@
 -- What the rules of a cell say of its functions and supports.
-use Rattle.std.proofs.Common.{◌≡◌, ℕ, zero, suc, ◌+◌, ◌*◌, ◌<◌, ◌≤◌, max, Bool, ◌||◌, ◌==◌, List, [], ◌∷◌, ◌++◌, length, refl, sym, ◌∙◌, subst, arith, IsTrue, Option, Some, None, nat_eq, nat_lt, inl, inr, eqb-true, slice_get}
+use Rattle.std.proofs.Common.{◌≡◌, ℕ, zero, suc, ◌+◌, ◌*◌, ◌<◌, ◌≤◌, max, Bool, ◌||◌, ◌==◌, List, [], ◌∷◌, ◌++◌, length, refl}
+use Rattle.std.proofs.Common.{sym, ◌∙◌, subst, arith, IsTrue, Option, Some, None, nat_eq, nat_lt, inl, inr, eqb-true, slice_get}
 use Rattle.std.specs.List.{list_all}
 use Rattle.std.proofs.lemmas.List.Folds.{list_all-append}
 use Rattle.std.proofs.lemmas.Bool.{and_parts, and_from, or_cases, ltb-true, lt-ltb, leb-true}
@@ -17,7 +18,8 @@ use Rattle.cell_machine.specs.Step.{KindIsBounded}
 use Rattle.cell_machine.specs.Supports.{AllBelow, GroupFacts}
 use Rattle.cell_machine.proofs.RuleLemmas.{few_pins, few_groups, groups_hold}
 use Rattle.cell_machine.proofs.StepLemmas.{ascending}
-use Rattle.bool_functions.proofs.Trees.{every_tree, names_Name, names_Not, names_Xor, names_And, names_Or, fold-Zero, fold-One, fold-Name, fold-Not, fold-Xor, fold-And, fold-Or}
+use Rattle.bool_functions.proofs.Trees.{every_tree, names_Name, names_Not, names_Xor, names_And, names_Or, fold-Zero, fold-One}
+use Rattle.bool_functions.proofs.Trees.{fold-Name, fold-Not, fold-Xor, fold-And, fold-Or}
 
 -- a test passes on each part of a list
 list_all-parts :
@@ -134,7 +136,8 @@ kind-bounded :
     → IsTrue (list_all (is_own support name) (data_names kind))
     → KindIsBounded kind
 kind-bounded pins support name (kind.Ff k) few own inputs control data_ =
-    let first = list_all-parts (has support) (names_of k.clocked_on) (names_of_optional k.clear ++ names_of_optional k.preset) control in
+    let first = list_all-parts (has support) (names_of k.clocked_on) (names_of_optional k.clear ++ names_of_optional k.preset)
+    control in
     let second = list_all-parts (has support) (names_of_optional k.clear) (names_of_optional k.preset) first.1 in (
       own-below pins support name k.next_state few own inputs data_,
       names-below pins support k.clocked_on few inputs first.0,
@@ -142,7 +145,8 @@ kind-bounded pins support name (kind.Ff k) few own inputs control data_ =
       optional-below pins support k.preset few inputs second.1,
     )
 kind-bounded pins support name (kind.Latch k) few own inputs control data_ =
-    let first = list_all-parts (has support) (names_of_optional k.enable) (names_of_optional k.clear ++ names_of_optional k.preset) control in
+    let first = list_all-parts (has support) (names_of_optional k.enable)
+    (names_of_optional k.clear ++ names_of_optional k.preset) control in
     let second = list_all-parts (has support) (names_of_optional k.clear) (names_of_optional k.preset) first.1 in (
       own-optional-below pins support name k.data_in few own inputs data_,
       optional-below pins support k.enable few inputs first.0,

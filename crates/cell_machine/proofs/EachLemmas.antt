@@ -1,5 +1,6 @@
 -- A list that is stepped in place, entry by entry.
-use Rattle.std.proofs.Common.{◌≡◌, ℕ, zero, suc, ◌+◌, ◌<◌, ◌≤◌, List, [], ◌∷◌, ◌++◌, length, map, get_or, set, take, drop, refl, ap, sym, ◌∙◌, Some, slice_get, arith, add-one}
+use Rattle.std.proofs.Common.{◌≡◌, ℕ, zero, suc, ◌+◌, ◌<◌, ◌≤◌, List, [], ◌∷◌, ◌++◌, length, map, get_or, set, take, drop, refl}
+use Rattle.std.proofs.Common.{ap, sym, ◌∙◌, Some, slice_get, arith, add-one}
 use Rattle.std.proofs.lemmas.List.{append-nil, take_all}
 use Rattle.cell_machine.specs.Each.{each}
 

@@ -105,7 +105,14 @@ set_at time pin to = record { at = time; pin = pin; to = to }
 -- a check of these two events, each a pin and an edge of it, with this limit
 abbrev check_of : CheckKind → (ℕ × Edge) → (ℕ × Edge) → ℕ → Bool → InputCheck
 check_of kind first second limit on =
-    record { kind = kind; first = record { pin = first.0; edge = first.1 }; second = record { pin = second.0; edge = second.1 }; limit = limit; holds = λ _. on }
+    record {
+      kind = kind;
+      first = record { pin = first.0; edge = first.1 };
+      second =
+          record { pin = second.0; edge = second.1 };
+      limit = limit;
+      holds = λ _. on;
+    }
 
 -- A setup of 50 from any event of input 1 to a possible rise of input 0.
 abbrev setup : Bool → InputCheck

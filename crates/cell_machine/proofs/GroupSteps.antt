@@ -1,5 +1,6 @@
 -- The steps of a cell's groups, by their numbers.
-use Rattle.std.proofs.Common.{nat_eq, zero, suc, ◌∷◌, arith, ◌≡◌, ℕ, ◌+◌, ◌*◌, List, length, ◌<◌, refl, sym, ap, ◌∙◌, subst, Some, slice_get, []}
+use Rattle.std.proofs.Common.{nat_eq, zero, suc, ◌∷◌, arith, ◌≡◌, ℕ, ◌+◌, ◌*◌, List, length, ◌<◌, refl, sym, ap, ◌∙◌, subst, Some}
+use Rattle.std.proofs.Common.{slice_get, []}
 use Rattle.std.specs.Option.{option_map_or}
 use Rattle.trit_cubes.specs.declared.trits.Trit.{Trit}
 use Rattle.trit_cubes.specs.declared.trits.Trit.TheVariants.{Unknown}

@@ -1,5 +1,6 @@
 -- What the rules of a cell say of its outputs.
-use Rattle.std.proofs.Common.{◌≡◌, ℕ, zero, suc, ◌+◌, ◌*◌, ◌<◌, ◌≤◌, Bool, true, false, List, [], ◌∷◌, length, map, refl, sym, ◌∙◌, subst, arith, IsTrue, Some, slice_get, nat_eq, nat_lt, eqb-true, if◌then◌else◌}
+use Rattle.std.proofs.Common.{◌≡◌, ℕ, zero, suc, ◌+◌, ◌*◌, ◌<◌, ◌≤◌, Bool, true, false, List, [], ◌∷◌, length, map, refl, sym}
+use Rattle.std.proofs.Common.{◌∙◌, subst, arith, IsTrue, Some, slice_get, nat_eq, nat_lt, eqb-true, if◌then◌else◌}
 use Rattle.std.specs.Prelude.{flat_map}
 use Rattle.std.specs.List.{list_all}
 use Rattle.std.specs.Option.{option_map_or}
@@ -24,7 +25,8 @@ use Rattle.cell_machine.proofs.RuleLemmas.{few_pins, few_groups, outputs_hold}
 use Rattle.cell_machine.proofs.CellFacts.{input-below, has-all, name_bound-below}
 
 -- a passed test of a list is passed at each element
-pub all-at : {X : Type 0} (p : X → Bool) (xs : List X) (i : ℕ) (x : X) → IsTrue (list_all p xs) → slice_get xs i ≡ Some x → IsTrue (p x)
+pub all-at : {X : Type 0} (p : X → Bool) (xs : List X) (i : ℕ) (x : X) → IsTrue (list_all p xs) → slice_get xs i ≡ Some x
+    → IsTrue (p x)
 all-at p [] i x h e = absurd cc
 all-at p (y ∷ ys) zero x h e = let is : y ≡ x = cc in subst (λ z. IsTrue (p z)) is (and_parts _ _ h).0
 all-at p (y ∷ ys) (suc i) x h e = all-at p ys i x (and_parts (p y) (list_all p ys) h).1 e
@@ -95,7 +97,8 @@ output_facts pins groups output few some h =
     let three = and_parts _ _ two.1 in
     let four = and_parts _ _ three.1 in
     let held : List ℕ = map (source_name (length pins)) output.support in
-    let long : length output.support ≤ 10 = subst (λ n. n ≤ 10) (length-map output.support (source_name (length pins))) (leb-true _ _ one.0) in
+    let long : length output.support ≤ 10 =
+    subst (λ n. n ≤ 10) (length-map output.support (source_name (length pins))) (leb-true _ _ one.0) in
     record {
       bounded =
           name_bound-below 96 output.function

@@ -1,5 +1,7 @@
 -- The report over a history is the report over the whole list, by places.
-use Rattle.std.proofs.Common.{◌≡◌, ℕ, zero, suc, ◌+◌, ◌<◌, ◌≤◌, Bool, true, false, ◌&&◌, ◌⊎◌, inl, inr, List, [], ◌∷◌, ◌++◌, length, take, refl, sym, ap, ◌∙◌, subst, arith, add-one, Option, Some, None, IsTrue, slice_get, nat_lt, if◌then◌else◌}
+use Rattle.std.proofs.Common.{◌≡◌, ℕ, zero, suc, ◌+◌, ◌<◌, ◌≤◌, Bool, true, false, ◌&&◌, ◌⊎◌, inl, inr, List, [], ◌∷◌, ◌++◌}
+use Rattle.std.proofs.Common.{length, take, refl, sym, ap, ◌∙◌, subst, arith, add-one, Option, Some, None, IsTrue, slice_get}
+use Rattle.std.proofs.Common.{nat_lt, if◌then◌else◌}
 use Rattle.std.specs.Prelude.{reverse}
 use Rattle.std.proofs.lemmas.Bool.{and_parts, and_from, ltb-true, ltb-false, lt-ltb}
 use Rattle.std.proofs.lemmas.List.{reverse-append}
@@ -175,7 +177,15 @@ report_is_whole_list-lem n k cs place inside =
           let e : Event = opening k (value_before (inputs_after n h0) c) c in
           let enabled = subst (λ hs. IsTrue (k.holds (inputs_after n hs))) gained (rw add-one at r.enabled) in
           let last = found-last n e cs place r.opened.at (omega arith)
-          (record { earlier = r.earlier; is_earlier = r.is_earlier; opened = r.opened; event = r.first; is_last = r.is_last; time_is = refl }) in
+          (record {
+            earlier = r.earlier;
+            is_earlier = r.is_earlier;
+            opened = r.opened;
+            event = r.first;
+            is_last =
+                r.is_last;
+            time_is = refl;
+          }) in
           let near = subst (λ o. IsTrue (is_within c.at k.limit o)) (sym last) (lt-ltb c.at (r.opened.at + k.limit) r.near) in
           subst (λ hs. IsTrue (report n k hs)) (sym gained)
           (and_from (is_event_of k.second (inputs_after n h0) c)

@@ -8,7 +8,9 @@ use Rattle.cell_machine.specs.declared.outputs.OutputPin.{OutputPin}
 use Rattle.cell_machine.specs.declared.checks.Check.{Check}
 use Rattle.cell_machine.specs.declared.arcs.Arc.{Arc}
 use Rattle.cell_machine.specs.declared.cells.Cell.{Cell}
-use Rattle.cell_machine.specs.CellRules.{is_name, is_input_pin, is_output_pin, has_events, longest_time, is_condition, is_check, is_arc, is_in_order, is_output_of, are_pins, are_groups_from, are_groups, are_outputs, are_checks, are_arcs, is_cell, HoldsRules}
+use Rattle.cell_machine.specs.CellRules.{is_name, is_input_pin, is_output_pin, has_events, longest_time, is_condition, is_check}
+use Rattle.cell_machine.specs.CellRules.{is_arc, is_in_order, is_output_of, are_pins, are_groups_from, are_groups, are_outputs}
+use Rattle.cell_machine.specs.CellRules.{are_checks, are_arcs, is_cell, HoldsRules}
 
 pub rules_of :
     (name : List ℕ) (pins : List Pin) (groups : List StateGroup) (outputs : List OutputPin) (checks : List Check)
@@ -17,7 +19,8 @@ pub rules_of :
 rules_of name pins groups outputs checks arcs h =
     let five : Bool = are_checks pins checks && are_arcs pins arcs in
     let four : Bool = are_outputs pins groups outputs && (are_checks pins checks && are_arcs pins arcs) in
-    let three : Bool = are_groups pins groups && (are_outputs pins groups outputs && (are_checks pins checks && are_arcs pins arcs)) in
+    let three : Bool = are_groups pins groups
+    && (are_outputs pins groups outputs && (are_checks pins checks && are_arcs pins arcs)) in
     let a = and_parts (is_name name) (are_pins pins && three) h in
     let b = and_parts (are_pins pins) three a.1 in
     let c = and_parts (are_groups pins groups) four b.1 in
@@ -46,17 +49,20 @@ few_pins cell = leb-true (length cell.pins) 64 (and_parts (nat_le (length cell.p
 pub few_groups : (cell : Cell) → length cell.groups ≤ 16
 few_groups cell =
     leb-true (length cell.groups) 16
-    (and_parts (nat_le (length cell.groups) 16) (are_groups_from cell.pins (length cell.pins) cell.groups) (cell_rules cell).of_groups).0
+    (and_parts (nat_le (length cell.groups) 16) (are_groups_from cell.pins (length cell.pins) cell.groups)
+    (cell_rules cell).of_groups).0
 
 pub groups_hold : (cell : Cell) → IsTrue (are_groups_from cell.pins (length cell.pins) cell.groups)
 groups_hold cell =
-    (and_parts (nat_le (length cell.groups) 16) (are_groups_from cell.pins (length cell.pins) cell.groups) (cell_rules cell).of_groups).1
+    (and_parts (nat_le (length cell.groups) 16) (are_groups_from cell.pins (length cell.pins) cell.groups)
+    (cell_rules cell).of_groups).1
 
 pub outputs_hold : (cell : Cell) → IsTrue (list_all (is_output_of cell.pins cell.groups) cell.outputs)
 outputs_hold cell = (and_parts _ (list_all (is_output_of cell.pins cell.groups) cell.outputs) (cell_rules cell).of_outputs).1
 
 pub checks_hold : (cell : Cell) → IsTrue (list_all (is_check cell.pins) cell.checks)
-checks_hold cell = (and_parts (nat_le (length cell.checks) 256) (list_all (is_check cell.pins) cell.checks) (cell_rules cell).of_checks).1
+checks_hold cell = (and_parts (nat_le (length cell.checks) 256) (list_all (is_check cell.pins) cell.checks)
+    (cell_rules cell).of_checks).1
 
 pub arcs_hold : (cell : Cell) → IsTrue (list_all (is_arc cell.pins) cell.arcs)
 arcs_hold cell =
@@ -74,14 +80,16 @@ pub check_parts : (pins : List Pin) (k : Check) → IsTrue (is_check pins k) →
 check_parts pins k h =
     let when : Bool = is_condition pins (k.first.pin ∷ k.second.pin ∷ []) k.condition in
     let long : Bool = nat_le k.limit longest_time in
-    let a = and_parts (is_input_pin pins k.first.pin) (is_input_pin pins k.second.pin && (has_events k k.kind && (nat_lt 0 k.limit && (long && when)))) h in
+    let a = and_parts (is_input_pin pins k.first.pin)
+    (is_input_pin pins k.second.pin && (has_events k k.kind && (nat_lt 0 k.limit && (long && when)))) h in
     let b = and_parts (is_input_pin pins k.second.pin) (has_events k k.kind && (nat_lt 0 k.limit && (long && when))) a.1 in
     let c = and_parts (has_events k k.kind) (nat_lt 0 k.limit && (long && when)) b.1 in
     let d = and_parts (nat_lt 0 k.limit) (long && when) c.1 in
     let e = and_parts long when d.1 in
     record { first = a.0; second = b.0; enabled = e.1 }
 
-pub arc_condition : (pins : List Pin) (arc : Arc) → IsTrue (is_arc pins arc) → IsTrue (is_condition pins (arc.from ∷ []) arc.condition)
+pub arc_condition : (pins : List Pin) (arc : Arc) → IsTrue (is_arc pins arc)
+    → IsTrue (is_condition pins (arc.from ∷ []) arc.condition)
 arc_condition pins arc h =
     let when : Bool = is_condition pins (arc.from ∷ []) arc.condition in
     let rise : Bool = nat_le arc.rise longest_time in

@@ -1,5 +1,6 @@
 -- The fields of a cell's simulator at the start and after a change.
-use Rattle.std.proofs.Common.{◌≡◌, ℕ, ◌+◌, Bool, true, false, not, List, [], ◌∷◌, length, map, replicate, get_or, set, refl, sym, ap, subst, ◌∙◌, IsTrue, Option, None, if◌then◌else◌}
+use Rattle.std.proofs.Common.{◌≡◌, ℕ, ◌+◌, Bool, true, false, not, List, [], ◌∷◌, length, map, replicate, get_or, set, refl, sym}
+use Rattle.std.proofs.Common.{ap, subst, ◌∙◌, IsTrue, Option, None, if◌then◌else◌}
 use Rattle.std.specs.Prelude.{count_by}
 use Rattle.std.specs.List.{list_all}
 use Rattle.std.proofs.lemmas.Bool.{and_parts}
@@ -22,7 +23,8 @@ use Rattle.cell_machine.specs.Report.{report, any_true}
 use Rattle.cell_machine.specs.Times.{no_times, stamped, times_after, report_by}
 use Rattle.cell_machine.specs.Inputs.{is_input_at, input_number}
 use Rattle.cell_machine.specs.Each.{each}
-use Rattle.cell_machine.specs.CellTrace.{inputs_of, input_check, input_checks, reports_of, named_from, named_groups, NamedGroup, state_step, state_after, states_after}
+use Rattle.cell_machine.specs.CellTrace.{inputs_of, input_check, input_checks, reports_of, named_from, named_groups, NamedGroup}
+use Rattle.cell_machine.specs.CellTrace.{state_step, state_after, states_after}
 use Rattle.cell_machine.specs.ShownOutputs.{shown_first, shown_step}
 use Rattle.cell_machine.specs.KeptConditions.{AreKept}
 use Rattle.cell_machine.specs.LibertyStands.{shown_after, Stands}
@@ -111,8 +113,10 @@ states-change cell h c groups false f = refl
 -- After a change.
 pub change-stands :
     (cell : CellData) (names_of_checks names_of_arcs inputs_of_arcs : List (List ℕ)) (inputs : List Trit) (times : List Times)
-    (states : List Trit) (reports : List Bool) (shown : List Shown) (kept : List (Option Trit)) (h : List Change) (c : Change) (from' : Trit)
-    (inputs' : List Trit) (times' : List Times) (states' : List Trit) (reports' : List Bool) (shown' : List Shown) (kept' : List (Option Trit))
+    (states : List Trit) (reports : List Bool) (shown : List Shown) (kept : List (Option Trit)) (h : List Change) (c : Change)
+    (from' : Trit)
+    (inputs' : List Trit) (times' : List Times) (states' : List Trit) (reports' : List Bool) (shown' : List Shown)
+    (kept' : List (Option Trit))
     → IsTrue (list_all (is_check cell.pins) cell.checks)
     → Stands cell names_of_checks names_of_arcs inputs_of_arcs inputs times states reports shown kept h
     → from' ≡ get_or inputs c.pin Unknown
@@ -126,7 +130,8 @@ pub change-stands :
     ≡ each (λ o s. shown_step cell.pins cell.groups cell.arcs inputs' states' c o s.value) cell.outputs shown
     → AreKept cell.pins inputs' cell.arcs kept'
     → Stands cell names_of_checks names_of_arcs inputs_of_arcs inputs' times' states' reports' shown' kept' (c ∷ h)
-change-stands cell ncs nas ias inputs times states reports shown kept h c from' inputs' times' states' reports' shown' kept' holds st f i t r s o k =
+change-stands cell ncs nas ias inputs times states reports shown kept h c from' inputs' times' states' reports' shown' kept' holds
+    st f i t r s o k =
     let n : ℕ = inputs_of cell in
     let fs : from' ≡ value_before (inputs_after n h) c = f ∙ ap (λ v. get_or v c.pin Unknown) st.inputs_are in
     let is : inputs' ≡ inputs_after n (c ∷ h) = i ∙ ap (λ v. set v c.pin c.to) st.inputs_are in

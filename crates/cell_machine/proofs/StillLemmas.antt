@@ -1,5 +1,6 @@
 -- A change to the same value, and inputs of which fewer are unknown.
-use Rattle.std.proofs.Common.{◌≡◌, ℕ, zero, suc, Bool, true, false, not, ◌&&◌, List, [], ◌∷◌, length, map, get_or, set, refl, sym, ap, ◌∙◌, subst, Some, None, nat_eq, if◌then◌else◌}
+use Rattle.std.proofs.Common.{◌≡◌, ℕ, zero, suc, Bool, true, false, not, ◌&&◌, List, [], ◌∷◌, length, map, get_or, set, refl, sym}
+use Rattle.std.proofs.Common.{ap, ◌∙◌, subst, Some, None, nat_eq, if◌then◌else◌}
 use Rattle.std.proofs.lemmas.List.{set-get_or}
 use Rattle.trit_cubes.specs.declared.trits.Trit.{Trit}
 use Rattle.trit_cubes.specs.declared.trits.Trit.TheVariants.{Zero, One, Unknown}
@@ -20,7 +21,8 @@ use Rattle.cell_machine.specs.Report.{InputCheck, is_event_of, last_event, openi
 use Rattle.cell_machine.specs.Inputs.{input_number}
 use Rattle.cell_machine.specs.Outputs.{output_at}
 use Rattle.cell_machine.specs.Delay.{least_delay}
-use Rattle.cell_machine.specs.CellTrace.{inputs_of, input_check, state_after, states_after, named_groups, source_value, output_value, output_after, paths_between, delay_at, delay_after}
+use Rattle.cell_machine.specs.CellTrace.{inputs_of, input_check, state_after, states_after, named_groups, source_value}
+use Rattle.cell_machine.specs.CellTrace.{output_value, output_after, paths_between, delay_at, delay_after}
 use Rattle.cell_machine.specs.Laws.{SameValueChangesNothing, Refines, AllRefine, FewerUnknownsKeepOutputs}
 
 -- two values are the same exactly where they are equal

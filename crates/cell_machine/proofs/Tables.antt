@@ -1,5 +1,6 @@
 -- Functions of points by their values at all points.
-use Rattle.std.proofs.Common.{◌≡◌, ℕ, zero, suc, ◌+◌, ◌-◌, ◌<◌, ◌≤◌, Bool, false, List, [], ◌∷◌, ◌++◌, length, map, take, drop, get_or, refl, sym, ap, ◌∙◌, subst, arith, Some, slice_get, length-append}
+use Rattle.std.proofs.Common.{◌≡◌, ℕ, zero, suc, ◌+◌, ◌-◌, ◌<◌, ◌≤◌, Bool, false, List, [], ◌∷◌, ◌++◌, length, map, take, drop}
+use Rattle.std.proofs.Common.{get_or, refl, sym, ap, ◌∙◌, subst, arith, Some, slice_get, length-append}
 use Rattle.std.proofs.Math.Seq.{take-length}
 use Rattle.std.proofs.lemmas.List.{length-map}
 use Rattle.trit_cubes.specs.declared.trits.Trit.{Trit}
@@ -13,7 +14,8 @@ use Rattle.cell_machine.specs.CellData.{CellData}
 use Rattle.cell_machine.specs.Names.{state_name}
 use Rattle.cell_machine.specs.Machine.{Step, insert, without, init, last, edge_value}
 use Rattle.cell_machine.specs.Inputs.{pin_value, pin_values}
-use Rattle.cell_machine.specs.CellTrace.{source_value, sources_at, output_value_at, output_value, support_at, step_at, place_in, moved_at, moved}
+use Rattle.cell_machine.specs.CellTrace.{source_value, sources_at, output_value_at, output_value, support_at, step_at, place_in}
+use Rattle.cell_machine.specs.CellTrace.{moved_at, moved}
 use Rattle.cell_machine.proofs.OutputFacts.{sources_at-is, output_value_at-is}
 use Rattle.cell_machine.proofs.GroupSteps.{support_at-is, step_at-is}
 use Rattle.cell_machine.proofs.StepLemmas.{length-without}
@@ -35,7 +37,8 @@ pub output_tabled :
     → found ≡ output_value cell.pins cell.groups v states output
 output_tabled cell i output v states values places found e are known is =
     let sources : length (sources_at cell i) ≡ length places =
-    ap length (sources_at-is cell i output e) ∙ sym (ap length are ∙ length-map output.support (source_value cell.pins v states)) in
+    ap length (sources_at-is cell i output e) ∙ sym (ap length are ∙ length-map output.support (source_value cell.pins v states))
+    in
     is (output_value_at cell i) (subst (λ n. AreValuesOf n (output_value_at cell i) values) sources known)
     ∙ (λ j. res (output_value_at-is cell i output e j) (are j))
 
@@ -71,7 +74,8 @@ moved_tabled cell i group v a c s place values point found e at inside are known
     let pins : List Trit = pin_values cell.pins v group.support in
     let long : length pins ≡ length group.support = length-map group.support (pin_value cell.pins v) in
     let more : length pins ≡ suc (length (without place pins)) = length-without place pins (omega (arith, long, inside)) in
-    let behind : length (without place pins ++ s ∷ []) ≡ length (without place pins) + 1 = length-append (without place pins) (s ∷ []) in
+    let behind : length (without place pins ++ s ∷ []) ≡ length (without place pins) + 1 =
+    length-append (without place pins) (s ∷ []) in
     let wide : suc (suc (length (support_at cell i))) ≡ length point =
     ap (λ (support : List ℕ). suc (suc (length support))) (support_at-is cell i group e)
     ∙ (ap (λ n. suc (suc n)) (sym long ∙ (more ∙ (omega arith ∙ sym behind))) ∙ sym (ap length are)) in
@@ -111,7 +115,8 @@ edge_value_parts step p (old ∷ new ∷ r ∷ rest) l =
     = ap (λ k. get_or (old ∷ new ∷ r ∷ rest) k false) place ∙ last_at r false false rest in
     λ i. step (insert p old (others i)) (insert p new (others i)) (state i)
 
-pub others_long : (point : List Bool) → 3 ≤ length point → suc (length (take (length point - 1 - 2) (drop 2 point))) + 2 ≡ length point
+pub others_long : (point : List Bool) → 3 ≤ length point
+    → suc (length (take (length point - 1 - 2) (drop 2 point))) + 2 ≡ length point
 others_long [] l = absurd (omega arith)
 others_long (old ∷ []) l = absurd (omega arith)
 others_long (old ∷ new ∷ []) l = absurd (omega arith)

@@ -21,4 +21,13 @@ pub record CellData : Type 0 where
 -- the data of a cell
 abbrev pub data_of : Cell → CellData
 data_of c =
-    record { name = c.name; number = c.number; pins = c.pins; groups = c.groups; outputs = c.outputs; checks = c.checks; arcs = c.arcs }
+    record {
+      name = c.name;
+      number = c.number;
+      pins = c.pins;
+      groups = c.groups;
+      outputs = c.outputs;
+      checks = c.checks;
+      arcs =
+          c.arcs;
+    }

@@ -1,6 +1,7 @@
 -- What holds of every cell: the rules on its pins, groups, outputs, checks and arcs, and its limits. Each rule is a
 -- test, so that a reader of cells can establish it by itself.
-use Rattle.std.specs.Prelude.{◌≡◌, ℕ, ◌<◌, ◌+◌, Bool, true, false, not, ◌&&◌, ◌||◌, List, [], ◌∷◌, ◌++◌, length, map, nat_eq, nat_lt, nat_le, Option, Some, None, slice_get, bytes_eq, flat_map, IsTrue, if◌then◌else◌}
+use Rattle.std.specs.Prelude.{◌≡◌, ℕ, ◌<◌, ◌+◌, Bool, true, false, not, ◌&&◌, ◌||◌, List, [], ◌∷◌, ◌++◌, length, map, nat_eq}
+use Rattle.std.specs.Prelude.{nat_lt, nat_le, Option, Some, None, slice_get, bytes_eq, flat_map, IsTrue, if◌then◌else◌}
 use Rattle.std.specs.List.{list_all, list_any}
 use Rattle.std.specs.Option.{option_map_or}
 use Rattle.bool_functions.specs.declared.tree.Node.{Node}
@@ -274,7 +275,8 @@ AreApart arcs =
     → arc.from ≡ other.from → arc.to ≡ other.to → arc.condition ≡ other.condition → ⊥
 
 -- the same rules one by one
-pub record HoldsRules (name : List ℕ) (pins : List Pin) (groups : List StateGroup) (outputs : List OutputPin) (checks : List Check) (arcs : List Arc) : Type 0 where
+pub record HoldsRules (name : List ℕ) (pins : List Pin) (groups : List StateGroup) (outputs : List OutputPin)
+    (checks : List Check) (arcs : List Arc) : Type 0 where
   pub named : IsTrue (is_name name)
   pub of_pins : IsTrue (are_pins pins)
   pub of_groups : IsTrue (are_groups pins groups)

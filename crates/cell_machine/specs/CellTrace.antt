@@ -1,5 +1,6 @@
 -- The machine of a cell: its states, its outputs, its reports and its delays after each history of its inputs.
-use Rattle.std.specs.Prelude.{ℕ, ◌+◌, Bool, true, false, not, ◌&&◌, ◌||◌, List, [], ◌∷◌, length, map, filter, count_by, nat_eq, Option, Some, None, position, slice_get, slice_index_or, if◌then◌else◌}
+use Rattle.std.specs.Prelude.{ℕ, ◌+◌, Bool, true, false, not, ◌&&◌, ◌||◌, List, [], ◌∷◌, length, map, filter, count_by, nat_eq}
+use Rattle.std.specs.Prelude.{Option, Some, None, position, slice_get, slice_index_or, if◌then◌else◌}
 use Rattle.std.specs.List.{list_all}
 use Rattle.std.specs.Option.{option_map_or}
 use Rattle.cell_machine.specs.Names.{state_name}

@@ -18,7 +18,9 @@ shown_after cell h output = record { value = output_after cell h output; delay =
 
 -- The simulator of a cell stands after a history: its fields are what the machine gives there, and the values of
 -- conditions that it keeps are those there.
-pub record Stands (cell : CellData) (names_of_checks names_of_arcs inputs_of_arcs : List (List ℕ)) (inputs : List Trit) (times : List Times) (states : List Trit) (reports : List Bool) (shown : List Shown) (kept : List (Option Trit)) (h : List Change) : Type 0 where
+pub record Stands (cell : CellData) (names_of_checks names_of_arcs inputs_of_arcs : List (List ℕ)) (inputs : List Trit)
+    (times : List Times) (states : List Trit) (reports : List Bool) (shown : List Shown) (kept : List (Option Trit))
+    (h : List Change) : Type 0 where
   pub check_names_are : names_of_checks ≡ check_names cell
   pub arc_names_are : names_of_arcs ≡ arc_names cell
   pub arc_inputs_are : inputs_of_arcs ≡ arc_inputs cell

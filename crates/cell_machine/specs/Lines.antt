@@ -11,8 +11,10 @@ pub record Line : Type 0 where
   pub reports : List Bool
 
 -- the line of these outputs and checks, by what they show after each history
-abbrev pub shown_line : {O : Type 0} → List O → (List Change → O → Trit) → (List Change → O → Option ℕ) → (List Change → List Bool) → List Change → Line
-shown_line outputs value delay reports h = record { values = map (value h) outputs; delays = map (delay h) outputs; reports = reports h }
+abbrev pub shown_line : {O : Type 0} → List O → (List Change → O → Trit) → (List Change → O → Option ℕ)
+    → (List Change → List Bool) → List Change → Line
+shown_line outputs value delay reports h =
+    record { values = map (value h) outputs; delays = map (delay h) outputs; reports = reports h }
 
 -- the lines of changes, the oldest first, that go on from a history
 abbrev pub lines_from : (List Change → Line) → List Change → List Change → List Line

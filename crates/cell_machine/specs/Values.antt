@@ -1,5 +1,6 @@
 -- Values of all names of a cell.
-use Rattle.std.specs.Prelude.{ℕ, ◌+◌, Bool, false, not, List, [], ◌∷◌, map, replicate, slice_index_or, slice_set, Option, Some, None, ◌≤◌, ⊤}
+use Rattle.std.specs.Prelude.{ℕ, ◌+◌, Bool, false, not, List, [], ◌∷◌, map, replicate, slice_index_or, slice_set, Option, Some}
+use Rattle.std.specs.Prelude.{None, ◌≤◌, ⊤}
 use Rattle.bool_functions.specs.declared.tree.Node.{Node}
 use Rattle.bool_functions.specs.Tree.{value_of, name_bound}
 

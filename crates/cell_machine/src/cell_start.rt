@@ -78,8 +78,10 @@ impl StartValues {
     /// Those of a cell: all inputs and all states are unknown, there was no event, no check reports, and no
     /// condition's value is kept.
     pub(crate) fn of(alloc: Global, cell: &Cell) -> Result<StartValues, AllocError>
-        ensures inputs { IfOk result (λ start. start.inputs ≡ replicate (input_number cell.now.pins (length cell.now.pins)) Unknown) }
-        ensures times { IfOk result (λ start. start.times ≡ replicate (input_number cell.now.pins (length cell.now.pins)) no_times) }
+        ensures inputs { IfOk result (λ start. start.inputs ≡ replicate (input_number cell.now.pins (length cell.now.pins))
+            Unknown) }
+        ensures times { IfOk result (λ start. start.times ≡ replicate (input_number cell.now.pins (length cell.now.pins))
+            no_times) }
         ensures states { IfOk result (λ start. start.states ≡ replicate (length cell.now.groups) Unknown) }
         ensures reports { IfOk result (λ start. start.reports ≡ replicate (length cell.now.checks) false) }
         ensures kept { IfOk result (λ start. start.kept ≡ replicate (length cell.now.arcs) None) }

@@ -44,7 +44,8 @@ fn is_quiet(
     requires names { names.now ≡ arc_names (data_of cell.now) }
     requires inside { i < length cell.now.arcs }
     requires kept { AreKept cell.now.pins inputs.now cell.now.arcs kept.old }
-    ensures quiet { (other : ArcOf) → slice_get cell.now.arcs i ≡ Some other → result ≡ is_quiet cell.now.pins inputs.now arc.now other }
+    ensures quiet { (other : ArcOf) → slice_get cell.now.arcs i ≡ Some other
+        → result ≡ is_quiet cell.now.pins inputs.now arc.now other }
     ensures kept { AreKept cell.now.pins inputs.now cell.now.arcs kept.new }
 {
     if !arc.same_pins(cell.arc(i)) {
@@ -92,7 +93,8 @@ fn is_active(
     requires names { names.now ≡ arc_names (data_of cell.now) }
     requires inside { i < length cell.now.arcs }
     requires kept { AreKept cell.now.pins inputs.now cell.now.arcs kept.old }
-    ensures active { (arc : ArcOf) → slice_get cell.now.arcs i ≡ Some arc → result ≡ is_active cell.now.pins cell.now.arcs inputs.now arc arc.condition }
+    ensures active { (arc : ArcOf) → slice_get cell.now.arcs i ≡ Some arc
+        → result ≡ is_active cell.now.pins cell.now.arcs inputs.now arc arc.condition }
     ensures kept { AreKept cell.now.pins inputs.now cell.now.arcs kept.new }
 {
     let arc = cell.arc(i);
@@ -128,7 +130,9 @@ fn arc_delay(
     requires names { names.now ≡ arc_names (data_of cell.now) }
     requires inside { i < length cell.now.arcs }
     requires kept { AreKept cell.now.pins inputs.now cell.now.arcs kept.old }
-    ensures delay { (arc : ArcOf) → slice_get cell.now.arcs i ≡ Some arc → result ≡ arc_delay cell.now.pins cell.now.arcs inputs.now change.now.input change.now.pin change.now.from change.now.to arc }
+    ensures delay { (arc : ArcOf) → slice_get cell.now.arcs i ≡ Some arc
+        → result ≡ arc_delay cell.now.pins cell.now.arcs inputs.now change.now.input change.now.pin change.now.from change.now.to
+        arc }
     ensures kept { AreKept cell.now.pins inputs.now cell.now.arcs kept.new }
 {
     let arc = cell.arc(i);
@@ -163,7 +167,8 @@ pub fn least_delay(
 ) -> u64
     requires names { names.now ≡ arc_names (data_of cell.now) }
     requires kept { AreKept cell.now.pins inputs.now cell.now.arcs kept.old }
-    ensures delay { result ≡ least_delay change.now.from change.now.to (paths_between cell.now.pins cell.now.arcs inputs.now change.now.input change.now.pin) }
+    ensures delay { result ≡ least_delay change.now.from change.now.to
+        (paths_between cell.now.pins cell.now.arcs inputs.now change.now.input change.now.pin) }
     ensures kept { AreKept cell.now.pins inputs.now cell.now.arcs kept.new }
 {
     let mut best = None;

@@ -87,7 +87,9 @@ fn chosen_from(
 ) -> Trit
     requires bounded { name_bound function.now ≤ 96 }
     requires states { StatesBelow (length cell.now.groups) rest.now }
-    ensures { result ≡ res (λ choice. trit_of (value_of (written filled.old (second_names (length cell.now.pins) rest.now) choice) function.now)) (second_trits (length cell.now.pins) cell.now.groups values.now rest.now) }
+    ensures { result ≡ res (λ choice. trit_of
+        (value_of (written filled.old (second_names (length cell.now.pins) rest.now) choice) function.now))
+        (second_trits (length cell.now.pins) cell.now.groups values.now rest.now) }
 {
     let Some((first, rest)) = rest.split_first() else {
         return Trit::from(filled.value(function));
@@ -152,7 +154,8 @@ fn condition_from(
     values: &mut Values,
 ) -> Trit
     requires { name_bound condition.now ≤ 96 }
-    ensures { result ≡ res (λ p. trit_of (value_of (written values.old rest.now p) condition.now)) (pin_values pins.now inputs.now rest.now) }
+    ensures { result ≡ res (λ p. trit_of (value_of (written values.old rest.now p) condition.now))
+        (pin_values pins.now inputs.now rest.now) }
 {
     let Some((first, rest)) = rest.split_first() else {
         return Trit::from(values.value(condition));

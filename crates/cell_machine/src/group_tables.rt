@@ -33,7 +33,8 @@ fn inserted(place: usize, bit: bool, point: &[bool]) -> Few<bool, 8>
 fn change_value(cell: &Cell, group: usize, place: usize, point: &[bool]) -> Trit
     requires group { group < length cell.now.groups }
     requires place { place < length (support_at (data_of cell.now) group) }
-    ensures { length point.now ≡ suc (suc (length (support_at (data_of cell.now) group))) → result ≡ edge_value (step_at (data_of cell.now) group) place point.now }
+    ensures { length point.now ≡ suc (suc (length (support_at (data_of cell.now) group)))
+        → result ≡ edge_value (step_at (data_of cell.now) group) place point.now }
 {
     let pins = cell.group(group).support.len();
     if point.len() != pins + 2 {
@@ -72,7 +73,8 @@ fn change_values(
 ) -> Result<Vec<Trit>, AllocError>
     requires group { group < length cell.now.groups }
     requires place { place < length (support_at (data_of cell.now) group) }
-    ensures { IfOk result (λ values. AreValuesOf (suc (suc (length (support_at (data_of cell.now) group)))) (edge_value (step_at (data_of cell.now) group) place) values.items) }
+    ensures { IfOk result (λ values. AreValuesOf (suc (suc (length (support_at (data_of cell.now) group))))
+        (edge_value (step_at (data_of cell.now) group) place) values.items) }
 {
     let pins = cell.group(group).support.len();
     let values = values_of(

@@ -27,7 +27,8 @@ pub fn kept_condition(
     requires names { names.now ≡ arc_names (data_of cell.now) }
     requires inside { i < length cell.now.arcs }
     requires kept { AreKept cell.now.pins inputs.now cell.now.arcs kept.old }
-    ensures value { (arc : ArcOf) → slice_get cell.now.arcs i ≡ Some arc → result ≡ arc_condition_of cell.now.pins inputs.now arc.condition }
+    ensures value { (arc : ArcOf) → slice_get cell.now.arcs i ≡ Some arc
+        → result ≡ arc_condition_of cell.now.pins inputs.now arc.condition }
     ensures kept { AreKept cell.now.pins inputs.now cell.now.arcs kept.new }
 {
     if let Some(value) = kept.as_slice()[i] {

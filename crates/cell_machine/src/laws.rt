@@ -1,6 +1,7 @@
 //! Theorems on the definitions, for the proofs of other crates. The functions do nothing.
 
-ghost use Rattle.cell_machine.specs.Laws.{LastLineIsOfHistory, FrontsHaveFronts, ReportIsWholeList, TimesDecideReports, ForcedIsStep, SameValueChangesNothing, FewerUnknownsKeepOutputs};
+ghost use Rattle.cell_machine.specs.Laws.{LastLineIsOfHistory, FrontsHaveFronts, ReportIsWholeList, TimesDecideReports};
+ghost use Rattle.cell_machine.specs.Laws.{ForcedIsStep, SameValueChangesNothing, FewerUnknownsKeepOutputs};
 
 /// The last line of a trace is the line of the history of all its changes.
 pub fn last_line_is_of_history()

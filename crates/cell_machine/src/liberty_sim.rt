@@ -82,7 +82,8 @@ impl<'a> LibertySim<'a> {
 impl<'a> CellSim for LibertySim<'a> {
     ghost machine = { λ s. cell_machine_of (data_of s.cell.now) };
 
-    ghost stands = { λ s h. Stands (data_of s.cell.now) s.known.check_names s.known.arc_names s.known.arc_inputs s.inputs s.times s.states s.reports s.shown s.kept h };
+    ghost stands = { λ s h. Stands (data_of s.cell.now) s.known.check_names s.known.arc_names s.known.arc_inputs s.inputs s.times
+        s.states s.reports s.shown s.kept h };
 
     fn sizes(&self) -> Sizes {
         Sizes {

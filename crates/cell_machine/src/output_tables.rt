@@ -3,7 +3,8 @@ ghost use Rattle.std.specs.Prelude.{◌≡◌, ◌<◌, ◌≤◌, length, map, 
 ghost use Rattle.trit_cubes.specs.Sets.{AreValuesOf};
 ghost use Rattle.cell_machine.specs.declared.outputs.OutputPin.{OutputPin as OutputPinOf};
 ghost use Rattle.cell_machine.specs.CellData.{data_of};
-ghost use Rattle.cell_machine.specs.CellTrace.{source_value as source_value_of, sources_at, output_value_at, output_value as output_value_of};
+ghost use Rattle.cell_machine.specs.CellTrace.{source_value as source_value_of, sources_at, output_value_at};
+ghost use Rattle.cell_machine.specs.CellTrace.{output_value as output_value_of};
 ghost use Rattle.cell_machine.specs.OutputTables.{AreOutputTables};
 
 use crate::cells::Cell;
@@ -21,7 +22,8 @@ use trit_cubes::{Trit, values_of};
 /// The value of an output at a point, which is of its support.
 fn point_value(cell: &Cell, output: usize, point: &[bool]) -> Trit
     requires { output < length cell.now.outputs }
-    ensures { length point.now ≡ length (sources_at (data_of cell.now) output) → result ≡ output_value_at (data_of cell.now) output point.now }
+    ensures { length point.now ≡ length (sources_at (data_of cell.now) output)
+        → result ≡ output_value_at (data_of cell.now) output point.now }
 {
     if point.len() != cell.output_pin(output).support.len() {
         return Trit::Unknown;
@@ -32,7 +34,8 @@ fn point_value(cell: &Cell, output: usize, point: &[bool]) -> Trit
 /// The values of an output at all points of its support, each at the number of its point.
 fn output_values(alloc: Global, cell: &Cell, output: usize) -> Result<Vec<Trit>, AllocError>
     requires { output < length cell.now.outputs }
-    ensures { IfOk result (λ values. AreValuesOf (length (sources_at (data_of cell.now) output)) (output_value_at (data_of cell.now) output) values.items) }
+    ensures { IfOk result (λ values. AreValuesOf (length (sources_at (data_of cell.now) output))
+        (output_value_at (data_of cell.now) output) values.items) }
 {
     let places = cell.output_pin(output).support.len();
     let values = values_of(
@@ -92,7 +95,8 @@ pub fn output_value(
 ) -> Trit
     requires tables { AreOutputTables (data_of cell.now) tables.now }
     requires inside { output < length cell.now.outputs }
-    ensures { (pin : OutputPinOf) → slice_get cell.now.outputs output ≡ Some pin → result ≡ output_value_of cell.now.pins cell.now.groups inputs.now states.now pin }
+    ensures { (pin : OutputPinOf) → slice_get cell.now.outputs output ≡ Some pin
+        → result ≡ output_value_of cell.now.pins cell.now.groups inputs.now states.now pin }
 {
     let sources = cell.output_pin(output).support.as_slice();
     let places = source_values(cell.pins.as_slice(), inputs, states, sources);

@@ -101,7 +101,8 @@ pub fn report_all(
 )
     requires names { names.now ≡ check_names (data_of cell.now) }
     requires one_each { length reports_of.old ≡ length cell.now.checks }
-    ensures { reports_of.new ≡ map (λ k. report_by (input_check cell.now.pins k) from inputs.now times.now change) cell.now.checks }
+    ensures { reports_of.new ≡ map (λ k. report_by (input_check cell.now.pins k) from inputs.now times.now change)
+        cell.now.checks }
 {
     let pins = cell.pins.as_slice();
     for i in 0..reports_of.len() {

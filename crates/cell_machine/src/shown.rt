@@ -52,7 +52,9 @@ fn shown_step(
     requires names { seen.now.names.now ≡ arc_names (data_of cell.now) }
     requires inside { i < length cell.now.outputs }
     requires kept { AreKept cell.now.pins seen.now.inputs.now cell.now.arcs kept.old }
-    ensures shown { (output : OutputPinOf) → slice_get cell.now.outputs i ≡ Some output → result ≡ shown_step cell.now.pins cell.now.groups cell.now.arcs seen.now.inputs.now seen.now.states.now seen.now.change output was }
+    ensures shown { (output : OutputPinOf) → slice_get cell.now.outputs i ≡ Some output
+        → result ≡ shown_step cell.now.pins cell.now.groups cell.now.arcs seen.now.inputs.now seen.now.states.now seen.now.change
+        output was }
     ensures kept { AreKept cell.now.pins seen.now.inputs.now cell.now.arcs kept.new }
 {
     let value = output_value(cell, seen.outputs, i, seen.inputs, seen.states);
@@ -80,7 +82,9 @@ pub fn show_all(
     requires names { seen.now.names.now ≡ arc_names (data_of cell.now) }
     requires kept { AreKept cell.now.pins seen.now.inputs.now cell.now.arcs kept.old }
     requires one_each { length shown.old ≡ length cell.now.outputs }
-    ensures stepped { shown.new ≡ each (λ o s. shown_step cell.now.pins cell.now.groups cell.now.arcs seen.now.inputs.now seen.now.states.now seen.now.change o s.value) cell.now.outputs shown.old }
+    ensures stepped { shown.new ≡ each
+        (λ o s. shown_step cell.now.pins cell.now.groups cell.now.arcs seen.now.inputs.now seen.now.states.now seen.now.change o
+        s.value) cell.now.outputs shown.old }
     ensures len { length shown.new ≡ length shown.old }
     ensures kept { AreKept cell.now.pins seen.now.inputs.now cell.now.arcs kept.new }
 {
@@ -100,7 +104,8 @@ fn shown_first(
 ) -> Shown
     requires outputs { AreOutputTables (data_of cell.now) outputs.now }
     requires inside { i < length cell.now.outputs }
-    ensures { (output : OutputPinOf) → slice_get cell.now.outputs i ≡ Some output → result ≡ shown_first cell.now.pins cell.now.groups inputs.now states.now output }
+    ensures { (output : OutputPinOf) → slice_get cell.now.outputs i ≡ Some output
+        → result ≡ shown_first cell.now.pins cell.now.groups inputs.now states.now output }
 {
     let value = output_value(cell, outputs, i, inputs, states);
     Shown { value, delay: None }
@@ -116,7 +121,8 @@ pub fn show_start(
     states: &[Trit],
 ) -> Result<Items<Shown>, AllocError>
     requires { AreOutputTables (data_of cell.now) outputs.now }
-    ensures { IfOk result (λ shown. shown ≡ map (shown_first cell.now.pins cell.now.groups inputs.now states.now) cell.now.outputs) }
+    ensures { IfOk result (λ shown. shown ≡ map (shown_first cell.now.pins cell.now.groups inputs.now states.now)
+        cell.now.outputs) }
 {
     let mut shown = Items::new(alloc);
     for i in 0..cell.outputs.len() {

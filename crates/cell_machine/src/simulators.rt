@@ -68,13 +68,16 @@ pub trait CellSim {
     /// What an output shows.
     fn shown(&self, place: usize) -> Shown
         requires { place < (machine self.now).outputs }
-        ensures value { (h : List Change) → stands self.now h → result.value ≡ slice_index_or ((machine self.now).line h).values place Unknown }
-        ensures delay { (h : List Change) → stands self.now h → result.delay ≡ slice_index_or ((machine self.now).line h).delays place None };
+        ensures value { (h : List Change) → stands self.now h
+            → result.value ≡ slice_index_or ((machine self.now).line h).values place Unknown }
+        ensures delay { (h : List Change) → stands self.now h
+            → result.delay ≡ slice_index_or ((machine self.now).line h).delays place None };
 
     /// The value of an output.
     fn output(&self, place: usize) -> Trit
         requires { place < (machine self.now).outputs }
-        ensures { (h : List Change) → stands self.now h → result ≡ slice_index_or ((machine self.now).line h).values place Unknown }
+        ensures { (h : List Change) → stands self.now h
+            → result ≡ slice_index_or ((machine self.now).line h).values place Unknown }
     {
         self.shown(place).value
     }
@@ -90,7 +93,8 @@ pub trait CellSim {
     /// Whether a check reported at the last change.
     fn reported(&self, check: usize) -> bool
         requires { check < (machine self.now).checks }
-        ensures { (h : List Change) → stands self.now h → result ≡ slice_index_or ((machine self.now).line h).reports check false };
+        ensures { (h : List Change) → stands self.now h
+            → result ≡ slice_index_or ((machine self.now).line h).reports check false };
 
     /// Each line has an entry for each output and each check.
     ghost sized: { (s : Self) → IsSized (machine s) };

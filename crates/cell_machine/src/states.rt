@@ -54,7 +54,8 @@ fn change_point(
 ) -> Few<Trit, 10>
     requires few { length support.now ≤ 8 }
     requires place { place < length support.now }
-    ensures { result ≡ seen.now.from ∷ seen.now.change.to ∷ (without place (pin_values pins.now seen.now.inputs.now support.now) ++ state ∷ []) }
+    ensures { result ≡ seen.now.from ∷ seen.now.change.to ∷ (without place (pin_values pins.now seen.now.inputs.now support.now)
+        ++ state ∷ []) }
 {
     let values = support_values(pins, seen.inputs, support);
     let (before, at) = values.as_slice().split_at(place);
@@ -77,7 +78,9 @@ fn moved(
 ) -> Trit
     requires tables { AreStepTables (data_of cell.now) tables.now }
     requires inside { i < length cell.now.groups }
-    ensures { (group : StateGroupOf) → slice_get cell.now.groups i ≡ Some group → result ≡ moved cell.now.pins (record { name = state_name (length cell.now.pins) i; group = group }) seen.now.inputs.now seen.now.from seen.now.change state }
+    ensures { (group : StateGroupOf) → slice_get cell.now.groups i ≡ Some group
+        → result ≡ moved cell.now.pins (record { name = state_name (length cell.now.pins) i; group = group }) seen.now.inputs.now
+        seen.now.from seen.now.change state }
 {
     let pins = cell.pins.as_slice();
     let support = cell.group(i).support.as_slice();
@@ -91,7 +94,8 @@ fn moved(
 /// The state of a group where some check reports.
 fn violated(cell: &Cell, i: usize, inputs: &[Trit]) -> Trit
     requires { i < length cell.now.groups }
-    ensures { (group : StateGroupOf) → slice_get cell.now.groups i ≡ Some group → result ≡ violated cell.now.pins (record { name = state_name (length cell.now.pins) i; group = group }) inputs.now }
+    ensures { (group : StateGroupOf) → slice_get cell.now.groups i ≡ Some group
+        → result ≡ violated cell.now.pins (record { name = state_name (length cell.now.pins) i; group = group }) inputs.now }
 {
     let group = cell.group(i);
     let support = group.support.as_slice();
@@ -109,7 +113,10 @@ fn state_step(
 ) -> Trit
     requires tables { AreStepTables (data_of cell.now) tables.now }
     requires inside { i < length cell.now.groups }
-    ensures { (group : StateGroupOf) → slice_get cell.now.groups i ≡ Some group → result ≡ state_step seen.now.reported cell.now.pins (record { name = state_name (length cell.now.pins) i; group = group }) seen.now.inputs.now seen.now.from seen.now.change state }
+    ensures { (group : StateGroupOf) → slice_get cell.now.groups i ≡ Some group
+        → result ≡ state_step seen.now.reported cell.now.pins
+        (record { name = state_name (length cell.now.pins) i; group = group }) seen.now.inputs.now seen.now.from seen.now.change
+        state }
 {
     if seen.reported {
         violated(cell, i, seen.inputs)
@@ -127,7 +134,9 @@ pub fn change_states(
 )
     requires tables { AreStepTables (data_of cell.now) tables.now }
     requires one_each { length states.old ≡ length cell.now.groups }
-    ensures changed { states.new ≡ (if not (same seen.now.from seen.now.change.to) then each (λ g s. state_step seen.now.reported cell.now.pins g seen.now.inputs.now seen.now.from seen.now.change s) (named_groups (data_of cell.now)) states.old else states.old) }
+    ensures changed { states.new ≡ (if not (same seen.now.from seen.now.change.to)
+        then each (λ g s. state_step seen.now.reported cell.now.pins g seen.now.inputs.now seen.now.from seen.now.change s)
+        (named_groups (data_of cell.now)) states.old else states.old) }
     ensures len { length states.new ≡ length states.old }
 {
     if seen.from != seen.change.to {
@@ -144,7 +153,9 @@ fn step_states(
 )
     requires tables { AreStepTables (data_of cell.now) tables.now }
     requires one_each { length states.old ≡ length cell.now.groups }
-    ensures stepped { states.new ≡ each (λ g s. state_step seen.now.reported cell.now.pins g seen.now.inputs.now seen.now.from seen.now.change s) (named_groups (data_of cell.now)) states.old }
+    ensures stepped { states.new ≡ each
+        (λ g s. state_step seen.now.reported cell.now.pins g seen.now.inputs.now seen.now.from seen.now.change s)
+        (named_groups (data_of cell.now)) states.old }
     ensures len { length states.new ≡ length states.old }
 {
     for i in 0..states.len() {

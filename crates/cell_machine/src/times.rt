@@ -7,8 +7,8 @@ use crate::checks::Edge;
 use crate::edges::moves;
 use trit_cubes::Trit;
 
-/// The times of the last event that counts, of the last possible rise and of the last possible fall, in picoseconds. They are kept of
-/// an input, where each change to another value counts, and of a check, where its first event does.
+/// The times of the last event that counts, of the last possible rise and of the last possible fall, in picoseconds. They are
+/// kept of an input, where each change to another value counts, and of a check, where its first event does.
 #[derive(Clone, Copy)]
 pub struct Times {
     /// Of the last event that counts.

@@ -38,7 +38,8 @@ named : (b : Bool) (at : ℕ) → (if b then [] else at ∷ []) ≡ [] → IsTru
 named true at h = refl
 named false at h = absurd cc
 
-accepted_limits : (pins : Subject) (earlier : List (List ℕ)) (cell : Group) → refusal_of pins earlier cell ≡ None → IsWithinLimits pins cell
+accepted_limits : (pins : Subject) (earlier : List (List ℕ)) (cell : Group) → refusal_of pins earlier cell ≡ None
+    → IsWithinLimits pins cell
 accepted_limits pins earlier cell h = within_limits pins cell (accepted_meets_none pins earlier cell h).1.1.1.1.1.1.1.1.1.1.1.1.0
 
 pub accepted_pins_are_sound : AcceptedPinsAreSound
@@ -57,7 +58,8 @@ accepted_states_are_few pins earlier cell h =
     omega arith
 
 -- Nothing refuses the states and the outputs of an accepted cell.
-pub accepted_meets_none_here : (pins : Subject) (earlier : List (List ℕ)) (cell : Group) → refusal_of pins earlier cell ≡ None → CellMeetsNone cell
+pub accepted_meets_none_here : (pins : Subject) (earlier : List (List ℕ)) (cell : Group) → refusal_of pins earlier cell ≡ None
+    → CellMeetsNone cell
 accepted_meets_none_here pins earlier cell h =
     let m = accepted_meets_none pins earlier cell h in
     let m5 = m.1.1.1.1.1 in
@@ -71,7 +73,8 @@ accepted_meets_none_here pins earlier cell h =
     let within = accepted_limits pins earlier cell h in
     let wide = nil_parts (flat_map (wide_support_of (vocabulary cell) (length (pins_of cell))) (state_groups cell)) _ m12.1.0 in
     let wide_texts =
-    nil_parts (flat_map (wide_output (vocabulary cell) (length (pins_of cell)) (groups_of cell) (numbers_of cell)) (owners_of cell)) _ wide.1 in
+    nil_parts (flat_map (wide_output (vocabulary cell) (length (pins_of cell)) (groups_of cell) (numbers_of cell))
+    (owners_of cell)) _ wide.1 in
     record {
       none_twice = twice.1;
       states_read = bad_states.0;
@@ -101,7 +104,8 @@ timing_limits pins earlier cell h =
     let within = accepted_limits pins earlier cell h in
     let wide = nil_parts (flat_map (wide_support_of (vocabulary cell) (length (pins_of cell))) (state_groups cell)) _ m12.1.0 in
     let wide_texts =
-    nil_parts (flat_map (wide_output (vocabulary cell) (length (pins_of cell)) (groups_of cell) (numbers_of cell)) (owners_of cell)) _ wide.1 in (
+    nil_parts (flat_map (wide_output (vocabulary cell) (length (pins_of cell)) (groups_of cell) (numbers_of cell))
+    (owners_of cell)) _ wide.1 in (
       ap (first_past 256) (check_at_all pins (owners_of cell) read) ∙ within.of_checks,
       ap (first_past 1024) (arc_at_all pins (owners_of cell) read) ∙ within.of_arcs,
       least_none (flat_map wide_in (timing_answers pins cell)) (wide_all pins (owners_of cell) read ∙ ap least wide_texts.1),
@@ -113,7 +117,8 @@ accepted_cells_are_sound unit earlier cell h =
     let here = accepted_meets_none_here subject earlier cell h in
     let sound = accepted_pins_are_sound subject earlier cell h in
     let timing = timing_limits subject earlier cell h in (
-      cell_of_rules (cell_name cell) (pins_of cell) (groups_of cell) (outputs_of cell) (checks_of subject cell) (arcs_of subject cell)
+      cell_of_rules (cell_name cell) (pins_of cell) (groups_of cell) (outputs_of cell) (checks_of subject cell)
+          (arcs_of subject cell)
           (record {
             named = sound.0;
             of_pins = sound.1;

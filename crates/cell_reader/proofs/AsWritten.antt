@@ -1,5 +1,6 @@
 -- What is told of a text by what is wrong with it first is all that is wrong with it, where it names nothing unknown.
-use Rattle.std.proofs.Common.{◌≡◌, ℕ, suc, Bool, true, false, List, [], ◌∷◌, ◌++◌, length, map, refl, sym, ◌∙◌, ap, Option, Some, None, Result, Ok, Err, arith}
+use Rattle.std.proofs.Common.{◌≡◌, ℕ, suc, Bool, true, false, List, [], ◌∷◌, ◌++◌, length, map, refl, sym, ◌∙◌, ap, Option, Some}
+use Rattle.std.proofs.Common.{None, Result, Ok, Err, arith}
 use Rattle.std.specs.Prelude.{◌&&◌, ◌==◌, nat_lt, flat_map, codes, if◌then◌else◌}
 use Rattle.std.specs.Option.{option_map_or}
 use Rattle.std.specs.List.{list_any, list_all}
@@ -18,35 +19,43 @@ use Rattle.timing_arcs.specs.declared.condition.Condition.{Condition}
 use Rattle.timing_arcs.specs.declared.condition.Condition.TheVariants.{Always, Never, Where, Unknown}
 use Rattle.liberty_groups.specs.Attributes.{Attribute, attribute_of, place_of}
 use Rattle.timing_arcs.specs.RelatedPins.{inputs_of, is_read}
-use Rattle.timing_arcs.specs.Conditions.{constant_or, condition_as, condition_in, condition_of, has_unknown as has_unknown_name, named_pins, names_one, is_wide}
-use Rattle.timing_arcs.specs.Timing.{timing_groups, unknown_related_in, unknown_condition_in, unknown_in as unknown_timing_in, own_in as own_told, wide_in as wide_told, unknown_names_at, own_conditions_at, wide_at}
+use Rattle.timing_arcs.specs.Conditions.{constant_or, condition_as, condition_in, condition_of, has_unknown as has_unknown_name}
+use Rattle.timing_arcs.specs.Conditions.{named_pins, names_one, is_wide}
+use Rattle.timing_arcs.specs.Timing.{timing_groups, unknown_related_in, unknown_condition_in, unknown_in as unknown_timing_in}
+use Rattle.timing_arcs.specs.Timing.{own_in as own_told, wide_in as wide_told, unknown_names_at, own_conditions_at, wide_at}
 use Rattle.cell_attributes.specs.declared.texts.Scope.{Scope}
 use Rattle.cell_attributes.specs.declared.texts.Scope.TheVariants as scope
 use Rattle.cell_attributes.specs.declared.state_readings.StateReading.{StateReading}
 use Rattle.cell_attributes.specs.declared.texts.Text.TheVariants as text
 use Rattle.cell_attributes.specs.States.{arguments_of, is_table}
 use Rattle.cell_attributes.specs.Vocabulary.{Vocabulary}
-use Rattle.cell_attributes.specs.Texts.{use_at, is_coupled, has_unknown, has_coupled, judged, text_as, unknown_at, coupled_at, text_support}
+use Rattle.cell_attributes.specs.Texts.{use_at, is_coupled, has_unknown, has_coupled, judged, text_as, unknown_at, coupled_at}
+use Rattle.cell_attributes.specs.Texts.{text_support}
 use Rattle.cell_attributes.specs.TextFaults.{unknown_in, coupled_in}
-use Rattle.cell_attributes.specs.StateReadings.{data_name, control_name, holds_state, input_words, numbers_of, own_scope, pins_among, reading_of_table, reading_of_texts, state_reading}
+use Rattle.cell_attributes.specs.StateReadings.{data_name, control_name, holds_state, input_words, numbers_of, own_scope}
+use Rattle.cell_attributes.specs.StateReadings.{pins_among, reading_of_table, reading_of_texts, state_reading}
 use Rattle.cell_attributes.specs.Limits.{no_support_in, wide_support_in}
 use Rattle.cell_attributes.proofs.Distinct.{nil_parts}
 use Rattle.cell_attributes.proofs.GroupRules.{none_in}
-use Rattle.cell_reader.specs.Written.{numbers_read, count_read, own_written, own_in, own_conditions_of, wide_written, wide_in, wide_conditions_of, coupled_written, coupled_texts, coupled_of, names_in_text, names_in_texts, written_support, no_support_of, wide_support_of}
+use Rattle.cell_reader.specs.Written.{numbers_read, count_read, own_written, own_in, own_conditions_of, wide_written, wide_in}
+use Rattle.cell_reader.specs.Written.{wide_conditions_of, coupled_written, coupled_texts, coupled_of, names_in_text}
+use Rattle.cell_reader.specs.Written.{names_in_texts, written_support, no_support_of, wide_support_of}
 
 -- Conditions.
 
 never_zero : (n : ℕ) → (suc n == 0) ≡ false
 never_zero n = grind (arith, nat_tests)
 
-named_by : (f : Node) (value : Bool) (xs : List ℕ) → support_of f ≡ xs → named_pins (if length xs == 0 then (if value then Always else Never) else Where f) ≡ xs
+named_by : (f : Node) (value : Bool) (xs : List ℕ) → support_of f ≡ xs
+    → named_pins (if length xs == 0 then (if value then Always else Never) else Where f) ≡ xs
 named_by f true [] e = refl
 named_by f false [] e = refl
 named_by f value (x ∷ xs) e =
     ap (λ b. named_pins (if b then (if value then Always else Never) else Where f)) (never_zero (length xs)) ∙ e
 
 named_of_tree :
-    (f : Node) (at : ℕ) (known : Bool) → (if has_unknown_name (if known then constant_or f else Unknown) then at ∷ [] else []) ≡ []
+    (f : Node) (at : ℕ) (known : Bool)
+    → (if has_unknown_name (if known then constant_or f else Unknown) then at ∷ [] else []) ≡ []
     → named_pins (if known then constant_or f else Unknown) ≡ support_of f
 named_of_tree f at true h = named_by f (value_of [] f) (support_of f) refl
 named_of_tree f at false h = absurd cc
@@ -66,7 +75,8 @@ own_read subject pins true bytes at (Err _) h = refl
 wide_read :
     (subject : Subject) (read : Bool) (bytes : List ℕ) (at : ℕ) (r : Result Node FunctionFault)
     → (if read && has_unknown_name (condition_as subject r) then at ∷ [] else []) ≡ []
-    → (if read && is_wide (condition_as subject r) then at ∷ [] else []) ≡ (if read && nat_lt 10 (count_read bytes r) then at ∷ [] else [])
+    → (if read && is_wide (condition_as subject r) then at ∷ [] else []) ≡ (if read && nat_lt 10 (count_read bytes r) then at ∷ []
+    else [])
 wide_read subject false bytes at r h = refl
 wide_read subject true bytes at (Ok f) h =
     ap (λ (xs : List ℕ). if nat_lt 10 (length xs) then at ∷ [] else [])
@@ -94,18 +104,23 @@ told_written subject group told written none some h =
     by_attribute (attribute_of group (codes "when")) k where
       by_attribute :
           (o : Option Attribute)
-          → (if is_read subject group && has_unknown_name (option_map_or (λ (a : Attribute). condition_in subject a.text) o Always) then place_of o else []) ≡ []
-          → (if is_read subject group && told (option_map_or (λ (a : Attribute). condition_in subject a.text) o Always) then place_of o else []) ≡ written o
+          → (if is_read subject group && has_unknown_name
+          (option_map_or (λ (a : Attribute). condition_in subject a.text) o Always) then place_of o else []) ≡ []
+          → (if is_read subject group && told (option_map_or (λ (a : Attribute). condition_in subject a.text) o Always)
+          then place_of o else []) ≡ written o
       by_attribute None k = nothing_there (is_read subject group) (told Always) ∙ sym none
       by_attribute (Some a) k = some a k
 
-own_same : (subject : Subject) (group : Group) → unknown_timing_in subject group ≡ [] → own_told subject group ≡ own_in subject group
+own_same : (subject : Subject) (group : Group) → unknown_timing_in subject group ≡ []
+    → own_told subject group ≡ own_in subject group
 unfolding condition_in
 own_same subject group =
     told_written subject group (names_one (subject.place ∷ inputs_of subject group)) (own_written subject group) refl
-    (λ a. own_read subject (subject.place ∷ inputs_of subject group) (is_read subject group) a.text a.at (reading_of subject.names a.text))
+    (λ a. own_read subject (subject.place ∷ inputs_of subject group) (is_read subject group) a.text a.at
+    (reading_of subject.names a.text))
 
-wide_same : (subject : Subject) (group : Group) → unknown_timing_in subject group ≡ [] → wide_told subject group ≡ wide_in subject group
+wide_same : (subject : Subject) (group : Group) → unknown_timing_in subject group ≡ []
+    → wide_told subject group ≡ wide_in subject group
 unfolding condition_in
 wide_same subject group =
     told_written subject group is_wide (wide_written subject group) refl
@@ -121,11 +136,13 @@ same_groups unknown told all same (group ∷ groups) h =
     ap (λ xs. xs ++ flat_map told groups) (same group parts.0)
     ∙ ap (λ xs. all group ++ xs) (same_groups unknown told all same groups parts.1)
 
-pub own_conditions_same : (subject : Subject) (pin : Group) → unknown_names_at subject pin ≡ [] → own_conditions_at subject pin ≡ own_conditions_of subject pin
+pub own_conditions_same : (subject : Subject) (pin : Group) → unknown_names_at subject pin ≡ []
+    → own_conditions_at subject pin ≡ own_conditions_of subject pin
 own_conditions_same subject pin h =
     same_groups (unknown_timing_in subject) (own_told subject) (own_in subject) (own_same subject) (timing_groups pin) h
 
-pub wide_conditions_same : (subject : Subject) (pin : Group) → unknown_names_at subject pin ≡ [] → wide_at subject pin ≡ wide_conditions_of subject pin
+pub wide_conditions_same : (subject : Subject) (pin : Group) → unknown_names_at subject pin ≡ []
+    → wide_at subject pin ≡ wide_conditions_of subject pin
 wide_conditions_same subject pin h =
     same_groups (unknown_timing_in subject) (wide_told subject) (wide_in subject) (wide_same subject) (timing_groups pin) h
 
@@ -134,20 +151,23 @@ wide_conditions_same subject pin h =
 coupled_by :
     (at : ℕ) (f : Node) (unknown coupled : Bool)
     → unknown_at (if unknown then text.Unknown at else (if coupled then text.Coupled at else text.Reads f at)) ≡ []
-    → coupled_at (if unknown then text.Unknown at else (if coupled then text.Coupled at else text.Reads f at)) ≡ (if coupled then at ∷ [] else [])
+    → coupled_at (if unknown then text.Unknown at else (if coupled then text.Coupled at else text.Reads f at)) ≡ (if coupled
+    then at ∷ [] else [])
 coupled_by at f true coupled h = absurd cc
 coupled_by at f false true h = refl
 coupled_by at f false false h = refl
 
 coupled_read :
-    (v : Vocabulary) (s : Scope) (bytes : List ℕ) (at : ℕ) (r : Result Node FunctionFault) → unknown_at (judged v.classes s at r) ≡ []
+    (v : Vocabulary) (s : Scope) (bytes : List ℕ) (at : ℕ) (r : Result Node FunctionFault)
+    → unknown_at (judged v.classes s at r) ≡ []
     → coupled_at (judged v.classes s at r)
     ≡ (if list_any (λ i. is_coupled (use_at v.classes s i)) (numbers_read v.names bytes r) then at ∷ [] else [])
 coupled_read v s bytes at (Ok f) h = coupled_by at f (has_unknown v.classes s f) (has_coupled v.classes s f) h
 coupled_read v s bytes at (Err (fault.UnknownName n)) h = absurd cc
 coupled_read v s bytes at (Err _) h = refl
 
-coupled_text : (v : Vocabulary) (s : Scope) (o : Option Attribute) → unknown_at (text_as v s o) ≡ [] → coupled_at (text_as v s o) ≡ coupled_written v s o
+coupled_text : (v : Vocabulary) (s : Scope) (o : Option Attribute) → unknown_at (text_as v s o) ≡ []
+    → coupled_at (text_as v s o) ≡ coupled_written v s o
 coupled_text v s None h = refl
 coupled_text v s (Some a) h = coupled_read v s a.text a.at (reading_of v.names a.text) h
 
@@ -168,15 +188,18 @@ names_read v s bytes at (Ok f) h k = names_by at f (has_unknown v.classes s f) (
 names_read v s bytes at (Err (fault.UnknownName n)) h k = absurd cc
 names_read v s bytes at (Err _) h k = refl
 
-names_text : (v : Vocabulary) (s : Scope) (o : Option Attribute) → unknown_at (text_as v s o) ≡ [] → coupled_at (text_as v s o) ≡ [] → text_support (text_as v s o) ≡ names_in_text v o
+names_text : (v : Vocabulary) (s : Scope) (o : Option Attribute) → unknown_at (text_as v s o) ≡ []
+    → coupled_at (text_as v s o) ≡ [] → text_support (text_as v s o) ≡ names_in_text v o
 names_text v s None h k = refl
 names_text v s (Some a) h k = names_read v s a.text a.at (reading_of v.names a.text) h k
 
 -- State groups.
 
-joined_four : {A : Type 0} (a b c d w x y z : List A) → a ≡ w → b ≡ x → c ≡ y → d ≡ z → a ++ (b ++ (c ++ d)) ≡ w ++ (x ++ (y ++ z))
+joined_four : {A : Type 0} (a b c d w x y z : List A) → a ≡ w → b ≡ x → c ≡ y → d ≡ z
+    → a ++ (b ++ (c ++ d)) ≡ w ++ (x ++ (y ++ z))
 joined_four a b c d w x y z p q r s =
-    ap (λ xs. xs ++ (b ++ (c ++ d))) p ∙ ap (λ xs. w ++ (xs ++ (c ++ d))) q ∙ ap (λ xs. w ++ (x ++ (xs ++ d))) r ∙ ap (λ xs. w ++ (x ++ (y ++ xs))) s
+    ap (λ xs. xs ++ (b ++ (c ++ d))) p ∙ ap (λ xs. w ++ (xs ++ (c ++ d))) q ∙ ap (λ xs. w ++ (x ++ (xs ++ d))) r
+    ∙ ap (λ xs. w ++ (x ++ (y ++ xs))) s
 
 coupled_in_texts :
     (v : Vocabulary) (pins : ℕ) (group : Group) → unknown_in (reading_of_texts v pins group) ≡ []
@@ -191,7 +214,8 @@ coupled_in_texts v pins group h =
     (coupled_text v scope.Control (attribute_of group (codes "preset")) u.four)
 
 support_in_texts :
-    (v : Vocabulary) (pins : ℕ) (group : Group) → unknown_in (reading_of_texts v pins group) ≡ [] → coupled_in (reading_of_texts v pins group) ≡ []
+    (v : Vocabulary) (pins : ℕ) (group : Group) → unknown_in (reading_of_texts v pins group) ≡ []
+    → coupled_in (reading_of_texts v pins group) ≡ []
     → (reading_of_texts v pins group).support ≡ pins_among pins (names_in_texts v group)
 unfolding unknown_in coupled_in
 support_in_texts v pins group h k =
@@ -232,18 +256,21 @@ support_same wrong v pins group = by_table (is_table group) where
       (if table then reading_of_table v pins group else reading_of_texts v pins group).at
       (if table then reading_of_table v pins group else reading_of_texts v pins group).support
       ≡ told_of wrong (holds_state group) group.at
-      (if table then pins_among pins (numbers_of v (input_words (arguments_of group))) else pins_among pins (names_in_texts v group))
+      (if table then pins_among pins (numbers_of v (input_words (arguments_of group)))
+      else pins_among pins (names_in_texts v group))
   by_table true h k = refl
   by_table false h k = ap (told_of wrong (holds_state group) group.at) (support_in_texts v pins group h k)
 
 pub no_support_same :
-    (v : Vocabulary) (pins : ℕ) (group : Group) → unknown_in (state_reading v pins group) ≡ [] → coupled_in (state_reading v pins group) ≡ []
+    (v : Vocabulary) (pins : ℕ) (group : Group) → unknown_in (state_reading v pins group) ≡ []
+    → coupled_in (state_reading v pins group) ≡ []
     → no_support_in (state_reading v pins group) ≡ no_support_of v pins group
 unfolding no_support_in
 no_support_same v pins group h k = support_same (λ n. n == 0) v pins group h k
 
 pub wide_support_same :
-    (v : Vocabulary) (pins : ℕ) (group : Group) → unknown_in (state_reading v pins group) ≡ [] → coupled_in (state_reading v pins group) ≡ []
+    (v : Vocabulary) (pins : ℕ) (group : Group) → unknown_in (state_reading v pins group) ≡ []
+    → coupled_in (state_reading v pins group) ≡ []
     → wide_support_in (state_reading v pins group) ≡ wide_support_of v pins group
 unfolding wide_support_in
 wide_support_same v pins group h k = support_same (λ n. nat_lt 8 n) v pins group h k
@@ -263,7 +290,8 @@ all_coupled_same v pins (group ∷ groups) h =
 -- what each group tells that names nothing unknown or coupled is told of all
 all_same :
     (told : StateReading → List ℕ) (written : Vocabulary → ℕ → Group → List ℕ)
-    → ((v : Vocabulary) (pins : ℕ) (group : Group) → unknown_in (state_reading v pins group) ≡ [] → coupled_in (state_reading v pins group) ≡ []
+    → ((v : Vocabulary) (pins : ℕ) (group : Group) → unknown_in (state_reading v pins group) ≡ []
+    → coupled_in (state_reading v pins group) ≡ []
     → told (state_reading v pins group) ≡ written v pins group)
     → (v : Vocabulary) (pins : ℕ) (groups : List Group) → flat_map unknown_in (map (state_reading v pins) groups) ≡ []
     → flat_map coupled_in (map (state_reading v pins) groups) ≡ []

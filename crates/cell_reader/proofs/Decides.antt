@@ -20,20 +20,24 @@ use Rattle.cell_refusals.specs.declared.refusal.Reason.{Reason}
 use Rattle.cell_refusals.specs.declared.refusal.Reason.TheVariants as reason
 use Rattle.cell_refusals.specs.declared.refusal.Refusal.{Refusal}
 use Rattle.cell_timings.specs.PinTimings.{arc_at_of, malformed_timing, unknown_timing, arc_at_in, wide_in}
-use Rattle.cell_reader.specs.Refusals.{met, refused_or, first_refusal, timing_answers, timing_places, malformed, unknown_names, coupled, own_conditions, numbers, limits, middle_reasons}
+use Rattle.cell_reader.specs.Refusals.{met, refused_or, first_refusal, timing_answers, timing_places, malformed, unknown_names}
+use Rattle.cell_reader.specs.Refusals.{coupled, own_conditions, numbers, limits, middle_reasons}
 use Rattle.cell_reader.specs.Written.{wide_conditions_of, no_support_of, wide_support_of}
 use Rattle.cell_reader.specs.Told.{malformed_told, unknown_told, coupled_told, own_told, number_told, limits_told, told_reasons}
 use Rattle.cell_reader.proofs.Refused.{least_none, all_unmet}
 use Rattle.cell_reader.proofs.AsWritten.{all_coupled_same, all_no_support_same, all_wide_support_same}
-use Rattle.cell_reader.proofs.AllPlaces.{AllRead, malformed_all, unknown_all, own_all, number_all, check_at_all, arc_at_all, wide_all}
+use Rattle.cell_reader.proofs.AllPlaces.{AllRead, malformed_all, unknown_all, own_all, number_all, check_at_all, arc_at_all}
+use Rattle.cell_reader.proofs.AllPlaces.{wide_all}
 
 -- A reason that is told of decides as the one that is met, where what comes later does.
 
-decided : (r : Reason) (xs : List ℕ) (at : Option ℕ) (later other : Option Refusal) → least xs ≡ at → (xs ≡ [] → later ≡ other) → refused_or r at later ≡ refused_or r at other
+decided : (r : Reason) (xs : List ℕ) (at : Option ℕ) (later other : Option Refusal) → least xs ≡ at → (xs ≡ [] → later ≡ other)
+    → refused_or r at later ≡ refused_or r at other
 decided r xs None later other e f = f (least_none xs e)
 decided r xs (Some at) later other e f = refl
 
-by_reason : (r : Reason) (told all : List ℕ) (later other : Option Refusal) → least told ≡ least all → (all ≡ [] → later ≡ other) → refused_or r (least told) later ≡ refused_or r (least all) other
+by_reason : (r : Reason) (told all : List ℕ) (later other : Option Refusal) → least told ≡ least all → (all ≡ [] → later ≡ other)
+    → refused_or r (least told) later ≡ refused_or r (least all) other
 by_reason r told all later other e f =
     ap (λ at. refused_or r at later) e ∙ decided r all (least all) later other refl f
 
@@ -54,7 +58,8 @@ unknown_timings : (pins : Subject) (cell : Group) → unknown_names pins cell �
 unknown_timings pins cell h =
     (nil_parts (flat_map unknown_at (texts_of cell)) _ (nil_parts (flat_map unknown_in (readings_of cell)) _ h).1).1
 
-pub all_read : (pins : Subject) (cell : Group) → malformed pins cell ≡ [] → unknown_names pins cell ≡ [] → own_conditions pins cell ≡ [] → numbers pins cell ≡ [] → AllRead pins (owners_of cell)
+pub all_read : (pins : Subject) (cell : Group) → malformed pins cell ≡ [] → unknown_names pins cell ≡ []
+    → own_conditions pins cell ≡ [] → numbers pins cell ≡ [] → AllRead pins (owners_of cell)
 all_read pins cell m u o n =
     record { malformed = malformed_timings pins cell m; unknown = unknown_timings pins cell u; own = o; number = n }
 
@@ -63,21 +68,27 @@ unknown_states pins cell h = (nil_parts (flat_map unknown_in (readings_of cell))
 
 -- what the state groups tell is all that is wrong with them, where nothing unknown is named
 pub coupled_told_is : (pins : Subject) (cell : Group) → unknown_names pins cell ≡ [] → coupled_told cell ≡ coupled cell
-coupled_told_is pins cell u = all_coupled_same (vocabulary cell) (length (pins_of cell)) (state_groups cell) (unknown_states pins cell u)
+coupled_told_is pins cell u = all_coupled_same (vocabulary cell) (length (pins_of cell)) (state_groups cell)
+    (unknown_states pins cell u)
 
 pub supports_told_are :
     (pins : Subject) (cell : Group) → unknown_names pins cell ≡ [] → coupled cell ≡ []
-    → flat_map no_support_in (readings_of cell) ≡ flat_map (no_support_of (vocabulary cell) (length (pins_of cell))) (state_groups cell)
+    → flat_map no_support_in (readings_of cell) ≡ flat_map (no_support_of (vocabulary cell) (length (pins_of cell)))
+    (state_groups cell)
 supports_told_are pins cell u w =
-    all_no_support_same (vocabulary cell) (length (pins_of cell)) (state_groups cell) (unknown_states pins cell u) (coupled_told_is pins cell u ∙ w)
+    all_no_support_same (vocabulary cell) (length (pins_of cell)) (state_groups cell) (unknown_states pins cell u)
+    (coupled_told_is pins cell u ∙ w)
 
 pub wide_supports_told_are :
     (pins : Subject) (cell : Group) → unknown_names pins cell ≡ [] → coupled cell ≡ []
-    → flat_map wide_support_in (readings_of cell) ≡ flat_map (wide_support_of (vocabulary cell) (length (pins_of cell))) (state_groups cell)
+    → flat_map wide_support_in (readings_of cell) ≡ flat_map (wide_support_of (vocabulary cell) (length (pins_of cell)))
+    (state_groups cell)
 wide_supports_told_are pins cell u w =
-    all_wide_support_same (vocabulary cell) (length (pins_of cell)) (state_groups cell) (unknown_states pins cell u) (coupled_told_is pins cell u ∙ w)
+    all_wide_support_same (vocabulary cell) (length (pins_of cell)) (state_groups cell) (unknown_states pins cell u)
+    (coupled_told_is pins cell u ∙ w)
 
-limits_same : (pins : Subject) (cell : Group) → AllRead pins (owners_of cell) → unknown_names pins cell ≡ [] → coupled cell ≡ [] → limits_told pins cell ≡ limits pins cell
+limits_same : (pins : Subject) (cell : Group) → AllRead pins (owners_of cell) → unknown_names pins cell ≡ [] → coupled cell ≡ []
+    → limits_told pins cell ≡ limits pins cell
 limits_same pins cell h u w =
     ap (λ xs. bad_names cell
     ++ (first_past 64 (map place_of_group (owners_of cell))
@@ -88,7 +99,8 @@ limits_same pins cell h u w =
     ∙ ap (λ xs. bad_names cell
     ++ (first_past 64 (map place_of_group (owners_of cell))
     ++ (first_past 16 (flat_map state_at (state_groups cell))
-    ++ (first_past 256 (timing_places check_at_of pins cell) ++ (first_past 1024 xs ++ flat_map no_support_in (readings_of cell))))))
+    ++ (first_past 256 (timing_places check_at_of pins cell)
+    ++ (first_past 1024 xs ++ flat_map no_support_in (readings_of cell))))))
     (arc_at_all pins (owners_of cell) h)
     ∙ ap (λ xs. bad_names cell
     ++ (first_past 64 (map place_of_group (owners_of cell))
@@ -98,10 +110,12 @@ limits_same pins cell h u w =
 
 -- The reasons one after another.
 
-behind_number : (pins : Subject) (cell : Group) → AllRead pins (owners_of cell) → unknown_names pins cell ≡ [] → coupled cell ≡ [] → first_refusal (met reason.Limit (limits_told pins cell) ∷ []) ≡ first_refusal (met reason.Limit (limits pins cell) ∷ [])
+behind_number : (pins : Subject) (cell : Group) → AllRead pins (owners_of cell) → unknown_names pins cell ≡ [] → coupled cell ≡ []
+    → first_refusal (met reason.Limit (limits_told pins cell) ∷ []) ≡ first_refusal (met reason.Limit (limits pins cell) ∷ [])
 behind_number pins cell h u w = ap (λ xs. first_refusal (met reason.Limit xs ∷ [])) (limits_same pins cell h u w)
 
-behind_own : (pins : Subject) (cell : Group) → malformed pins cell ≡ [] → unknown_names pins cell ≡ [] → coupled cell ≡ [] → own_conditions pins cell ≡ []
+behind_own : (pins : Subject) (cell : Group) → malformed pins cell ≡ [] → unknown_names pins cell ≡ [] → coupled cell ≡ []
+    → own_conditions pins cell ≡ []
     → first_refusal (met reason.Number (number_told pins cell) ∷ met reason.Limit (limits_told pins cell) ∷ [])
     ≡ first_refusal (met reason.Number (numbers pins cell) ∷ met reason.Limit (limits pins cell) ∷ [])
 behind_own pins cell m u w o =
@@ -111,8 +125,10 @@ behind_own pins cell m u w o =
     (λ n. behind_number pins cell (all_read pins cell m u o n) u w)
 
 behind_coupled : (pins : Subject) (cell : Group) → malformed pins cell ≡ [] → unknown_names pins cell ≡ [] → coupled cell ≡ []
-    → first_refusal (met reason.OwnCondition (own_told pins cell) ∷ met reason.Number (number_told pins cell) ∷ met reason.Limit (limits_told pins cell) ∷ [])
-    ≡ first_refusal (met reason.OwnCondition (own_conditions pins cell) ∷ met reason.Number (numbers pins cell) ∷ met reason.Limit (limits pins cell) ∷ [])
+    → first_refusal (met reason.OwnCondition (own_told pins cell) ∷ met reason.Number (number_told pins cell) ∷ met reason.Limit
+    (limits_told pins cell) ∷ [])
+    ≡ first_refusal (met reason.OwnCondition (own_conditions pins cell) ∷ met reason.Number (numbers pins cell) ∷ met reason.Limit
+    (limits pins cell) ∷ [])
 behind_coupled pins cell m u w =
     by_reason reason.OwnCondition (own_told pins cell) (own_conditions pins cell)
     (first_refusal (met reason.Number (number_told pins cell) ∷ met reason.Limit (limits_told pins cell) ∷ []))
@@ -123,21 +139,27 @@ behind_coupled pins cell m u w =
 behind_unknown : (pins : Subject) (cell : Group) → malformed pins cell ≡ [] → unknown_names pins cell ≡ []
     → first_refusal
     (met reason.Coupled (coupled_told cell) ∷ met reason.NoFunction (no_functions cell)
-    ∷ met reason.OwnCondition (own_told pins cell) ∷ met reason.Number (number_told pins cell) ∷ met reason.Limit (limits_told pins cell) ∷ [])
+    ∷ met reason.OwnCondition (own_told pins cell) ∷ met reason.Number (number_told pins cell) ∷ met reason.Limit
+    (limits_told pins cell) ∷ [])
     ≡ first_refusal
     (met reason.Coupled (coupled cell) ∷ met reason.NoFunction (no_functions cell)
-    ∷ met reason.OwnCondition (own_conditions pins cell) ∷ met reason.Number (numbers pins cell) ∷ met reason.Limit (limits pins cell) ∷ [])
+    ∷ met reason.OwnCondition (own_conditions pins cell) ∷ met reason.Number (numbers pins cell) ∷ met reason.Limit
+    (limits pins cell) ∷ [])
 behind_unknown pins cell m u =
     by_reason reason.Coupled (coupled_told cell) (coupled cell) _ _ (ap least (coupled_told_is pins cell u))
     (λ w. ap (λ later. refused_or reason.NoFunction (least (no_functions cell)) later) (behind_coupled pins cell m u w))
 
 behind_malformed : (pins : Subject) (cell : Group) → malformed pins cell ≡ []
     → first_refusal
-    (met reason.UnknownName (unknown_told pins cell) ∷ met reason.Coupled (coupled_told cell) ∷ met reason.NoFunction (no_functions cell)
-    ∷ met reason.OwnCondition (own_told pins cell) ∷ met reason.Number (number_told pins cell) ∷ met reason.Limit (limits_told pins cell) ∷ [])
+    (met reason.UnknownName (unknown_told pins cell) ∷ met reason.Coupled (coupled_told cell) ∷ met reason.NoFunction
+    (no_functions cell)
+    ∷ met reason.OwnCondition (own_told pins cell) ∷ met reason.Number (number_told pins cell) ∷ met reason.Limit
+    (limits_told pins cell) ∷ [])
     ≡ first_refusal
-    (met reason.UnknownName (unknown_names pins cell) ∷ met reason.Coupled (coupled cell) ∷ met reason.NoFunction (no_functions cell)
-    ∷ met reason.OwnCondition (own_conditions pins cell) ∷ met reason.Number (numbers pins cell) ∷ met reason.Limit (limits pins cell) ∷ [])
+    (met reason.UnknownName (unknown_names pins cell) ∷ met reason.Coupled (coupled cell) ∷ met reason.NoFunction
+    (no_functions cell)
+    ∷ met reason.OwnCondition (own_conditions pins cell) ∷ met reason.Number (numbers pins cell) ∷ met reason.Limit
+    (limits pins cell) ∷ [])
 behind_malformed pins cell m =
     by_reason reason.UnknownName (unknown_told pins cell) (unknown_names pins cell) _ _
     (least_behind (flat_map unknown_in (readings_of cell)) (flat_map unknown_at (texts_of cell))
@@ -145,7 +167,8 @@ behind_malformed pins cell m =
     (unknown_all pins (owners_of cell) (malformed_timings pins cell m)))
     (behind_unknown pins cell m)
 
-pub told_decides : (pins : Subject) (cell : Group) → first_refusal (told_reasons pins cell) ≡ first_refusal (middle_reasons pins cell)
+pub told_decides : (pins : Subject) (cell : Group)
+    → first_refusal (told_reasons pins cell) ≡ first_refusal (middle_reasons pins cell)
 told_decides pins cell =
     by_reason reason.Malformed (malformed_told pins cell) (malformed pins cell) _ _
     (least_behind (flat_map malformed_in (readings_of cell)) (flat_map malformed_at (texts_of cell))
@@ -154,13 +177,15 @@ told_decides pins cell =
     (behind_malformed pins cell)
 
 -- the conditions and the supports with too many names, where no reason but the last is met
-pub wide_told : (pins : Subject) (cell : Group) → first_refusal (middle_reasons pins cell) ≡ None → least (flat_map wide_in (timing_answers pins cell)) ≡ least (timing_places wide_conditions_of pins cell)
+pub wide_told : (pins : Subject) (cell : Group) → first_refusal (middle_reasons pins cell) ≡ None
+    → least (flat_map wide_in (timing_answers pins cell)) ≡ least (timing_places wide_conditions_of pins cell)
 wide_told pins cell h =
     let m = all_unmet (middle_reasons pins cell) h in
     wide_all pins (owners_of cell) (all_read pins cell m.0 m.1.0 m.1.1.1.1.0 m.1.1.1.1.1.0)
 
 pub wide_supports_told :
     (pins : Subject) (cell : Group) → first_refusal (middle_reasons pins cell) ≡ None
-    → flat_map wide_support_in (readings_of cell) ≡ flat_map (wide_support_of (vocabulary cell) (length (pins_of cell))) (state_groups cell)
+    → flat_map wide_support_in (readings_of cell) ≡ flat_map (wide_support_of (vocabulary cell) (length (pins_of cell)))
+    (state_groups cell)
 wide_supports_told pins cell h =
     let m = all_unmet (middle_reasons pins cell) h in wide_supports_told_are pins cell m.1.0 m.1.1.0

@@ -1,5 +1,6 @@
 -- How many pins, states and names a cell has that no reason but the last refuses.
-use Rattle.std.proofs.Common.{◌≡◌, ℕ, zero, suc, ◌+◌, ◌<◌, ◌≤◌, List, [], ◌∷◌, length, map, refl, sym, ◌∙◌, ap, subst, arith, None, length-append}
+use Rattle.std.proofs.Common.{◌≡◌, ℕ, zero, suc, ◌+◌, ◌<◌, ◌≤◌, List, [], ◌∷◌, length, map, refl, sym, ◌∙◌, ap, subst, arith}
+use Rattle.std.proofs.Common.{None, length-append}
 use Rattle.std.specs.Prelude.{flat_map, All, slice_index_or}
 use Rattle.std.specs.List.{AllByRecursion}
 use Rattle.std.proofs.lemmas.List.{length-map}
@@ -42,14 +43,24 @@ within_limits pins cell h =
     let states = nil_parts (first_past 16 (flat_map state_at (state_groups cell))) _ counts.1 in
     let checks = nil_parts (first_past 256 (timing_places check_at_of pins cell)) _ states.1 in
     let arcs = nil_parts (first_past 1024 (timing_places arc_at_of pins cell)) _ checks.1 in
-    record { of_names = names.0; of_pins = counts.0; of_states = states.0; of_checks = checks.0; of_arcs = arcs.0; of_supports = arcs.1 }
+    record {
+      of_names = names.0;
+      of_pins = counts.0;
+      of_states = states.0;
+      of_checks = checks.0;
+      of_arcs = arcs.0;
+      of_supports =
+          arcs.1;
+    }
 
 met_within : (subject : Subject) (cell : Group) → first_refusal (middle_reasons subject cell) ≡ None → IsWithinLimits subject cell
 met_within subject cell h = within_limits subject cell (all_unmet (middle_reasons subject cell) h).1.1.1.1.1.1.0
 
-pub few_pins : (subject : Subject) (cell : Group) → first_refusal (middle_reasons subject cell) ≡ None → length (pins_of cell) ≤ 64
+pub few_pins : (subject : Subject) (cell : Group) → first_refusal (middle_reasons subject cell) ≡ None
+    → length (pins_of cell) ≤ 64
 few_pins subject cell h =
-    let offsets : length (map place_of_group (owners_of cell)) ≤ 64 = within_limit 64 (map place_of_group (owners_of cell)) (met_within subject cell h).of_pins in
+    let offsets : length (map place_of_group (owners_of cell)) ≤ 64 =
+    within_limit 64 (map place_of_group (owners_of cell)) (met_within subject cell h).of_pins in
     let count : length (owners_of cell) ≤ 64 = simp length-map at offsets in
     let owners : length (owners_of cell) ≡ length (pins_of cell) = owners_count (pin_groups cell) in
     omega arith
@@ -67,10 +78,12 @@ states_within :
     → first_refusal (middle_reasons subject cell) ≡ None → length (flat_map state_at (state_groups cell)) ≤ 16
 states_within subject cell h = within_limit 16 (flat_map state_at (state_groups cell)) (met_within subject cell h).of_states
 
-pub few_states : (subject : Subject) (cell : Group) → first_refusal (middle_reasons subject cell) ≡ None → length (states_of cell) ≤ 16
+pub few_states : (subject : Subject) (cell : Group) → first_refusal (middle_reasons subject cell) ≡ None
+    → length (states_of cell) ≤ 16
 few_states subject cell h = subst (λ n. n ≤ 16) (sym (state_count (state_groups cell))) (states_within subject cell h)
 
-pub few_groups : (subject : Subject) (cell : Group) → first_refusal (middle_reasons subject cell) ≡ None → length (groups_of cell) ≤ 16
+pub few_groups : (subject : Subject) (cell : Group) → first_refusal (middle_reasons subject cell) ≡ None
+    → length (groups_of cell) ≤ 16
 few_groups subject cell h =
     subst (λ n. n ≤ 16)
     (sym (group_count (numbers_of cell) (state_reading (vocabulary cell) (length (pins_of cell))) (state_groups cell)))

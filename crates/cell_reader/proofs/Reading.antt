@@ -1,5 +1,6 @@
 -- The refusals one after another, and the rules that an accepted cell keeps.
-use Rattle.std.proofs.Common.{◌≡◌, ℕ, ◌≤◌, List, [], ◌∷◌, length, refl, sym, ◌∙◌, ap, IsTrue, Option, Some, None, nat_le, Result, Ok, Err}
+use Rattle.std.proofs.Common.{◌≡◌, ℕ, ◌≤◌, List, [], ◌∷◌, length, refl, sym, ◌∙◌, ap, IsTrue, Option, Some, None, nat_le, Result}
+use Rattle.std.proofs.Common.{Ok, Err}
 use Rattle.std.specs.Prelude.{IfOk, IfErr}
 use Rattle.std.proofs.lemmas.Bool.{and_parts, leb-true}
 use Rattle.liberty_text.specs.declared.time.Unit.{Unit}
@@ -22,7 +23,8 @@ use Rattle.cell_attributes.proofs.Distinct.{nil_parts, pins_are_distinct}
 use Rattle.cell_refusals.specs.declared.refusal.Refusal.{Refusal}
 use Rattle.cell_refusals.specs.declared.refusal.Reason.TheVariants as reason
 use Rattle.cell_reader.specs.CellTexts.{subject_of, IsUnmet}
-use Rattle.cell_reader.specs.Refusals.{met, refused_or, first_refusal, early_reasons, middle_reasons, later_reasons, refusal_of, udp_inputs, checks_of, arcs_of}
+use Rattle.cell_reader.specs.Refusals.{met, refused_or, first_refusal, early_reasons, middle_reasons, later_reasons, refusal_of}
+use Rattle.cell_reader.specs.Refusals.{udp_inputs, checks_of, arcs_of}
 use Rattle.cell_reader.proofs.Refused.{all_unmet}
 use Rattle.cell_reader.proofs.Chains.{unmet_first, met_first}
 use Rattle.cell_reader.proofs.Accepted.{accepted_pins_are_sound, accepted_states_are_few, accepted_cells_are_sound}
@@ -51,13 +53,15 @@ middle_decides subject cell told h =
 
 pub later_decide :
     (subject : Subject) (earlier : List (List ℕ)) (cell : Group)
-    → first_refusal (early_reasons earlier cell) ≡ None → refusal_of subject earlier cell ≡ first_refusal (later_reasons subject cell)
+    → first_refusal (early_reasons earlier cell) ≡ None
+    → refusal_of subject earlier cell ≡ first_refusal (later_reasons subject cell)
 later_decide subject earlier cell h = unmet_first (early_reasons earlier cell) (later_reasons subject cell) h
 
 -- the limits of an accepted cell
 pub accepted_few_pins : (subject : Subject) (cell : Group) → IsUnmet subject cell → length (pins_of cell) ≤ 64
 accepted_few_pins subject cell h =
-    leb-true (length (pins_of cell)) 64 (and_parts (nat_le (length (pins_of cell)) 64) _ (accepted_pins_are_sound subject h.0 cell h.1).1).0
+    leb-true (length (pins_of cell)) 64
+    (and_parts (nat_le (length (pins_of cell)) 64) _ (accepted_pins_are_sound subject h.0 cell h.1).1).0
 
 pub accepted_few_groups : (subject : Subject) (cell : Group) → IsUnmet subject cell → length (groups_of cell) ≤ 16
 accepted_few_groups subject cell h = accepted_states_are_few subject h.0 cell h.1
@@ -80,7 +84,8 @@ keeps_apart unit cell arcs h a = rw a (accepted_cells_are_sound unit h.0 cell h.
 -- the outputs of a cell from its parts
 pub outputs_are :
     (cell : Group) (v : Vocabulary) (pins : ℕ) (groups : List StateGroup) (to : List ℕ) (owners : List Group)
-    → v ≡ vocabulary cell → pins ≡ length (pins_of cell) → groups ≡ groups_of cell → to ≡ numbers_of cell → owners ≡ owners_of cell
+    → v ≡ vocabulary cell → pins ≡ length (pins_of cell) → groups ≡ groups_of cell → to ≡ numbers_of cell
+    → owners ≡ owners_of cell
     → outputs_from v pins groups to 0 owners ≡ outputs_of cell
 outputs_are cell v pins groups to owners v_is p_is g_is t_is o_is = rw v_is (rw p_is (rw g_is (rw t_is (rw o_is refl))))
 

@@ -4,7 +4,8 @@ use Rattle.timing_arcs.specs.declared.subject.Subject.{Subject}
 use Rattle.liberty_groups.specs.declared.tree.Group.{Group}
 use Rattle.cell_machine.specs.declared.checks.Check.{Check}
 use Rattle.cell_machine.specs.declared.arcs.Arc.{Arc}
-use Rattle.timing_arcs.specs.Timing.{malformed_at as malformed_timing, unknown_names_at as unknown_timing, numbers_at as number_timing, check_at_of}
+use Rattle.timing_arcs.specs.Timing.{malformed_at as malformed_timing, unknown_names_at as unknown_timing}
+use Rattle.timing_arcs.specs.Timing.{numbers_at as number_timing, check_at_of}
 use Rattle.cell_refusals.specs.declared.refusal.Reason.TheVariants as reason
 use Rattle.cell_refusals.specs.declared.refusal.Refusal.{Refusal}
 pub use Rattle.cell_refusals.specs.Reasons.{Met, met, refused_or, first_refusal}

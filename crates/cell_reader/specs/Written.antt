@@ -1,6 +1,7 @@
 -- What the function texts of a cell name, also where another thing is wrong with them: a text that names nothing of the
 -- allowed kind may make states hang on one another too, or name the pin of its own check.
-use Rattle.std.specs.Prelude.{ℕ, ◌&&◌, ◌==◌, nat_lt, List, [], ◌∷◌, ◌++◌, length, flat_map, codes, Option, Some, None, Result, Ok, Err, if◌then◌else◌}
+use Rattle.std.specs.Prelude.{ℕ, ◌&&◌, ◌==◌, nat_lt, List, [], ◌∷◌, ◌++◌, length, flat_map, codes, Option, Some, None, Result, Ok}
+use Rattle.std.specs.Prelude.{Err, if◌then◌else◌}
 use Rattle.std.specs.List.{list_any, filter_map}
 use Rattle.liberty_groups.specs.declared.tree.Group.{Group}
 use Rattle.bool_functions.specs.declared.tree.Node.{Node}
@@ -20,7 +21,8 @@ use Rattle.cell_attributes.specs.States.{arguments_of, is_table}
 use Rattle.cell_attributes.specs.Vocabulary.{Vocabulary}
 use Rattle.cell_attributes.specs.Texts.{use_at, is_coupled}
 use Rattle.cell_attributes.specs.TextFaults.{coupled_in}
-use Rattle.cell_attributes.specs.StateReadings.{data_name, control_name, holds_state, own_scope, input_words, pins_among, numbers_of, reading_of_table}
+use Rattle.cell_attributes.specs.StateReadings.{data_name, control_name, holds_state, own_scope, input_words, pins_among}
+use Rattle.cell_attributes.specs.StateReadings.{numbers_of, reading_of_table}
 
 -- The numbers that the names of a text have among these: where all of them have one, those of its tree, ascending; else those
 -- of the names that have one. A text that does not read as a function text, or is too long, has no names.
@@ -42,7 +44,8 @@ count_read text (Err _) = 0
 abbrev pub own_written : Subject → Group → Option Attribute → List ℕ
 own_written subject group None = []
 own_written subject group (Some attribute) =
-    if is_read subject group && list_any (has (subject.place ∷ inputs_of subject group)) (numbers_written subject.names attribute.text)
+    if is_read subject group && list_any (has (subject.place ∷ inputs_of subject group))
+    (numbers_written subject.names attribute.text)
     then attribute.at ∷ [] else []
 
 abbrev pub own_in : Subject → Group → List ℕ
@@ -94,7 +97,8 @@ names_in_texts v group =
 
 abbrev pub written_support : Vocabulary → ℕ → Group → List ℕ
 written_support v pins group =
-    if is_table group then pins_among pins (numbers_of v (input_words (arguments_of group))) else pins_among pins (names_in_texts v group)
+    if is_table group then pins_among pins (numbers_of v (input_words (arguments_of group)))
+    else pins_among pins (names_in_texts v group)
 
 -- A group that holds a state and names no input pin.
 abbrev pub no_support_of : Vocabulary → ℕ → Group → List ℕ

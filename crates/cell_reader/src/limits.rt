@@ -2,7 +2,8 @@
 ghost use Rattle.std.specs.Prelude.{◌≡◌, ◌++◌, OnOk, IfOk, map, flat_map};
 ghost use Rattle.cell_machine.specs.Delay.{least};
 ghost use Rattle.cell_attributes.specs.Declarations.{bad_cell_name as bad_cell_name_of, known_cell as known_cell_of};
-ghost use Rattle.cell_attributes.specs.Limits.{first_past as first_past_of, place_of_group, place_of_state as place_of_state_in, state_at};
+ghost use Rattle.cell_attributes.specs.Limits.{first_past as first_past_of, place_of_group, place_of_state as place_of_state_in};
+ghost use Rattle.cell_attributes.specs.Limits.{state_at};
 ghost use Rattle.cell_attributes.specs.Shown.{shown_state};
 ghost use Rattle.cell_reader.specs.Told.{wrong_support_in};
 

@@ -87,7 +87,8 @@ fn wide_conditions(parts: &Parts<'_>) -> Option<usize>
 fn wide_states(parts: &Parts<'_>) -> Option<usize>
     requires parts { AreParts parts.now }
     requires unmet { first_refusal (middle_reasons (subject_in parts.now) parts.now.cell.now) ≡ None }
-    ensures { result ≡ least (flat_map (wide_support_of (vocabulary parts.now.cell.now) (length (pins_of parts.now.cell.now))) (state_groups_of parts.now.cell.now)) }
+    ensures { result ≡ least (flat_map (wide_support_of (vocabulary parts.now.cell.now) (length (pins_of parts.now.cell.now)))
+        (state_groups_of parts.now.cell.now)) }
 {
     least_among(&WrongSupport::Wide, parts.said.readings.as_slice())
 }

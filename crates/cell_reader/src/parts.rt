@@ -14,7 +14,6 @@ ghost use Rattle.cell_reader.specs.Parts.{AreGroups, AreParts};
 
 use crate::cell_groups::CellGroups;
 use bool_functions::Names;
-use cell_machine::Pin;
 use cell_attributes::held::held_with;
 use cell_attributes::outputs::pin_texts;
 use cell_attributes::pins::{owners_of, pins_of};
@@ -22,6 +21,7 @@ use cell_attributes::state_readings::{StateReading, state_readings};
 use cell_attributes::states::{StateName, states_of};
 use cell_attributes::texts::Text;
 use cell_attributes::vocabulary::{Vocabulary, read_vocabulary};
+use cell_machine::Pin;
 use cell_timings::timing_answers;
 use liberty_groups::Group;
 use liberty_text::Unit;
@@ -69,7 +69,8 @@ fn read_timings(
     requires pins { pins ≡ flat_map pins_in (map (λ group. group.now) groups.now) }
     requires distinct { IsTrue (are_distinct (pin_names (flat_map pins_in (map (λ group. group.now) groups.now)))) }
     ensures pins { IfOk result (λ timed. timed.pins ≡ flat_map pins_in (map (λ group. group.now) groups.now)) }
-    ensures answers { IfOk result (λ timed. AreHeld (subject_with unit (flat_map pins_in (map (λ group. group.now) groups.now))) (flat_map owners_in (map (λ group. group.now) groups.now)) timed.answers.items) }
+    ensures answers { IfOk result (λ timed. AreHeld (subject_with unit (flat_map pins_in (map (λ group. group.now) groups.now)))
+        (flat_map owners_in (map (λ group. group.now) groups.now)) timed.answers.items) }
 {
     let names = names_of(alloc, pins.as_slice())?;
     let mut subject = Subject {
@@ -140,9 +141,14 @@ fn read_said(
 ) -> Result<Said, AllocError>
     requires { IsTrue (are_distinct (pin_names (flat_map pins_in (map (λ group. group.now) pin_groups.now)))) }
     ensures pins { IfOk result (λ said. said.pins ≡ flat_map pins_in (map (λ group. group.now) pin_groups.now)) }
-    ensures readings { IfOk result (λ said. said.readings ≡ map (state_reading (shown_vocabulary vocabulary.now) (length (flat_map pins_in (map (λ group. group.now) pin_groups.now)))) (map (λ group. group.now) state_groups.now)) }
-    ensures texts { IfOk result (λ said. said.texts ≡ map (pin_text (shown_vocabulary vocabulary.now)) (map (λ group. group.now) pin_groups.now)) }
-    ensures answers { IfOk result (λ said. AreHeld (subject_with unit (flat_map pins_in (map (λ group. group.now) pin_groups.now))) (flat_map owners_in (map (λ group. group.now) pin_groups.now)) said.answers.items) }
+    ensures readings { IfOk result (λ said. said.readings ≡ map
+        (state_reading (shown_vocabulary vocabulary.now) (length (flat_map pins_in (map (λ group. group.now) pin_groups.now))))
+        (map (λ group. group.now) state_groups.now)) }
+    ensures texts { IfOk result (λ said. said.texts ≡ map (pin_text (shown_vocabulary vocabulary.now))
+        (map (λ group. group.now) pin_groups.now)) }
+    ensures answers { IfOk result (λ said. AreHeld
+        (subject_with unit (flat_map pins_in (map (λ group. group.now) pin_groups.now)))
+        (flat_map owners_in (map (λ group. group.now) pin_groups.now)) said.answers.items) }
 {
     let pins = pins_of(alloc, pin_groups)?;
     let readings = state_readings(alloc, vocabulary, pins.len(), state_groups)?;

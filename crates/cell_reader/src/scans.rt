@@ -2,13 +2,16 @@
 ghost use Rattle.std.specs.Prelude.{◌≡◌, ◌++◌};
 ghost use Rattle.cell_machine.specs.Delay.{least};
 ghost use Rattle.cell_attributes.specs.Groups.{offsets_of};
-ghost use Rattle.cell_attributes.specs.Scans.{direction_in as direction_in_of, three_state_in as three_state_in_of, bank_in as bank_in_of, left_out_in as left_out_in_of, first_both_in as first_both_in_of, second_both_in as second_both_in_of, clear_preset_in as clear_preset_in_of, no_function_in as no_function_in_of};
+ghost use Rattle.cell_attributes.specs.Scans.{direction_in as direction_in_of, three_state_in as three_state_in_of};
+ghost use Rattle.cell_attributes.specs.Scans.{bank_in as bank_in_of, left_out_in as left_out_in_of};
+ghost use Rattle.cell_attributes.specs.Scans.{first_both_in as first_both_in_of, second_both_in as second_both_in_of};
+ghost use Rattle.cell_attributes.specs.Scans.{clear_preset_in as clear_preset_in_of, no_function_in as no_function_in_of};
 
-use cell_machine::{Both, Direction};
 use cell_attributes::groups::{is_bank, is_called, is_missing};
-use cell_machine::least::lesser;
 use cell_attributes::pins::{direction_named, direction_of};
 use cell_attributes::states::both_named;
+use cell_machine::least::lesser;
+use cell_machine::{Both, Direction};
 use cell_refusals::Scan;
 use liberty_groups::{Group, last_attribute, simple_attribute};
 

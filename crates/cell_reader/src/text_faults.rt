@@ -2,9 +2,9 @@
 ghost use Rattle.std.specs.Prelude.{◌≡◌};
 ghost use Rattle.cell_reader.specs.Told.{wrong_in, wrong_at};
 
-use cell_machine::least::lesser;
 use cell_attributes::state_readings::StateReading;
 use cell_attributes::texts::Text;
+use cell_machine::least::lesser;
 use cell_refusals::Scan;
 
 /// What is wrong with a text of a cell.

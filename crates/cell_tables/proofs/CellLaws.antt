@@ -1,5 +1,6 @@
 -- The laws of the primitives of a cell.
-use Rattle.std.proofs.Common.{◌≡◌, ℕ, ◌<◌, ◌≤◌, Bool, true, false, List, [], ◌∷◌, length, inl, inr, refl, sym, ◌∙◌, ap, subst, arith}
+use Rattle.std.proofs.Common.{◌≡◌, ℕ, ◌<◌, ◌≤◌, Bool, true, false, List, [], ◌∷◌, length, inl, inr, refl, sym, ◌∙◌, ap, subst}
+use Rattle.std.proofs.Common.{arith}
 use Rattle.std.specs.List.{list_any}
 use Rattle.std.proofs.lemmas.Bool.{cases_Bool}
 use Rattle.trit_cubes.proofs.ListLemmas.{Among, contains-among, append-among_left, append-among_right}
@@ -32,7 +33,8 @@ groups_are_machines-lem cell i p old inputs note state long within apart =
 
 pub groups_are_forced-lem : GroupsAreForced
 groups_are_forced-lem cell i inputs old new state checks long apart =
-    ap (λ b. udp_next (compact_rows b (length (support_at cell i)) (step_at cell i)) (noted true old inputs) (noted true new inputs) state) checks
+    ap (λ b. udp_next (compact_rows b (length (support_at cell i)) (step_at cell i)) (noted true old inputs)
+    (noted true new inputs) state) checks
     ∙ compact_force-lem (length (support_at cell i)) (step_at cell i) inputs old new state long
 
 pub groups_are_sequential-lem : GroupsAreSequential
@@ -88,7 +90,8 @@ added_all-holds : (trees fs : List Node) (g : Node) → Among g fs → Among g (
 added_all-holds trees [] g m = absurd m
 added_all-holds trees (f ∷ fs) g m =
     elim m [
-      | inl same ↦ subst (λ h. Among h (added_all (added trees f) fs)) same (added_all-keeps (added trees f) fs f (added-holds trees f))
+      | inl same ↦ subst (λ h. Among h (added_all (added trees f) fs)) same
+          (added_all-keeps (added trees f) fs f (added-holds trees f))
       | inr k ↦ added_all-holds (added trees f) fs g k
     ]
 

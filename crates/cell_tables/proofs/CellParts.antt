@@ -1,11 +1,13 @@
 -- What the rules of cells say of a cell's parts.
-use Rattle.std.proofs.Common.{◌≡◌, ℕ, zero, suc, ◌+◌, Bool, ◌&&◌, IsTrue, List, [], ◌∷◌, length, map, nat_le, slice_get, Some, subst}
+use Rattle.std.proofs.Common.{◌≡◌, ℕ, zero, suc, ◌+◌, Bool, ◌&&◌, IsTrue, List, [], ◌∷◌, length, map, nat_le, slice_get, Some}
+use Rattle.std.proofs.Common.{subst}
 use Rattle.std.specs.List.{list_all}
 use Rattle.std.proofs.lemmas.Bool.{and_parts}
 use Rattle.cell_machine.specs.declared.pins.Pin.{Pin}
 use Rattle.cell_machine.specs.declared.groups.StateGroup.{StateGroup}
 use Rattle.cell_machine.specs.declared.arcs.Arc.{Arc}
-use Rattle.cell_machine.specs.CellRules.{is_support, is_group, are_groups_from, is_output_of, is_check, is_arc, is_in_order, HoldsRules}
+use Rattle.cell_machine.specs.CellRules.{is_support, is_group, are_groups_from, is_output_of, is_check, is_arc, is_in_order}
+use Rattle.cell_machine.specs.CellRules.{HoldsRules}
 use Rattle.cell_machine.specs.CellData.{CellData}
 
 abbrev pub Rules : CellData → Type 0
@@ -26,7 +28,8 @@ group_support-at pins name (x ∷ xs) (suc g) group h e =
 
 module _ (cell : CellData) (h : Rules cell) where
   pub groups_hold : IsTrue (are_groups_from cell.pins (length cell.pins) cell.groups)
-  groups_hold = (and_parts (nat_le (length cell.groups) 16) (are_groups_from cell.pins (length cell.pins) cell.groups) h.of_groups).1
+  groups_hold = (and_parts (nat_le (length cell.groups) 16) (are_groups_from cell.pins (length cell.pins) cell.groups)
+      h.of_groups).1
 
   pub outputs_hold : IsTrue (list_all (is_output_of cell.pins cell.groups) cell.outputs)
   outputs_hold = (and_parts _ (list_all (is_output_of cell.pins cell.groups) cell.outputs) h.of_outputs).1

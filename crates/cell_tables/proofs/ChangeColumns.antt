@@ -1,5 +1,6 @@
 -- The columns of a cube and of a change, of any kind of entry: they match what the cube covers.
-use Rattle.std.proofs.Common.{◌≡◌, ℕ, suc, ◌≤◌, Bool, true, false, ◌&&◌, List, [], ◌∷◌, ◌++◌, map, length, get_or, refl, sym, ◌∙◌, ap, arith}
+use Rattle.std.proofs.Common.{◌≡◌, ℕ, suc, ◌≤◌, Bool, true, false, ◌&&◌, List, [], ◌∷◌, ◌++◌, map, length, get_or, refl, sym, ◌∙◌}
+use Rattle.std.proofs.Common.{ap, arith}
 use Rattle.std.proofs.lemmas.List.{length-map}
 use Rattle.trit_cubes.specs.declared.trits.Trit.{Trit}
 use Rattle.trit_cubes.specs.declared.trits.Trit.TheVariants.{Unknown}
@@ -11,8 +12,8 @@ use Rattle.udp_tables.proofs.ColumnLemmas.{length-insert, at-insert, without-ins
 use Rattle.udp_tables.proofs.CubeLemmas.{admits, covers-last}
 use Rattle.udp_tables.proofs.SymbolLemmas.{length-init}
 
--- How entries of some kind match a column: one of a level what its place of a cube admits, one of an edge a change that both of its
--- places admit.
+-- How entries of some kind match a column: one of a level what its place of a cube admits, one of an edge a change that both of
+-- its places admit.
 pub record FitsEntries (V : Type 0) (fit : V → Trit → Trit → Bool) (level : Trit → V) (edge : Trit → Trit → V) : Type 0 where
   pub levels : (w old new : Trit) → fit (level w) old new ≡ admits w new
   pub edges :
@@ -26,7 +27,8 @@ regroup true true c d = refl
 regroup true false c d = refl
 regroup false y c d = refl
 
-module _ {V : Type 0} {fit : V → Trit → Trit → Bool} {level : Trit → V} {edge : Trit → Trit → V} (fits : FitsEntries V fit level edge) where
+module _ {V : Type 0} {fit : V → Trit → Trit → Bool} {level : Trit → V} {edge : Trit → Trit
+    → V} (fits : FitsEntries V fit level edge) where
   -- levels of a cube match what the cube covers, whatever was before
   pub levels-cover :
       (c olds news : List Trit) → length olds ≡ length news → columns_match fit (map level c) olds news ≡ covers c news
@@ -74,7 +76,8 @@ module _ {V : Type 0} {fit : V → Trit → Trit → Bool} {level : Trit → V} 
       let state : Bool = admits (last Unknown (r ∷ rest)) t in
       let olds : List Trit = insert p a others in
       let news : List Trit = insert p b others in
-      let columns = change-columns p old new r rest olds news (omega arith) (length-insert p a others ∙ ap suc (sym e)) (length-insert p b others ∙ ap suc (sym e)) in
+      let columns = change-columns p old new r rest olds news (omega arith) (length-insert p a others ∙ ap suc (sym e))
+      (length-insert p b others ∙ ap suc (sym e)) in
       let at_change : fit (edge old new) (get_or olds p Unknown) (get_or news p Unknown) ≡ (admits old a && admits new b)
       = (λ i. fit (edge old new) (at-insert p a Unknown others l i) (at-insert p b Unknown others l i))
       ∙ fits.edges old new a b (r ∷ rest) m apart in

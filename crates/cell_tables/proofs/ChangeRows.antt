@@ -1,5 +1,6 @@
 -- What the rows of a step match.
-use Rattle.std.proofs.Common.{◌≡◌, ℕ, zero, suc, ◌<◌, ◌≤◌, Bool, true, false, not, ◌&&◌, List, [], ◌∷◌, ◌++◌, map, length, get_or, refl, sym, ◌∙◌, ap, arith}
+use Rattle.std.proofs.Common.{◌≡◌, ℕ, zero, suc, ◌<◌, ◌≤◌, Bool, true, false, not, ◌&&◌, List, [], ◌∷◌, ◌++◌, map, length, get_or}
+use Rattle.std.proofs.Common.{refl, sym, ◌∙◌, ap, arith}
 use Rattle.std.specs.List.{list_all}
 use Rattle.std.proofs.lemmas.List.{length-map}
 use Rattle.std.proofs.lemmas.List.Folds.{list_all-append}
@@ -75,7 +76,8 @@ levels-insert (suc p) e [] = refl
 levels-insert (suc p) e (x ∷ es) =
     ap (λ b. is_level x && b) (levels-insert p e es) ∙ and-swap (is_level x) (is_level e) (list_all is_level es)
 
-levels-noted : (checks : Bool) (e : Entry) (es : List Entry) → list_all is_level es ≡ false → list_all is_level (noted checks e es) ≡ false
+levels-noted : (checks : Bool) (e : Entry) (es : List Entry) → list_all is_level es ≡ false
+    → list_all is_level (noted checks e es) ≡ false
 levels-noted false e es h = h
 levels-noted true e es h = list_all-append is_level es (e ∷ []) ∙ ap (λ b. b && list_all is_level (e ∷ [])) h
 
@@ -91,12 +93,15 @@ pub state_row-matches :
     → length olds ≡ length c → length news ≡ length c
     → row_matches (noted checks x olds) (noted checks y news) s (state_row checks v c) ≡ covers c news
 state_row-matches checks v c olds news x y s f g =
-    and-true (columns_match entry_matches (noted checks (entry.Level level.Any) (map level_entry c)) (noted checks x olds) (noted checks y news))
-    ∙ noted-free checks (map level_entry c) olds news x y (f ∙ sym (length-map c level_entry)) (g ∙ sym (length-map c level_entry))
+    and-true (columns_match entry_matches (noted checks (entry.Level level.Any) (map level_entry c)) (noted checks x olds)
+    (noted checks y news))
+    ∙ noted-free checks (map level_entry c) olds news x y (f ∙ sym (length-map c level_entry))
+    (g ∙ sym (length-map c level_entry))
     ∙ levels-cover entries-fit c olds news (f ∙ sym g)
 
 -- the columns of a change
-pub change-levels : (checks : Bool) (p : ℕ) (c : List Trit) → 3 ≤ length c → list_all is_level (noted checks (entry.Level level.Any) (edge_inputs p c)) ≡ false
+pub change-levels : (checks : Bool) (p : ℕ) (c : List Trit) → 3 ≤ length c
+    → list_all is_level (noted checks (entry.Level level.Any) (edge_inputs p c)) ≡ false
 change-levels checks p [] l = absurd (omega arith)
 change-levels checks p (old ∷ []) l = absurd (omega arith)
 change-levels checks p (old ∷ new ∷ rest) l =
@@ -108,7 +113,8 @@ change-levels checks p (old ∷ new ∷ rest) l =
 free-columns :
     (checks : Bool) (p : ℕ) (old new r : Trit) (rest olds news : List Trit) (x y : Trit)
     → length olds ≡ suc (length rest) → length news ≡ suc (length rest)
-    → columns_match entry_matches (noted checks (entry.Level level.Any) (edge_inputs p (old ∷ new ∷ r ∷ rest))) (noted checks x olds) (noted checks y news)
+    → columns_match entry_matches (noted checks (entry.Level level.Any) (edge_inputs p (old ∷ new ∷ r ∷ rest)))
+    (noted checks x olds) (noted checks y news)
     ≡ columns_match entry_matches (edge_inputs p (old ∷ new ∷ r ∷ rest)) olds news
 free-columns checks p old new r rest olds news x y f g =
     let es : List Entry = map level_entry (init (r ∷ rest)) in
@@ -120,7 +126,8 @@ pub columns-kept :
     (checks : Bool) (p : ℕ) (c olds news : List Trit) (x y : Trit) (n : ℕ)
     → p < n → length c ≡ suc (suc n) → length olds ≡ n → length news ≡ n
     → get_or olds p Unknown ≡ get_or news p Unknown
-    → columns_match entry_matches (noted checks (entry.Level level.Any) (edge_inputs p c)) (noted checks x olds) (noted checks y news) ≡ false
+    → columns_match entry_matches (noted checks (entry.Level level.Any) (edge_inputs p c)) (noted checks x olds)
+    (noted checks y news) ≡ false
 columns-kept checks p [] olds news x y n l e f g h = absurd (omega arith)
 columns-kept checks p (old ∷ []) olds news x y n l e f g h = absurd (omega arith)
 columns-kept checks p (old ∷ new ∷ []) olds news x y n l e f g h = absurd (omega arith)
@@ -132,7 +139,8 @@ pub columns-cover :
     (checks : Bool) (p : ℕ) (c : List Trit) (a b : Trit) (others : List Trit) (x t : Trit)
     → p ≤ length others → length c ≡ suc (suc (suc (length others))) → same a b ≡ false → moves c ≡ true
     → covers c (a ∷ b ∷ others ++ t ∷ [])
-    ≡ (columns_match entry_matches (noted checks (entry.Level level.Any) (edge_inputs p c)) (noted checks x (insert p a others)) (noted checks x (insert p b others))
+    ≡ (columns_match entry_matches (noted checks (entry.Level level.Any) (edge_inputs p c)) (noted checks x (insert p a others))
+    (noted checks x (insert p b others))
     && admits (last Unknown c) t)
 columns-cover checks p [] a b others x t l e apart m = absurd (omega arith)
 columns-cover checks p (old ∷ []) a b others x t l e apart m = absurd (omega arith)
@@ -140,5 +148,6 @@ columns-cover checks p (old ∷ new ∷ []) a b others x t l e apart m = absurd 
 columns-cover checks p (old ∷ new ∷ r ∷ rest) a b others x t l e apart m =
     let few : length others ≡ length rest = omega arith in
     sym (ap (λ q. q && admits (last Unknown (r ∷ rest)) t)
-    (free-columns checks p old new r rest (insert p a others) (insert p b others) x x (length-insert p a others ∙ ap suc few) (length-insert p b others ∙ ap suc few))
+    (free-columns checks p old new r rest (insert p a others) (insert p b others) x x (length-insert p a others ∙ ap suc few)
+    (length-insert p b others ∙ ap suc few))
     ∙ change-covers entries-fit p old new r rest a b others t l (sym few) apart m)

@@ -1,5 +1,6 @@
 -- The table of a condition over the pins that it names gives its values at points of them.
-use Rattle.std.proofs.Common.{◌≡◌, ℕ, suc, ◌+◌, ◌<◌, ◌≤◌, Bool, true, false, not, if◌then◌else◌, List, [], ◌∷◌, map, length, slice_get, Some, inl, inr, refl, sym, ◌∙◌, ap, subst, arith}
+use Rattle.std.proofs.Common.{◌≡◌, ℕ, suc, ◌+◌, ◌<◌, ◌≤◌, Bool, true, false, not, if◌then◌else◌, List, [], ◌∷◌, map, length}
+use Rattle.std.proofs.Common.{slice_get, Some, inl, inr, refl, sym, ◌∙◌, ap, subst, arith}
 use Rattle.std.specs.List.Sorted.{IsStrictlyIncreasing}
 use Rattle.std.proofs.lemmas.Option.{get_or_from_slice_get, slice_get_within}
 use Rattle.std.proofs.lemmas.List.{get_or-map}
@@ -69,17 +70,20 @@ condition-entry f values p small h long =
 pub condition-ones :
     (f : Node) (values : List Bool)
     → IsSmall f → HasValues (support_of f) f values
-    → prime_list (length (support_of f)) (has values) ≡ prime_list (length (support_of f)) (gives One (condition_at (support_of f) f))
+    → prime_list (length (support_of f)) (has values) ≡ prime_list (length (support_of f))
+    (gives One (condition_at (support_of f) f))
 condition-ones f values small h =
     prime_list-same (length (support_of f)) (has values) (gives One (condition_at (support_of f) f))
     (λ p long.
-    get_or_from_slice_get values (number p) (value_of (written no_values (support_of f) p) f) false (condition-entry f values p small h long)
+    get_or_from_slice_get values (number p) (value_of (written no_values (support_of f) p) f) false
+    (condition-entry f values p small h long)
     ∙ same-one (value_of (written no_values (support_of f) p) f))
 
 pub condition-zeros :
     (f : Node) (values : List Bool)
     → IsSmall f → HasValues (support_of f) f values
-    → prime_list (length (support_of f)) (has (map not values)) ≡ prime_list (length (support_of f)) (gives Zero (condition_at (support_of f) f))
+    → prime_list (length (support_of f)) (has (map not values)) ≡ prime_list (length (support_of f))
+    (gives Zero (condition_at (support_of f) f))
 condition-zeros f values small h =
     prime_list-same (length (support_of f)) (has (map not values)) (gives Zero (condition_at (support_of f) f))
     (λ p long.

@@ -1,6 +1,7 @@
--- The conditions of a cell: what holds of those of its checks and arcs holds of each, and each that a check or an arc names has its
--- number.
-use Rattle.std.proofs.Common.{◌≡◌, ℕ, ◌<◌, Bool, true, false, not, ◌&&◌, List, [], ◌∷◌, ◌++◌, length, ◌⊎◌, inl, inr, refl, sym, subst, IsTrue, Option, Some, None, flat_map, if◌then◌else◌}
+-- The conditions of a cell: what holds of those of its checks and arcs holds of each, and each that a check or an arc names has
+-- its number.
+use Rattle.std.proofs.Common.{◌≡◌, ℕ, ◌<◌, Bool, true, false, not, ◌&&◌, List, [], ◌∷◌, ◌++◌, length, ◌⊎◌, inl, inr, refl, sym}
+use Rattle.std.proofs.Common.{subst, IsTrue, Option, Some, None, flat_map, if◌then◌else◌}
 use Rattle.std.specs.Prelude.{filter}
 use Rattle.std.specs.List.{list_any, list_all}
 use Rattle.std.proofs.lemmas.Bool.{and_parts}
@@ -17,7 +18,8 @@ use Rattle.cell_machine.proofs.CellFacts.{list_all-implied}
 use Rattle.cell_machine.proofs.RuleLemmas.{check_parts, arc_condition}
 use Rattle.bool_functions.specs.SameTrees.{same_tree}
 use Rattle.cell_machine.specs.CellData.{CellData}
-use Rattle.udp_tables.specs.Conditions.{condition_list, conditions_by, arc_conditions, used_conditions, added, added_all, conditions_of, condition_place}
+use Rattle.udp_tables.specs.Conditions.{condition_list, conditions_by, arc_conditions, used_conditions, added, added_all}
+use Rattle.udp_tables.specs.Conditions.{conditions_of, condition_place}
 use Rattle.cell_tables.proofs.CellLaws.{conditions_are_numbered-lem}
 
 -- a test of all elements, at one of them
@@ -36,7 +38,8 @@ flat-among f y (z ∷ zs) x m k =
       | inr n ↦ append-among_right y (f z) (flat_map f zs) (flat-among f y zs x n k)
     ]
 
-among-flat : {X Y : Type 0} (f : X → List Y) (y : Y) (xs : List X) → Among y (flat_map f xs) → (x : X) × Among x xs × Among y (f x)
+among-flat : {X Y : Type 0} (f : X → List Y) (y : Y) (xs : List X) → Among y (flat_map f xs) → (x : X) × Among x xs
+    × Among y (f x)
 among-flat f y [] m = absurd m
 among-flat f y (x ∷ xs) m =
     elim (among-append y (f x) (flat_map f xs) m) [
@@ -47,24 +50,29 @@ among-flat f y (x ∷ xs) m =
 -- the number of a condition that a check or an arc names
 pub check-numbered :
     (cell : CellData) (k : Check) (f : Node)
-    → Among k cell.checks → Among f (condition_list k.condition) → condition_place (conditions_of cell) f < length (conditions_of cell)
+    → Among k cell.checks → Among f (condition_list k.condition)
+    → condition_place (conditions_of cell) f < length (conditions_of cell)
 check-numbered cell k f m h =
     conditions_are_numbered-lem cell f
     (among-contains f (used_conditions cell)
-    (append-among_left f (flat_map (λ (k : Check). condition_list k.condition) cell.checks) (flat_map (arc_conditions cell.arcs) cell.arcs)
+    (append-among_left f (flat_map (λ (k : Check). condition_list k.condition) cell.checks)
+    (flat_map (arc_conditions cell.arcs) cell.arcs)
     (flat-among (λ (k : Check). condition_list k.condition) f cell.checks k m h)))
 
 pub arc-numbered :
     (cell : CellData) (arc : Arc) (f : Node)
-    → Among arc cell.arcs → Among f (arc_conditions cell.arcs arc) → condition_place (conditions_of cell) f < length (conditions_of cell)
+    → Among arc cell.arcs → Among f (arc_conditions cell.arcs arc)
+    → condition_place (conditions_of cell) f < length (conditions_of cell)
 arc-numbered cell arc f m h =
     conditions_are_numbered-lem cell f
     (among-contains f (used_conditions cell)
-    (append-among_right f (flat_map (λ (k : Check). condition_list k.condition) cell.checks) (flat_map (arc_conditions cell.arcs) cell.arcs)
+    (append-among_right f (flat_map (λ (k : Check). condition_list k.condition) cell.checks)
+    (flat_map (arc_conditions cell.arcs) cell.arcs)
     (flat-among (arc_conditions cell.arcs) f cell.arcs arc m h)))
 
 -- what trees are added to a list
-added-among : (trees : List Node) (f g : Node) (b : Bool) → Among g (if b then trees else trees ++ f ∷ []) → Among g trees ⊎ (f ≡ g)
+added-among : (trees : List Node) (f g : Node) (b : Bool) → Among g (if b then trees else trees ++ f ∷ []) → Among g trees
+    ⊎ (f ≡ g)
 added-among trees f g true m = inl m
 added-among trees f g false m =
     elim (among-append g trees (f ∷ []) m) [
@@ -102,7 +110,8 @@ module _
       elim (all-added-among [] (used_conditions cell) f m) [
         | inl h ↦ absurd h
         | inr h ↦
-            elim (among-append f (flat_map (λ (k : Check). condition_list k.condition) cell.checks) (flat_map (arc_conditions cell.arcs) cell.arcs) h) [
+            elim (among-append f (flat_map (λ (k : Check). condition_list k.condition) cell.checks)
+            (flat_map (arc_conditions cell.arcs) cell.arcs) h) [
               | inl k ↦ let r = among-flat (λ (k : Check). condition_list k.condition) f cell.checks k in of_checks r.0 r.1 f r.2
               | inr k ↦
                   let r = among-flat (arc_conditions cell.arcs) f cell.arcs k in
@@ -114,7 +123,8 @@ module _
 abbrev pub is_over : List Pin → Node → Bool
 is_over pins f = list_all (is_input_pin pins) (support_of f)
 
-over : (pins : List Pin) (apart : List ℕ) (o : Option Node) (f : Node) → IsTrue (is_condition pins apart o) → Among f (condition_list o) → IsTrue (is_over pins f)
+over : (pins : List Pin) (apart : List ℕ) (o : Option Node) (f : Node) → IsTrue (is_condition pins apart o)
+    → Among f (condition_list o) → IsTrue (is_over pins f)
 over pins apart None f h m = absurd m
 over pins apart (Some g) f h m =
     elim m [
@@ -132,5 +142,7 @@ pub condition-over :
 condition-over cell checks arcs =
     conditions-each (λ f. IsTrue (is_over cell.pins f)) cell
     (λ k m f h.
-    over cell.pins (k.first.pin ∷ k.second.pin ∷ []) k.condition f (check_parts cell.pins k (all-among (is_check cell.pins) cell.checks k checks m)).enabled h)
-    (λ arc m f h. over cell.pins (arc.from ∷ []) arc.condition f (arc_condition cell.pins arc (all-among (is_arc cell.pins) cell.arcs arc arcs m)) h)
+    over cell.pins (k.first.pin ∷ k.second.pin ∷ []) k.condition f
+    (check_parts cell.pins k (all-among (is_check cell.pins) cell.checks k checks m)).enabled h)
+    (λ arc m f h. over cell.pins (arc.from ∷ []) arc.condition f
+    (arc_condition cell.pins arc (all-among (is_arc cell.pins) cell.arcs arc arcs m)) h)

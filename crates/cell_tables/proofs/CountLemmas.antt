@@ -1,5 +1,6 @@
 -- The rows of a step have an entry for each input, and at most one change.
-use Rattle.std.proofs.Common.{◌≡◌, ℕ, zero, suc, ◌+◌, ◌<◌, ◌≤◌, Bool, true, false, cond, not, List, [], ◌∷◌, ◌++◌, map, length, replicate, inl, inr, refl, ◌∙◌, ap, subst, arith, if◌then◌else◌}
+use Rattle.std.proofs.Common.{◌≡◌, ℕ, zero, suc, ◌+◌, ◌<◌, ◌≤◌, Bool, true, false, cond, not, List, [], ◌∷◌, ◌++◌, map, length}
+use Rattle.std.proofs.Common.{replicate, inl, inr, refl, ◌∙◌, ap, subst, arith, if◌then◌else◌}
 use Rattle.std.specs.Prelude.{count_by}
 use Rattle.std.specs.List.{list_all, All}
 use Rattle.std.proofs.lemmas.Bool.{and_parts}
@@ -62,7 +63,8 @@ changes-free true es = omega (arith, changes-push es (entry.Level level.Any))
 abbrev pub with_note : Bool → ℕ → ℕ
 with_note checks n = if checks then n + 1 else n
 
-length-noted : (checks : Bool) (e : Entry) (es : List Entry) (n : ℕ) → length es ≡ n → length (noted checks e es) ≡ with_note checks n
+length-noted : (checks : Bool) (e : Entry) (es : List Entry) (n : ℕ) → length es ≡ n
+    → length (noted checks e es) ≡ with_note checks n
 length-noted false e es n h = h
 length-noted true e es n h = length_push es e ∙ ap (λ k. k + 1) h
 
@@ -101,20 +103,29 @@ notifier-fits true n row m =
       | inr k ↦ absurd k
     ]
 
-edge-fits : (checks : Bool) (n p : ℕ) (v : Trit) (c : List Trit) → p < n → length c ≡ suc (suc n) → Fits checks n (edge_row checks p v c)
+edge-fits : (checks : Bool) (n p : ℕ) (v : Trit) (c : List Trit) → p < n → length c ≡ suc (suc n)
+    → Fits checks n (edge_row checks p v c)
 edge-fits checks n p v [] l e = absurd (omega arith)
 edge-fits checks n p v (old ∷ []) l e = absurd (omega arith)
 edge-fits checks n p v (old ∷ new ∷ []) l e = absurd (omega arith)
 edge-fits checks n p v (old ∷ new ∷ r ∷ rest) l e =
     let es : List Entry = map level_entry (init (r ∷ rest)) in
     let few : length es ≡ length rest = length-map (init (r ∷ rest)) level_entry ∙ length-init r rest in
-    let all : length (insert p (edge_entry old new) es) ≡ n = length-insert p (edge_entry old new) es ∙ ap suc few ∙ omega arith in
-    let one : changes (noted checks (entry.Level level.Any) (insert p (edge_entry old new) es)) ≡ cond (not (is_level (edge_entry old new))) 1 0 + changes es
+    let all : length (insert p (edge_entry old new) es) ≡ n = length-insert p (edge_entry old new) es ∙ ap suc few ∙ omega arith
+    in
+    let one : changes (noted checks (entry.Level level.Any) (insert p (edge_entry old new) es)) ≡ cond
+    (not (is_level (edge_entry old new))) 1 0 + changes es
     = changes-free checks (insert p (edge_entry old new) es) ∙ changes-insert p (edge_entry old new) es in
     record {
       entries = length-noted checks (entry.Level level.Any) (insert p (edge_entry old new) es) n all;
       changed =
-          omega (arith, one, at-most-one (not (is_level (edge_entry old new))), changes-none es (entries-level (init (r ∷ rest))));
+          omega (
+            arith,
+            one,
+            at-most-one (not (is_level (edge_entry old new))),
+            changes-none es
+                (entries-level (init (r ∷ rest))),
+          );
     }
 
 -- a row that keeps the state has the entries of that which gives a value
@@ -134,10 +145,12 @@ change-fits checks n step p row l m =
 
 rows-fit :
     (checks : Bool) (n : ℕ) (step : Step) (row : UdpRow)
-    → Among row (forced_rows (state_row checks) n step ++ notifier_rows checks n ++ each_below (compact_edge_rows (edge_row checks) (keep_row checks) step n) n)
+    → Among row (forced_rows (state_row checks) n step ++ notifier_rows checks n
+    ++ each_below (compact_edge_rows (edge_row checks) (keep_row checks) step n) n)
     → Fits checks n row
 rows-fit checks n step row m =
-    elim (among-append row (forced_rows (state_row checks) n step ++ notifier_rows checks n) (each_below (compact_edge_rows (edge_row checks) (keep_row checks) step n) n) m) [
+    elim (among-append row (forced_rows (state_row checks) n step ++ notifier_rows checks n)
+    (each_below (compact_edge_rows (edge_row checks) (keep_row checks) step n) n) m) [
       | inl front ↦
           elim (among-append row (forced_rows (state_row checks) n step) (notifier_rows checks n) front) [
             | inl k ↦
@@ -152,14 +165,17 @@ rows-fit checks n step row m =
     ]
 
 or_row-fit : (checks : Bool) (n : ℕ) (alone : UdpRow) (rows : List UdpRow) (row : UdpRow)
-    → Fits checks n alone → ((other : UdpRow) → Among other rows → Fits checks n other) → Among row (or_row alone rows) → Fits checks n row
+    → Fits checks n alone → ((other : UdpRow) → Among other rows → Fits checks n other) → Among row (or_row alone rows)
+    → Fits checks n row
 or_row-fit checks n alone [] row h k m = elim m [ inl e ↦ subst (Fits checks n) e h | inr z ↦ absurd z ]
 or_row-fit checks n alone (first ∷ rows) row h k m = k row m
 
-pub compact-fit : (checks : Bool) (n : ℕ) (step : Step) (row : UdpRow) → Among row (compact_rows checks n step) → Fits checks n row
+pub compact-fit : (checks : Bool) (n : ℕ) (step : Step) (row : UdpRow) → Among row (compact_rows checks n step)
+    → Fits checks n row
 compact-fit checks n step row m =
     or_row-fit checks n (state_row checks Unknown (replicate n Unknown))
-    (forced_rows (state_row checks) n step ++ notifier_rows checks n ++ each_below (compact_edge_rows (edge_row checks) (keep_row checks) step n) n) row
+    (forced_rows (state_row checks) n step ++ notifier_rows checks n
+    ++ each_below (compact_edge_rows (edge_row checks) (keep_row checks) step n) n) row
     (state-fits checks n Unknown (replicate n Unknown) (length-replicate n Unknown)) (rows-fit checks n step) m
 
 pub all-rows : (P : UdpRow → Type 0) (rows : List UdpRow) → ((row : UdpRow) → Among row rows → P row) → All P rows

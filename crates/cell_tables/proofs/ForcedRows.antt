@@ -1,5 +1,6 @@
 -- Rows of steps, of any kind of row: those of the forced points, and of which input a row of a change is.
-use Rattle.std.proofs.Common.{◌≡◌, ◌≢◌, ℕ, suc, ◌<◌, ◌≤◌, Bool, true, false, inl, inr, List, length, get_or, refl, sym, ◌∙◌, ap, subst, arith}
+use Rattle.std.proofs.Common.{◌≡◌, ◌≢◌, ℕ, suc, ◌<◌, ◌≤◌, Bool, true, false, inl, inr, List, length, get_or, refl, sym, ◌∙◌, ap}
+use Rattle.std.proofs.Common.{subst, arith}
 use Rattle.std.specs.List.{list_any}
 use Rattle.std.proofs.lemmas.Bool.{cases_lt}
 use Rattle.trit_cubes.specs.declared.trits.Trit.{Trit}
@@ -17,7 +18,8 @@ use Rattle.udp_tables.proofs.CubeLemmas.{prime-gives, prime-found, value_rows-am
 
 -- How rows of forced points fit these inputs: the row of a cube is hit where the cube covers them, and gives the value that it is
 -- made for.
-pub record FitsForced (R : Type 0) (n : ℕ) (inputs : List Trit) (make : Trit → List Trit → R) (hit : R → Bool) (next : R → Trit) : Type 0 where
+pub record FitsForced (R : Type 0) (n : ℕ) (inputs : List Trit) (make : Trit → List Trit → R) (hit : R → Bool) (next : R → Trit) :
+    Type 0 where
   pub long : length inputs ≡ n
   pub made : (v : Trit) (c : List Trit) → length c ≡ n → hit (make v c) ≡ covers c inputs
   pub gives : (v : Trit) (c : List Trit) → next (make v c) ≡ v
@@ -48,7 +50,8 @@ module _
 pub changed-own :
     {R : Type 0} (changes : ℕ → List R) (hit : R → Bool) (n p : ℕ) (a b : Trit) (others : List Trit)
     → p < n → suc (length others) ≡ n
-    → ((q : ℕ) (row : R) → q < n → Among row (changes q) → get_or (insert p a others) q Unknown ≡ get_or (insert p b others) q Unknown → hit row ≡ false)
+    → ((q : ℕ) (row : R) → q < n → Among row (changes q)
+    → get_or (insert p a others) q Unknown ≡ get_or (insert p b others) q Unknown → hit row ≡ false)
     → (row : R) → Among row (each_below changes n) → hit row ≡ true → Among row (changes p)
 changed-own changes hit n p a b others l long still row m h =
     let r = below-among changes n row m in

@@ -1,5 +1,6 @@
 -- The table of a function over its first names is the set of points at which the function is 1.
-use Rattle.std.proofs.Common.{◌≡◌, ℕ, zero, suc, ◌<◌, ◌≤◌, Bool, true, false, not, List, [], ◌∷◌, ◌++◌, map, take, length, slice_index_or, slice_get, Some, refl, sym, ◌∙◌, ap, subst, inl, inr, arith, add-one}
+use Rattle.std.proofs.Common.{◌≡◌, ℕ, zero, suc, ◌<◌, ◌≤◌, Bool, true, false, not, List, [], ◌∷◌, ◌++◌, map, take, length}
+use Rattle.std.proofs.Common.{slice_index_or, slice_get, Some, refl, sym, ◌∙◌, ap, subst, inl, inr, arith, add-one}
 use Rattle.std.specs.List.{Contains}
 use Rattle.std.proofs.lemmas.List.{map_push, take_more, take_all, get_or-map, length_push}
 use Rattle.std.proofs.lemmas.Bool.{cases_lt}
@@ -20,7 +21,8 @@ numbers_below-contains zero i h = absurd (omega arith)
 numbers_below-contains (suc n) i h =
     elim (cases_lt i n) [
       | inl below ↦ Contains-append_left (numbers_below n) (n ∷ []) i (numbers_below-contains n i below)
-      | inr least ↦ let e : n ≡ i = omega arith in subst (Contains (numbers_below n ++ n ∷ [])) e (Contains-push (numbers_below n) n)
+      | inr least ↦ let e : n ≡ i = omega arith
+          in subst (Contains (numbers_below n ++ n ∷ [])) e (Contains-push (numbers_below n) n)
     ]
 
 pub length-numbers_below : (n : ℕ) → length (numbers_below n) ≡ n
@@ -59,7 +61,8 @@ pub ones-table : (n : ℕ) (f : Node) (values : List Bool) → HasValues (number
     → prime_list n (has values) ≡ prime_list n (gives One (tree_value f))
 ones-table n f values h =
     prime_list-same n (has values) (gives One (tree_value f))
-    (λ p long. get_or_from_slice_get values (number p) (value_of p f) false (table-at n f values p h long) ∙ same-one (value_of p f))
+    (λ p long. get_or_from_slice_get values (number p) (value_of p f) false (table-at n f values p h long)
+    ∙ same-one (value_of p f))
 
 pub zeros-table : (n : ℕ) (f : Node) (values : List Bool) → HasValues (numbers_below n) f values
     → prime_list n (has (map not values)) ≡ prime_list n (gives Zero (tree_value f))

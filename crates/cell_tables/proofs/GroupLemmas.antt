@@ -1,5 +1,6 @@
 -- What the code for a group's rows builds is what the definitions say.
-use Rattle.std.proofs.Common.{◌≡◌, ℕ, zero, suc, ◌+◌, ◌-◌, ◌<◌, ◌≤◌, Bool, false, true, not, List, [], ◌∷◌, ◌++◌, map, take, drop, length, get_or, refl, sym, ◌∙◌, ap, arith, flat_map}
+use Rattle.std.proofs.Common.{◌≡◌, ℕ, zero, suc, ◌+◌, ◌-◌, ◌<◌, ◌≤◌, Bool, false, true, not, List, [], ◌∷◌, ◌++◌, map, take, drop}
+use Rattle.std.proofs.Common.{length, get_or, refl, sym, ◌∙◌, ap, arith, flat_map}
 use Rattle.std.proofs.Math.Bool.{beq}
 use Rattle.std.proofs.lemmas.Bool.{true≢false}
 use Rattle.std.proofs.lemmas.List.{drop_more}
@@ -69,7 +70,8 @@ edge_value-parts step p (old ∷ new ∷ r ∷ rest) l =
     = ap (λ k. get_or (old ∷ new ∷ r ∷ rest) k false) place ∙ last-at r false false rest in
     λ i. step (insert p old (others i)) (insert p new (others i)) (state i)
 
-pub length-others : (point : List Bool) → 3 ≤ length point → suc (length (take (length point - 1 - 2) (drop 2 point))) + 2 ≡ length point
+pub length-others : (point : List Bool) → 3 ≤ length point
+    → suc (length (take (length point - 1 - 2) (drop 2 point))) + 2 ≡ length point
 length-others [] l = absurd (omega arith)
 length-others (old ∷ []) l = absurd (omega arith)
 length-others (old ∷ new ∷ []) l = absurd (omega arith)

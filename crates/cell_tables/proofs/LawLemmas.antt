@@ -20,13 +20,15 @@ pub change-at :
     ≡ machine_step step p old (get_or inputs p Unknown) (without p inputs) s
 change-at checks n step changes p old inputs x s serves long l apart =
     let within : p < length inputs = omega arith in
-    before-change (λ before after. udp_next (step_rows checks n step changes) (noted checks x before) (noted checks x after) s) p old Unknown inputs within
+    before-change (λ before after. udp_next (step_rows checks n step changes) (noted checks x before) (noted checks x after) s) p
+    old Unknown inputs within
     ∙ step_rows-change checks n step changes p old (get_or inputs p Unknown) (without p inputs) x s serves l
     (length-without p Unknown inputs within ∙ long) (differ old (get_or inputs p Unknown) apart)
 
 pub rows_are_machine-lem : RowsAreMachine
 rows_are_machine-lem checks n step p old inputs note state long l apart =
-    change-at checks n step (edge_rows (edge_row checks) step n) p old inputs note state (edge_rows-serve checks n step) long l apart
+    change-at checks n step (edge_rows (edge_row checks) step n) p old inputs note state (edge_rows-serve checks n step) long l
+    apart
 
 pub notifier_forces-lem : NotifierForces
 notifier_forces-lem n step inputs old new state long apart =
@@ -44,9 +46,11 @@ compact_are_machine-lem checks n step p old inputs note state long l apart =
 
 pub compact_force-lem :
     (n : ℕ) (step : Step) (inputs : List Trit) (old new state : Trit)
-    → length inputs ≡ n → udp_next (compact_rows true n step) (noted true old inputs) (noted true new inputs) state ≡ forced step inputs
+    → length inputs ≡ n → udp_next (compact_rows true n step) (noted true old inputs) (noted true new inputs) state ≡ forced step
+    inputs
 compact_force-lem n step inputs old new state long =
-    step_rows-note n step (compact_edge_rows (edge_row true) (keep_row true) step n) inputs old new state (compact_rows-serve true n step) long
+    step_rows-note n step (compact_edge_rows (edge_row true) (keep_row true) step n) inputs old new state
+    (compact_rows-serve true n step) long
 
 pub forms_agree-lem : FormsAgree
 forms_agree-lem checks n step p old inputs note state long l apart =

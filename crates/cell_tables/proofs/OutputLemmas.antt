@@ -1,5 +1,6 @@
 -- The conditions and outputs of a cell, by their numbers.
-use Rattle.std.proofs.Common.{◌≡◌, ℕ, zero, suc, ◌<◌, ◌≤◌, Bool, not, ◌&&◌, List, [], ◌∷◌, length, slice_get, slice_index_or, Option, Some, None, IsTrue, nat_lt, nat_le, inl, inr, sym, ◌∙◌, ap, subst, arith, map}
+use Rattle.std.proofs.Common.{◌≡◌, ℕ, zero, suc, ◌<◌, ◌≤◌, Bool, not, ◌&&◌, List, [], ◌∷◌, length, slice_get, slice_index_or}
+use Rattle.std.proofs.Common.{Option, Some, None, IsTrue, nat_lt, nat_le, inl, inr, sym, ◌∙◌, ap, subst, arith, map}
 use Rattle.std.specs.List.{list_all}
 use Rattle.std.proofs.lemmas.Bool.{and_parts, lt-ltb, leb-true}
 use Rattle.std.proofs.lemmas.List.{get_or-map, length-map}
@@ -42,7 +43,8 @@ small-of pins apart (Some g) f few h m =
               name_bound-below 96 g
               (support-passes (λ i. nat_lt i 96) [] (names_of g)
               (list_all-implied (λ i. is_input_pin pins i && not (has apart i)) (λ i. nat_lt i 96) (support_of g)
-              (λ i k. let below : i < length pins = input-below pins i (and_parts (is_input_pin pins i) (not (has apart i)) k).0 in lt-ltb i 96 (omega arith))
+              (λ i k. let below : i < length pins = input-below pins i (and_parts (is_input_pin pins i) (not (has apart i)) k).0
+              in lt-ltb i 96 (omega arith))
               two.1)).1;
         }
 
@@ -58,7 +60,8 @@ arc-small cell arc f m h =
 
 -- each condition of a cell is small
 pub conditions-small : (cell : Cell) (f : Node) → Among f (conditions_of (data_of cell)) → IsSmall f
-conditions-small cell = conditions-each IsSmall (data_of cell) (λ k m f h. check-small cell k f m h) (λ arc m f h. arc-small cell arc f m h)
+conditions-small cell = conditions-each IsSmall (data_of cell) (λ k m f h. check-small cell k f m h)
+    (λ arc m f h. arc-small cell arc f m h)
 
 pub among-at : {X : Type 0} (xs : List X) (i : ℕ) (x : X) → slice_get xs i ≡ Some x → Among x xs
 among-at [] i x e = absurd cc

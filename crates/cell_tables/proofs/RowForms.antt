@@ -1,6 +1,7 @@
 -- The rows of the changes of one input, of any kind of row: in plain form, a row for each cube, and in compact form, where two
 -- cubes that hold the state are one row, they give the machine's step.
-use Rattle.std.proofs.Common.{◌≡◌, ◌≢◌, ℕ, suc, ◌≤◌, Bool, true, false, not, ◌&&◌, inl, inr, List, [], ◌∷◌, ◌++◌, map, length, refl, sym, ◌∙◌, ap, subst, arith, if◌then◌else◌}
+use Rattle.std.proofs.Common.{◌≡◌, ◌≢◌, ℕ, suc, ◌≤◌, Bool, true, false, not, ◌&&◌, inl, inr, List, [], ◌∷◌, ◌++◌, map, length}
+use Rattle.std.proofs.Common.{refl, sym, ◌∙◌, ap, subst, arith, if◌then◌else◌}
 use Rattle.std.specs.Prelude.{filter}
 use Rattle.std.specs.List.{list_any}
 use Rattle.std.proofs.lemmas.Bool.{cases_Bool, and_parts, and_from}
@@ -12,7 +13,8 @@ use Rattle.cell_machine.specs.Machine.{Step, last, machine_step}
 use Rattle.udp_tables.specs.Tables.{value_rows}
 use Rattle.udp_tables.specs.Edges.{edge_cubes, same_cube, with_last, is_paired, kept_or_one, compact_value_rows}
 use Rattle.udp_tables.proofs.FirstLemmas.{found-any, any-front}
-use Rattle.udp_tables.proofs.CubeLemmas.{admits, edge-long, edge-gives, edge-found, holds-state, value_rows-among, among-value_rows}
+use Rattle.udp_tables.proofs.CubeLemmas.{admits, edge-long, edge-gives, edge-found, holds-state, value_rows-among}
+use Rattle.udp_tables.proofs.CubeLemmas.{among-value_rows}
 use Rattle.udp_tables.proofs.PairLemmas.{same_cube-self, last-of, again-of, twin, compact-among}
 
 -- How rows fit a change of input p from a to b beside these others at state s: the row of a cube is hit where the cube's columns
@@ -64,10 +66,12 @@ module _
     {R : Type 0} {n : ℕ} {step : Step} {p : ℕ} {a b : Trit} {others : List Trit} {s : Trit} {make : Trit → List Trit → R}
     {hit : R → Bool} {next : R → Trit} {columns : List Trit → Bool}
     (fits : FitsCubes R n step p a b others s make hit next columns) where
-  made-covers : (v w : Trit) (c : List Trit) → Among c (edge_cubes step n p v) → hit (make w c) ≡ covers c (a ∷ b ∷ others ++ s ∷ [])
+  made-covers : (v w : Trit) (c : List Trit) → Among c (edge_cubes step n p v)
+      → hit (make w c) ≡ covers c (a ∷ b ∷ others ++ s ∷ [])
   made-covers v w c m = fits.made w c ∙ sym (fits.parts v c s m)
 
-  made-right : (v : Trit) (c : List Trit) → v ≢ Unknown → Among c (edge_cubes step n p v) → hit (make v c) ≡ true → next (make v c) ≡ machine_step step p a b others s
+  made-right : (v : Trit) (c : List Trit) → v ≢ Unknown → Among c (edge_cubes step n p v) → hit (make v c) ≡ true
+      → next (make v c) ≡ machine_step step p a b others s
   made-right v c known m h =
       fits.gives v c ∙ sym (edge-gives step n p v c a b others s known fits.long m (sym (made-covers v v c m) ∙ h))
 
@@ -80,7 +84,8 @@ module _
       ap next (sym r.4) ∙ made-right r.0 r.2 r.1 r.3 (ap hit r.4 ∙ h)
 
   pub rows-found :
-      machine_step step p a b others s ≢ Unknown → list_any hit (value_rows make (edge_cubes step n p One) (edge_cubes step n p Zero)) ≡ true
+      machine_step step p a b others s ≢ Unknown
+      → list_any hit (value_rows make (edge_cubes step n p One) (edge_cubes step n p Zero)) ≡ true
   rows-found known =
       let v : Trit = machine_step step p a b others s in
       let r = edge-found step n p v a b others s known fits.long fits.apart refl in
@@ -88,7 +93,8 @@ module _
       (among-value_rows make (edge_cubes step n p) v r.0 known r.1) (made-covers v v r.0 r.1 ∙ r.2)
 
   -- a cube whose columns fit covers the change from its own state
-  covers-own : (v : Trit) (c : List Trit) (t : Trit) → Among c (edge_cubes step n p v) → last Unknown c ≡ t → columns c ≡ true → covers c (a ∷ b ∷ others ++ t ∷ []) ≡ true
+  covers-own : (v : Trit) (c : List Trit) (t : Trit) → Among c (edge_cubes step n p v) → last Unknown c ≡ t → columns c ≡ true
+      → covers c (a ∷ b ∷ others ++ t ∷ []) ≡ true
   covers-own v c t m is h =
       fits.parts v c t m ∙ and_from (columns c) (admits (last Unknown c) t) h (ap (λ w. admits w t) is ∙ admits-self t)
 
@@ -130,7 +136,8 @@ module _
 
     -- a cube that gives 0 and holds the state stands in the row of its pair
     found-pair :
-        (c : List Trit) → Among c (edge_cubes step n p Zero) → is_paired Zero One (edge_cubes step n p One) c ≡ true → columns c ≡ true
+        (c : List Trit) → Among c (edge_cubes step n p Zero) → is_paired Zero One (edge_cubes step n p One) c ≡ true
+        → columns c ≡ true
         → list_any hit (map (kept_or_one make keep (edge_cubes step n p Zero)) (edge_cubes step n p One)) ≡ true
     found-pair c m k fit =
         let ones : List (List Trit) = edge_cubes step n p One in
@@ -148,7 +155,8 @@ module _
         (map-among (kept_or_one make keep zeros) d ones t.1)
         (ap (λ w. hit (if w then keep d else make One d)) pair ∙ pairs.kept d ∙ pairs.free One c (omega arith) ∙ fit)
 
-    covered-columns : (v : Trit) (c : List Trit) → Among c (edge_cubes step n p v) → covers c (a ∷ b ∷ others ++ s ∷ []) ≡ true → columns c ≡ true
+    covered-columns : (v : Trit) (c : List Trit) → Among c (edge_cubes step n p v) → covers c (a ∷ b ∷ others ++ s ∷ []) ≡ true
+        → columns c ≡ true
     covered-columns v c m h = (and_parts (columns c) (admits (last Unknown c) s) (sym (fits.parts v c s m) ∙ h)).0
 
     -- what hits in the rows of the cubes that give 1 hits in all
@@ -156,7 +164,8 @@ module _
         list_any hit (map (kept_or_one make keep (edge_cubes step n p Zero)) (edge_cubes step n p One)) ≡ true
         → list_any hit (compact_value_rows make keep (edge_cubes step n p One) (edge_cubes step n p Zero)) ≡ true
     in-front h =
-        let alone : List R = map (make Zero) (filter (λ c. not (is_paired Zero One (edge_cubes step n p One) c)) (edge_cubes step n p Zero)) in
+        let alone : List R = map (make Zero)
+        (filter (λ c. not (is_paired Zero One (edge_cubes step n p One) c)) (edge_cubes step n p Zero)) in
         any-front hit (map (kept_or_one make keep (edge_cubes step n p Zero)) (edge_cubes step n p One)) alone h
 
     found-by :

@@ -1,6 +1,7 @@
 -- Rows of a step whose changes serve: at each change of an input they give the machine's step, and at each change of the
 -- notifier the forced value.
-use Rattle.std.proofs.Common.{◌≡◌, ◌≢◌, ℕ, suc, ◌<◌, Bool, true, false, cond, not, ◌&&◌, List, [], ◌∷◌, ◌++◌, map, length, replicate, get_or, inl, inr, refl, sym, ◌∙◌, ap}
+use Rattle.std.proofs.Common.{◌≡◌, ◌≢◌, ℕ, suc, ◌<◌, Bool, true, false, cond, not, ◌&&◌, List, [], ◌∷◌, ◌++◌, map, length}
+use Rattle.std.proofs.Common.{replicate, get_or, inl, inr, refl, sym, ◌∙◌, ap}
 use Rattle.std.specs.List.{list_all, list_any}
 use Rattle.std.proofs.lemmas.Bool.{and_parts, and_from, and_left}
 use Rattle.std.proofs.lemmas.List.{length-map, length-replicate}
@@ -20,7 +21,8 @@ use Rattle.udp_tables.specs.Tables.{first, columns_match, or_row}
 use Rattle.udp_tables.specs.Primitive.{entry_matches, is_level, next_of}
 use Rattle.udp_tables.specs.Generated.{level_entry, next_to}
 use Rattle.udp_tables.specs.Edges.{forced_rows, each_below}
-use Rattle.udp_tables.specs.Sequential.{row_matches, is_level_row, level_hit, edge_hit, row_next, udp_next, noted, state_row, notifier_rows, step_rows}
+use Rattle.udp_tables.specs.Sequential.{row_matches, is_level_row, level_hit, edge_hit, row_next, udp_next, noted, state_row}
+use Rattle.udp_tables.specs.Sequential.{notifier_rows, step_rows}
 use Rattle.udp_tables.proofs.FirstLemmas.{any-found, found-any, any-front, cond-same, first-gives}
 use Rattle.udp_tables.proofs.ColumnLemmas.{and-false, length-insert, columns-push}
 use Rattle.udp_tables.proofs.CubeLemmas.{same-self, known-or, value_rows-among, below-among, among-below}
@@ -111,18 +113,21 @@ levels-fit checks n olds news x y s f g =
 
 hits-fit :
     (n : ℕ) (inputs : List Trit) (old new s : Trit)
-    → length inputs ≡ n → FitsForced UdpRow n inputs (state_row true) (level_hit (noted true old inputs) (noted true new inputs) s) (row_next s)
+    → length inputs ≡ n → FitsForced UdpRow n inputs (state_row true)
+    (level_hit (noted true old inputs) (noted true new inputs) s) (row_next s)
 hits-fit n inputs old new s f =
     record {
       long = f;
       made = λ v c long.
-          ap (λ q. q && row_matches (noted true old inputs) (noted true new inputs) s (state_row true v c)) (state_row-levels true v c)
+          ap (λ q. q && row_matches (noted true old inputs) (noted true new inputs) s (state_row true v c))
+          (state_row-levels true v c)
           ∙ state_row-matches true v c inputs inputs old new s (f ∙ sym long) (f ∙ sym long);
       gives = λ v c. next-value s v;
     }
 
 forced-levels :
-    (checks : Bool) (n : ℕ) (step : Step) (row : UdpRow) → Among row (forced_rows (state_row checks) n step) → is_level_row row ≡ true
+    (checks : Bool) (n : ℕ) (step : Step) (row : UdpRow) → Among row (forced_rows (state_row checks) n step)
+    → is_level_row row ≡ true
 forced-levels checks n step row m =
     let r = value_rows-among (state_row checks) (λ (v : Trit). prime_list n (gives v (forced_at step))) row m in
     ap is_level_row (sym r.4) ∙ state_row-levels checks r.0 r.2
@@ -178,7 +183,8 @@ step_rows-change checks n step changes p a b others x s serves l long apart =
           let hit : edge_hit before after s r.0 ≡ true
           = and_from (not (is_level_row r.0)) (row_matches before after s r.0) (ap not (serves.edges p r.0 l r.1)) r.2 in
           let some : list_any (edge_hit before after s) rows ≡ true
-          = found-any (edge_hit before after s) r.0 rows (append-among_right r.0 fronts (each_below changes n) (among-below changes n p r.0 l r.1)) hit in
+          = found-any (edge_hit before after s) r.0 rows
+          (append-among_right r.0 fronts (each_below changes n) (among-below changes n p r.0 l r.1)) hit in
           let clash : false ≡ true = sym none ∙ some in absurd cc
       | inr e ↦ sym e
     ]))
@@ -194,7 +200,8 @@ level-given n step changes inputs old new s serves long row m h =
     elim (among-append row (forced_rows (state_row true) n step ++ notifier_rows true n) (each_below changes n) m) [
       | inl front ↦
           elim (among-append row (forced_rows (state_row true) n step) (notifier_rows true n) front) [
-            | inl k ↦ let r = forced-given step (levels-fit true n inputs inputs old new s long long) row k both.1 in r.3 ∙ sym r.2
+            | inl k ↦ let r = forced-given step (levels-fit true n inputs inputs old new s long long) row k both.1
+                in r.3 ∙ sym r.2
             | inr k ↦ let clash : false ≡ true = sym (notifier-levels true n row k) ∙ both.0 in absurd cc
           ]
       | inr k ↦
@@ -217,7 +224,8 @@ edge-given n step changes inputs old new s serves long row m h =
           ]
       | inr k ↦
           let r = below-among changes n row k in
-          let clash : false ≡ true = sym (serves.still r.0 row inputs inputs old new s r.1 r.2 long long refl) ∙ both.1 in absurd cc
+          let clash : false ≡ true = sym (serves.still r.0 row inputs inputs old new s r.1 r.2 long long refl) ∙ both.1
+          in absurd cc
     ]
 
 pub step_rows-note :
@@ -241,7 +249,8 @@ step_rows-note n step changes inputs old new s serves long =
       | inl known ↦
           let some : list_any (level_hit before after s) rows ≡ true
           = any-front (level_hit before after s) (levels ++ notifier_rows true n) (each_below changes n)
-          (any-front (level_hit before after s) levels (notifier_rows true n) (forced-found step (hits-fit n inputs old new s long) known)) in
+          (any-front (level_hit before after s) levels (notifier_rows true n)
+          (forced-found step (hits-fit n inputs old new s long) known)) in
           let clash : false ≡ true = sym none ∙ some in absurd cc
       | inr e ↦ last_pass ∙ sym e
     ])

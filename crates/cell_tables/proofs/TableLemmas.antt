@@ -1,5 +1,6 @@
 -- Tables of rows: what the first row that matches gives, and the rows of cubes.
-use Rattle.std.proofs.Common.{◌≡◌, ◌≢◌, ℕ, zero, suc, Bool, true, false, cond, ◌||◌, IsTrue, List, [], ◌∷◌, ◌++◌, map, length, replicate, refl, sym, ◌∙◌, ap, arith, append-nil, slice_index_or, ◌+◌}
+use Rattle.std.proofs.Common.{◌≡◌, ◌≢◌, ℕ, zero, suc, Bool, true, false, cond, ◌||◌, IsTrue, List, [], ◌∷◌, ◌++◌, map, length}
+use Rattle.std.proofs.Common.{replicate, refl, sym, ◌∙◌, ap, arith, append-nil, slice_index_or, ◌+◌}
 use Rattle.std.specs.List.{All, list_all}
 use Rattle.std.proofs.lemmas.List.{length_push, length-map, length-replicate}
 use Rattle.std.proofs.lemmas.List.Elements.{All-append, All-map, All-cons, Contains-get_or}
@@ -35,7 +36,8 @@ cond-or false q v w = refl
 
 -- rows of one value, one for each cube
 pub first-cubes : (ts : List Trit) (v : Trit) (cs : List (List Trit)) (rows : List UdpRow)
-    → level_output (map (level_row v) cs ++ rows) ts ≡ cond (any_covers cs ts) (next_of Unknown (next_to v)) (level_output rows ts)
+    → level_output (map (level_row v) cs ++ rows) ts ≡ cond (any_covers cs ts) (next_of Unknown (next_to v))
+    (level_output rows ts)
 first-cubes ts v [] rows = refl
 first-cubes ts v (c ∷ cs) rows =
     rw (columns-covers c ts, first-cubes ts v cs rows)
@@ -46,7 +48,8 @@ cond-same true v = refl
 cond-same false v = refl
 
 -- a row that gives x in place of no row
-pub first-or_row : (ts c : List Trit) (rows : List UdpRow) → level_output (or_row (level_row Unknown c) rows) ts ≡ level_output rows ts
+pub first-or_row : (ts c : List Trit) (rows : List UdpRow)
+    → level_output (or_row (level_row Unknown c) rows) ts ≡ level_output rows ts
 first-or_row ts c [] = cond-same (inputs_match ts (level_row Unknown c)) Unknown
 first-or_row ts c (row ∷ rows) = refl
 
@@ -62,7 +65,8 @@ one≢unknown : One ≢ Unknown
 one≢unknown e = cc
 
 -- the generated rows give the resolution
-pub function_rows-res : (n : ℕ) (f : List Bool → Trit) (ts : List Trit) → length ts ≡ n → level_output (function_rows n f) ts ≡ res f ts
+pub function_rows-res : (n : ℕ) (f : List Bool → Trit) (ts : List Trit) → length ts ≡ n
+    → level_output (function_rows n f) ts ≡ res f ts
 function_rows-res n f ts long =
     let ones = prime_list n (gives One f) in
     let zeros = prime_list n (gives Zero f) in
@@ -93,7 +97,8 @@ or_row-all P alone (row ∷ rows) h k = k
 value_rows-all : (P : UdpRow → Type 0) (ones zeros : List (List Trit))
     → All (λ c. P (level_row One c)) ones → All (λ c. P (level_row Zero c)) zeros → All P (value_rows level_row ones zeros)
 value_rows-all P ones zeros h k =
-    All-append P (map (level_row One) ones) (map (level_row Zero) zeros) (All-map P (level_row One) ones h) (All-map P (level_row Zero) zeros k)
+    All-append P (map (level_row One) ones) (map (level_row Zero) zeros) (All-map P (level_row One) ones h)
+    (All-map P (level_row Zero) zeros k)
 
 long_row : (v : Trit) (c : List Trit) (n : ℕ) → length c ≡ n → length (map level_entry c) ≡ length (input_names n)
 long_row v c n e = length-map c level_entry ∙ e ∙ sym (length-input_names n)
@@ -106,11 +111,14 @@ primitive-combinational name n f =
     record {
       entries =
           let P : UdpRow → Type 0 = λ row. length row.inputs ≡ length (input_names n) in
-          or_row-all P alone (value_rows level_row ones zeros) (long_row Unknown (replicate n Unknown) n (length-replicate n Unknown))
+          or_row-all P alone (value_rows level_row ones zeros)
+          (long_row Unknown (replicate n Unknown) n (length-replicate n Unknown))
           (value_rows-all P ones zeros
-          (λ k d l. long_row One _ n (cubes-long n (gives One f) k d l)) (λ k d l. long_row Zero _ n (cubes-long n (gives Zero f) k d l)));
+          (λ k d l. long_row One _ n (cubes-long n (gives One f) k d l))
+          (λ k d l. long_row Zero _ n (cubes-long n (gives Zero f) k d l)));
       levels =
           let P : UdpRow → Type 0 = λ row. IsTrue (list_all is_level row.inputs) in
           or_row-all P alone (value_rows level_row ones zeros) (entries-level (replicate n Unknown))
-          (value_rows-all P ones zeros (λ k d l. entries-level (slice_index_or ones k d)) (λ k d l. entries-level (slice_index_or zeros k d)));
+          (value_rows-all P ones zeros (λ k d l. entries-level (slice_index_or ones k d))
+          (λ k d l. entries-level (slice_index_or zeros k d)));
     }

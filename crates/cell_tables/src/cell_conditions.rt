@@ -4,7 +4,8 @@ ghost use Rattle.cell_machine.specs.declared.checks.Check.{Check};
 ghost use Rattle.std.specs.List.{list_any};
 ghost use Rattle.bool_functions.specs.SameTrees.{same_tree};
 ghost use Rattle.cell_machine.specs.CellData.{data_of};
-ghost use Rattle.udp_tables.specs.Conditions.{condition_list, conditions_beside, arc_conditions, added, added_all, conditions_of, condition_place};
+ghost use Rattle.udp_tables.specs.Conditions.{condition_list, conditions_beside, arc_conditions, added, added_all, conditions_of};
+ghost use Rattle.udp_tables.specs.Conditions.{condition_place};
 
 use bool_functions::Function;
 use cell_machine::{Arc, Cell};
@@ -73,7 +74,8 @@ fn holds(conditions: &[&Function], condition: &Function) -> bool
 
 /// Adds a condition, unless it is there.
 fn add<'a>(found: &mut Vec<&'a Function>, condition: &'a Function) -> Result<(), AllocError>
-    ensures { OnOk result (map (λ other. other.now) found.new.items ≡ added (map (λ other. other.now) found.old.items) condition.now) }
+    ensures { OnOk result (map (λ other. other.now) found.new.items ≡ added (map (λ other. other.now) found.old.items)
+        condition.now) }
 {
     if !holds(found, condition) {
         found.push(condition)?;
@@ -86,7 +88,8 @@ fn add_if_there<'a>(
     found: &mut Vec<&'a Function>,
     condition: &'a Option<Function>,
 ) -> Result<(), AllocError>
-    ensures { OnOk result (map (λ other. other.now) found.new.items ≡ added_all (map (λ other. other.now) found.old.items) (condition_list condition.now)) }
+    ensures { OnOk result (map (λ other. other.now) found.new.items ≡ added_all (map (λ other. other.now) found.old.items)
+        (condition_list condition.now)) }
 {
     match condition {
         Some(condition) => add(found, condition),
@@ -96,7 +99,8 @@ fn add_if_there<'a>(
 
 /// Adds those of all checks.
 fn add_of_checks<'a>(found: &mut Vec<&'a Function>, cell: &'a Cell) -> Result<(), AllocError>
-    ensures { OnOk result (map (λ other. other.now) found.new.items ≡ added_all (map (λ other. other.now) found.old.items) (flat_map (λ (check : Check). condition_list check.condition) cell.now.checks)) }
+    ensures { OnOk result (map (λ other. other.now) found.new.items ≡ added_all (map (λ other. other.now) found.old.items)
+        (flat_map (λ (check : Check). condition_list check.condition) cell.now.checks)) }
 {
     for check in cell.checks.as_slice() {
         add_if_there(found, &check.condition)?;
@@ -106,7 +110,8 @@ fn add_of_checks<'a>(found: &mut Vec<&'a Function>, cell: &'a Cell) -> Result<()
 
 /// Adds those of all arcs.
 fn add_of_arcs<'a>(found: &mut Vec<&'a Function>, arcs: &'a [Arc]) -> Result<(), AllocError>
-    ensures { OnOk result (map (λ other. other.now) found.new.items ≡ added_all (map (λ other. other.now) found.old.items) (flat_map (arc_conditions arcs.now) arcs.now)) }
+    ensures { OnOk result (map (λ other. other.now) found.new.items ≡ added_all (map (λ other. other.now) found.old.items)
+        (flat_map (arc_conditions arcs.now) arcs.now)) }
 {
     for arc in arcs {
         add_of_arc(found, arcs, arc)?;
@@ -120,7 +125,8 @@ fn add_of_arc<'a>(
     arcs: &'a [Arc],
     arc: &'a Arc,
 ) -> Result<(), AllocError>
-    ensures { OnOk result (map (λ other. other.now) found.new.items ≡ added_all (map (λ other. other.now) found.old.items) (arc_conditions arcs.now arc.now)) }
+    ensures { OnOk result (map (λ other. other.now) found.new.items ≡ added_all (map (λ other. other.now) found.old.items)
+        (arc_conditions arcs.now arc.now)) }
 {
     match &arc.condition {
         Some(condition) => add(found, condition),
@@ -134,7 +140,8 @@ fn add_beside<'a>(
     arcs: &'a [Arc],
     arc: &Arc,
 ) -> Result<(), AllocError>
-    ensures { OnOk result (map (λ other. other.now) found.new.items ≡ added_all (map (λ other. other.now) found.old.items) (conditions_beside arcs.now arc.now)) }
+    ensures { OnOk result (map (λ other. other.now) found.new.items ≡ added_all (map (λ other. other.now) found.old.items)
+        (conditions_beside arcs.now arc.now)) }
 {
     for other in arcs {
         if arc.same_pins(other) {

@@ -4,7 +4,8 @@ ghost use Rattle.cell_machine.specs.CellData.{data_of};
 ghost use Rattle.cell_machine.specs.CellTrace.{support_at, step_at};
 ghost use Rattle.udp_tables.specs.Sequential.{compact_rows};
 ghost use Rattle.udp_tables.specs.Conditions.{conditions_of, IsSmall};
-ghost use Rattle.udp_tables.specs.CellPrimitives.{has_notifier, group_inputs, group_primitive, has_sources, output_number, output_primitive, condition_udp, condition_primitive, part_primitive, IsPart};
+ghost use Rattle.udp_tables.specs.CellPrimitives.{has_notifier, group_inputs, group_primitive, has_sources, output_number};
+ghost use Rattle.udp_tables.specs.CellPrimitives.{output_primitive, condition_udp, condition_primitive, part_primitive, IsPart};
 
 use crate::cell_conditions::{ModelSource, conditions};
 use crate::combinational_rows::{condition_rows, output_rows};
@@ -35,7 +36,8 @@ pub fn sequential_udp(alloc: Global, cell: &Cell, group: usize) -> Result<Udp, A
 /// The rows of the primitive of a group: those that decide, or one that gives x where there is none.
 fn sequential_rows(alloc: Global, cell: &Cell, group: usize) -> Result<Items<UdpRow>, AllocError>
     requires { group < length cell.now.groups }
-    ensures { IfOk result (λ rows. rows ≡ compact_rows (has_notifier (data_of cell.now)) (length (support_at (data_of cell.now) group)) (step_at (data_of cell.now) group)) }
+    ensures { IfOk result (λ rows. rows ≡ compact_rows (has_notifier (data_of cell.now))
+        (length (support_at (data_of cell.now) group)) (step_at (data_of cell.now) group)) }
 {
     let maker = SequentialUdpRows {
         notifier: !cell.checks.is_empty(),

@@ -9,7 +9,8 @@ use trit_cubes::Trit;
 /// The value of an output at a point of its support.
 pub(crate) fn output_value(cell: &Cell, output: usize, point: &[bool]) -> Trit
     requires { output < length cell.now.outputs }
-    ensures { length point.now ≡ length (sources_at (data_of cell.now) output) → result ≡ output_value_at (data_of cell.now) output point.now }
+    ensures { length point.now ≡ length (sources_at (data_of cell.now) output)
+        → result ≡ output_value_at (data_of cell.now) output point.now }
 {
     if point.len() != cell.output_pin(output).support.len() {
         return Trit::Unknown;

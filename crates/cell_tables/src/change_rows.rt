@@ -25,7 +25,9 @@ pub(crate) fn add_rows_of_input<M: StepRows>(
     place: usize,
 ) -> Result<(), AllocError>
     requires { place < length (support_at (data_of steps.now.cell.now) steps.now.group) }
-    ensures { OnOk result (rows.new ≡ rows.old ++ compact_edge_rows (M.edge_row maker) (M.keep_row maker) (step_at (data_of steps.now.cell.now) steps.now.group) (length (support_at (data_of steps.now.cell.now) steps.now.group)) place) }
+    ensures { OnOk result (rows.new ≡ rows.old
+        ++ compact_edge_rows (M.edge_row maker) (M.keep_row maker) (step_at (data_of steps.now.cell.now) steps.now.group)
+        (length (support_at (data_of steps.now.cell.now) steps.now.group)) place) }
 {
     let values = change_values(alloc, steps, place)?;
     let ones = edge_cubes(alloc, steps, place, &values, Trit::One)?;
@@ -42,7 +44,8 @@ fn change_values(
     place: usize,
 ) -> Result<Vec<Trit>, AllocError>
     requires { place < length (support_at (data_of steps.now.cell.now) steps.now.group) }
-    ensures { IfOk result (λ values. AreValuesOf (suc (suc (length (support_at (data_of steps.now.cell.now) steps.now.group)))) (edge_value (step_at (data_of steps.now.cell.now) steps.now.group) place) values.items) }
+    ensures { IfOk result (λ values. AreValuesOf (suc (suc (length (support_at (data_of steps.now.cell.now) steps.now.group))))
+        (edge_value (step_at (data_of steps.now.cell.now) steps.now.group) place) values.items) }
 {
     let pins = steps.cell.group(steps.group).support.len();
     let values = values_of(
@@ -63,8 +66,10 @@ fn edge_cubes(
     value: Trit,
 ) -> Result<Vec<Cube>, AllocError>
     requires place { place < length (support_at (data_of steps.now.cell.now) steps.now.group) }
-    requires values { AreValuesOf (suc (suc (length (support_at (data_of steps.now.cell.now) steps.now.group)))) (edge_value (step_at (data_of steps.now.cell.now) steps.now.group) place) values.now }
-    ensures list { IfOk result (λ cubes. cubes.items ≡ edge_cubes (step_at (data_of steps.now.cell.now) steps.now.group) (length (support_at (data_of steps.now.cell.now) steps.now.group)) place value) }
+    requires values { AreValuesOf (suc (suc (length (support_at (data_of steps.now.cell.now) steps.now.group))))
+        (edge_value (step_at (data_of steps.now.cell.now) steps.now.group) place) values.now }
+    ensures list { IfOk result (λ cubes. cubes.items ≡ edge_cubes (step_at (data_of steps.now.cell.now) steps.now.group)
+        (length (support_at (data_of steps.now.cell.now) steps.now.group)) place value) }
     ensures wide { IfOk result (λ cubes. All (λ cube. place + 3 ≤ length cube) cubes.items) }
 {
     let pins = steps.cell.group(steps.group).support.len();
@@ -107,7 +112,8 @@ fn add_rows_of_ones<M: StepRows>(
 ) -> Result<(), AllocError>
     requires ones { All (λ cube. place + 3 ≤ length cube) ones.now }
     requires zeros { All (λ cube. place + 3 ≤ length cube) zeros.now }
-    ensures { OnOk result (rows.new ≡ rows.old ++ map (kept_or_one (M.edge_row maker place) (M.keep_row maker place) zeros.now) ones.now) }
+    ensures { OnOk result (rows.new ≡ rows.old
+        ++ map (kept_or_one (M.edge_row maker place) (M.keep_row maker place) zeros.now) ones.now) }
 {
     let index = CubeIndex::of(alloc, zeros)?;
     for cube in ones {
@@ -125,7 +131,8 @@ fn kept_or_one<M: StepRows>(
     cube: &Cube,
 ) -> Result<M::Row, AllocError>
     requires { place + 3 ≤ length cube.now }
-    ensures { (cubes : List (List Trit)) → AreNumbers cubes zeros.now.numbers.items → IfOk result (λ row. row ≡ kept_or_one (M.edge_row maker place) (M.keep_row maker place) cubes cube.now) }
+    ensures { (cubes : List (List Trit)) → AreNumbers cubes zeros.now.numbers.items
+        → IfOk result (λ row. row ≡ kept_or_one (M.edge_row maker place) (M.keep_row maker place) cubes cube.now) }
 {
     if zeros.pairs(Trit::One, Trit::Zero, cube) {
         maker.keep_row(alloc, place, cube)
@@ -145,7 +152,8 @@ fn add_rows_of_zeros<M: StepRows>(
 ) -> Result<(), AllocError>
     requires zeros { All (λ cube. place + 3 ≤ length cube) zeros.now }
     requires ones { All (λ cube. place + 3 ≤ length cube) ones.now }
-    ensures { OnOk result (rows.new ≡ rows.old ++ map (M.edge_row maker place trit.Zero) (filter (λ c. not (is_paired trit.Zero trit.One ones.now c)) zeros.now)) }
+    ensures { OnOk result (rows.new ≡ rows.old
+        ++ map (M.edge_row maker place trit.Zero) (filter (λ c. not (is_paired trit.Zero trit.One ones.now c)) zeros.now)) }
 {
     let index = CubeIndex::of(alloc, ones)?;
     for cube in zeros {

@@ -27,7 +27,8 @@ pub fn part_rows<M: LevelRows>(
 ) -> Result<Items<M::Row>, AllocError>
     requires part { IsPart (data_of from.now.cell.now) part }
     requires conditions { map (λ f. f.now) from.now.conditions.now ≡ conditions_of (data_of from.now.cell.now) }
-    ensures { IfOk result (λ rows. rows ≡ rows_by (M.level_row maker) (part_places (data_of from.now.cell.now) part) (part_value (data_of from.now.cell.now) part)) }
+    ensures { IfOk result (λ rows. rows ≡ rows_by (M.level_row maker) (part_places (data_of from.now.cell.now) part)
+        (part_value (data_of from.now.cell.now) part)) }
 {
     match part {
         Part::Output(output) => output_rows(from.alloc, from.cell, output, maker),
@@ -43,7 +44,10 @@ fn rows_of_condition<M: LevelRows>(
 ) -> Result<Items<M::Row>, AllocError>
     requires number { number < length (conditions_of (data_of from.now.cell.now)) }
     requires conditions { map (λ f. f.now) from.now.conditions.now ≡ conditions_of (data_of from.now.cell.now) }
-    ensures { IfOk result (λ rows. rows ≡ rows_by (M.level_row maker) (length (support_of (condition_tree (data_of from.now.cell.now) number))) (condition_at (support_of (condition_tree (data_of from.now.cell.now) number)) (condition_tree (data_of from.now.cell.now) number))) }
+    ensures { IfOk result (λ rows. rows ≡ rows_by (M.level_row maker)
+        (length (support_of (condition_tree (data_of from.now.cell.now) number)))
+        (condition_at (support_of (condition_tree (data_of from.now.cell.now) number))
+        (condition_tree (data_of from.now.cell.now) number))) }
 {
     let ModelSource {
         alloc,
@@ -65,7 +69,8 @@ pub(crate) fn condition_rows<M: LevelRows>(
 ) -> Result<Items<M::Row>, AllocError>
     requires small { IsSmall condition.now }
     requires names { names.now ≡ support_of condition.now }
-    ensures { IfOk result (λ rows. rows ≡ rows_by (M.level_row maker) (length (support_of condition.now)) (condition_at (support_of condition.now) condition.now)) }
+    ensures { IfOk result (λ rows. rows ≡ rows_by (M.level_row maker) (length (support_of condition.now))
+        (condition_at (support_of condition.now) condition.now)) }
 {
     let values = condition.table(alloc, names)?;
     let rows = table_rows(alloc, names.len(), &values, maker)?;
@@ -80,7 +85,8 @@ pub(crate) fn output_rows<M: LevelRows>(
     maker: M,
 ) -> Result<Items<M::Row>, AllocError>
     requires { output < length cell.now.outputs }
-    ensures { IfOk result (λ rows. rows ≡ rows_by (M.level_row maker) (length (sources_at (data_of cell.now) output)) (output_value_at (data_of cell.now) output)) }
+    ensures { IfOk result (λ rows. rows ≡ rows_by (M.level_row maker) (length (sources_at (data_of cell.now) output))
+        (output_value_at (data_of cell.now) output)) }
 {
     let places = cell.output_pin(output).support.len();
     let values = output_values(alloc, cell, output)?;
@@ -93,7 +99,8 @@ pub(crate) fn output_rows<M: LevelRows>(
 /// The values of an output at all points of its support.
 fn output_values(alloc: Global, cell: &Cell, output: usize) -> Result<Vec<Trit>, AllocError>
     requires { output < length cell.now.outputs }
-    ensures { IfOk result (λ values. AreValuesOf (length (sources_at (data_of cell.now) output)) (output_value_at (data_of cell.now) output) values.items) }
+    ensures { IfOk result (λ values. AreValuesOf (length (sources_at (data_of cell.now) output))
+        (output_value_at (data_of cell.now) output) values.items) }
 {
     let places = cell.output_pin(output).support.len();
     let values = values_of(

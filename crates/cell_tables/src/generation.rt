@@ -64,7 +64,8 @@ pub(crate) fn table_rows<M: LevelRows>(
 ) -> Result<Items<M::Row>, AllocError>
     requires few { places ≤ 10 }
     requires entries { length values.now ≡ 2 ^ places }
-    ensures { IfOk result (λ rows. rows ≡ or_row (M.level_row maker trit.Unknown (replicate places trit.Unknown)) (value_rows (M.level_row maker) (prime_list places (has values.now)) (prime_list places (has (map not values.now))))) }
+    ensures { IfOk result (λ rows. rows ≡ or_row (M.level_row maker trit.Unknown (replicate places trit.Unknown))
+        (value_rows (M.level_row maker) (prime_list places (has values.now)) (prime_list places (has (map not values.now))))) }
 {
     let inverses = inverted(alloc, values)?;
     let ones = primes(alloc, places, values)?;

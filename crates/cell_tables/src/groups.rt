@@ -17,9 +17,9 @@ use step_tables::StepTable;
 use trit_cubes::{Cube, Trit, primes_where, values_of};
 use udp_tables::{LevelRows, StepRows};
 
-/// The rows of a group that decide its next state, by what makes a row: the points that force its state, what a check that reports
-/// does, and then the changes of each input, of which two that hold the state are one. `AllocError` comes only where memory is
-/// wanting.
+/// The rows of a group that decide its next state, by what makes a row: the points that force its state, what a check that
+/// reports does, and then the changes of each input, of which two that hold the state are one. `AllocError` comes only where
+/// memory is wanting.
 pub fn group_rows<M: StepRows>(
     alloc: Global,
     cell: &Cell,
@@ -27,7 +27,8 @@ pub fn group_rows<M: StepRows>(
     maker: M,
 ) -> Result<Items<M::Row>, AllocError>
     requires { group < length cell.now.groups }
-    ensures { IfOk result (λ rows. rows ≡ decisive_rows (M.level_row maker) (M.report_rows maker) (M.edge_row maker) (M.keep_row maker) (length (support_at (data_of cell.now) group)) (step_at (data_of cell.now) group)) }
+    ensures { IfOk result (λ rows. rows ≡ decisive_rows (M.level_row maker) (M.report_rows maker) (M.edge_row maker)
+        (M.keep_row maker) (length (support_at (data_of cell.now) group)) (step_at (data_of cell.now) group)) }
 {
     let steps = StepTable::of(alloc, cell, group)?;
     let rows = rows_of_steps(alloc, &steps, maker)?;
@@ -40,7 +41,9 @@ fn rows_of_steps<M: StepRows>(
     steps: &StepTable<'_>,
     maker: M,
 ) -> Result<Items<M::Row>, AllocError>
-    ensures { IfOk result (λ rows. rows ≡ decisive_rows (M.level_row maker) (M.report_rows maker) (M.edge_row maker) (M.keep_row maker) (length (support_at (data_of steps.now.cell.now) steps.now.group)) (step_at (data_of steps.now.cell.now) steps.now.group)) }
+    ensures { IfOk result (λ rows. rows ≡ decisive_rows (M.level_row maker) (M.report_rows maker) (M.edge_row maker)
+        (M.keep_row maker) (length (support_at (data_of steps.now.cell.now) steps.now.group))
+        (step_at (data_of steps.now.cell.now) steps.now.group)) }
 {
     let mut rows = Items::new(alloc);
     add_forced_rows(alloc, &mut rows, steps, maker)?;
@@ -60,7 +63,9 @@ fn add_forced_rows<M: LevelRows>(
     steps: &StepTable<'_>,
     maker: M,
 ) -> Result<(), AllocError>
-    ensures { OnOk result (rows.new ≡ rows.old ++ forced_rows (M.level_row maker) (length (support_at (data_of steps.now.cell.now) steps.now.group)) (step_at (data_of steps.now.cell.now) steps.now.group)) }
+    ensures { OnOk result (rows.new ≡ rows.old
+        ++ forced_rows (M.level_row maker) (length (support_at (data_of steps.now.cell.now) steps.now.group))
+        (step_at (data_of steps.now.cell.now) steps.now.group)) }
 {
     let values = forced_values(alloc, steps)?;
     let ones = forced_primes(alloc, steps, &values, Trit::One)?;
@@ -72,7 +77,8 @@ fn add_forced_rows<M: LevelRows>(
 
 /// The values to which the points force the state of a group.
 fn forced_values(alloc: Global, steps: &StepTable<'_>) -> Result<Vec<Trit>, AllocError>
-    ensures { IfOk result (λ values. AreValuesOf (length (support_at (data_of steps.now.cell.now) steps.now.group)) (forced_at (step_at (data_of steps.now.cell.now) steps.now.group)) values.items) }
+    ensures { IfOk result (λ values. AreValuesOf (length (support_at (data_of steps.now.cell.now) steps.now.group))
+        (forced_at (step_at (data_of steps.now.cell.now) steps.now.group)) values.items) }
 {
     let pins = steps.cell.group(steps.group).support.len();
     let values = values_of(alloc, pins, &|point: &[bool]| { forced_to(steps, point) })?;
@@ -86,8 +92,10 @@ fn forced_primes(
     values: &[Trit],
     value: Trit,
 ) -> Result<Vec<Cube>, AllocError>
-    requires values { AreValuesOf (length (support_at (data_of steps.now.cell.now) steps.now.group)) (forced_at (step_at (data_of steps.now.cell.now) steps.now.group)) values.now }
-    ensures { IfOk result (λ cubes. cubes.items ≡ prime_list (length (support_at (data_of steps.now.cell.now) steps.now.group)) (gives value (forced_at (step_at (data_of steps.now.cell.now) steps.now.group)))) }
+    requires values { AreValuesOf (length (support_at (data_of steps.now.cell.now) steps.now.group))
+        (forced_at (step_at (data_of steps.now.cell.now) steps.now.group)) values.now }
+    ensures { IfOk result (λ cubes. cubes.items ≡ prime_list (length (support_at (data_of steps.now.cell.now) steps.now.group))
+        (gives value (forced_at (step_at (data_of steps.now.cell.now) steps.now.group)))) }
 {
     let pins = steps.cell.group(steps.group).support.len();
     let cubes = primes_where(alloc, pins, values, value)?;
@@ -101,7 +109,10 @@ fn add_rows_of_changes<M: StepRows>(
     steps: &StepTable<'_>,
     maker: M,
 ) -> Result<(), AllocError>
-    ensures { OnOk result (rows.new ≡ rows.old ++ each_below (compact_edge_rows (M.edge_row maker) (M.keep_row maker) (step_at (data_of steps.now.cell.now) steps.now.group) (length (support_at (data_of steps.now.cell.now) steps.now.group))) (length (support_at (data_of steps.now.cell.now) steps.now.group))) }
+    ensures { OnOk result (rows.new ≡ rows.old
+        ++ each_below (compact_edge_rows (M.edge_row maker) (M.keep_row maker)
+        (step_at (data_of steps.now.cell.now) steps.now.group) (length (support_at (data_of steps.now.cell.now) steps.now.group)))
+        (length (support_at (data_of steps.now.cell.now) steps.now.group))) }
 {
     for place in 0..steps.cell.group(steps.group).support.len() {
         add_rows_of_input(alloc, rows, steps, maker, place)?;

@@ -1,7 +1,8 @@
 //! Theorems on the definitions, for the proofs of other crates. The functions do nothing.
 
 ghost use Rattle.udp_tables.specs.Generated.{RowsGiveResolution, PrimitiveIsCombinational};
-ghost use Rattle.udp_tables.specs.Laws.{RowsAreMachine, NotifierForces, FormsAgree, FormsAgreeAtNotifier, PartsResolve, GroupsAreMachines, GroupsAreForced, GroupsAreSequential, ConditionsAreNumbered};
+ghost use Rattle.udp_tables.specs.Laws.{RowsAreMachine, NotifierForces, FormsAgree, FormsAgreeAtNotifier, PartsResolve};
+ghost use Rattle.udp_tables.specs.Laws.{GroupsAreMachines, GroupsAreForced, GroupsAreSequential, ConditionsAreNumbered};
 
 /// The generated rows of a function give its resolution, for every list of trits.
 pub fn rows_give_resolution()

@@ -17,7 +17,8 @@ pub(crate) fn cube_rows<M: LevelRows>(
     maker: M,
 ) -> Result<Items<M::Row>, AllocError>
     requires few { places ≤ 10 }
-    ensures { IfOk result (λ rows. rows ≡ or_row (M.level_row maker trit.Unknown (replicate places trit.Unknown)) (value_rows (M.level_row maker) ones.now zeros.now)) }
+    ensures { IfOk result (λ rows. rows ≡ or_row (M.level_row maker trit.Unknown (replicate places trit.Unknown))
+        (value_rows (M.level_row maker) ones.now zeros.now)) }
 {
     let mut rows = Items::new(alloc);
     add_level_rows(alloc, &mut rows, maker, Trit::One, ones)?;

@@ -87,7 +87,8 @@ impl Bits {
 /// each of its pins, in order; for any other list the answer says nothing. It takes no memory.
 pub fn forced_at(cell: &Cell, group: usize, point: &[bool]) -> Trit
     requires { group < length cell.now.groups }
-    ensures { length point.now ≡ length (support_at (data_of cell.now) group) → result ≡ forced_at (step_at (data_of cell.now) group) point.now }
+    ensures { length point.now ≡ length (support_at (data_of cell.now) group)
+        → result ≡ forced_at (step_at (data_of cell.now) group) point.now }
 {
     let pins = cell.group(group).support.len();
     if point.len() != pins {
@@ -112,7 +113,8 @@ fn forced_value(cell: &Cell, group: usize, point: &[bool]) -> Trit
 
 /// The value to which each change to this point and no change force the state of a group, by its steps.
 pub(crate) fn forced_to(steps: &StepTable<'_>, point: &[bool]) -> Trit
-    ensures { length point.now ≡ length (support_at (data_of steps.now.cell.now) steps.now.group) → result ≡ forced_at (step_at (data_of steps.now.cell.now) steps.now.group) point.now }
+    ensures { length point.now ≡ length (support_at (data_of steps.now.cell.now) steps.now.group)
+        → result ≡ forced_at (step_at (data_of steps.now.cell.now) steps.now.group) point.now }
 {
     let pins = steps.cell.group(steps.group).support.len();
     if point.len() != pins {
@@ -125,7 +127,8 @@ pub(crate) fn forced_to(steps: &StepTable<'_>, point: &[bool]) -> Trit
 /// other inputs and the state.
 pub(crate) fn value_at(steps: &StepTable<'_>, place: usize, point: &[bool]) -> Trit
     requires { place < length (support_at (data_of steps.now.cell.now) steps.now.group) }
-    ensures { length point.now ≡ suc (suc (length (support_at (data_of steps.now.cell.now) steps.now.group))) → result ≡ edge_value (step_at (data_of steps.now.cell.now) steps.now.group) place point.now }
+    ensures { length point.now ≡ suc (suc (length (support_at (data_of steps.now.cell.now) steps.now.group)))
+        → result ≡ edge_value (step_at (data_of steps.now.cell.now) steps.now.group) place point.now }
 {
     let pins = steps.cell.group(steps.group).support.len();
     if point.len() != pins + 2 {

@@ -1,5 +1,6 @@
 -- The checks and the arcs of a cell that nothing refuses keep the rules of cells.
-use Rattle.std.proofs.Common.{◌≡◌, ℕ, zero, suc, ◌+◌, ◌≤◌, Bool, true, List, [], ◌∷◌, ◌++◌, length, map, refl, sym, ◌∙◌, ap, arith, IsTrue, Option, Some, None, nat_eq, nat_le, length-append, Ok, Err}
+use Rattle.std.proofs.Common.{◌≡◌, ℕ, zero, suc, ◌+◌, ◌≤◌, Bool, true, List, [], ◌∷◌, ◌++◌, length, map, refl, sym, ◌∙◌, ap}
+use Rattle.std.proofs.Common.{arith, IsTrue, Option, Some, None, nat_eq, nat_le, length-append, Ok, Err}
 use Rattle.std.specs.Prelude.{flat_map, slice_get, unwrap_or}
 use Rattle.std.specs.Option.{option_map_or}
 use Rattle.std.specs.List.{list_all}
@@ -82,7 +83,8 @@ all_kept made keeps kept subject pin (owner ∷ owners) narrow =
 -- there are as many of the one as of the other
 all_counts :
     {A B : Type 0} (one : Answer → List A) (other : Answer → List B)
-    → ((subject : Subject) (owner : Group) (answer : Answer) → reading_answer subject owner ≡ answer → length (one answer) ≡ length (other answer))
+    → ((subject : Subject) (owner : Group) (answer : Answer) → reading_answer subject owner ≡ answer
+    → length (one answer) ≡ length (other answer))
     → (subject : Subject) (pin : ℕ) (owners : List Group)
     → length (flat_map one (answers_from subject pin owners)) ≡ length (flat_map other (answers_from subject pin owners))
 all_counts one other counts subject pin [] = refl
@@ -90,14 +92,16 @@ all_counts one other counts subject pin (owner ∷ owners) =
     let answer : Answer = reading_answer (subject_at subject pin) owner in
     let later : List Answer = answers_from subject (pin + 1) owners in
     let here : length (one answer) ≡ length (other answer) = counts (subject_at subject pin) owner answer refl in
-    let there : length (flat_map one later) ≡ length (flat_map other later) = all_counts one other counts subject (pin + 1) owners in
+    let there : length (flat_map one later) ≡ length (flat_map other later) = all_counts one other counts subject (pin + 1) owners
+    in
     length-append (one answer) (flat_map one later)
     ∙ (ap (λ n. n + length (flat_map one later)) here
     ∙ (ap (λ n. length (other answer) + n) there ∙ sym (length-append (other answer) (flat_map other later))))
 
 pub check_counts :
     (subject : Subject) (pin : ℕ) (owners : List Group)
-    → length (flat_map check_at_in (answers_from subject pin owners)) ≡ length (flat_map checks_in (answers_from subject pin owners))
+    → length (flat_map check_at_in (answers_from subject pin owners)) ≡ length
+    (flat_map checks_in (answers_from subject pin owners))
 check_counts = all_counts check_at_in checks_in check_count
 
 pub arc_counts :
@@ -136,8 +140,10 @@ all_end_from subject pin [] = refl
 all_end_from subject pin (owner ∷ owners) =
     let answer : Answer = reading_answer (subject_at subject pin) owner in
     let later : List Answer = answers_from subject (pin + 1) owners in
-    let here : IsTrue (list_all (ends_from pin) (arcs_in answer)) = here_ends pin (arcs_in answer) (ends_here (subject_at subject pin) owner answer refl) in
-    let there : IsTrue (list_all (ends_from pin) (flat_map arcs_in later)) = later_ends pin (flat_map arcs_in later) (all_end_from subject (pin + 1) owners) in
+    let here : IsTrue (list_all (ends_from pin) (arcs_in answer)) =
+    here_ends pin (arcs_in answer) (ends_here (subject_at subject pin) owner answer refl) in
+    let there : IsTrue (list_all (ends_from pin) (flat_map arcs_in later)) =
+    later_ends pin (flat_map arcs_in later) (all_end_from subject (pin + 1) owners) in
     rw (list_all-append (ends_from pin) (arcs_in answer) (flat_map arcs_in later))
     (and_from (list_all (ends_from pin) (arcs_in answer)) (list_all (ends_from pin) (flat_map arcs_in later)) here there)
 
@@ -152,19 +158,22 @@ order_joined pin [] later here there ordered = ordered
 order_joined pin (arc ∷ []) [] here there ordered = refl
 order_joined pin (arc ∷ []) (other ∷ later) here there ordered =
     let same : arc.to ≡ pin = eqb-true arc.to pin (and_parts (nat_eq arc.to pin) true here).0 in
-    let bound : pin ≤ other.to = leb-true pin other.to (and_parts (nat_le pin other.to) (list_all (ends_from pin) later) there).0 in
+    let bound : pin ≤ other.to = leb-true pin other.to (and_parts (nat_le pin other.to) (list_all (ends_from pin) later) there).0
+    in
     let step : arc.to ≤ other.to = omega arith in
     and_from (nat_le arc.to other.to) (is_in_order (ends (other ∷ later))) (le-leb arc.to other.to step) ordered
 order_joined pin (arc ∷ other ∷ first) later here there ordered =
     let parts = and_parts (nat_eq arc.to pin) (list_all (ends_at pin) (other ∷ first)) here in
     let same : arc.to ≡ pin = eqb-true arc.to pin parts.0 in
-    let next : other.to ≡ pin = eqb-true other.to pin (and_parts (nat_eq other.to pin) (list_all (ends_at pin) first) parts.1).0 in
+    let next : other.to ≡ pin = eqb-true other.to pin (and_parts (nat_eq other.to pin) (list_all (ends_at pin) first) parts.1).0
+    in
     let step : arc.to ≤ other.to = omega arith in
     and_from (nat_le arc.to other.to) (is_in_order (ends (other ∷ (first ++ later)))) (le-leb arc.to other.to step)
     (order_joined pin (other ∷ first) later parts.1 there ordered)
 
 arcs_in_order :
-    (subject : Subject) (pin : ℕ) (owners : List Group) → IsTrue (is_in_order (ends (flat_map arcs_in (answers_from subject pin owners))))
+    (subject : Subject) (pin : ℕ) (owners : List Group)
+    → IsTrue (is_in_order (ends (flat_map arcs_in (answers_from subject pin owners))))
 arcs_in_order subject pin [] = refl
 arcs_in_order subject pin (owner ∷ owners) =
     let answer : Answer = reading_answer (subject_at subject pin) owner in
@@ -189,7 +198,8 @@ end_there pin [] j other h at same = absurd cc
 end_there pin (arc ∷ arcs) zero other h at same =
     let is : arc ≡ other = held arc other at in
     let here : arc.to ≡ pin = ap (λ (a : Arc). a.to) is ∙ same in
-    let bound : pin + 1 ≤ arc.to = leb-true (pin + 1) arc.to (and_parts (nat_le (pin + 1) arc.to) (list_all (ends_from (pin + 1)) arcs) h).0 in
+    let bound : pin + 1 ≤ arc.to = leb-true (pin + 1) arc.to
+    (and_parts (nat_le (pin + 1) arc.to) (list_all (ends_from (pin + 1)) arcs) h).0 in
     absurd (omega arith)
 end_there pin (arc ∷ arcs) (suc j) other h at same =
     end_there pin arcs j other (and_parts (nat_le (pin + 1) arc.to) (list_all (ends_from (pin + 1)) arcs) h).1 at same
@@ -197,8 +207,10 @@ end_there pin (arc ∷ arcs) (suc j) other h at same =
 apart_from_joined :
     (pin : ℕ) (arc : Arc) (first later : List Arc)
     → arc.to ≡ pin → IsApartFrom arc first → IsTrue (list_all (ends_from (pin + 1)) later) → IsApartFrom arc (first ++ later)
-apart_from_joined pin arc [] later here apart there j other at from to condition = end_there pin later j other there at (sym to ∙ here)
-apart_from_joined pin arc (x ∷ first) later here apart there zero other at from to condition = apart zero other at from to condition
+apart_from_joined pin arc [] later here apart there j other at from to condition =
+    end_there pin later j other there at (sym to ∙ here)
+apart_from_joined pin arc (x ∷ first) later here apart there zero other at from to condition =
+    apart zero other at from to condition
 apart_from_joined pin arc (x ∷ first) later here apart there (suc j) other at from to condition =
     apart_from_joined pin arc first later here (λ i o. apart (suc i) o) there j other at from to condition
 
@@ -208,7 +220,8 @@ apart_joined :
     → AreApart (first ++ later)
 apart_joined pin [] later here apart there others i j arc other before at_i at_j from to condition =
     others i j arc other before at_i at_j from to condition
-apart_joined pin (x ∷ first) later here apart there others i zero arc other before at_i at_j from to condition = absurd (omega arith)
+apart_joined pin (x ∷ first) later here apart there others i zero arc other before at_i at_j from to condition =
+    absurd (omega arith)
 apart_joined pin (x ∷ first) later here apart there others zero (suc j) arc other before at_i at_j from to condition =
     let is : x ≡ arc = held x arc at_i in
     let same : x.to ≡ pin = eqb-true x.to pin (and_parts (nat_eq x.to pin) (list_all (ends_at pin) first) here).0 in
@@ -217,7 +230,8 @@ apart_joined pin (x ∷ first) later here apart there others zero (suc j) arc ot
     (ap (λ (a : Arc). a.to) is ∙ to) (ap (λ (a : Arc). a.condition) is ∙ condition)
 apart_joined pin (x ∷ first) later here apart there others (suc i) (suc j) arc other before at_i at_j from to condition =
     let rest : AreApart first = λ k l a o less. apart (suc k) (suc l) a o (omega arith) in
-    apart_joined pin first later (and_parts (nat_eq x.to pin) (list_all (ends_at pin) first) here).1 rest there others i j arc other
+    apart_joined pin first later (and_parts (nat_eq x.to pin) (list_all (ends_at pin) first) here).1 rest there others i j arc
+    other
     (omega arith) at_i at_j from to condition
 
 all_apart : (subject : Subject) (pin : ℕ) (owners : List Group) → AreApart (flat_map arcs_in (answers_from subject pin owners))
@@ -226,7 +240,8 @@ all_apart subject pin (owner ∷ owners) =
     let answer : Answer = reading_answer (subject_at subject pin) owner in
     let later : List Answer = answers_from subject (pin + 1) owners in
     apart_joined pin (arcs_in answer) (flat_map arcs_in later) (ends_here (subject_at subject pin) owner answer refl)
-    (apart_here (subject_at subject pin) owner answer refl) (all_end_from subject (pin + 1) owners) (all_apart subject (pin + 1) owners)
+    (apart_here (subject_at subject pin) owner answer refl) (all_end_from subject (pin + 1) owners)
+    (all_apart subject (pin + 1) owners)
 
 -- The rules of checks and arcs.
 
@@ -241,14 +256,16 @@ few_made at made n answers count few =
     le-leb (length (flat_map made answers)) n less
 
 pub checks_rules : (subject : Subject) (owners : List Group)
-    → first_past 256 (flat_map check_at_in (answers_from subject 0 owners)) ≡ [] → flat_map wide_in (answers_from subject 0 owners) ≡ []
+    → first_past 256 (flat_map check_at_in (answers_from subject 0 owners)) ≡ []
+    → flat_map wide_in (answers_from subject 0 owners) ≡ []
     → IsTrue (are_checks subject.pins (flat_map checks_in (answers_from subject 0 owners)))
 checks_rules subject owners few narrow =
     and_from _ _ (few_made check_at_in checks_in 256 (answers_from subject 0 owners) (check_counts subject 0 owners) few)
     (all_kept checks_in is_check checks_kept subject 0 owners narrow)
 
 pub arcs_rules : (subject : Subject) (owners : List Group)
-    → first_past 1024 (flat_map arc_at_in (answers_from subject 0 owners)) ≡ [] → flat_map wide_in (answers_from subject 0 owners) ≡ []
+    → first_past 1024 (flat_map arc_at_in (answers_from subject 0 owners)) ≡ []
+    → flat_map wide_in (answers_from subject 0 owners) ≡ []
     → IsTrue (are_arcs subject.pins (flat_map arcs_in (answers_from subject 0 owners)))
 arcs_rules subject owners few narrow =
     and_from _ _ (few_made arc_at_in arcs_in 1024 (answers_from subject 0 owners) (arc_counts subject 0 owners) few)

@@ -7,7 +7,8 @@ use Rattle.timing_arcs.specs.declared.timing_texts.TimingTexts.{TimingTexts}
 use Rattle.timing_arcs.specs.Timing.{reading_answer, held_answer}
 use Rattle.timing_arcs.specs.TimingTexts.{AreTexts}
 use Rattle.cell_attributes.specs.Limits.{first_past}
-use Rattle.cell_timings.specs.PinTimings.{Answer, subject_at, answers_from, malformed_timing, unknown_timing, own_timing, number_timing, checks_in, arcs_in, check_at_in, arc_at_in, wide_in, left_out_from}
+use Rattle.cell_timings.specs.PinTimings.{Answer, subject_at, answers_from, malformed_timing, unknown_timing, own_timing}
+use Rattle.cell_timings.specs.PinTimings.{number_timing, checks_in, arcs_in, check_at_in, arc_at_in, wide_in, left_out_from}
 
 -- the room for the timing of a cell with so many pins: one more than the limits
 abbrev pub cell_room : ℕ → Room
@@ -47,8 +48,11 @@ pub record AreHeld (subject : Subject) (owners : List Group) (answers : List Ans
   pub own : flat_map own_timing answers ≡ flat_map own_timing (answers_from subject 0 owners)
   pub number : flat_map number_timing answers ≡ flat_map number_timing (answers_from subject 0 owners)
   pub wide : flat_map wide_in answers ≡ flat_map wide_in (answers_from subject 0 owners)
-  pub check_at : first_past 256 (flat_map check_at_in answers) ≡ first_past 256 (flat_map check_at_in (answers_from subject 0 owners))
+  pub check_at : first_past 256 (flat_map check_at_in answers) ≡ first_past 256
+      (flat_map check_at_in (answers_from subject 0 owners))
   pub arc_at : first_past 1024 (flat_map arc_at_in answers) ≡ first_past 1024 (flat_map arc_at_in (answers_from subject 0 owners))
-  pub checks : first_past 256 (flat_map check_at_in (answers_from subject 0 owners)) ≡ [] → flat_map checks_in answers ≡ flat_map checks_in (answers_from subject 0 owners)
-  pub arcs : first_past 1024 (flat_map arc_at_in (answers_from subject 0 owners)) ≡ [] → flat_map arcs_in answers ≡ flat_map arcs_in (answers_from subject 0 owners)
+  pub checks : first_past 256 (flat_map check_at_in (answers_from subject 0 owners)) ≡ []
+      → flat_map checks_in answers ≡ flat_map checks_in (answers_from subject 0 owners)
+  pub arcs : first_past 1024 (flat_map arc_at_in (answers_from subject 0 owners)) ≡ []
+      → flat_map arcs_in answers ≡ flat_map arcs_in (answers_from subject 0 owners)
   pub left_out : length owners ≤ 64 → left_out_from 0 owners answers ≡ left_out_from 0 owners (answers_from subject 0 owners)

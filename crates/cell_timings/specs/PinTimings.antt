@@ -89,7 +89,8 @@ wide_in answer = in_timing (λ (timing : PinTiming). option_map_or (λ at. at �
 -- The type of the timing group that a statement is; one without `timing_type` is combinational.
 abbrev pub type_text : Option Group → List ℕ
 type_text None = codes "combinational"
-type_text (Some group) = option_map_or (λ (a : Attribute). a.text) (attribute_of group (codes "timing_type")) (codes "combinational")
+type_text (Some group) = option_map_or (λ (a : Attribute). a.text) (attribute_of group (codes "timing_type"))
+    (codes "combinational")
 
 abbrev pub type_at : List Item → ℕ → List ℕ
 type_at items place = option_map_or (λ item. type_text (group_named (codes "timing") (out-Item item))) (slice_get items place) []

@@ -87,8 +87,10 @@ impl HeldAnswers {
         texts: &Option<TimingTexts<'_>>,
     ) -> Result<(), AllocError>
         requires { AreSharedTexts subject.old owner.now texts.now }
-        ensures answers { OnOk result (self.new.answers.items ≡ self.old.answers.items ++ next_answer self.old.room subject.old (length self.old.answers.items) owner.now ∷ []) }
-        ensures room { OnOk result (self.new.room ≡ left_room self.old.room (next_answer self.old.room subject.old (length self.old.answers.items) owner.now)) }
+        ensures answers { OnOk result (self.new.answers.items ≡ self.old.answers.items
+            ++ next_answer self.old.room subject.old (length self.old.answers.items) owner.now ∷ []) }
+        ensures room { OnOk result (self.new.room ≡ left_room self.old.room
+            (next_answer self.old.room subject.old (length self.old.answers.items) owner.now)) }
         ensures names { OnOk result (subject.new.names ≡ subject.old.names) }
         ensures pins { OnOk result (subject.new.pins ≡ subject.old.pins) }
         ensures unit { OnOk result (subject.new.unit ≡ subject.old.unit) }
@@ -107,8 +109,10 @@ impl HeldAnswers {
         subject: &mut Subject,
         owner: &Group,
     ) -> Result<(), AllocError>
-        ensures answers { OnOk result (self.new.answers.items ≡ self.old.answers.items ++ held_from self.old.room subject.old (length self.old.answers.items) (owners_in owner.now)) }
-        ensures room { OnOk result (self.new.room ≡ room_after self.old.room subject.old (length self.old.answers.items) (owners_in owner.now)) }
+        ensures answers { OnOk result (self.new.answers.items ≡ self.old.answers.items
+            ++ held_from self.old.room subject.old (length self.old.answers.items) (owners_in owner.now)) }
+        ensures room { OnOk result (self.new.room ≡ room_after self.old.room subject.old (length self.old.answers.items)
+            (owners_in owner.now)) }
         ensures names { OnOk result (subject.new.names ≡ subject.old.names) }
         ensures pins { OnOk result (subject.new.pins ≡ subject.old.pins) }
         ensures unit { OnOk result (subject.new.unit ≡ subject.old.unit) }
@@ -129,7 +133,8 @@ pub fn timing_answers(
     groups: &[&Group],
 ) -> Result<Vec<Result<PinTiming, TimingFault>>, AllocError>
     ensures pins { OnOk result (subject.new.pins ≡ subject.old.pins) }
-    ensures answers { IfOk result (λ answers. answers.items ≡ held_from (cell_room (length subject.old.pins)) subject.old 0 (flat_map owners_in (map (λ group. group.now) groups.now))) }
+    ensures answers { IfOk result (λ answers. answers.items ≡ held_from (cell_room (length subject.old.pins)) subject.old 0
+        (flat_map owners_in (map (λ group. group.now) groups.now))) }
 {
     let mut held = HeldAnswers {
         answers: Vec::new(alloc),

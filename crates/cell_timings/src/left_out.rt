@@ -1,7 +1,8 @@
 //! The timing groups that a cell leaves out.
 ghost use Rattle.std.specs.Prelude.{◌≡◌, ◌++◌, ◌<◌, OnOk, IfOk, length, map};
 ghost use Rattle.std.specs.Option.{option_copied};
-ghost use Rattle.cell_timings.specs.PinTimings.{type_text as type_text_of, type_at as type_at_of, left_out_as, left_out_in, left_out_from};
+ghost use Rattle.cell_timings.specs.PinTimings.{type_text as type_text_of, type_at as type_at_of, left_out_as, left_out_in};
+ghost use Rattle.cell_timings.specs.PinTimings.{left_out_from};
 
 use cell_machine::Shared;
 use liberty_groups::{Group, Item, inner_group, last_attribute};
@@ -58,8 +59,8 @@ fn found_before(found: &[LeftOut], back: usize) -> Option<&LeftOut> {
     }
 }
 
-/// The text of a type. Where the one that stands so many places before the end of those found so far has the same text, it is held
-/// together with that one: the pins of a group leave out as many timing groups each, with the same texts.
+/// The text of a type. Where the one that stands so many places before the end of those found so far has the same text, it is
+/// held together with that one: the pins of a group leave out as many timing groups each, with the same texts.
 pub fn shared_kind(
     alloc: Global,
     found: &[LeftOut],

@@ -1,5 +1,5 @@
-//! The timing of the pins of a cell: what reading it answers, where it is wrong, the checks and the delay arcs that it makes, and the
-//! timing groups that it leaves out.
+//! The timing of the pins of a cell: what reading it answers, where it is wrong, the checks and the delay arcs that it makes, and
+//! the timing groups that it leaves out.
 #![tactic(auto)]
 
 mod answers;

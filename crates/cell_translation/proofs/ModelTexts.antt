@@ -33,7 +33,8 @@ no_verilog_text : (cell : DrivenData) → may_float cell ≡ false → verilog_d
 unfolding verilog_drivers_text
 no_verilog_text cell e = rw e refl
 
-verilog_text : (cell : DrivenData) → may_float cell ≡ true → verilog_drivers_text cell ≡ verilog.driver_text (verilog_driver_of cell)
+verilog_text : (cell : DrivenData) → may_float cell ≡ true
+    → verilog_drivers_text cell ≡ verilog.driver_text (verilog_driver_of cell)
 unfolding verilog_drivers_text
 verilog_text cell e = rw e refl
 
@@ -63,10 +64,13 @@ no_vital_drivers s entity cell e = record {
 
 -- what is written for some drivers
 pub verilog_drivers_written : {T E : Type 0} (old new : DeskState) (cell : DrivenData) (r : Result T E) → may_float cell ≡ true
-    → Writes old new (in_verilog (verilog.driver_text (verilog_driver_of cell))) r → Writes old new (in_verilog (verilog_drivers_text cell)) r
+    → Writes old new (in_verilog (verilog.driver_text (verilog_driver_of cell))) r
+    → Writes old new (in_verilog (verilog_drivers_text cell)) r
 verilog_drivers_written old new cell r float w = subst (λ t. Writes old new (in_verilog t) r) (sym (verilog_text cell float)) w
 
-pub vital_drivers_written : {T E : Type 0} (old new : DeskState) (entity : List ℕ) (cell : DrivenData) (r : Result T E) → may_float cell ≡ true
-    → Writes old new (in_vital (vhdl.driver_text (vital_driver_of cell entity))) r → Writes old new (in_vital (vital_drivers_text entity cell)) r
+pub vital_drivers_written : {T E : Type 0} (old new : DeskState) (entity : List ℕ) (cell : DrivenData) (r : Result T E)
+    → may_float cell ≡ true
+    → Writes old new (in_vital (vhdl.driver_text (vital_driver_of cell entity))) r
+    → Writes old new (in_vital (vital_drivers_text entity cell)) r
 vital_drivers_written old new entity cell r float w =
     subst (λ t. Writes old new (in_vital t) r) (sym (vital_text_behind entity cell float)) w

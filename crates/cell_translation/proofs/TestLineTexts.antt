@@ -28,11 +28,14 @@ unfolding test_lines
 line_as cell group test found e f = ap (test_line cell.core.number) f ∙ ap (lines_on_test cell) (sym e)
 
 -- a fault within it
-pub line_stops : {S T E : Type 0} (old new : DeskState) (cell : DrivenData) (group test : Group) (found : Option Agreement) (y : Failed) (r : Result T E)
+pub line_stops : {S T E : Type 0} (old new : DeskState) (cell : DrivenData) (group test : Group) (found : Option Agreement)
+    (y : Failed) (r : Result T E)
     → test_of group ≡ Some test → found ≡ found_of_test cell test
-    → WritesText {T = S} old new Report (test_line cell.core.number found) (Err y) → IsErr r → Writes old new (in_report (test_lines cell group)) r
+    → WritesText {T = S} old new Report (test_line cell.core.number found) (Err y) → IsErr r
+    → Writes old new (in_report (test_lines cell group)) r
 line_stops {S} old new cell group test found y r e f w h =
-    report_stops old new (test_lines cell group) y r (subst (λ t. WritesText {T = S} old new Report t (Err y)) (line_as cell group test found e f) w) h
+    report_stops old new (test_lines cell group) y r
+    (subst (λ t. WritesText {T = S} old new Report t (Err y)) (line_as cell group test found e f) w) h
 
 -- all of it
 pub line_whole : {E : Type 0} (old new : DeskState) (cell : DrivenData) (group test : Group) (found : Option Agreement)

@@ -33,8 +33,8 @@ pub record ModelsAreBound (s : DeskState) : Type 0 where
 unfoldable pub accepted_lines : ℕ → List ℕ → List Pin → List LeftOut → List ℕ
 accepted_lines number name pins left_out = accepted_line number name ++ left_out_lines number pins left_out
 
--- What is found of a test cell of a cell: whether its test view, where it gives one, does what the cell does. A cell of which some
--- outputs may float is not compared.
+-- What is found of a test cell of a cell: whether its test view, where it gives one, does what the cell does. A cell of which
+-- some outputs may float is not compared.
 abbrev pub found_of_test : DrivenData → Group → Option Agreement
 found_of_test cell test = if may_float cell then None else option_map (agreement cell.core) (functional_view cell.core test)
 
@@ -55,8 +55,8 @@ verilog_drivers_text cell = if may_float cell then verilog.driver_text (verilog_
 unfoldable pub model_text : DrivenData → List ℕ
 model_text cell = module_text (module_of cell.core) ++ verilog_drivers_text cell
 
--- The name of the entity of a cell's core, where the cell's VHDL model has this name: the same, or where some of its outputs may float
--- `cell` and the cell's number, since the model is that of the drivers.
+-- The name of the entity of a cell's core, where the cell's VHDL model has this name: the same, or where some of its outputs may
+-- float `cell` and the cell's number, since the model is that of the drivers.
 abbrev pub core_entity_name : List ℕ → DrivenData → List ℕ
 core_entity_name entity cell = if may_float cell then codes "cell" ++ decimal cell.core.number else entity
 
@@ -72,8 +72,10 @@ vital_text entity cell = entity_text (entity_of cell.core (core_entity_name enti
 unfoldable pub models_written : List ℕ → DrivenData → Written
 models_written entity cell = joined (in_verilog (model_text cell)) (in_vital (vital_text entity cell))
 
--- the models of an accepted cell, whose VHDL model has this name, its lines, and behind them the line on the test cell of its group
+-- the models of an accepted cell, whose VHDL model has this name, its lines, and behind them the line on the test cell of its
+-- group
 unfoldable pub accepted_written : List ℕ → DrivenData → Group → Written
 accepted_written entity cell group =
     joined (models_written entity cell)
-    (joined (in_report (accepted_lines cell.core.number cell.name cell.core.pins cell.left_out)) (in_report (test_lines cell group)))
+    (joined (in_report (accepted_lines cell.core.number cell.name cell.core.pins cell.left_out))
+    (in_report (test_lines cell group)))

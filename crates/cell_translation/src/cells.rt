@@ -16,7 +16,8 @@ use three_state_cells::DrivenCell;
 /// Writes the report lines of an accepted cell.
 #[tactic(auto, unfolding(crate::specs::Cells::accepted_lines))]
 fn write_lines<D: Desk>(desk: &mut D, cell: &DrivenCell) -> Result<(), Failed>
-    ensures text { WritesText (D.state desk.old) (D.state desk.new) Report (accepted_lines cell.now.core.number cell.now.name cell.now.core.pins cell.now.left_out) result }
+    ensures text { WritesText (D.state desk.old) (D.state desk.new) Report
+        (accepted_lines cell.now.core.number cell.now.name cell.now.core.pins cell.now.left_out) result }
     ensures cause { HasCause (D.faults desk.old) (D.faults desk.new) result }
 {
     let number = cell.core.number;
@@ -40,7 +41,8 @@ pub fn write_accepted<D: Desk>(
     group: &Group,
 ) -> Result<(), Stop>
     requires { ModelsAreBound (D.state desk.old) }
-    ensures text { Writes (D.state desk.old) (D.state desk.new) (accepted_written entity.now (driven_data_of cell.now) group.now) result }
+    ensures text { Writes (D.state desk.old) (D.state desk.new) (accepted_written entity.now (driven_data_of cell.now) group.now)
+        result }
     ensures cause { StopsWithCause (D.faults desk.old) (D.faults desk.new) result }
 {
     write_models(alloc, desk, cell, entity)?;

@@ -12,7 +12,8 @@ ghost use Rattle.vhdl_writer.specs.Entity.{entity_text};
 ghost use Rattle.verilog_drivers.specs.DriverText as verilog;
 ghost use Rattle.vhdl_drivers.specs.DriverText as vhdl;
 ghost use Rattle.run_outcome.specs.Written.{Writes, in_verilog, in_vital};
-ghost use Rattle.cell_translation.specs.Cells.{ModelsAreBound, core_entity_name, verilog_drivers_text, model_text, vital_drivers_text, vital_text, models_written};
+ghost use Rattle.cell_translation.specs.Cells.{ModelsAreBound, core_entity_name, verilog_drivers_text, model_text};
+ghost use Rattle.cell_translation.specs.Cells.{vital_drivers_text, vital_text, models_written};
 
 use cell_machine::Cell;
 use driver_models::DriverModel;
@@ -72,7 +73,8 @@ fn write_verilog_drivers<D: Desk>(
     cell: &DrivenCell,
 ) -> Result<(), Stop>
     requires { IsTrue (is_bound (D.state desk.old) (Output VerilogText)) }
-    ensures text { Writes (D.state desk.old) (D.state desk.new) (in_verilog (verilog_drivers_text (driven_data_of cell.now))) result }
+    ensures text { Writes (D.state desk.old) (D.state desk.new) (in_verilog (verilog_drivers_text (driven_data_of cell.now)))
+        result }
     ensures cause { StopsWithCause (D.faults desk.old) (D.faults desk.new) result }
 {
     if !may_float(cell) {
@@ -110,7 +112,8 @@ fn write_entity_of<D: Desk>(
     entity: &[u8],
 ) -> Result<(), Stop>
     requires { IsTrue (is_bound (D.state desk.old) (Output VitalText)) }
-    ensures text { Writes (D.state desk.old) (D.state desk.new) (in_vital (entity_text (entity_of (data_of core.now) entity.now))) result }
+    ensures text { Writes (D.state desk.old) (D.state desk.new) (in_vital (entity_text (entity_of (data_of core.now) entity.now)))
+        result }
     ensures cause { StopsWithCause (D.faults desk.old) (D.faults desk.new) result }
 {
     let model = vital_model(alloc, core, entity)?;
@@ -125,7 +128,9 @@ fn write_core_entity<D: Desk>(
     entity: &[u8],
 ) -> Result<(), Stop>
     requires { IsTrue (is_bound (D.state desk.old) (Output VitalText)) }
-    ensures text { Writes (D.state desk.old) (D.state desk.new) (in_vital (entity_text (entity_of (data_of cell.now.core) (core_entity_name entity.now (driven_data_of cell.now))))) result }
+    ensures text { Writes (D.state desk.old) (D.state desk.new)
+        (in_vital (entity_text (entity_of (data_of cell.now.core) (core_entity_name entity.now (driven_data_of cell.now)))))
+        result }
     ensures cause { StopsWithCause (D.faults desk.old) (D.faults desk.new) result }
 {
     if may_float(cell) {
@@ -154,7 +159,8 @@ fn write_vital_drivers<D: Desk>(
     entity: &[u8],
 ) -> Result<(), Stop>
     requires { IsTrue (is_bound (D.state desk.old) (Output VitalText)) }
-    ensures text { Writes (D.state desk.old) (D.state desk.new) (in_vital (vital_drivers_text entity.now (driven_data_of cell.now))) result }
+    ensures text { Writes (D.state desk.old) (D.state desk.new)
+        (in_vital (vital_drivers_text entity.now (driven_data_of cell.now))) result }
     ensures cause { StopsWithCause (D.faults desk.old) (D.faults desk.new) result }
 {
     if !may_float(cell) {
@@ -172,7 +178,8 @@ fn write_vital<D: Desk>(
     entity: &[u8],
 ) -> Result<(), Stop>
     requires { IsTrue (is_bound (D.state desk.old) (Output VitalText)) }
-    ensures text { Writes (D.state desk.old) (D.state desk.new) (in_vital (vital_text entity.now (driven_data_of cell.now))) result }
+    ensures text { Writes (D.state desk.old) (D.state desk.new) (in_vital (vital_text entity.now (driven_data_of cell.now)))
+        result }
     ensures cause { StopsWithCause (D.faults desk.old) (D.faults desk.new) result }
 {
     write_core_entity(alloc, desk, cell, entity)?;

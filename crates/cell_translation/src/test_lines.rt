@@ -21,8 +21,8 @@ fn digit(state: bool) -> &'static [u8]
     if state { b"1" } else { b"0" }
 }
 
-/// What a line says of a test cell: whether its view does what the cell does, and else where they differ first, or that it is left
-/// out, since it gives no view.
+/// What a line says of a test cell: whether its view does what the cell does, and else where they differ first, or that it is
+/// left out, since it gives no view.
 #[derive(Drop)]
 struct Words(Option<Agreement>);
 
@@ -67,8 +67,8 @@ fn write_agreement<D: Desk>(
     write_part(desk, OutSlot::Report, &line)
 }
 
-/// Whether the view that a test cell gives does what the cell does; none where it gives no view, and none where some outputs of the
-/// cell may float, since such a cell is not compared.
+/// Whether the view that a test cell gives does what the cell does; none where it gives no view, and none where some outputs of
+/// the cell may float, since such a cell is not compared.
 fn agreement(
     alloc: Global,
     cell: &DrivenCell,
@@ -93,7 +93,8 @@ pub(crate) fn write_test<D: Desk>(
     cell: &DrivenCell,
     group: &Group,
 ) -> Result<(), Stop>
-    ensures text { Writes (D.state desk.old) (D.state desk.new) (in_report (test_lines (driven_data_of cell.now) group.now)) result }
+    ensures text { Writes (D.state desk.old) (D.state desk.new) (in_report (test_lines (driven_data_of cell.now) group.now))
+        result }
     ensures cause { StopsWithCause (D.faults desk.old) (D.faults desk.new) result }
 {
     let Some(test) = test_of(group) else {

@@ -145,7 +145,8 @@ impl Left {
 /// The room of an output, in bytes.
 const ROOM: usize = 10_000;
 
-/// Runs these words over these files, on a desk at which the calls with these numbers fail and a call moves at most `piece` bytes.
+/// Runs these words over these files, on a desk at which the calls with these numbers fail and a call moves at most `piece`
+/// bytes.
 pub fn ran(
     alloc: Global,
     words: &[&str],

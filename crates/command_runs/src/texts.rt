@@ -1,7 +1,8 @@
-//! What texts of models share: gates of one input, and entities behind their context. A macro that stands in another one's call is
-//! handed literals, since `concat!` takes no other macro.
+//! What texts of models share: gates of one input, and entities behind their context. A macro that stands in another one's call
+//! is handed literals, since `concat!` takes no other macro.
 
-/// The text of a gate of this name from A to Y, behind this one: its primitive, of this name and with these two rows, and its module.
+/// The text of a gate of this name from A to Y, behind this one: its primitive, of this name and with these two rows, and its
+/// module.
 macro_rules! gate_module {
     ($before:literal, $name:literal, $primitive:literal, $first:literal, $second:literal) => {
         concat!(
@@ -23,8 +24,8 @@ macro_rules! gate_module {
 
 pub(crate) use gate_module;
 
-/// The text of an entity of this name with these ports, behind its context: what its architecture declares, and its only process from
-/// behind that word up to its end.
+/// The text of an entity of this name with these ports, behind its context: what its architecture declares, and its only process
+/// from behind that word up to its end.
 #[macro_export]
 macro_rules! entity_text {
     ($name:literal, $ports:literal, [$($declared:literal),*], [$($process:literal),*]) => {

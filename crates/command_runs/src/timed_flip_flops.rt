@@ -1,7 +1,7 @@
 //! Flip-flops with a setup time, and the models of one.
 
-/// A flip-flop with a setup time of 50 ps before the rise of its clock, which has this attribute, and delays of 100 and 120 ps; this
-/// pin stands before its output.
+/// A flip-flop with a setup time of 50 ps before the rise of its clock, which has this attribute, and delays of 100 and 120 ps;
+/// this pin stands before its output.
 macro_rules! timed_flip_flop {
     ($attribute:literal, $pin:literal) => {
         concat!(

@@ -14,12 +14,14 @@ no_names names bound none i has = absurd (contains_none i (subst (λ l. Contains
 
 one_name : (n : ℕ) (names : List ℕ) (bound : ℕ) → names ≡ n ∷ [] → bound ≡ n + 1 → (i : ℕ) → Contains names i → i < bound
 one_name n names bound e b i has =
-    elim (contains_cases n [] i (subst (λ l. Contains l i) e has)) [ inl same ↦ omega (arith, same, b) | inr none ↦ absurd (contains_none i none) ]
+    elim (contains_cases n [] i (subst (λ l. Contains l i) e has))
+    [ inl same ↦ omega (arith, same, b) | inr none ↦ absurd (contains_none i none) ]
 
 of_both : (f g : Node) (names : List ℕ) (bound : ℕ) → names ≡ names_of f ++ names_of g → bound ≡ max (name_bound f) (name_bound g)
     → IsBelow f → IsBelow g → (i : ℕ) → Contains names i → i < bound
 of_both f g names bound e b p q i has =
-    elim (Contains-append_cases (names_of f) (names_of g) i (subst (λ l. Contains l i) e has)) [ inl left ↦ omega (arith, b, p i left) | inr right ↦ omega (arith, b, q i right) ]
+    elim (Contains-append_cases (names_of f) (names_of g) i (subst (λ l. Contains l i) e has))
+    [ inl left ↦ omega (arith, b, p i left) | inr right ↦ omega (arith, b, q i right) ]
 
 every_name : (f : Node) → IsBelow f
 every_name = every_tree IsBelow (record {

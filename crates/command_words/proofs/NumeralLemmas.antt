@@ -22,7 +22,8 @@ some n h = grind (arith, nat_tests, h)
 few : (n : ℕ) → nat_le n 5 ≡ true → n ≤ 5
 few n h = grind (arith, nat_tests, h)
 
-pub numeral_parses : {E : Type 0} (word : List ℕ) (r : Result ℕ E) → ParsesUnsigned 64 10 word r → is_numeral word ≡ true → r ≡ Ok (digits_value 10 word)
+pub numeral_parses : {E : Type 0} (word : List ℕ) (r : Result ℕ E) → ParsesUnsigned 64 10 word r → is_numeral word ≡ true
+    → r ≡ Ok (digits_value 10 word)
 numeral_parses word r h n =
     let p = parts (nat_le 1 (length word)) (nat_le (length word) 5) (list_all is_ascii_digit word) n in
     let small = digits_value_short own word 5 p.2 (few (length word) p.1) in

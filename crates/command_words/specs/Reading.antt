@@ -15,7 +15,8 @@ use Rattle.command_words.specs.Numerals.{asked_cells}
 
 -- the primitive of a function text that was read, where it has 1 to 10 names
 abbrev pub primitive_read : List ℕ → ℕ → Result Node FunctionFault → Option Udp
-primitive_read name count (Ok tree) = if nat_le 1 count && nat_le count 10 then Some (function_primitive name tree count) else None
+primitive_read name count (Ok tree) = if nat_le 1 count && nat_le count 10 then Some (function_primitive name tree count)
+    else None
 primitive_read name count (Err fault) = None
 
 -- The primitive that a name and a function text ask for: the name is one that Verilog text keeps for a cell, and the text

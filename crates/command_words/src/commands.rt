@@ -2,7 +2,8 @@
 
 ghost use Rattle.std.specs.Prelude.{◌≡◌, ◌≤◌, drop, Ok, IfOk};
 ghost use Rattle.bool_functions.specs.Tree.{name_bound};
-ghost use Rattle.command_words.specs.Reading.{asked_primitive, primitive_read, udp_reading, selftest_reading, files_command, reading};
+ghost use Rattle.command_words.specs.Reading.{asked_primitive, primitive_read, udp_reading, selftest_reading, files_command};
+ghost use Rattle.command_words.specs.Reading.{reading};
 
 use crate::numerals::asked_cells;
 use bool_functions::{Function, FunctionFault, read_free};

@@ -12,7 +12,8 @@ not_false false h = absurd cc
 
 -- Those of a name are kept where no statement that goes is one.
 pub attributes_kept :
-    (name : List ℕ) (stays : Item-F Item Group → Bool) → ((one : Item-F Item Group) → stays one ≡ false → simple_named name one ≡ None)
+    (name : List ℕ) (stays : Item-F Item Group → Bool)
+    → ((one : Item-F Item Group) → stays one ≡ false → simple_named name one ≡ None)
     → (items : List Item) → attributes_named name (filter (λ item. stays (out-Item item)) items) ≡ attributes_named name items
 attributes_kept name stays none [] = refl
 attributes_kept name stays none (one ∷ items) = by (stays (out-Item one)) refl (attributes_kept name stays none items)

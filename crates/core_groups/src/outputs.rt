@@ -2,9 +2,9 @@
 ghost use Rattle.std.specs.Prelude.{◌≡◌, ◌==◌, IfOk, length, map};
 ghost use Rattle.core_groups.specs.Outputs.{is_three_state as is_three_state_of, outputs_from, shown, ArePins};
 
-use cell_machine::Direction;
 use cell_attributes::groups::{inner_groups, is_missing, is_pin, pins_among};
 use cell_attributes::pins::{direction_of, owners_of};
+use cell_machine::Direction;
 use liberty_groups::Group;
 use std::alloc::{AllocError, Global};
 

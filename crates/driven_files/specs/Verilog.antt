@@ -1,5 +1,5 @@
--- Verilog as a language of models and of sections that hold drivers. (IEEE 1364-2005, 12.1, modules, and 19.1, `celldefine; that such a
--- section holds a driver is this project's rule.)
+-- Verilog as a language of models and of sections that hold drivers. (IEEE 1364-2005, 12.1, modules, and 19.1, `celldefine; that
+-- such a section holds a driver is this project's rule.)
 use Rattle.std.specs.Prelude.{[], ◌∷◌, codes}
 use Rattle.std.specs.Str.{bytes_eq}
 use Rattle.verilog_tokens.specs.Tokens.{lexis}

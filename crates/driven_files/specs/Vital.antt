@@ -1,5 +1,5 @@
--- VHDL by VITAL as a language of models and of sections that hold drivers. (IEEE 1076-1993, 1.1, 1.2 and 10.4; IEEE 1076.4-2000; that
--- such a section holds a driver is this project's rule.)
+-- VHDL by VITAL as a language of models and of sections that hold drivers. (IEEE 1076-1993, 1.1, 1.2 and 10.4; IEEE 1076.4-2000;
+-- that such a section holds a driver is this project's rule.)
 use Rattle.std.specs.Prelude.{[], ◌∷◌, codes}
 use Rattle.vhdl_tokens.specs.Tokens.{lexis}
 use Rattle.vhdl_tokens.specs.Spelling.{is_same}

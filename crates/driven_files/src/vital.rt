@@ -2,10 +2,10 @@
 
 use driver_models::{Core, Cores, DriverModel, KnownNames};
 use driver_sections::{Ending, Marks, all_ends, find_sections};
+use lexer::Span;
 use sectioned_texts::SectionLanguage;
 use sqlite_items::Items;
 use std::alloc::{AllocError, Global};
-use lexer::Span;
 use udp_tables::ModelFault;
 use vhdl_drivers::{VitalDrivers, read_driver};
 use vhdl_reader::read_entities;

@@ -1,5 +1,6 @@
 -- The number of a driven output, found in the list of them, which ascends.
-use Rattle.std.proofs.Common.{◌≡◌, ℕ, zero, suc, ◌<◌, ◌≤◌, false, cond, inl, inr, List, [], ◌∷◌, length, get_or, sym, ap, ◌∙◌, Some, None, Ok, Err, arith}
+use Rattle.std.proofs.Common.{◌≡◌, ℕ, zero, suc, ◌<◌, ◌≤◌, false, cond, inl, inr, List, [], ◌∷◌, length, get_or, sym, ap, ◌∙◌}
+use Rattle.std.proofs.Common.{Some, None, Ok, Err, arith}
 use Rattle.std.specs.Prelude.{nat_eq, nat_lt, position}
 use Rattle.std.specs.List.{position_or_len}
 use Rattle.std.specs.Ordering.{nat_cmp}
@@ -36,20 +37,25 @@ differ a b never = elim (eqb_tells a b) [
 ]
 
 -- it stands at this place
-found : (xs : List ℕ) (place i : ℕ) → Ascending xs → i < length xs → get_or xs i 0 ≡ place → position (λ (driven : ℕ). nat_eq driven place) xs ≡ Some i
+found : (xs : List ℕ) (place i : ℕ) → Ascending xs → i < length xs → get_or xs i 0 ≡ place
+    → position (λ (driven : ℕ). nat_eq driven place) xs ≡ Some i
 found xs place i up h is =
     let earlier : (k : ℕ) → k < i → get_or xs k 0 ≡ place → ⊥ =
     λ k l same. (let less = rising xs k i up l h in omega (arith, less, same, is)) in
     let first : position_or_len (λ (driven : ℕ). nat_eq driven place) xs ≡ i =
-    position_or_len_is (λ (driven : ℕ). nat_eq driven place) xs i 0 (omega (arith, h)) (λ k l. differ (get_or xs k 0) place (earlier k l)) (λ _. eq-eqb (get_or xs i 0) place is) in
+    position_or_len_is (λ (driven : ℕ). nat_eq driven place) xs i 0 (omega (arith, h))
+    (λ k l. differ (get_or xs k 0) place (earlier k l)) (λ _. eq-eqb (get_or xs i 0) place is) in
     ap (λ n. cond (nat_lt n (length xs)) (Some n) None) first ∙ ap (λ b. cond b (Some i) None) (lt-ltb i (length xs) h)
 
 -- it stands nowhere
-absent : (xs : List ℕ) (place : ℕ) → ((k : ℕ) → k < length xs → get_or xs k 0 ≡ place → ⊥) → position (λ (driven : ℕ). nat_eq driven place) xs ≡ None
+absent : (xs : List ℕ) (place : ℕ) → ((k : ℕ) → k < length xs → get_or xs k 0 ≡ place → ⊥)
+    → position (λ (driven : ℕ). nat_eq driven place) xs ≡ None
 absent xs place never =
     let last : position_or_len (λ (driven : ℕ). nat_eq driven place) xs ≡ length xs =
-    position_or_len_is (λ (driven : ℕ). nat_eq driven place) xs (length xs) 0 (omega arith) (λ k l. differ (get_or xs k 0) place (never k l)) (λ l. absurd (omega (arith, l))) in
-    ap (λ n. cond (nat_lt n (length xs)) (Some n) None) last ∙ ap (λ b. cond b (Some (length xs)) None) (le-ltb (length xs) (length xs) (omega arith))
+    position_or_len_is (λ (driven : ℕ). nat_eq driven place) xs (length xs) 0 (omega arith)
+    (λ k l. differ (get_or xs k 0) place (never k l)) (λ l. absurd (omega (arith, l))) in
+    ap (λ n. cond (nat_lt n (length xs)) (Some n) None) last
+    ∙ ap (λ b. cond b (Some (length xs)) None) (le-ltb (length xs) (length xs) (omega arith))
 
 pub number_found : (xs : List ℕ) (place i : ℕ) → Ascending xs → IsBinarySearchResult (λ y. nat_cmp y place) xs (Ok i)
     → Some i ≡ position (λ (driven : ℕ). nat_eq driven place) xs

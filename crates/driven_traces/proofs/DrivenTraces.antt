@@ -14,7 +14,8 @@ use Rattle.driven_traces.specs.Drivers.{plain}
 use Rattle.driven_traces.specs.DrivenLines.{driven_value, driven_delay, places, line_with, first_line, next_line, driven_line}
 use Rattle.driven_traces.specs.Laws.{EqualCoresDriveEqually, NothingDrivenIsCore}
 
-equal_after : (driver : Driver) (one other : List Change → Line) (h cs : List Change) → one h ≡ other h → lines_from one h cs ≡ lines_from other h cs
+equal_after : (driver : Driver) (one other : List Change → Line) (h cs : List Change) → one h ≡ other h
+    → lines_from one h cs ≡ lines_from other h cs
     → lines_after (driven_line driver one) h cs ≡ lines_after (driven_line driver other) h cs
 equal_after driver one other h [] before e = refl
 equal_after driver one other h (c ∷ cs) before e =
@@ -35,7 +36,8 @@ equal_cores_drive_equally driver one other cs e =
 values_are : (values : List Trit) (inputs outputs : ℕ) → length values ≡ outputs
     → map drive_of values ≡ map (λ place. drive_of (numbered_value values place)) (places (plain inputs outputs))
 values_are values inputs outputs e =
-    fill_by_all (λ place. drive_of (numbered_value values place)) (map drive_of values) outputs drives.Unknown (length-map values drive_of ∙ e)
+    fill_by_all (λ place. drive_of (numbered_value values place)) (map drive_of values) outputs drives.Unknown
+    (length-map values drive_of ∙ e)
     (λ k h. get_or-map drive_of values k Unknown drives.Unknown (omega (arith, h, e)))
 
 delays_are : (delays : List (Option ℕ)) (inputs outputs : ℕ) → length delays ≡ outputs
@@ -44,14 +46,22 @@ delays_are delays inputs outputs e = fill_by_all (λ place. get_or delays place 
 
 line_is : (line : Line) (inputs outputs : ℕ) (driven : ℕ → Option ℕ) → length line.values ≡ outputs → length line.delays ≡ outputs
     → line_with (plain inputs outputs) line driven ≡ drive_line line
-line_is line inputs outputs driven v d = sym (λ i. record { values = values_are line.values inputs outputs v i; delays = delays_are line.delays inputs outputs d i; reports = line.reports })
+line_is line inputs outputs driven v d =
+    sym (λ i. record {
+      values = values_are line.values inputs outputs v i;
+      delays =
+          delays_are line.delays inputs outputs d i;
+      reports = line.reports;
+    })
 
-lines_are : (core : Machine) → IsSized core → (h : List Change) → driven_line (plain core.inputs core.outputs) core.line h ≡ drive_line (core.line h)
+lines_are : (core : Machine) → IsSized core → (h : List Change)
+    → driven_line (plain core.inputs core.outputs) core.line h ≡ drive_line (core.line h)
 lines_are core all [] = line_is (core.line []) core.inputs core.outputs (λ _. None) (all.values []) (all.delays [])
 lines_are core all (c ∷ h) =
     let driver = plain core.inputs core.outputs in
     let driven : ℕ → Option ℕ =
-    λ number. driven_delay driver c.pin number (driven_value driver (core.line h).values number) (driven_value driver (core.line (c ∷ h)).values number) in
+    λ number. driven_delay driver c.pin number (driven_value driver (core.line h).values number)
+    (driven_value driver (core.line (c ∷ h)).values number) in
     line_is (core.line (c ∷ h)) core.inputs core.outputs driven (all.values (c ∷ h)) (all.delays (c ∷ h))
 
 pub nothing_driven_is_core : NothingDrivenIsCore

@@ -15,12 +15,14 @@ use Rattle.driven_traces.specs.Drivers.{number_of, place_of}
 
 -- what the driven output with this number shows of the core's values: its value under its enable
 abbrev pub driven_value : Driver → List Trit → ℕ → Drive
-driven_value driver values number = drive (numbered_value values (place_of driver number)) (numbered_value values (driver.outputs + number))
+driven_value driver values number =
+    drive (numbered_value values (place_of driver number)) (numbered_value values (driver.outputs + number))
 
 -- the delay of the driven output with this number at a change of an input, where what it shows does change
 abbrev pub driven_delay : Driver → ℕ → ℕ → Drive → Drive → Option ℕ
 driven_delay driver input number a b =
-    (if same_drive a b then None else Some (least_delay (record { input = input; number = number; from = a; to = b }) driver.paths))
+    (if same_drive a b then None else Some
+    (least_delay (record { input = input; number = number; from = a; to = b }) driver.paths))
 
 -- what an output shows, which may be driven
 abbrev pub value_by : Driver → List Trit → ℕ → Option ℕ → Drive
@@ -52,7 +54,8 @@ first_line driver line = line_with driver line (λ _. None)
 -- the line after a change, of the core's line before it and after it
 abbrev pub next_line : Driver → Change → Line → Line → DriveLine
 next_line driver c before line =
-    line_with driver line (λ number. driven_delay driver c.pin number (driven_value driver before.values number) (driven_value driver line.values number))
+    line_with driver line (λ number. driven_delay driver c.pin number (driven_value driver before.values number)
+    (driven_value driver line.values number))
 
 -- what is shown after a history
 abbrev pub driven_line : Driver → (List Change → Line) → List Change → DriveLine

@@ -22,7 +22,11 @@ first_shown driver values number = record { value = driven_value driver values n
 -- what a driven output shows after a change of an input, before which it showed `was`
 abbrev pub next_shown : Driver → ℕ → List Trit → Drive → ℕ → DriveShown
 next_shown driver input values was number =
-    record { value = driven_value driver values number; delay = driven_delay driver input number was (driven_value driver values number) }
+    record {
+      value = driven_value driver values number;
+      delay =
+          driven_delay driver input number was (driven_value driver values number);
+    }
 
 -- what a driven output shows after a history
 abbrev pub shown_after : Driver → (List Change → machines.Line) → List Change → ℕ → DriveShown
@@ -31,7 +35,8 @@ shown_after driver line (c ∷ h) number =
     next_shown driver c.pin (line (c ∷ h)).values (driven_value driver (line h).values number) number
 
 -- the core stands after this history, and this is what the driven outputs show
-pub record Stands (driver : Driver) (line : List Change → machines.Line) (core : List Change → Type 0) (shown : List DriveShown) (h : List Change) : Type 0 where
+pub record Stands (driver : Driver) (line : List Change → machines.Line) (core : List Change → Type 0) (shown : List DriveShown)
+    (h : List Change) : Type 0 where
   pub of_core : core h
   pub of_shown : shown ≡ map (shown_after driver line h) (numbers driver)
 

@@ -41,7 +41,8 @@ impl<'a, S: CellSim + Drop> DrivenSim<'a, S> {
         requires sound { IsSound driver.now }
         requires is_core { IsCoreOf driver.now (S.machine core) }
         requires start { S.stands core [] }
-        ensures machine { IfOk result (λ sim. ⟦<DrivenSim<'a, S> as TraceSim>⟧.machine sim ≡ driven_machine driver.now (S.machine core)) }
+        ensures machine { IfOk result (λ sim. ⟦<DrivenSim<'a, S> as TraceSim>⟧.machine sim ≡ driven_machine driver.now
+            (S.machine core)) }
         ensures stands { IfOk result (λ sim. ⟦<DrivenSim<'a, S> as TraceSim>⟧.stands sim []) }
     {
         let shown = show_start(alloc, &core, driver)?;
@@ -109,7 +110,8 @@ fn driven_value<S: CellSim>(core: &S, driver: &Driver, number: usize) -> Drive
     requires sound { IsSound driver.now }
     requires is_core { IsCoreOf driver.now (S.machine core.now) }
     requires inside { number < length driver.now.drives }
-    ensures { (h : List ChangeOf) → S.stands core.now h → result ≡ driven_value driver.now ((S.machine core.now).line h).values number }
+    ensures { (h : List ChangeOf) → S.stands core.now h
+        → result ≡ driven_value driver.now ((S.machine core.now).line h).values number }
 {
     let place = driver.drives.as_slice()[number];
     let first_enable = core.outputs() - driver.drives.len();
@@ -146,7 +148,8 @@ fn show_start<S: CellSim>(
 ) -> Result<Items<DriveShown>, AllocError>
     requires sound { IsSound driver.now }
     requires is_core { IsCoreOf driver.now (S.machine core.now) }
-    ensures shown { (h : List ChangeOf) → S.stands core.now h → IfOk result (λ shown. shown ≡ map (first_shown driver.now ((S.machine core.now).line h).values) (numbers driver.now)) }
+    ensures shown { (h : List ChangeOf) → S.stands core.now h
+        → IfOk result (λ shown. shown ≡ map (first_shown driver.now ((S.machine core.now).line h).values) (numbers driver.now)) }
     ensures each_drive { IfOk result (λ shown. length shown ≡ length driver.now.drives) }
 {
     let mut shown = Items::new(alloc);
@@ -164,7 +167,9 @@ fn show_all<S: CellSim>(core: &S, driver: &Driver, input: usize, shown: &mut Ite
     requires sound { IsSound driver.now }
     requires is_core { IsCoreOf driver.now (S.machine core.now) }
     requires each_drive { length shown.old ≡ length driver.now.drives }
-    ensures shown { (h : List ChangeOf) → S.stands core.now h → shown.new ≡ each (λ number was. next_shown driver.now input ((S.machine core.now).line h).values was.value number) (numbers driver.now) shown.old }
+    ensures shown { (h : List ChangeOf) → S.stands core.now h
+        → shown.new ≡ each (λ number was. next_shown driver.now input ((S.machine core.now).line h).values was.value number)
+        (numbers driver.now) shown.old }
     ensures each_drive { length shown.new ≡ length shown.old }
 {
     for number in 0..shown.len() {

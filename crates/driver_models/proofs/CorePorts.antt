@@ -1,5 +1,6 @@
 -- The test of the ports of a core.
-use Rattle.std.proofs.Common.{◌≡◌, ◌↔◌, ℕ, Bool, true, false, not, nat_eq, List, [], ◌∷◌, length, replicate, refl, sym, ap, ◌∙◌, eqb-true}
+use Rattle.std.proofs.Common.{◌≡◌, ◌↔◌, ℕ, Bool, true, false, not, nat_eq, List, [], ◌∷◌, length, replicate, refl, sym, ap, ◌∙◌}
+use Rattle.std.proofs.Common.{eqb-true}
 use Rattle.std.specs.List.{list_all}
 use Rattle.std.specs.Bool.{beq}
 use Rattle.std.proofs.lemmas.Bool.{and_from, and_parts, eq-eqb}
@@ -32,7 +33,8 @@ others_of (b ∷ bs) = bs
 
 are_outputs : (core : List VPort) → directions core ≡ replicate (length core) false → list_all is_output core ≡ true
 are_outputs [] e = refl
-are_outputs (port ∷ core) e = and_from (not port.input) (list_all is_output core) (ap (λ bs. not (first_of bs)) e) (are_outputs core (ap others_of e))
+are_outputs (port ∷ core) e = and_from (not port.input) (list_all is_output core) (ap (λ bs. not (first_of bs)) e)
+    (are_outputs core (ap others_of e))
 
 behind : (driven : ℕ) (core : List VPort) → (are_core_ports [] driven core ≡ true) ↔ (directions core ≡ replicate driven false)
 behind driven core = (forth, back)
@@ -44,7 +46,8 @@ behind driven core = (forth, back)
 
     back : directions core ≡ replicate driven false → are_core_ports [] driven core ≡ true
     back e =
-        let long : length core ≡ driven = sym (length-map core (λ (port : VPort). port.input)) ∙ ap (length {A = Bool}) e ∙ length-replicate driven false in
+        let long : length core ≡ driven = sym (length-map core (λ (port : VPort). port.input)) ∙ ap (length {A = Bool}) e
+        ∙ length-replicate driven false in
         and_from (nat_eq (length core) driven) (list_all is_output core) (eq-eqb (length core) driven long)
         (are_outputs core (e ∙ ap (λ (n : ℕ). replicate n false) (sym long)))
 
@@ -60,7 +63,8 @@ are_same false false e = refl
 are_same true false e = absurd cc
 are_same false true e = absurd cc
 
-one_more : (port first : VPort) (ports : List VPort) (driven : ℕ) (core : List VPort) → ((are_core_ports ports driven core ≡ true) ↔ AreCorePorts ports driven core) →
+one_more : (port first : VPort) (ports : List VPort) (driven : ℕ) (core : List VPort)
+    → ((are_core_ports ports driven core ≡ true) ↔ AreCorePorts ports driven core) →
     (are_core_ports (port ∷ ports) driven (first ∷ core) ≡ true) ↔ AreCorePorts (port ∷ ports) driven (first ∷ core)
 one_more port first ports driven core others = (forth, back)
   where
@@ -71,9 +75,11 @@ one_more port first ports driven core others = (forth, back)
 
     back : AreCorePorts (port ∷ ports) driven (first ∷ core) → are_core_ports (port ∷ ports) driven (first ∷ core) ≡ true
     back e =
-        and_from (beq first.input port.input) (are_core_ports ports driven core) (are_same first.input port.input (ap first_of e)) (others.1 (ap others_of e))
+        and_from (beq first.input port.input) (are_core_ports ports driven core) (are_same first.input port.input (ap first_of e))
+        (others.1 (ap others_of e))
 
 pub core_ports_are_decided : CorePortsAreDecided
 core_ports_are_decided [] driven core = behind driven core
 core_ports_are_decided (port ∷ ports) driven [] = ((λ e. absurd cc), (λ e. absurd cc))
-core_ports_are_decided (port ∷ ports) driven (first ∷ core) = one_more port first ports driven core (core_ports_are_decided ports driven core)
+core_ports_are_decided (port ∷ ports) driven (first ∷ core) =
+    one_more port first ports driven core (core_ports_are_decided ports driven core)

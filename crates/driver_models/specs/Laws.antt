@@ -5,4 +5,5 @@ use Rattle.driver_models.specs.Models.{AreCorePorts, are_core_ports}
 
 -- The test of the ports of a core holds exactly where they are those of a core.
 abbrev pub CorePortsAreDecided : Type 0
-CorePortsAreDecided = (ports : List VPort) (driven : ℕ) (core : List VPort) → (are_core_ports ports driven core ≡ true) ↔ AreCorePorts ports driven core
+CorePortsAreDecided = (ports : List VPort) (driven : ℕ) (core : List VPort) → (are_core_ports ports driven core ≡ true)
+    ↔ AreCorePorts ports driven core

@@ -1,5 +1,5 @@
--- Models of drivers. (IEEE 1364-2005, 7.4, three-state gates; IEEE 1076.4-2000, VitalBUFIF1; that a driver is a model of its own is
--- this project's form.)
+-- Models of drivers. (IEEE 1364-2005, 7.4, three-state gates; IEEE 1076.4-2000, VitalBUFIF1; that a driver is a model of its own
+-- is this project's form.)
 use Rattle.std.specs.Prelude.{◌≡◌, ℕ, ◌++◌, Bool, not, ◌&&◌, nat_eq, List, [], ◌∷◌, length, map, count_by, replicate, false}
 use Rattle.std.specs.List.{list_all}
 use Rattle.std.specs.Bool.{beq}

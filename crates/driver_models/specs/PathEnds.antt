@@ -1,4 +1,5 @@
--- Which input or driven output a name stands for at an end of a path. (IEEE 1364-2005, 14.2.1; IEEE 1076.4-2000, VitalPathDelay01.)
+-- Which input or driven output a name stands for at an end of a path. (IEEE 1364-2005, 14.2.1; IEEE 1076.4-2000,
+-- VitalPathDelay01.)
 use Rattle.std.specs.Prelude.{ℕ, ◌+◌, Bool, nat_eq, if◌then◌else◌, List, [], ◌∷◌, position, Option, Some, None}
 use Rattle.std.specs.Option.{option_and_then}
 use Rattle.udp_tables.specs.declared.models.VPort.{VPort}

@@ -1,7 +1,8 @@
--- The terminals of the instance of a core, in any language, by the order of its ports: an input's own name; an output's own name, or
--- where it is driven the next wire to a buffer's input; and behind them the wires to the enables. (IEEE 1364-2005, 12.3.5; IEEE 1076-1993,
--- 4.3.2.2, positional association.)
-use Rattle.std.specs.Prelude.{ℕ, zero, suc, ◌+◌, Bool, true, false, nat_eq, if◌then◌else◌, List, [], ◌∷◌, ◌++◌, length, Option, Some, None, codes}
+-- The terminals of the instance of a core, in any language, by the order of its ports: an input's own name; an output's own name,
+-- or where it is driven the next wire to a buffer's input; and behind them the wires to the enables. (IEEE 1364-2005, 12.3.5;
+-- IEEE 1076-1993, 4.3.2.2, positional association.)
+use Rattle.std.specs.Prelude.{ℕ, zero, suc, ◌+◌, Bool, true, false, nat_eq, if◌then◌else◌, List, [], ◌∷◌, ◌++◌, length, Option}
+use Rattle.std.specs.Prelude.{Some, None, codes}
 use Rattle.grammar_rules.specs.Rule as r
 use Rattle.grammar_reader.specs.Words.{Grammar, ◌>>=◌, expect, begins, known, this_name, is_among}
 use Rattle.udp_tables.specs.declared.models.VPort.{VPort}
@@ -23,8 +24,8 @@ all_numbered word zero = []
 all_numbered word (suc n) = all_numbered word n ++ numbered word (suc n) ∷ []
 
 module _ (is_name : List ℕ → Bool) (is_same : List ℕ → List ℕ → Bool) (value enable : List ℕ) (count : ℕ) where
-  -- Whether an output is driven that has this name at its terminal, where so many are driven before it: a wire to a buffer's input has
-  -- to be the next one, also where a port has its name, and any other name the output's own.
+  -- Whether an output is driven that has this name at its terminal, where so many are driven before it: a wire to a buffer's
+  -- input has to be the next one, also where a port has its name, and any other name the output's own.
   abbrev pub is_driven_by : List ℕ → ℕ → List ℕ → Option Bool
   is_driven_by own before x =
       if is_among is_same (all_numbered value count) x
@@ -70,7 +71,8 @@ module _ (is_name : List ℕ → Bool) (is_same : List ℕ → List ℕ → Bool
   abbrev pub more_enables : Bool → ℕ → ℕ → Grammar (Unit {0})
   more_enables ready number zero = r.Gives tt
   more_enables ready number (suc n) =
-      expect is_same (codes ",") >>= λ _. this_name is_name is_same (enable_name ready number) >>= λ _. more_enables ready (number + 1) n
+      expect is_same (codes ",") >>= λ _. this_name is_name is_same (enable_name ready number) >>= λ _. more_enables ready
+      (number + 1) n
 
   -- no further terminal: behind a "," no name is known
   unfoldable pub no_terminal : Grammar (Unit {0})

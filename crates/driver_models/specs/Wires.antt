@@ -1,5 +1,6 @@
 -- The declarations of the wires of a driver, in any language: of those to the inputs of its buffers, and of those to their
--- enables, each numbered from 1. (IEEE 1364-2005, 3.3; IEEE 1076-1993, 4.3.1.2; the names and their order are this project's form.)
+-- enables, each numbered from 1. (IEEE 1364-2005, 3.3; IEEE 1076-1993, 4.3.1.2; the names and their order are this project's
+-- form.)
 use Rattle.std.specs.Prelude.{ℕ, ◌+◌, Bool, ◌&&◌, nat_eq, nat_lt, if◌then◌else◌, List, ◌++◌, Option, Some, None, decimal}
 use Rattle.grammar_rules.specs.Rule as r
 use Rattle.grammar_reader.specs.Words.{Grammar, ◌>>=◌, expect, begins, known, go_on_where}
@@ -15,8 +16,8 @@ abbrev pub no_wires : Wires
 no_wires = record { values = 0; enables = 0 }
 
 module _ (is_name : List ℕ → Bool) (is_same : List ℕ → List ℕ → Bool) (value enable : List ℕ) where
-  -- What is declared with the wire of this name: the next to an input, while there is none to an enable, or the next to an enable, while
-  -- there are fewer of them.
+  -- What is declared with the wire of this name: the next to an input, while there is none to an enable, or the next to an
+  -- enable, while there are fewer of them.
   abbrev pub next_wire : Wires → List ℕ → Option Wires
   next_wire found x =
       if nat_eq found.enables 0 && is_same x (numbered value (found.values + 1))

@@ -26,8 +26,8 @@ pub struct Core<'a> {
     pub ports: &'a [VPort],
 }
 
-/// The models of a file that may be cores, in the order of the file, with a list that finds one by its name at once. Contracts see
-/// the list of them.
+/// The models of a file that may be cores, in the order of the file, with a list that finds one by its name at once. Contracts
+/// see the list of them.
 #[derive(Drop)]
 pub struct Cores<'a, L: DriverLanguage> {
     alloc: Global,

@@ -9,7 +9,8 @@ use sqlite_items::Items;
 use std::alloc::{AllocError, Global};
 use std::marker::{Model, PhantomData};
 
-/// Names of a language, in the order in which they were added, with a list that finds one at once. Contracts see the list of them.
+/// Names of a language, in the order in which they were added, with a list that finds one at once. Contracts see the list of
+/// them.
 #[derive(Drop)]
 pub struct KnownNames<L: DriverLanguage> {
     alloc: Global,

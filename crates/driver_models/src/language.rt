@@ -29,5 +29,6 @@ pub trait DriverLanguage: Language {
         ensures { IfOk result (λ folded. folded.items ≡ fold name.now) };
 
     /// A name is the same as another exactly where both are folded to the same.
-    ghost same: { (name other : List ℕ) → Self.is_name name ≡ true → Self.is_same name other ≡ bytes_eq (fold name) (fold other) };
+    ghost same: { (name other : List ℕ) → Self.is_name name ≡ true
+        → Self.is_same name other ≡ bytes_eq (fold name) (fold other) };
 }

@@ -1,5 +1,5 @@
-//! Models of three-state drivers, in either language: a model that joins a core and one buffer for each of its driven outputs, and
-//! what the grammars of both languages have in common.
+//! Models of three-state drivers, in either language: a model that joins a core and one buffer for each of its driven outputs,
+//! and what the grammars of both languages have in common.
 #![tactic(auto)]
 
 mod cores;

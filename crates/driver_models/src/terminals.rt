@@ -67,7 +67,8 @@ impl<L: DriverLanguage> Wired<L> {
         name: &[u8],
     ) -> Result<Option<bool>, AllocError>
         requires { L.is_name name.now ≡ true }
-        ensures { IfOk result (λ driven. driven ≡ spec.is_driven_by L.is_name L.is_same L.value L.enable self.now.count own.now before name.now) }
+        ensures { IfOk result (λ driven. driven ≡ spec.is_driven_by L.is_name L.is_same L.value L.enable self.now.count own.now
+            before name.now) }
     {
         if self.values.has(name)? {
             let number = number_behind(before)?;
@@ -79,7 +80,9 @@ impl<L: DriverLanguage> Wired<L> {
 
     /// The name at the terminal of an output of this name, where so many are driven before it: whether it is driven.
     fn output_name(&self, cursor: &mut Cursor<'_, L>, own: &[u8], before: usize) -> Read<bool>
-        ensures { Reads (read (known L.is_name (spec.is_driven_by L.is_name L.is_same L.value L.enable self.now.count own.now before)) cursor.old) result cursor.new }
+        ensures { Reads (read (known L.is_name
+            (spec.is_driven_by L.is_name L.is_same L.value L.enable self.now.count own.now before)) cursor.old) result
+            cursor.new }
     {
         if !cursor.is_next_name() {
             return Err(Stop::Refused(Refusal::Syntax));
@@ -96,7 +99,8 @@ impl<L: DriverLanguage> Wired<L> {
         own: &[u8],
         found: Terminals,
     ) -> Read<Terminals>
-        ensures { Reads (read (spec.output_terminal L.is_name L.is_same L.value L.enable self.now.count own.now found) cursor.old) result cursor.new }
+        ensures { Reads (read (spec.output_terminal L.is_name L.is_same L.value L.enable self.now.count own.now found) cursor.old)
+            result cursor.new }
     {
         let Terminals {
             outputs,
@@ -119,7 +123,8 @@ impl<L: DriverLanguage> Wired<L> {
         own: &[u8],
         found: Terminals,
     ) -> Read<Terminals>
-        ensures { Reads (read (spec.input_terminal L.is_name L.is_same L.value L.enable self.now.count own.now found) cursor.old) result cursor.new }
+        ensures { Reads (read (spec.input_terminal L.is_name L.is_same L.value L.enable self.now.count own.now found) cursor.old)
+            result cursor.new }
     {
         cursor.this_name(own)?;
         Ok(found)
@@ -132,7 +137,8 @@ impl<L: DriverLanguage> Wired<L> {
         port: &VPort,
         found: Terminals,
     ) -> Read<Terminals>
-        ensures { Reads (read (spec.port_terminal L.is_name L.is_same L.value L.enable self.now.count port.now found) cursor.old) result cursor.new }
+        ensures { Reads (read (spec.port_terminal L.is_name L.is_same L.value L.enable self.now.count port.now found) cursor.old)
+            result cursor.new }
     {
         if port.input {
             self.input_terminal(cursor, port.name.as_slice(), found)
@@ -148,7 +154,8 @@ impl<L: DriverLanguage> Wired<L> {
         ports: &[VPort],
         mut found: Terminals,
     ) -> Read<Terminals>
-        ensures { Reads (read (spec.more_terminals L.is_name L.is_same L.value L.enable self.now.count ports.now found) cursor.old) result cursor.new }
+        ensures { Reads (read (spec.more_terminals L.is_name L.is_same L.value L.enable self.now.count ports.now found)
+            cursor.old) result cursor.new }
     {
         for port in ports {
             cursor.expect(b",")?;
@@ -159,7 +166,8 @@ impl<L: DriverLanguage> Wired<L> {
 
     /// The terminals of ports.
     fn port_terminals(&self, cursor: &mut Cursor<'_, L>, ports: &[VPort]) -> Read<Terminals>
-        ensures { Reads (read (spec.port_terminals L.is_name L.is_same L.value L.enable self.now.count ports.now) cursor.old) result cursor.new }
+        ensures { Reads (read (spec.port_terminals L.is_name L.is_same L.value L.enable self.now.count ports.now) cursor.old)
+            result cursor.new }
     {
         let none = Terminals {
             outputs: 0,
@@ -174,7 +182,8 @@ impl<L: DriverLanguage> Wired<L> {
 
     /// The terminal of the wire to an enable, which stands only behind all wires to inputs.
     fn enable_terminal(&self, cursor: &mut Cursor<'_, L>, ready: bool, number: usize) -> Read<()>
-        ensures { Reads (read (this_name L.is_name L.is_same (spec.enable_name L.is_name L.is_same L.value L.enable self.now.count ready number)) cursor.old) result cursor.new }
+        ensures { Reads (read (this_name L.is_name L.is_same
+            (spec.enable_name L.is_name L.is_same L.value L.enable self.now.count ready number)) cursor.old) result cursor.new }
     {
         if !ready {
             return Err(Stop::Refused(cursor.no_name()));
@@ -185,7 +194,8 @@ impl<L: DriverLanguage> Wired<L> {
 
     /// The terminals of all wires to enables.
     fn enables(&self, cursor: &mut Cursor<'_, L>, ready: bool) -> Read<()>
-        ensures { Reads (read (spec.more_enables L.is_name L.is_same L.value L.enable self.now.count ready 1 self.now.count) cursor.old) result cursor.new }
+        ensures { Reads (read (spec.more_enables L.is_name L.is_same L.value L.enable self.now.count ready 1 self.now.count)
+            cursor.old) result cursor.new }
     {
         for i in 0..self.count {
             cursor.expect(b",")?;
@@ -197,7 +207,8 @@ impl<L: DriverLanguage> Wired<L> {
     /// No further terminal.
     #[tactic(auto, using(grammar_reader::proofs::Repeats::choose_begun, grammar_reader::proofs::Repeats::choose_other), unfolding(crate::specs::Terminals::no_terminal))]
     fn no_terminal(&self, cursor: &mut Cursor<'_, L>) -> Read<()>
-        ensures { Reads (read (spec.no_terminal L.is_name L.is_same L.value L.enable self.now.count) cursor.old) result cursor.new }
+        ensures { Reads (read (spec.no_terminal L.is_name L.is_same L.value L.enable self.now.count) cursor.old) result
+            cursor.new }
     {
         if !cursor.is_next(b",") {
             return Ok(());
@@ -207,8 +218,8 @@ impl<L: DriverLanguage> Wired<L> {
     }
 }
 
-/// The terminals of a core, behind "(", by the ports of its driver and the number of wires to inputs of buffers, each of which stands
-/// at one: the places among the outputs that are driven, ascending.
+/// The terminals of a core, behind "(", by the ports of its driver and the number of wires to inputs of buffers, each of which
+/// stands at one: the places among the outputs that are driven, ascending.
 #[tactic(auto, unfolding(crate::specs::Terminals::core_terminals))]
 pub fn core_terminals<L: DriverLanguage>(
     cursor: &mut Cursor<'_, L>,
@@ -216,7 +227,8 @@ pub fn core_terminals<L: DriverLanguage>(
     ports: &[VPort],
     count: usize,
 ) -> Read<Items<usize>>
-    ensures { Reads (read (spec.core_terminals L.is_name L.is_same L.value L.enable count ports.now) cursor.old) result cursor.new }
+    ensures { Reads (read (spec.core_terminals L.is_name L.is_same L.value L.enable count ports.now) cursor.old) result
+        cursor.new }
 {
     let wired = Wired::<L>::new(alloc, count)?;
     let Terminals { drives, .. } = wired.port_terminals(cursor, ports)?;

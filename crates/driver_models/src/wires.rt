@@ -70,7 +70,8 @@ fn wire_name<L: DriverLanguage>(
     alloc: Global,
     found: Wires,
 ) -> Read<Wires>
-    ensures { Reads (read (known L.is_name (spec.next_wire L.is_name L.is_same L.value L.enable found)) cursor.old) result cursor.new }
+    ensures { Reads (read (known L.is_name (spec.next_wire L.is_name L.is_same L.value L.enable found)) cursor.old) result
+        cursor.new }
 {
     let more = next_wire::<L>(alloc, found, cursor.bytes())?;
     cursor.known(more)
@@ -90,7 +91,8 @@ impl<L: DriverLanguage> RepeatedPart<L> for DeclaredWire<'_> {
     ghost use Rattle.grammar_reader.specs.Reading.{read};
     ghost use Rattle.driver_models.specs.Wires as spec;
 
-    ghost reading = { λ wire found s. read (spec.declared_wire L.is_name L.is_same L.value L.enable (map (λ word. word.now) wire.tail.now) found) s };
+    ghost reading = { λ wire found s. read
+        (spec.declared_wire L.is_name L.is_same L.value L.enable (map (λ word. word.now) wire.tail.now) found) s };
 
     #[tactic(auto, unfolding(crate::specs::Wires::declared_wire))]
     fn next(&self, cursor: &mut Cursor<'_, L>, found: Wires) -> Read<Wires> {
@@ -99,8 +101,8 @@ impl<L: DriverLanguage> RepeatedPart<L> for DeclaredWire<'_> {
     }
 }
 
-/// The declarations of the wires of a driver, each behind this word and with these words behind its name: how many lead to inputs of
-/// buffers. As many lead to enables.
+/// The declarations of the wires of a driver, each behind this word and with these words behind its name: how many lead to inputs
+/// of buffers. As many lead to enables.
 #[tactic(auto, unfolding(crate::specs::Wires::declared_wires))]
 pub fn declared_wires<L: DriverLanguage>(
     cursor: &mut Cursor<'_, L>,
@@ -108,7 +110,8 @@ pub fn declared_wires<L: DriverLanguage>(
     word: &[u8],
     tail: &[&[u8]],
 ) -> Read<usize>
-    ensures { Reads (read (spec.declared_wires L.is_name L.is_same L.value L.enable word.now (map (λ word. word.now) tail.now)) cursor.old) result cursor.new }
+    ensures { Reads (read (spec.declared_wires L.is_name L.is_same L.value L.enable word.now (map (λ word. word.now) tail.now))
+        cursor.old) result cursor.new }
 {
     let wire = DeclaredWire { alloc, tail };
     let none = Wires {

@@ -4,8 +4,8 @@ use Rattle.lexer.specs.Tokens.{Lexis}
 use Rattle.driver_sections.specs.Fronts.{in_gap, gap_length, behind_gap}
 use Rattle.driver_sections.proofs.Gaps.{cons, dropped_twice}
 
--- A function of an offset, of how many bytes from there on belong to what stands before, and of the bytes from there on: it passes
--- over those, and over a separator.
+-- A function of an offset, of how many bytes from there on belong to what stands before, and of the bytes from there on: it
+-- passes over those, and over a separator.
 module _ {R : Type 0} (l : Lexis) (f : ℕ → ℕ → List ℕ → R)
     (over : (at n b : ℕ) (bs : List ℕ) → f at (suc n) (b ∷ bs) ≡ f (at + 1) n bs)
     (behind : (at n b : ℕ) (bs : List ℕ) → l.separator_length (b ∷ bs) ≡ suc n → f at 0 (b ∷ bs) ≡ f (at + 1) n bs)
@@ -21,11 +21,13 @@ module _ {R : Type 0} (l : Lexis) (f : ℕ → ℕ → List ℕ → R)
 
   -- one byte and those behind it
   behind_one : (b : ℕ) (bs : List ℕ) (at n : ℕ) →
-      f (at + 1 + gap_length l n bs) 0 (drop (gap_length l n bs) bs) ≡ f (at + (1 + gap_length l n bs)) 0 (drop (1 + gap_length l n bs) (b ∷ bs))
+      f (at + 1 + gap_length l n bs) 0 (drop (gap_length l n bs) bs) ≡ f (at + (1 + gap_length l n bs)) 0
+      (drop (1 + gap_length l n bs) (b ∷ bs))
   behind_one b bs at n =
       let e : at + 1 + gap_length l n bs ≡ at + (1 + gap_length l n bs) = omega arith in
       let d : suc (gap_length l n bs) ≡ 1 + gap_length l n bs = omega arith in
-      ap (λ (m : ℕ). f m 0 (drop (gap_length l n bs) bs)) e ∙ ap (λ (m : ℕ). f (at + (1 + gap_length l n bs)) 0 (drop m (b ∷ bs))) d
+      ap (λ (m : ℕ). f m 0 (drop (gap_length l n bs) bs)) e
+      ∙ ap (λ (m : ℕ). f (at + (1 + gap_length l n bs)) 0 (drop m (b ∷ bs))) d
 
   -- behind the separators that stand at the front of these bytes, if it is so of those behind the first
   front_gap : (b : ℕ) (bs : List ℕ) (at m : ℕ) → l.separator_length (b ∷ bs) ≡ m →
@@ -41,7 +43,8 @@ module _ {R : Type 0} (l : Lexis) (f : ℕ → ℕ → List ℕ → R)
   over_gap (b ∷ bs) at zero = front_gap b bs at (l.separator_length (b ∷ bs)) refl (over_gap bs (at + 1))
 
   -- where the next token stands
-  pub to_next : (text : List ℕ) (from : ℕ) → f from 0 (drop from text) ≡ f (behind_gap l text from) 0 (drop (behind_gap l text from) text)
+  pub to_next : (text : List ℕ) (from : ℕ)
+      → f from 0 (drop from text) ≡ f (behind_gap l text from) 0 (drop (behind_gap l text from) text)
   to_next text from =
       over_gap (drop from text) from 0
       ∙ ap (f (behind_gap l text from) 0) (dropped_twice text from (gap_length l 0 (drop from text)))

@@ -30,7 +30,8 @@ pub record IsNext (l : Lexis) (flag : Bool) (text : List ℕ) (from : ℕ) (t : 
 abbrev pub HasNoNext : Lexis → Bool → List ℕ → ℕ → Type 0
 HasNoNext l flag text from =
     (length text ≤ behind_gap l text from)
-    ⊎ ((l.separator_length (drop (behind_gap l text from) text) ≡ 0) × (l.token_length flag (drop (behind_gap l text from) text) ≡ 0))
+    ⊎ ((l.separator_length (drop (behind_gap l text from) text) ≡ 0)
+    × (l.token_length flag (drop (behind_gap l text from) text) ≡ 0))
 
 -- the tokens from an offset on
 abbrev pub tokens_from : Lexis → Bool → List ℕ → ℕ → List Token

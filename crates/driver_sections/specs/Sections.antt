@@ -1,6 +1,8 @@
--- The sections of a text. A section may stand wherever a blank may, and the tokens around it are those of the text without it; its
--- own tokens are those of its bytes alone. (That a file of models may hold sections, and how they are marked, is this project's rule.)
-use Rattle.std.specs.Prelude.{ℕ, zero, suc, ◌+◌, ◌-◌, ◌≤◌, Bool, false, if◌then◌else◌, List, [], ◌∷◌, ◌++◌, length, take, drop, replicate, slice_get, slice_range, unwrap_or}
+-- The sections of a text. A section may stand wherever a blank may, and the tokens around it are those of the text without it;
+-- its own tokens are those of its bytes alone. (That a file of models may hold sections, and how they are marked, is this
+-- project's rule.)
+use Rattle.std.specs.Prelude.{ℕ, zero, suc, ◌+◌, ◌-◌, ◌≤◌, Bool, false, if◌then◌else◌, List, [], ◌∷◌, ◌++◌, length, take, drop}
+use Rattle.std.specs.Prelude.{replicate, slice_get, slice_range, unwrap_or}
 use Rattle.lexer.specs.Tokens.{scan, scan_of}
 use Rattle.lexer.specs.declared.span.Span.{Span}
 use Rattle.driver_sections.specs.Marks.{Vocabulary, Marks, are_next, ends}
@@ -42,7 +44,8 @@ sections v m bytes = sections_from v m false 0 0 bytes
 -- The bytes from an offset on with spaces in the place of these sections, which stand one behind the other.
 abbrev pub blanked_from : List ℕ → ℕ → List Span → List ℕ
 blanked_from bytes from [] = drop from bytes
-blanked_from bytes from (s ∷ sections) = slice_range bytes from s.at ++ (replicate (s.end - s.at) 32 ++ blanked_from bytes s.end sections)
+blanked_from bytes from (s ∷ sections) =
+    slice_range bytes from s.at ++ (replicate (s.end - s.at) 32 ++ blanked_from bytes s.end sections)
 
 -- the rest of a text: its bytes with spaces in the place of these sections
 abbrev pub blanked : List ℕ → List Span → List ℕ

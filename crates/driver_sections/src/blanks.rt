@@ -2,8 +2,8 @@
 ghost use Rattle.std.specs.Prelude.{◌≡◌, ◌++◌, length, replicate, IfOk};
 ghost use Rattle.driver_sections.specs.Sections.{blanked, StandApart};
 
-use std::alloc::{AllocError, Global};
 use lexer::Span;
+use std::alloc::{AllocError, Global};
 
 /// Appends so many spaces.
 #[tactic(auto, using(crate::proofs::Spaces::one_less))]
@@ -16,7 +16,8 @@ fn push_spaces(rest: &mut Vec<u8>, count: usize) -> Result<(), AllocError>
     Ok(())
 }
 
-/// A copy of a text with spaces in the place of these sections, which stand one behind the other. It fails only for want of memory.
+/// A copy of a text with spaces in the place of these sections, which stand one behind the other. It fails only for want of
+/// memory.
 pub fn blanked(alloc: Global, text: &[u8], sections: &[Span]) -> Result<Vec<u8>, AllocError>
     requires { StandApart 0 (length text.now) sections.now }
     ensures { IfOk result (λ rest. rest.items ≡ blanked text.now sections.now) }

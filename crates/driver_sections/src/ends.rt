@@ -9,8 +9,8 @@ use crate::fronts::next_token;
 use crate::marks::Ending;
 use crate::words::are_next;
 use grammar_reader::Language;
-use std::alloc::{AllocError, Global};
 use lexer::TokenState;
+use std::alloc::{AllocError, Global};
 
 /// A place of a text outside a token, and what the tokens before it say of those behind.
 #[derive(Clone, Copy)]

@@ -1,4 +1,5 @@
-//! Sections of a text that words of its language mark: where they stand, the text with spaces in their places, and where parts end.
+//! Sections of a text that words of its language mark: where they stand, the text with spaces in their places, and where parts
+//! end.
 #![tactic(auto)]
 
 mod blanks;

@@ -10,8 +10,8 @@ use crate::fronts::next_token;
 use crate::marks::Marks;
 use crate::words::are_next;
 use grammar_reader::Language;
-use std::alloc::{AllocError, Global};
 use lexer::{Span, TokenState};
+use std::alloc::{AllocError, Global};
 
 /// How many bytes of a section stand at the front of these, where one begins.
 fn section_length<'a, L: Language, S: TokenState<'a>>(bytes: &'a [u8], marks: &Marks) -> usize
@@ -29,7 +29,8 @@ fn section_length<'a, L: Language, S: TokenState<'a>>(bytes: &'a [u8], marks: &M
     }
 }
 
-/// The sections of a text, in order; behind a lexical fault of the text around them there is none. It fails only for want of memory.
+/// The sections of a text, in order; behind a lexical fault of the text around them there is none. It fails only for want of
+/// memory.
 pub fn find_sections<'a, L: Language, S: TokenState<'a>>(
     alloc: Global,
     text: &'a [u8],

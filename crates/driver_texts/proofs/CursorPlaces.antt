@@ -1,5 +1,6 @@
 -- The tokens that a reading leaves are the last ones.
-use Rattle.std.proofs.Common.{◌≡◌, ℕ, zero, suc, ◌-◌, List, [], ◌∷◌, ◌++◌, length, take, drop, Result, Ok, Err, refl, sym, ap, ◌∙◌, subst, arith, append_assoc, length-append}
+use Rattle.std.proofs.Common.{◌≡◌, ℕ, zero, suc, ◌-◌, List, [], ◌∷◌, ◌++◌, length, take, drop, Result, Ok, Err, refl, sym, ap}
+use Rattle.std.proofs.Common.{◌∙◌, subst, arith, append_assoc, length-append}
 use Rattle.std.proofs.lemmas.List.{length-map, length-drop, take_all, take-append-drop}
 use Rattle.std.proofs.Math.Seq.{drop-append_seam}
 use Rattle.grammar_rules.specs.Reading.{read}
@@ -64,10 +65,15 @@ left_by : (text : List ℕ) (spans : List Span) (k : ℕ) (left : List (List ℕ
 left_by text spans k left h = left_in_text text spans left (whole_suffix (spelled text spans) left k h)
 
 -- What was read before the last tokens of a text, by a cursor of another language set to where the reading stopped.
-pub placed : {A B : Type 0} (value : B → A) (p : Grammar A) (text : List ℕ) (spans : List Span) (k : ℕ) (r : Result B Stop) (after : List (List ℕ))
-    → ReadsAs value (read p (drop k (spelled text spans))) r after → ReadsAs value (read p (drop k (spelled text spans))) r (drop (length spans - length after) (spelled text spans))
+pub placed : {A B : Type 0} (value : B → A) (p : Grammar A) (text : List ℕ) (spans : List Span) (k : ℕ) (r : Result B Stop)
+    (after : List (List ℕ))
+    → ReadsAs value (read p (drop k (spelled text spans))) r after
+    → ReadsAs value (read p (drop k (spelled text spans))) r (drop (length spans - length after) (spelled text spans))
 placed value p text spans k (Ok b) after e =
-    e ∙ ap (λ q. Ok (value b, q)) (sym (left_by text spans k after (subst (Suffix (drop k (spelled text spans))) (ap rest_of e) (suffix p (drop k (spelled text spans))))))
+    e ∙ ap (λ q. Ok (value b, q)) (sym
+    (left_by text spans k after (subst (Suffix (drop k (spelled text spans))) (ap rest_of e)
+    (suffix p (drop k (spelled text spans))))))
 placed value p text spans k (Err (Refused f)) after e =
-    e ∙ ap (λ q. Err (f, q)) (sym (left_by text spans k after (subst (Suffix (drop k (spelled text spans))) (ap rest_of e) (suffix p (drop k (spelled text spans))))))
+    e ∙ ap (λ q. Err (f, q)) (sym (left_by text spans k after
+    (subst (Suffix (drop k (spelled text spans))) (ap rest_of e) (suffix p (drop k (spelled text spans))))))
 placed value p text spans k (Err Memory) after e = tt

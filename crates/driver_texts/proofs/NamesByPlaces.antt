@@ -1,5 +1,6 @@
 -- Names of a word and numbers, by their places.
-use Rattle.std.proofs.Common.{◌≡◌, ◌⊎◌, inl, inr, ℕ, zero, suc, ◌+◌, ◌<◌, ◌≤◌, List, [], ◌∷◌, length, get_or, refl, sym, ◌∙◌, ap, arith}
+use Rattle.std.proofs.Common.{◌≡◌, ◌⊎◌, inl, inr, ℕ, zero, suc, ◌+◌, ◌<◌, ◌≤◌, List, [], ◌∷◌, length, get_or, refl, sym, ◌∙◌, ap}
+use Rattle.std.proofs.Common.{arith}
 use Rattle.std.proofs.lemmas.List.{length-append, get_or_append_left, get_or_push}
 use Rattle.std.proofs.Math.Nat.{eq-or-lt_of_le}
 use Rattle.driver_models.specs.Wires.{numbered}
@@ -17,10 +18,12 @@ count_is word (suc n) =
 at_place : (word : List ℕ) (n i : ℕ) → (i < n → numbered word (i + 1) ≡ get_or (all_numbered word n) i (numbered word (i + 1)))
     → (i ≡ n) ⊎ (i < n) → numbered word (i + 1) ≡ get_or (all_numbered word (suc n)) i (numbered word (i + 1))
 at_place word n i before (inl e) =
-    ap (numbered word) (omega (arith, e)) ∙ sym (get_or_push (all_numbered word n) (numbered word (suc n)) (numbered word (i + 1)) i (count_is word n ∙ sym e))
+    ap (numbered word) (omega (arith, e))
+    ∙ sym (get_or_push (all_numbered word n) (numbered word (suc n)) (numbered word (i + 1)) i (count_is word n ∙ sym e))
 at_place word n i before (inr below) =
     before below
-    ∙ sym (get_or_append_left (all_numbered word n) (numbered word (suc n) ∷ []) (numbered word (i + 1)) i (let long = count_is word n in omega (arith, long, below)))
+    ∙ sym (get_or_append_left (all_numbered word n) (numbered word (suc n) ∷ []) (numbered word (i + 1)) i
+    (let long = count_is word n in omega (arith, long, below)))
 
 pub number_is : (word : List ℕ) (n i : ℕ) → i < n → numbered word (i + 1) ≡ get_or (all_numbered word n) i (numbered word (i + 1))
 number_is word zero i h = absurd (omega (arith, h))

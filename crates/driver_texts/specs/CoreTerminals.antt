@@ -18,4 +18,5 @@ next_terminal_text value at = terminal_by value at.port.name at.number ++ codes 
 
 -- what stands for each port, then the enables, where wires to buffers' inputs and to their enables begin with these words
 abbrev pub terminals_text : List ℕ → List ℕ → DriverModel → List ℕ
-terminals_text value enable m = flat_map (next_terminal_text value) (ports_of m) ++ listed_names_text enable (length m.driver.drives)
+terminals_text value enable m = flat_map (next_terminal_text value) (ports_of m)
+    ++ listed_names_text enable (length m.driver.drives)

@@ -73,7 +73,8 @@ pub trait PortText {
         slot: OutSlot,
     ) -> Put
         requires { IsTrue (is_bound (D.state desk.old) (Output slot)) }
-        ensures text { PutsText (D.state desk.old) (D.state desk.new) slot line.old (text self.now (record { port = port.now; number = number })) line.new result }
+        ensures text { PutsText (D.state desk.old) (D.state desk.new) slot line.old
+            (text self.now (record { port = port.now; number = number })) line.new result }
         ensures cause { HasCause (D.faults desk.old) (D.faults desk.new) result };
 }
 

@@ -1,5 +1,5 @@
--- The models of a file in whose sections drivers stand, each as it is run. (That a driver is a model like any other is this project's
--- rule.)
+-- The models of a file in whose sections drivers stand, each as it is run. (That a driver is a model like any other is this
+-- project's rule.)
 use Rattle.std.specs.Prelude.{ℕ, List, [], ◌∷◌, ◌++◌, map, flat_map, slice_get, Option, Some, None}
 use Rattle.std.specs.Option.{option_and_then}
 use Rattle.cell_machine.specs.Lines.{Machine}

@@ -28,12 +28,14 @@ pub(crate) fn shared_models<M: Drop>(
     Ok(shared)
 }
 
-/// What the names of models are folded to, in their order, where no two names are the same. An `Err` comes only where memory is wanting.
+/// What the names of models are folded to, in their order, where no two names are the same. An `Err` comes only where memory is
+/// wanting.
 pub(crate) fn core_names<L: SectionLanguage>(
     alloc: Global,
     cores: &[Shared<L::Model>],
 ) -> Result<Names, AllocError>
-    ensures { IfOk result (λ names. AreDistinct (folded_names L.Drivers.fold L.language cores.now) → names ≡ folded_names L.Drivers.fold L.language cores.now) }
+    ensures { IfOk result (λ names. AreDistinct (folded_names L.Drivers.fold L.language cores.now)
+        → names ≡ folded_names L.Drivers.fold L.language cores.now) }
 {
     let mut names = Names::new(alloc);
     for core in cores {

@@ -1,5 +1,5 @@
-//! The models of a file in whose sections drivers stand, each as it is run: a model of its own, or a driver over the model that is its
-//! core.
+//! The models of a file in whose sections drivers stand, each as it is run: a model of its own, or a driver over the model that
+//! is its core.
 #![tactic(auto)]
 
 mod cores;

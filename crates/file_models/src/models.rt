@@ -98,8 +98,8 @@ fn drivers_over<L: SectionLanguage>(
     Ok(models)
 }
 
-/// The models of a file, each as it is run: first its models, and behind them its drivers, each over the model that has the name of its
-/// core, all in order. It takes the time of one look-up for each driver. An `Err` comes only where memory is wanting.
+/// The models of a file, each as it is run: first its models, and behind them its drivers, each over the model that has the name
+/// of its core, all in order. It takes the time of one look-up for each driver. An `Err` comes only where memory is wanting.
 ///
 /// It needs models no two of which have the same name, and drivers whose cores have names of the language.
 pub fn file_models<L: SectionLanguage>(

@@ -17,7 +17,8 @@ use Rattle.cell_attributes.specs.Vocabulary.{Vocabulary}
 use Rattle.cell_attributes.specs.Building.{output_in, outputs_from}
 use Rattle.cell_attributes.specs.Limits.{place_of_group}
 use Rattle.core_groups.specs.Outputs.{is_three_state, outputs_from as floating_from}
-use Rattle.gathered_cells.proofs.Single.{single, same_at, same_answer, same_output, same_left_out_timing, same_floating, its_owner}
+use Rattle.gathered_cells.proofs.Single.{single, same_at, same_answer, same_output, same_left_out_timing, same_floating}
+use Rattle.gathered_cells.proofs.Single.{its_owner}
 use Rattle.gathered_cells.proofs.Lists.{apart, told, of_pins, of_pins_join, one_of, several_of, each_name}
 
 -- A pin: its group, and its name among those of the group.
@@ -56,12 +57,15 @@ owners_whole groups = wholes (filter is_pin groups)
 
 pub owners_alone : (groups : List Group) → of_pins owners_in (flat_map apart groups) ≡ map alone (of_pins names_in groups)
 owners_alone groups =
-    told (λ xs ys. xs ++ ys) (of_pins owners_in) (λ l. map alone (of_pins names_in l)) refl (of_pins_join owners_in) joined each groups
+    told (λ xs ys. xs ++ ys) (of_pins owners_in) (λ l. map alone (of_pins names_in l)) refl (of_pins_join owners_in) joined each
+    groups
   where
-    joined : (xs ys : List Group) → map alone (of_pins names_in (xs ++ ys)) ≡ map alone (of_pins names_in xs) ++ map alone (of_pins names_in ys)
+    joined : (xs ys : List Group) → map alone (of_pins names_in (xs ++ ys)) ≡ map alone (of_pins names_in xs)
+        ++ map alone (of_pins names_in ys)
     joined xs ys = ap (map alone) (of_pins_join names_in xs ys) ∙ map-append alone (of_pins names_in xs) (of_pins names_in ys)
 
-    by : (group : Group) (b : Bool) → (if b then map (single group) group.arguments else []) ≡ map alone (if b then names_in group else [])
+    by : (group : Group) (b : Bool) → (if b then map (single group) group.arguments else []) ≡ map alone
+        (if b then names_in group else [])
     by group true = alone_names group group.arguments
     by group false = refl
 
@@ -73,20 +77,24 @@ owners_alone groups =
 
 -- What hangs on the statements and the offset of an owner is the same of both.
 places_each :
-    (f : Subject → Group → List ℕ) → ((s : Subject) (group : Group) (value : Value) → f s (single group value) ≡ f s group) → (s : Subject) (pin : ℕ)
+    (f : Subject → Group → List ℕ) → ((s : Subject) (group : Group) (value : Value) → f s (single group value) ≡ f s group)
+    → (s : Subject) (pin : ℕ)
     (owners : List Owner) → places_from f s pin (map alone owners) ≡ places_from f s pin (map whole owners)
 places_each f same s pin [] = refl
 places_each f same s pin (owner ∷ owners) =
     ap (λ l. l ++ places_from f s (pin + 1) (map alone owners)) (same (subject_at s pin) owner.group owner.name)
     ∙ ap (λ l. f (subject_at s pin) owner.group ++ l) (places_each f same s (pin + 1) owners)
 
-answers_each : (s : Subject) (pin : ℕ) (owners : List Owner) → answers_from s pin (map alone owners) ≡ answers_from s pin (map whole owners)
+answers_each : (s : Subject) (pin : ℕ) (owners : List Owner)
+    → answers_from s pin (map alone owners) ≡ answers_from s pin (map whole owners)
 answers_each s pin [] = refl
 answers_each s pin (owner ∷ owners) =
-    ap (λ (answer : Answer). answer ∷ answers_from s (pin + 1) (map alone owners)) (same_answer owner.group owner.name (subject_at s pin))
+    ap (λ (answer : Answer). answer ∷ answers_from s (pin + 1) (map alone owners))
+    (same_answer owner.group owner.name (subject_at s pin))
     ∙ ap (λ l. reading_answer (subject_at s pin) owner.group ∷ l) (answers_each s (pin + 1) owners)
 
-left_out_each : (pin : ℕ) (owners : List Owner) (answers : List Answer) → left_out_from pin (map alone owners) answers ≡ left_out_from pin (map whole owners) answers
+left_out_each : (pin : ℕ) (owners : List Owner) (answers : List Answer)
+    → left_out_from pin (map alone owners) answers ≡ left_out_from pin (map whole owners) answers
 left_out_each pin [] answers = refl
 left_out_each pin (owner ∷ owners) [] = refl
 left_out_each pin (owner ∷ owners) (answer ∷ answers) =
@@ -98,7 +106,8 @@ outputs_each :
     → outputs_from v pins states to pin (map alone owners) ≡ outputs_from v pins states to pin (map whole owners)
 outputs_each v pins states to pin [] = refl
 outputs_each v pins states to pin (owner ∷ owners) =
-    ap (λ l. l ++ outputs_from v pins states to (pin + 1) (map alone owners)) (same_output owner.group owner.name v pins states to pin)
+    ap (λ l. l ++ outputs_from v pins states to (pin + 1) (map alone owners))
+    (same_output owner.group owner.name v pins states to pin)
     ∙ ap (λ l. output_in v pins states to pin owner.group ++ l) (outputs_each v pins states to (pin + 1) owners)
 
 offsets_each :
@@ -106,24 +115,29 @@ offsets_each :
     → flat_map f (map alone owners) ≡ flat_map f (map whole owners)
 offsets_each f same [] = refl
 offsets_each f same (owner ∷ owners) =
-    ap (λ l. l ++ flat_map f (map alone owners)) (same owner.group owner.name) ∙ ap (λ l. f owner.group ++ l) (offsets_each f same owners)
+    ap (λ l. l ++ flat_map f (map alone owners)) (same owner.group owner.name)
+    ∙ ap (λ l. f owner.group ++ l) (offsets_each f same owners)
 
 at_each : (owners : List Owner) → map place_of_group (map alone owners) ≡ map place_of_group (map whole owners)
 at_each [] = refl
 at_each (owner ∷ owners) =
-    ap (λ at. at ∷ map place_of_group (map alone owners)) (same_at owner.group owner.name) ∙ ap (λ l. owner.group.at ∷ l) (at_each owners)
+    ap (λ at. at ∷ map place_of_group (map alone owners)) (same_at owner.group owner.name)
+    ∙ ap (λ l. owner.group.at ∷ l) (at_each owners)
 
 -- of groups, and of those apart
-owners_apart : {A : Type 0} (f : List Group → A) → ((owners : List Owner) → f (map alone owners) ≡ f (map whole owners)) → (groups : List Group)
+owners_apart : {A : Type 0} (f : List Group → A) → ((owners : List Owner) → f (map alone owners) ≡ f (map whole owners))
+    → (groups : List Group)
     → f (of_pins owners_in (flat_map apart groups)) ≡ f (of_pins owners_in groups)
 owners_apart f same groups = ap f (owners_alone groups) ∙ (same (of_pins names_in groups) ∙ sym (ap f (owners_whole groups)))
 
 pub places_apart :
-    (f : Subject → Group → List ℕ) → ((s : Subject) (group : Group) (value : Value) → f s (single group value) ≡ f s group) → (s : Subject) (groups : List Group)
+    (f : Subject → Group → List ℕ) → ((s : Subject) (group : Group) (value : Value) → f s (single group value) ≡ f s group)
+    → (s : Subject) (groups : List Group)
     → places_from f s 0 (of_pins owners_in (flat_map apart groups)) ≡ places_from f s 0 (of_pins owners_in groups)
 places_apart f same s = owners_apart (places_from f s 0) (places_each f same s 0)
 
-pub answers_apart : (s : Subject) (groups : List Group) → answers_from s 0 (of_pins owners_in (flat_map apart groups)) ≡ answers_from s 0 (of_pins owners_in groups)
+pub answers_apart : (s : Subject) (groups : List Group)
+    → answers_from s 0 (of_pins owners_in (flat_map apart groups)) ≡ answers_from s 0 (of_pins owners_in groups)
 answers_apart s = owners_apart (answers_from s 0) (answers_each s 0)
 
 pub left_out_apart : (answers : List Answer) (groups : List Group)
@@ -132,7 +146,8 @@ left_out_apart answers = owners_apart (λ l. left_out_from 0 l answers) (λ owne
 
 pub outputs_apart :
     (v : Vocabulary) (pins : ℕ) (states : List StateGroup) (to : List ℕ) (groups : List Group)
-    → outputs_from v pins states to 0 (of_pins owners_in (flat_map apart groups)) ≡ outputs_from v pins states to 0 (of_pins owners_in groups)
+    → outputs_from v pins states to 0 (of_pins owners_in (flat_map apart groups)) ≡ outputs_from v pins states to 0
+    (of_pins owners_in groups)
 outputs_apart v pins states to = owners_apart (outputs_from v pins states to 0) (outputs_each v pins states to 0)
 
 pub offsets_apart :
@@ -140,7 +155,8 @@ pub offsets_apart :
     → flat_map f (of_pins owners_in (flat_map apart groups)) ≡ flat_map f (of_pins owners_in groups)
 offsets_apart f same = owners_apart (flat_map f) (offsets_each f same)
 
-pub at_apart : (groups : List Group) → map place_of_group (of_pins owners_in (flat_map apart groups)) ≡ map place_of_group (of_pins owners_in groups)
+pub at_apart : (groups : List Group)
+    → map place_of_group (of_pins owners_in (flat_map apart groups)) ≡ map place_of_group (of_pins owners_in groups)
 at_apart = owners_apart (map place_of_group) at_each
 
 -- The outputs that may float are those of pins, so that none of the one are none of the other.
@@ -160,11 +176,14 @@ all_owned (group ∷ groups) = by (is_pin group) refl (all_owned groups)
         → list_all is_owned (flat_map names_in (if b then group ∷ filter is_pin groups else filter is_pin groups)) ≡ true
     by true e rest =
         list_all-append is_owned (names_in group) (of_pins names_in groups)
-        ∙ and_from (list_all is_owned (names_in group)) (list_all is_owned (of_pins names_in groups)) (owned_names group group.arguments e) rest
+        ∙ and_from (list_all is_owned (names_in group)) (list_all is_owned (of_pins names_in groups))
+        (owned_names group group.arguments e) rest
     by false e rest = rest
 
-none_floats : (f g : Owner → Group) → ((owner : Owner) → is_owned owner ≡ true → is_three_state (f owner) ≡ is_three_state (g owner))
-    → (pin : ℕ) (owners : List Owner) → list_all is_owned owners ≡ true → floating_from pin (map f owners) ≡ [] → floating_from pin (map g owners) ≡ []
+none_floats : (f g : Owner → Group)
+    → ((owner : Owner) → is_owned owner ≡ true → is_three_state (f owner) ≡ is_three_state (g owner))
+    → (pin : ℕ) (owners : List Owner) → list_all is_owned owners ≡ true → floating_from pin (map f owners) ≡ []
+    → floating_from pin (map g owners) ≡ []
 none_floats f g same pin [] owned e = refl
 none_floats f g same pin (owner ∷ owners) owned e =
     let parts = and_parts (is_owned owner) (list_all is_owned owners) owned in
@@ -173,19 +192,24 @@ none_floats f g same pin (owner ∷ owners) owned e =
     by : (b : Bool) → is_three_state (f owner) ≡ b → is_three_state (f owner) ≡ is_three_state (g owner)
         → (floating_from (pin + 1) (map f owners) ≡ [] → floating_from (pin + 1) (map g owners) ≡ [])
         → (if b then record { pin = pin; group = f owner } ∷ [] else []) ++ floating_from (pin + 1) (map f owners) ≡ []
-        → (if is_three_state (g owner) then record { pin = pin; group = g owner } ∷ [] else []) ++ floating_from (pin + 1) (map g owners) ≡ []
+        → (if is_three_state (g owner) then record { pin = pin; group = g owner } ∷ [] else [])
+        ++ floating_from (pin + 1) (map g owners) ≡ []
     by true is also rest none = absurd cc
     by false is also rest none =
-        ap (λ c. (if c then record { pin = pin; group = g owner } ∷ [] else []) ++ floating_from (pin + 1) (map g owners)) (sym also ∙ is)
+        ap (λ c. (if c then record { pin = pin; group = g owner } ∷ [] else []) ++ floating_from (pin + 1) (map g owners))
+        (sym also ∙ is)
         ∙ rest none
 
-pub none_floats_apart : (groups : List Group) → floating_from 0 (of_pins owners_in groups) ≡ [] → floating_from 0 (of_pins owners_in (flat_map apart groups)) ≡ []
+pub none_floats_apart : (groups : List Group) → floating_from 0 (of_pins owners_in groups) ≡ []
+    → floating_from 0 (of_pins owners_in (flat_map apart groups)) ≡ []
 none_floats_apart groups e =
     ap (floating_from 0) (owners_alone groups)
-    ∙ none_floats whole alone (λ owner is. sym (same_floating owner.group owner.name is)) 0 (of_pins names_in groups) (all_owned groups)
+    ∙ none_floats whole alone (λ owner is. sym (same_floating owner.group owner.name is)) 0 (of_pins names_in groups)
+    (all_owned groups)
     (sym (ap (floating_from 0) (owners_whole groups)) ∙ e)
 
-pub none_floats_together : (groups : List Group) → floating_from 0 (of_pins owners_in (flat_map apart groups)) ≡ [] → floating_from 0 (of_pins owners_in groups) ≡ []
+pub none_floats_together : (groups : List Group) → floating_from 0 (of_pins owners_in (flat_map apart groups)) ≡ []
+    → floating_from 0 (of_pins owners_in groups) ≡ []
 none_floats_together groups e =
     ap (floating_from 0) (owners_whole groups)
     ∙ none_floats alone whole (λ owner is. same_floating owner.group owner.name is) 0 (of_pins names_in groups) (all_owned groups)

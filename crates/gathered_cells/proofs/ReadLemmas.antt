@@ -1,5 +1,6 @@
 -- A gathered group whose outputs never float is read as the expanded one.
-use Rattle.std.proofs.Common.{◌≡◌, ℕ, ◌==◌, true, List, [], ◌∷◌, length, Option, None, Result, IfOk, IfErr, refl, sym, subst, arith}
+use Rattle.std.proofs.Common.{◌≡◌, ℕ, ◌==◌, true, List, [], ◌∷◌, length, Option, None, Result, IfOk, IfErr, refl, sym, subst}
+use Rattle.std.proofs.Common.{arith}
 use Rattle.std.proofs.lemmas.Bool.{eqb-true}
 use Rattle.liberty_text.specs.declared.time.Unit.{Unit}
 use Rattle.liberty_groups.specs.declared.tree.Group.{Group}
@@ -20,7 +21,8 @@ empty [] e = refl
 empty (x ∷ xs) e = let none : length (x ∷ xs) ≡ 0 = eqb-true (length (x ∷ xs)) 0 e in absurd (omega (arith, none))
 
 module _
-    (types : List BusType) (cell group : Group) (unit : Option Unit) (number : ℕ) (earlier : List (List ℕ)) (result : Result DrivenCell CellFault)
+    (types : List BusType) (cell group : Group) (unit : Option Unit) (number : ℕ) (earlier : List (List ℕ))
+    (result : Result DrivenCell CellFault)
     (is : group ≡ gathered types cell) (never : (length (three_state_outputs group) == 0) ≡ true) where
   alike : IsReadAs group (expanded types cell)
   alike =
@@ -35,5 +37,6 @@ module _
       → IfOk result (λ (driven : DrivenCell). driven_refusal unit earlier (expanded types cell) ≡ None)
   same_accepted = subst (λ refusal. IfOk result (λ (driven : DrivenCell). refusal ≡ None)) (alike.same_refusal unit earlier)
 
-  pub same_refused : IfErr result (Tells (driven_refusal unit earlier group)) → IfErr result (Tells (driven_refusal unit earlier (expanded types cell)))
+  pub same_refused : IfErr result (Tells (driven_refusal unit earlier group))
+      → IfErr result (Tells (driven_refusal unit earlier (expanded types cell)))
   same_refused = subst (λ refusal. IfErr result (Tells refusal)) (alike.same_refusal unit earlier)

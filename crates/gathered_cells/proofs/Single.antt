@@ -1,5 +1,6 @@
 -- A pin group with one name, which is like another group in its statements and its offset: all that is read of it is the same.
-use Rattle.std.proofs.Common.{◌≡◌, ℕ, true, false, not, ◌&&◌, ◌||◌, ◌==◌, List, [], ◌∷◌, ◌++◌, length, map, Option, Some, None, if◌then◌else◌, refl, sym, ap, ◌∙◌, codes}
+use Rattle.std.proofs.Common.{◌≡◌, ℕ, true, false, not, ◌&&◌, ◌||◌, ◌==◌, List, [], ◌∷◌, ◌++◌, length, map, Option, Some, None}
+use Rattle.std.proofs.Common.{if◌then◌else◌, refl, sym, ap, ◌∙◌, codes}
 use Rattle.std.specs.Prelude.{flat_map, bytes_eq, is_some, is_none, unwrap_or, Ok, Err}
 use Rattle.std.specs.Option.{option_map_or}
 use Rattle.liberty_groups.specs.declared.tree.Value.{Value}
@@ -33,7 +34,8 @@ use Rattle.cell_attributes.specs.Groups.{is_pin, is_state, is_bank}
 use Rattle.cell_attributes.specs.States.{states_in}
 use Rattle.cell_attributes.specs.Vocabulary.{internal_class}
 use Rattle.cell_attributes.specs.Pins.{direction_as, direction_of, pin_as, pins_in, owner_as, owners_in}
-use Rattle.cell_attributes.specs.Scans.{place_or, place_unless, is_output_group, is_missing, direction_in, three_state_in, bank_in, left_out_in as statements_left_out, no_function_in}
+use Rattle.cell_attributes.specs.Scans.{place_or, place_unless, is_output_group, is_missing, direction_in, three_state_in}
+use Rattle.cell_attributes.specs.Scans.{bank_in, left_out_in as statements_left_out, no_function_in}
 use Rattle.cell_attributes.specs.Outputs.{node_as, output_with, pin_text_as, pin_text}
 use Rattle.cell_attributes.specs.Building.{output_pin, output_in}
 use Rattle.cell_attributes.specs.Limits.{wide_text, wide_output}
@@ -59,7 +61,8 @@ abbrev numbers_in : Subject → List Item → List ℕ
 numbers_in s items =
     flat_map (timing.bad_numbers_in s) (timings_in items)
     ++ (timing.bad_attribute s (limit_in s items (codes "min_pulse_width_high"))
-    ++ (timing.bad_attribute s (limit_in s items (codes "min_pulse_width_low")) ++ timing.bad_attribute s (limit_in s items (codes "min_period"))))
+    ++ (timing.bad_attribute s (limit_in s items (codes "min_pulse_width_low"))
+    ++ timing.bad_attribute s (limit_in s items (codes "min_period"))))
 
 abbrev check_at_in : Subject → List Item → List ℕ
 check_at_in s items =
@@ -103,11 +106,13 @@ module _ (group : Group) (value : Value) where
   is_called_pin = ap (λ (one : Group-F Item Group). bytes_eq one.name (codes "pin")) (out-roll-Group (shape group value))
 
   pub is_one_pin : is_pin (single group value) ≡ true
-  is_one_pin = ap (λ (one : Group-F Item Group). bytes_eq one.name (codes "pin") && not (length one.arguments == 0)) (out-roll-Group (shape group value))
+  is_one_pin = ap (λ (one : Group-F Item Group). bytes_eq one.name (codes "pin") && not (length one.arguments == 0))
+      (out-roll-Group (shape group value))
 
   pub is_no_state : is_state (single group value) ≡ false
   is_no_state =
-      ap (λ (one : Group-F Item Group). bytes_eq one.name (codes "ff") || (bytes_eq one.name (codes "latch") || bytes_eq one.name (codes "statetable")))
+      ap (λ (one : Group-F Item Group). bytes_eq one.name (codes "ff")
+      || (bytes_eq one.name (codes "latch") || bytes_eq one.name (codes "statetable")))
       (out-roll-Group (shape group value))
 
   is_no_bank : is_bank (single group value) ≡ false
@@ -132,7 +137,8 @@ module _ (group : Group) (value : Value) where
   text_by v None = refl
   text_by v (Some direction.Input) = refl
   text_by v (Some direction.Output) =
-      ap (λ items. output_with v (attribute_in items (codes "state_function")) (attribute_in items (codes "internal_node")) (attribute_in items (codes "function")))
+      ap (λ items. output_with v (attribute_in items (codes "state_function")) (attribute_in items (codes "internal_node"))
+      (attribute_in items (codes "function")))
       same_items
   text_by v (Some direction.Internal) = ap (node_as v) (same_attribute (codes "internal_node"))
 
@@ -149,41 +155,51 @@ module _ (group : Group) (value : Value) where
   pub its_owner : owners_in (single group value) ≡ single group value ∷ []
   its_owner = ap (map (owner_as (single group value))) its_name
 
-  class_by : (states : List StateName) (o : Option Direction) → class_as states (single group value) value.bytes o ≡ class_as states group value.bytes o
+  class_by : (states : List StateName) (o : Option Direction)
+      → class_as states (single group value) value.bytes o ≡ class_as states group value.bytes o
   class_by states None = refl
   class_by states (Some direction.Input) = refl
   class_by states (Some direction.Output) = refl
   class_by states (Some direction.Internal) = ap (internal_class states value.bytes) (same_attribute (codes "internal_node"))
 
   same_class : (states : List StateName)
-      → class_as states (single group value) value.bytes (direction_of (single group value)) ≡ class_as states group value.bytes (direction_of group)
+      → class_as states (single group value) value.bytes (direction_of (single group value)) ≡ class_as states group value.bytes
+      (direction_of group)
   same_class states = ap (class_as states (single group value) value.bytes) same_direction ∙ class_by states (direction_of group)
 
   entry_by : (class : Class) → entry_with (single group value) value.bytes class ≡ entry_with group value.bytes class
   entry_by class =
       ap
-      (λ o. record { name = value.bytes; class = class; target = (if is_bound class then option_map_or (λ (a : Attribute). a.text) o value.bytes else value.bytes) })
+      (λ o. record {
+        name = value.bytes;
+        class = class;
+        target =
+            (if is_bound class then option_map_or (λ (a : Attribute). a.text) o value.bytes else value.bytes);
+      })
       (same_attribute (codes "internal_node"))
 
   pub its_entry : (states : List StateName) → pin_entries states (single group value) ≡ pin_entry states group value ∷ []
   its_entry states =
       ap (map (pin_entry states (single group value))) its_name
       ∙ ap (λ (entry : Entry). entry ∷ [])
-      (ap (entry_with (single group value) value.bytes) (same_class states) ∙ entry_by (class_as states group value.bytes (direction_of group)))
+      (ap (entry_with (single group value) value.bytes) (same_class states)
+      ∙ entry_by (class_as states group value.bytes (direction_of group)))
 
   same_declared : declared_pin (single group value) value ≡ declared_pin group value
   same_declared =
       ap
       (λ items. record {
         name = value.bytes;
-        role = (if is_internal (direction_as (attribute_in items (codes "direction"))) && says value.bytes (attribute_in items (codes "internal_node")) then Bearer else Plain);
+        role = (if is_internal (direction_as (attribute_in items (codes "direction")))
+            && says value.bytes (attribute_in items (codes "internal_node")) then Bearer else Plain);
         at = (single group value).at;
       })
       same_items
       ∙ ap
       (λ at. record {
         name = value.bytes;
-        role = (if is_internal (direction_of group) && says value.bytes (attribute_of group (codes "internal_node")) then Bearer else Plain);
+        role = (if is_internal (direction_of group) && says value.bytes (attribute_of group (codes "internal_node")) then Bearer
+            else Plain);
         at = at;
       })
       same_at
@@ -192,7 +208,8 @@ module _ (group : Group) (value : Value) where
   its_declared =
       ap
       (λ b. if b then map (declared_pin (single group value)) (single group value).arguments
-      else (if is_state (single group value) then flat_map (declared_state (single group value).at) (states_in (single group value)) else []))
+      else (if is_state (single group value)
+      then flat_map (declared_state (single group value).at) (states_in (single group value)) else []))
       is_one_pin
       ∙ (ap (map (declared_pin (single group value))) its_name ∙ ap (λ (declared : Declared). declared ∷ []) same_declared)
 
@@ -200,7 +217,8 @@ module _ (group : Group) (value : Value) where
   pub same_directions : direction_in (single group value) ≡ direction_in group
   unfolding direction_in
   same_directions =
-      ap (λ at. place_unless (place_or at (attribute_of (single group value) (codes "direction"))) (direction_of (single group value))) same_at
+      ap (λ at. place_unless (place_or at (attribute_of (single group value) (codes "direction")))
+      (direction_of (single group value))) same_at
       ∙ ap (λ o. place_unless (place_or group.at o) (direction_as o)) (same_attribute (codes "direction"))
 
   pub same_three_states : three_state_in (single group value) ≡ three_state_in group
@@ -211,7 +229,8 @@ module _ (group : Group) (value : Value) where
   unfolding statements_left_out
   same_left_out =
       ap (λ items. map (λ (a : Attribute). a.at) (attributes_named (codes "clocked_on_also") items)
-      ++ (map (λ (a : Attribute). a.at) (attributes_named (codes "enable_also") items) ++ map (λ (a : Attribute). a.at) (attributes_named (codes "input_map") items)))
+      ++ (map (λ (a : Attribute). a.at) (attributes_named (codes "enable_also") items)
+      ++ map (λ (a : Attribute). a.at) (attributes_named (codes "input_map") items)))
       same_items
 
   pub same_no_function : no_function_in (single group value) ≡ no_function_in group
@@ -219,30 +238,37 @@ module _ (group : Group) (value : Value) where
   same_no_function =
       ap (λ at. if is_output_group (direction_of (single group value))
       && (is_missing (codes "function") (single group value)
-      && (is_missing (codes "state_function") (single group value) && is_missing (codes "internal_node") (single group value))) then at ∷ [] else [])
+      && (is_missing (codes "state_function") (single group value) && is_missing (codes "internal_node") (single group value)))
+      then at ∷ [] else [])
       same_at
       ∙ ap (λ items. if is_output_group (direction_as (attribute_in items (codes "direction")))
       && (is_none (attribute_in items (codes "function"))
-      && (is_none (attribute_in items (codes "state_function")) && is_none (attribute_in items (codes "internal_node")))) then group.at ∷ [] else [])
+      && (is_none (attribute_in items (codes "state_function")) && is_none (attribute_in items (codes "internal_node"))))
+      then group.at ∷ [] else [])
       same_items
 
-  pub same_wide_output : (v : Vocabulary) (pins : ℕ) (states : List StateGroup) (to : List ℕ) → wide_output v pins states to (single group value) ≡ wide_output v pins states to group
+  pub same_wide_output : (v : Vocabulary) (pins : ℕ) (states : List StateGroup) (to : List ℕ)
+      → wide_output v pins states to (single group value) ≡ wide_output v pins states to group
   unfolding wide_output
   same_wide_output v pins states to =
       ap (λ o. if is_output_group o then wide_text pins states to (pin_text v (single group value)) else []) same_direction
       ∙ ap (λ t. if is_output_group (direction_of group) then wide_text pins states to t else []) (same_text v)
 
   -- its outputs
-  pub same_output : (v : Vocabulary) (pins : ℕ) (states : List StateGroup) (to : List ℕ) (pin : ℕ) → output_in v pins states to pin (single group value) ≡ output_in v pins states to pin group
+  pub same_output : (v : Vocabulary) (pins : ℕ) (states : List StateGroup) (to : List ℕ) (pin : ℕ)
+      → output_in v pins states to pin (single group value) ≡ output_in v pins states to pin group
   same_output v pins states to pin =
-      ap (λ o. if is_output_group o then output_pin pins states to pin (pin_text v (single group value)) ∷ [] else []) same_direction
+      ap (λ o. if is_output_group o then output_pin pins states to pin (pin_text v (single group value)) ∷ [] else [])
+      same_direction
       ∙ ap (λ t. if is_output_group (direction_of group) then output_pin pins states to pin t ∷ [] else []) (same_text v)
 
   pub same_floating : is_pin group ≡ true → is_three_state (single group value) ≡ is_three_state group
   unfolding is_three_state
   same_floating e =
-      ap (λ b. b && (is_output_group (direction_of (single group value)) && is_some (attribute_of (single group value) (codes "three_state")))) (is_one_pin ∙ sym e)
-      ∙ ap (λ items. is_pin group && (is_output_group (direction_as (attribute_in items (codes "direction"))) && is_some (attribute_in items (codes "three_state")))) same_items
+      ap (λ b. b && (is_output_group (direction_of (single group value))
+      && is_some (attribute_of (single group value) (codes "three_state")))) (is_one_pin ∙ sym e)
+      ∙ ap (λ items. is_pin group && (is_output_group (direction_as (attribute_in items (codes "direction")))
+      && is_some (attribute_in items (codes "three_state")))) same_items
 
   -- its timing
   module _ (s : Subject) where
@@ -270,7 +296,8 @@ module _ (group : Group) (value : Value) where
     pub same_answer : timing.reading_answer s (single group value) ≡ timing.reading_answer s group
     same_answer = ap (answer_in s) same_items
 
-  pub same_left_out_timing : (pin : ℕ) (answer : Answer) → left_out_in pin (single group value) answer ≡ left_out_in pin group answer
+  pub same_left_out_timing : (pin : ℕ) (answer : Answer)
+      → left_out_in pin (single group value) answer ≡ left_out_in pin group answer
   same_left_out_timing pin (Ok timing) =
       ap (λ items. map (λ place. record { pin = pin; kind = type_at items place }) timing.left_out) same_items
   same_left_out_timing pin (Err e) = refl

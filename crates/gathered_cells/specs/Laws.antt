@@ -11,7 +11,8 @@ use Rattle.bank_cells.specs.Gathered.{gathered}
 
 -- One cell is refused where another one is, by the same reason at the same offset, and the same is read of both.
 pub record IsReadAs (one other : Group) : Type 0 where
-  pub same_refusal : (unit : Option Unit) (earlier : List (List ℕ)) → driven_refusal unit earlier one ≡ driven_refusal unit earlier other
+  pub same_refusal : (unit : Option Unit) (earlier : List (List ℕ))
+      → driven_refusal unit earlier one ≡ driven_refusal unit earlier other
   pub same_data : (unit : Option Unit) (number : ℕ) → driven_data unit number one ≡ driven_data unit number other
 
 -- A gathered cell without three-state outputs is read as the expanded one.

@@ -27,7 +27,8 @@ front_distinct [] ys h = refl
 front_distinct (x ∷ xs) ys h =
     let both = and_parts (not (list_any (bytes_eq x) (xs ++ ys))) (are_distinct (xs ++ ys)) h in
     and_from (not (list_any (bytes_eq x) xs)) (are_distinct xs)
-    (no_more (list_any (bytes_eq x) xs) (list_any (bytes_eq x) ys) (subst (λ b. IsTrue (not b)) (list_any-append (bytes_eq x) xs ys) both.0))
+    (no_more (list_any (bytes_eq x) xs) (list_any (bytes_eq x) ys)
+    (subst (λ b. IsTrue (not b)) (list_any-append (bytes_eq x) xs ys) both.0))
     (front_distinct xs ys both.1)
 
 few_products : (a b : ℕ) → b ≤ 64 → a * b ≤ a * 64
@@ -47,25 +48,30 @@ module _ (cell : DrivenData) (h : HasDrivers cell) where
   pub few_pins : length cell.core.pins ≤ 64
   few_pins = parts.few_pins cell.core rules
 
-  split : own_pins cell.core.pins (length cell.driver.drives) ++ last_pins cell.core.pins (length cell.driver.drives) ≡ cell.core.pins
+  split : own_pins cell.core.pins (length cell.driver.drives)
+      ++ last_pins cell.core.pins (length cell.driver.drives) ≡ cell.core.pins
   split = take-append-drop _ cell.core.pins
 
   pub few_own : length (pins_of cell) ≤ 64
   few_own =
       let all = ap length split in
-      let sum = length-append (own_pins cell.core.pins (length cell.driver.drives)) (last_pins cell.core.pins (length cell.driver.drives)) in
+      let sum = length-append (own_pins cell.core.pins (length cell.driver.drives))
+      (last_pins cell.core.pins (length cell.driver.drives)) in
       let few = few_pins in
       omega (arith, all, sum, few)
 
   pub own_distinct : IsTrue (are_distinct (map (λ (pin : Pin). pin.name) (pins_of cell)))
   own_distinct =
-      front_distinct (map (λ (pin : Pin). pin.name) (pins_of cell)) (map (λ (pin : Pin). pin.name) (last_pins cell.core.pins (length cell.driver.drives)))
+      front_distinct (map (λ (pin : Pin). pin.name) (pins_of cell))
+      (map (λ (pin : Pin). pin.name) (last_pins cell.core.pins (length cell.driver.drives)))
       (subst (λ (names : List (List ℕ)). IsTrue (are_distinct names))
-      (ap (map (λ (pin : Pin). pin.name)) (sym split) ∙ map-append (λ (pin : Pin). pin.name) (pins_of cell) (last_pins cell.core.pins (length cell.driver.drives)))
+      (ap (map (λ (pin : Pin). pin.name)) (sym split)
+      ∙ map-append (λ (pin : Pin). pin.name) (pins_of cell) (last_pins cell.core.pins (length cell.driver.drives)))
       (parts.distinct_pins cell.core rules))
 
   pub few_driven : length cell.driver.drives ≤ 64
-  few_driven = let drives = few_drives cell.core cell.driver keeps_outputs h.driver in let few = few_pins in omega (arith, drives, few)
+  few_driven = let drives = few_drives cell.core cell.driver keeps_outputs h.driver in let few = few_pins
+      in omega (arith, drives, few)
 
   pub few_paths : length cell.driver.paths ≤ 4096
   few_paths =

@@ -43,22 +43,26 @@ kept_is_plain cell h k = by (may_float cell) refl h.named
     by false e same = record { plain = e; same = same }
 
 -- the name of the core of a cell of which some output may float
-pub floating_name : (cell : DrivenData) → IsNumberedDriven cell → may_float cell ≡ true → cell.core.name ≡ core_name cell.core.number
+pub floating_name : (cell : DrivenData) → IsNumberedDriven cell → may_float cell ≡ true
+    → cell.core.name ≡ core_name cell.core.number
 floating_name cell h e = h.named ∙ ap (λ (b : Bool). if b then core_name cell.core.number else cell.name) e
 
 -- the kept names of cores are kept names of the cells
 
-kept_among : (cells : List DrivenData) → All IsNumberedDriven cells → (x : List ℕ) → is_kept_cell_name x ≡ true → Among x (names_of_cells (cores_of cells)) → Among x (own_names cells)
+kept_among : (cells : List DrivenData) → All IsNumberedDriven cells → (x : List ℕ) → is_kept_cell_name x ≡ true
+    → Among x (names_of_cells (cores_of cells)) → Among x (own_names cells)
 kept_among [] h x k m = absurd m
 kept_among (cell ∷ cells) h x k (inl e) =
     inl (sym (kept_is_plain cell (All-head IsNumberedDriven cell cells h) (ap is_kept_cell_name e ∙ k)).same ∙ e)
 kept_among (cell ∷ cells) h x k (inr m) = inr (kept_among cells (All-tail IsNumberedDriven cell cells h) x k m)
 
-core_names : (cells : List DrivenData) → All IsNumberedDriven cells → IsDistinct bytes_eq (kept_names (own_names cells)) → IsDistinct bytes_eq (kept_names (names_of_cells (cores_of cells)))
+core_names : (cells : List DrivenData) → All IsNumberedDriven cells → IsDistinct bytes_eq (kept_names (own_names cells))
+    → IsDistinct bytes_eq (kept_names (names_of_cells (cores_of cells)))
 core_names [] h d = d
 core_names (cell ∷ cells) h d =
     by (is_kept_cell_name cell.core.name) refl
-    (core_names cells (All-tail IsNumberedDriven cell cells h) (kept_tail bytes_eq is_kept_cell_name cell.name (own_names cells) d))
+    (core_names cells (All-tail IsNumberedDriven cell cells h)
+    (kept_tail bytes_eq is_kept_cell_name cell.name (own_names cells) d))
   where
     others : List (List ℕ)
     others = kept_names (names_of_cells (cores_of cells))
@@ -71,8 +75,10 @@ core_names (cell ∷ cells) h d =
         (kept_among cells (All-tail IsNumberedDriven cell cells h) y found.1 found.0)
         (sym (ap is_kept_cell_name plain.same) ∙ k) (sym plain.same ∙ e)
 
-    by : (b : Bool) → is_kept_cell_name cell.core.name ≡ b → IsDistinct bytes_eq others → IsDistinct bytes_eq (cond b (cell.core.name ∷ others) others)
-    by true e rest = IsDistinct-cons bytes_eq cell.core.name others (each_among (λ y. bytes_eq cell.core.name y ≡ false) others (λ y m. unlike cell.core.name y (apart e y m))) rest
+    by : (b : Bool) → is_kept_cell_name cell.core.name ≡ b → IsDistinct bytes_eq others
+        → IsDistinct bytes_eq (cond b (cell.core.name ∷ others) others)
+    by true e rest = IsDistinct-cons bytes_eq cell.core.name others
+        (each_among (λ y. bytes_eq cell.core.name y ≡ false) others (λ y m. unlike cell.core.name y (apart e y m))) rest
     by false e rest = rest
 
 cores_numbered : (cells : List DrivenData) → All IsNumberedDriven cells → All IsNumberedCell (cores_of cells)
@@ -97,8 +103,10 @@ same_models [] = refl
 same_models (cell ∷ cells) = ap (λ l. module_of cell.core ∷ l) (same_models cells)
 
 -- the modules of the cores of the cells of one library are well formed together
-pub core-modules-well-formed : (cells : List DrivenData) → AreOfOneLibrary cells → AreWellFormed (models_of (driven_modules_of cells))
-core-modules-well-formed cells h = subst AreWellFormed (sym (same_models cells)) (modules-well-formed (cores_of cells) (cores_of_one_library cells h))
+pub core-modules-well-formed : (cells : List DrivenData) → AreOfOneLibrary cells
+    → AreWellFormed (models_of (driven_modules_of cells))
+core-modules-well-formed cells h =
+    subst AreWellFormed (sym (same_models cells)) (modules-well-formed (cores_of cells) (cores_of_one_library cells h))
 
 -- cells that differ in their numbers, and in their names where they are kept
 pub record Differ (cell other : DrivenData) : Type 0 where
@@ -128,14 +136,17 @@ later_cells cell cells h = record {
 }
 
 -- a cell of a library differs from those behind it, and from those before it
-pub differs_later : (cell : DrivenData) (cells : List DrivenData) → AreOfOneLibrary (cell ∷ cells) → (other : DrivenData) → Among other cells → Differ cell other
+pub differs_later : (cell : DrivenData) (cells : List DrivenData) → AreOfOneLibrary (cell ∷ cells) → (other : DrivenData)
+    → Among other cells → Differ cell other
 differs_later cell cells h other m = record {
   numbers = other_key nat_eq number_in eq-eqb cell cells h.apart.numbers other m;
-  names = λ k e. kept_apart is_kept_cell_name cell.name other.name (own_names cells) h.names (map-among name_in other cells m) k e;
+  names = λ k e. kept_apart is_kept_cell_name cell.name other.name (own_names cells) h.names (map-among name_in other cells m) k
+      e;
 }
 
 pub differs_earlier :
-    (before : List DrivenData) (cell : DrivenData) (cells : List DrivenData) → AreOfOneLibrary (before ++ cell ∷ cells) → (other : DrivenData)
+    (before : List DrivenData) (cell : DrivenData) (cells : List DrivenData) → AreOfOneLibrary (before ++ cell ∷ cells)
+    → (other : DrivenData)
     → Among other before → Differ cell other
 differs_earlier [] cell cells h other m = absurd m
 differs_earlier (first ∷ before) cell cells h other (inl e) =
@@ -151,7 +162,8 @@ drop_before (first ∷ before) cells h = drop_before before cells (later_cells f
 
 -- a cell of the library is this one, or differs from it
 pub differs_from :
-    (before : List DrivenData) (cell : DrivenData) (cells : List DrivenData) → AreOfOneLibrary (before ++ cell ∷ cells) → (other : DrivenData)
+    (before : List DrivenData) (cell : DrivenData) (cells : List DrivenData) → AreOfOneLibrary (before ++ cell ∷ cells)
+    → (other : DrivenData)
     → Among other (before ++ cell ∷ cells) → (cell ≡ other) ⊎ Differ cell other
 differs_from before cell cells h other m =
     elim (among-append other before (cell ∷ cells) m) [

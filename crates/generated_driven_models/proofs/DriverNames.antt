@@ -49,11 +49,13 @@ given_parts n = ap (λ (l : List ℕ). codes "lib_" ++ l) (sym (append_assoc (de
 
 no_digit : (j : ℕ) → j < 2 ^ 64 → codes "z" ≡ decimal j → ⊥
 no_digit j h e =
-    let digits : list_all is_ascii_digit (codes "z") ≡ true = ap (list_all is_ascii_digit) e ∙ number_digits (decimal j) (decimal_digits j h) in
+    let digits : list_all is_ascii_digit (codes "z") ≡ true = ap (list_all is_ascii_digit) e
+    ∙ number_digits (decimal j) (decimal_digits j h) in
     absurd (true≢false (sym digits))
 
 given_no_primitive :
-    (n m j : ℕ) → n < 2 ^ 64 → m < 2 ^ 64 → j < 2 ^ 64 → (n ≡ m) ⊎ (n ≡ m → ⊥) → given_driver n ≡ primitive_front m ++ decimal j → ⊥
+    (n m j : ℕ) → n < 2 ^ 64 → m < 2 ^ 64 → j < 2 ^ 64 → (n ≡ m) ⊎ (n ≡ m → ⊥) → given_driver n ≡ primitive_front m ++ decimal j
+    → ⊥
 given_no_primitive n m j h k i (inl same) e =
     no_digit j i
     (append_cancel_left (primitive_front m) (codes "z") (decimal j)
@@ -62,13 +64,15 @@ given_no_primitive n m j h k i (inr apart) e = fronts_apart n m (codes "z") (dec
 
 -- the name of the drivers of a cell, beside the names of the module of a core: the cell's own, or that of one that differs
 pub not_outer :
-    (cell other : DrivenData) → IsNumberedDriven cell → IsNumberedDriven other → may_float cell ≡ true → (cell ≡ other) ⊎ Differ cell other
+    (cell other : DrivenData) → IsNumberedDriven cell → IsNumberedDriven other → may_float cell ≡ true → (cell ≡ other)
+    ⊎ Differ cell other
     → (x y : List ℕ) → IsDriverName cell x → IsOuter other.core y → x ≡ y → ⊥
 not_outer cell other h k floats which x y (inl f) (inl g) e =
     true≢false (sym (own_primitive other.core.number (decimal g.0) y g.2) ∙ ap is_own (sym e) ∙ kept_no_lib cell x f)
 not_outer cell other h k floats which x y (inl f) (inr g) e = by (is_kept_cell_name other.core.name) refl g
   where
-    by : (b : Bool) → is_kept_cell_name other.core.name ≡ b → y ≡ (if b then other.core.name else codes "cell" ++ decimal other.core.number) → ⊥
+    by : (b : Bool) → is_kept_cell_name other.core.name ≡ b
+        → y ≡ (if b then other.core.name else codes "cell" ++ decimal other.core.number) → ⊥
     by true s same =
         let plain = kept_is_plain other k s in
         elim which [

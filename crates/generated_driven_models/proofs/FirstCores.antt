@@ -12,7 +12,8 @@ module _ (x : List ℕ) where
   is_it core = bytes_eq x core.name
 
   first_place :
-      (k : ℕ) (before : List Core) (core : Core) (after : List Core) → ((other : Core) → Among other before → is_it other ≡ false) → is_it core ≡ true
+      (k : ℕ) (before : List Core) (core : Core) (after : List Core) → ((other : Core) → Among other before → is_it other ≡ false)
+      → is_it core ≡ true
       → position_from is_it k (before ++ core ∷ after) ≡ Some (k + length before)
   first_place k [] core after h e =
       let same : k ≡ k + 0 = omega arith in
@@ -22,13 +23,15 @@ module _ (x : List ℕ) where
       ap (λ (b : Bool). cond b (Some k) (position_from is_it (k + 1) (before ++ core ∷ after))) (h first (inl refl))
       ∙ (first_place (k + 1) before core after (λ other m. h other (inr m)) e ∙ ap (λ (n : ℕ). Some n) same)
 
-  at_place : (before : List Core) (core : Core) (after : List Core) → slice_get (before ++ core ∷ after) (length before) ≡ Some core
+  at_place : (before : List Core) (core : Core) (after : List Core)
+      → slice_get (before ++ core ∷ after) (length before) ≡ Some core
   at_place [] core after = refl
   at_place (first ∷ before) core after = at_place before core after
 
   -- where no core before one of this name has it, the ports are that one's
   pub first_ports :
-      (before : List Core) (core : Core) (after : List Core) → ((other : Core) → Among other before → is_it other ≡ false) → is_it core ≡ true
+      (before : List Core) (core : Core) (after : List Core) → ((other : Core) → Among other before → is_it other ≡ false)
+      → is_it core ≡ true
       → core_ports bytes_eq (before ++ core ∷ after) x ≡ Some core.ports
   first_ports before core after h e =
       let all : List Core = before ++ core ∷ after in

@@ -58,14 +58,16 @@ abbrev driver_names : List DriverModel → List (List ℕ)
 driver_names drivers = map (λ (driver : DriverModel). driver.name) drivers
 
 -- the name of a driver of some cells is that of one of them
-drivers_named : (cells : List DrivenData) (x : List ℕ) → Among x (driver_names (drivers_in cells)) → (cell : DrivenData) × Among cell cells × (x ≡ driver_name cell.core.number cell.name)
+drivers_named : (cells : List DrivenData) (x : List ℕ) → Among x (driver_names (drivers_in cells)) → (cell : DrivenData)
+    × Among cell cells × (x ≡ driver_name cell.core.number cell.name)
 unfolding verilog_driver_of
 drivers_named [] x m = absurd m
 drivers_named (cell ∷ cells) x m = by (may_float cell) m (drivers_named cells x)
   where
     by :
         (b : Bool) → Among x (driver_names (driver_in (if b then Some (verilog_driver_of cell) else None) ++ drivers_in cells))
-        → (Among x (driver_names (drivers_in cells)) → (other : DrivenData) × Among other cells × (x ≡ driver_name other.core.number other.name))
+        → (Among x (driver_names (drivers_in cells)) → (other : DrivenData) × Among other cells
+        × (x ≡ driver_name other.core.number other.name))
         → (other : DrivenData) × Among other (cell ∷ cells) × (x ≡ driver_name other.core.number other.name)
     by true (inl e) rest = (cell, inl refl, sym e)
     by true (inr later) rest = let found = rest later in (found.0, inr found.1, found.2)
@@ -80,7 +82,8 @@ cores_same (cell ∷ cells) = ap (λ l. core_in cell ∷ l) (cores_same cells)
 
 -- One cell of a library of which some output may float, behind some and before others.
 module _
-    (before : List DrivenData) (cell : DrivenData) (after : List DrivenData) (h : AreOfOneLibrary (before ++ cell ∷ after)) (floats : may_float cell ≡ true) where
+    (before : List DrivenData) (cell : DrivenData) (after : List DrivenData) (h : AreOfOneLibrary (before ++ cell ∷ after))
+    (floats : may_float cell ≡ true) where
   abbrev cells : List DrivenData
   cells = before ++ cell ∷ after
 
@@ -101,10 +104,12 @@ module _
 
   new_beside_modules : (y : List ℕ) → Among y (flat_map outer_names ms) → bytes_eq name y ≡ false
   new_beside_modules y m =
-      let found = outer_of (cores_of cells) y (subst (λ (l : List VModule). Among y (flat_map outer_names l)) (same_models cells) m) in
+      let found = outer_of (cores_of cells) y
+      (subst (λ (l : List VModule). Among y (flat_map outer_names l)) (same_models cells) m) in
       let other = among-map (λ (c : DrivenData). c.core) found.0 cells found.1 in
       unlike name y
-      (not_outer cell other.0 own (each other.0 other.2) floats (differs_from before cell after h other.0 other.2) name y (driver_form cell)
+      (not_outer cell other.0 own (each other.0 other.2) floats (differs_from before cell after h other.0 other.2) name y
+      (driver_form cell)
       (subst (λ (c : CellData). IsOuter c y) (sym other.1) found.2))
 
   new_beside_drivers : (y : List ℕ) → Among y (driver_names (drivers_in before)) → bytes_eq name y ≡ false
@@ -135,7 +140,8 @@ module _
       let its : IsNumberedDriven found.0 = each found.0 (append-among_left found.0 before (cell ∷ after) found.2) in
       unlike core_name other.name
       (λ e.
-      given_apart (codes "cell") cell.core.number found.0.core.number cell.core.name found.0.core.name own.core.number its.core.number
+      given_apart (codes "cell") cell.core.number found.0.core.number cell.core.name found.0.core.name own.core.number
+      its.core.number
       (differs_earlier before cell after h found.0 found.2).numbers (λ k same. true≢false (sym k ∙ not_kept))
       (e ∙ sym (ap (λ (c : Core). c.name) found.1)))
 
@@ -145,14 +151,18 @@ module _
   own_core : core_ports bytes_eq (map verilog_sections.core ms) core_name ≡ Some (module_of cell.core).ports
   own_core =
       ap (λ (l : List Core). core_ports bytes_eq l core_name) cores_split
-      ∙ first_ports core_name (map core_in before) (core_in cell) (map core_in after) earlier_cores ((bytes_eq-Decides core_name core_name).1 refl)
+      ∙ first_ports core_name (map core_in before) (core_in cell) (map core_in after) earlier_cores
+      ((bytes_eq-Decides core_name core_name).1 refl)
 
-  pub driver_well_formed : IsWellFormedDriver (taken_names verilog_sections ms (drivers_in before)) (map verilog_sections.core ms) (verilog_driver_of cell)
+  pub driver_well_formed : IsWellFormedDriver (taken_names verilog_sections ms (drivers_in before)) (map verilog_sections.core ms)
+      (verilog_driver_of cell)
   driver_well_formed =
-      verilog_drivers_are_well_formed cell (taken_names verilog_sections ms (drivers_in before)) (map verilog_sections.core ms) (has_drivers cell own floats) new own_core
+      verilog_drivers_are_well_formed cell (taken_names verilog_sections ms (drivers_in before)) (map verilog_sections.core ms)
+      (has_drivers cell own floats) new own_core
 
 -- the drivers of some cells and one more
-drivers_push : (cells : List DrivenData) (cell : DrivenData) → drivers_in (cells ++ cell ∷ []) ≡ drivers_in cells ++ driver_in (own_driver cell)
+drivers_push : (cells : List DrivenData) (cell : DrivenData)
+    → drivers_in (cells ++ cell ∷ []) ≡ drivers_in cells ++ driver_in (own_driver cell)
 drivers_push [] cell = append-nil (driver_in (own_driver cell))
 drivers_push (first ∷ cells) cell =
     ap (λ (l : List DriverModel). driver_in (own_driver first) ++ l) (drivers_push cells cell)
@@ -161,7 +171,8 @@ drivers_push (first ∷ cells) cell =
 -- all of them
 all_well_formed :
     (before after : List DrivenData) → AreOfOneLibrary (before ++ after)
-    → AreWellFormedDrivers written_verilog well_formed_verilog (models_of (driven_modules_of (before ++ after))) (drivers_in before) (drivers_in after)
+    → AreWellFormedDrivers written_verilog well_formed_verilog (models_of (driven_modules_of (before ++ after)))
+    (drivers_in before) (drivers_in after)
 all_well_formed before [] h = tt
 all_well_formed before (cell ∷ after) h =
     by (may_float cell) refl
@@ -171,29 +182,42 @@ all_well_formed before (cell ∷ after) h =
     ms = models_of (driven_modules_of (before ++ cell ∷ after))
 
     moved : (drivers : List DriverModel) → drivers_in (before ++ cell ∷ []) ≡ drivers
-        → AreWellFormedDrivers written_verilog well_formed_verilog (models_of (driven_modules_of ((before ++ cell ∷ []) ++ after))) (drivers_in (before ++ cell ∷ [])) (drivers_in after)
+        → AreWellFormedDrivers written_verilog well_formed_verilog
+        (models_of (driven_modules_of ((before ++ cell ∷ []) ++ after))) (drivers_in (before ++ cell ∷ [])) (drivers_in after)
         → AreWellFormedDrivers written_verilog well_formed_verilog ms drivers (drivers_in after)
     moved drivers e rest =
         subst (λ (l : List DriverModel). AreWellFormedDrivers written_verilog well_formed_verilog ms l (drivers_in after)) e
-        (subst (λ (l : List DrivenData). AreWellFormedDrivers written_verilog well_formed_verilog (models_of (driven_modules_of l)) (drivers_in (before ++ cell ∷ [])) (drivers_in after))
+        (subst (λ (l : List DrivenData). AreWellFormedDrivers written_verilog well_formed_verilog
+        (models_of (driven_modules_of l)) (drivers_in (before ++ cell ∷ [])) (drivers_in after))
         (append_assoc before (cell ∷ []) after) rest)
 
     by :
         (b : Bool) → may_float cell ≡ b
-        → AreWellFormedDrivers written_verilog well_formed_verilog (models_of (driven_modules_of ((before ++ cell ∷ []) ++ after))) (drivers_in (before ++ cell ∷ [])) (drivers_in after)
-        → AreWellFormedDrivers written_verilog well_formed_verilog ms (drivers_in before) (driver_in (if b then Some (verilog_driver_of cell) else None) ++ drivers_in after)
+        → AreWellFormedDrivers written_verilog well_formed_verilog
+        (models_of (driven_modules_of ((before ++ cell ∷ []) ++ after))) (drivers_in (before ++ cell ∷ [])) (drivers_in after)
+        → AreWellFormedDrivers written_verilog well_formed_verilog ms (drivers_in before)
+        (driver_in (if b then Some (verilog_driver_of cell) else None) ++ drivers_in after)
     by true e rest = (
       driver_well_formed before cell after h e,
-      moved (drivers_in before ++ verilog_driver_of cell ∷ []) (drivers_push before cell ∙ ap (λ (b : Bool). drivers_in before ++ driver_in (if b then Some (verilog_driver_of cell) else None)) e) rest,
+      moved (drivers_in before ++ verilog_driver_of cell ∷ [])
+          (drivers_push before cell ∙ ap (λ (b : Bool). drivers_in before
+          ++ driver_in (if b then Some (verilog_driver_of cell) else None)) e) rest,
     )
     by false e rest =
         moved (drivers_in before)
-        (drivers_push before cell ∙ ap (λ (b : Bool). drivers_in before ++ driver_in (if b then Some (verilog_driver_of cell) else None)) e ∙ append-nil (drivers_in before))
+        (drivers_push before cell ∙ ap (λ (b : Bool). drivers_in before
+        ++ driver_in (if b then Some (verilog_driver_of cell) else None)) e ∙ append-nil (drivers_in before))
         rest
 
 -- all together
 pub well-formed-together : DrivenModulesAreWellFormed
 well-formed-together cells h =
     let models = core-modules-well-formed cells h in
-    let drivers : AreWellFormedDrivers written_verilog well_formed_verilog (models_of (driven_modules_of cells)) [] (drivers_in cells) = all_well_formed [] cells h in
-    record { models = models; drivers = drivers; read_back = read_back written_verilog well_formed_verilog pieces (driven_modules_of cells) models drivers }
+    let drivers : AreWellFormedDrivers written_verilog well_formed_verilog (models_of (driven_modules_of cells)) []
+    (drivers_in cells) = all_well_formed [] cells h in
+    record {
+      models = models;
+      drivers = drivers;
+      read_back =
+          read_back written_verilog well_formed_verilog pieces (driven_modules_of cells) models drivers;
+    }

@@ -29,7 +29,8 @@ pub driver_formed : (n : ℕ) (given : List (List ℕ)) (name : List ℕ)
 driver_formed n given name = by (is_kept_driver_name given name) refl
   where
     by : (b : Bool) → is_kept_driver_name given name ≡ b
-        → ((if b then name else codes "vitalz" ++ decimal n) ≡ codes "vitalz" ++ decimal n) ⊎ IsTrue (is_kept_entity_name given (if b then name else codes "vitalz" ++ decimal n))
+        → ((if b then name else codes "vitalz" ++ decimal n) ≡ codes "vitalz" ++ decimal n)
+        ⊎ IsTrue (is_kept_entity_name given (if b then name else codes "vitalz" ++ decimal n))
     by true e = inr (and_parts (is_kept_entity_name given name) (not (str_eq_ignore_ascii_case name (codes "driven"))) e).0
     by false e = inl refl
 
@@ -47,10 +48,12 @@ vitalz_cell m n = by (decimal m) (decimal n)
     by : (ds es : List ℕ) → str_eq_ignore_ascii_case (codes "vitalz" ++ ds) (codes "cell" ++ es) ≡ false
     by ds es = refl
 
-vitalzs_apart : (m n : ℕ) → m < 2 ^ 64 → n < 2 ^ 64 → (m ≡ n → ⊥) → str_eq_ignore_ascii_case (codes "vitalz" ++ decimal m) (codes "vitalz" ++ decimal n) ≡ false
+vitalzs_apart : (m n : ℕ) → m < 2 ^ 64 → n < 2 ^ 64 → (m ≡ n → ⊥)
+    → str_eq_ignore_ascii_case (codes "vitalz" ++ decimal m) (codes "vitalz" ++ decimal n) ≡ false
 vitalzs_apart m n h k apart = by (decimal m) (decimal n) (cells_apart m n h k apart)
   where
-    by : (ds es : List ℕ) → str_eq_ignore_ascii_case (codes "cell" ++ ds) (codes "cell" ++ es) ≡ false → str_eq_ignore_ascii_case (codes "vitalz" ++ ds) (codes "vitalz" ++ es) ≡ false
+    by : (ds es : List ℕ) → str_eq_ignore_ascii_case (codes "cell" ++ ds) (codes "cell" ++ es) ≡ false
+        → str_eq_ignore_ascii_case (codes "vitalz" ++ ds) (codes "vitalz" ++ es) ≡ false
     by ds es e = e
 
 -- Kept names.
@@ -86,22 +89,28 @@ kept_no_vital names x h =
     let c = and_parts (not (is_vhdl_word x)) (not (begins (codes "vital") x) && not (is_numbered (codes "pin") x)) b.0 in
     not-true (begins (codes "vital") x) (and_parts (not (begins (codes "vital") x)) (not (is_numbered (codes "pin") x)) c.1).0
 
-kept_vitalz : (names : List (List ℕ)) (x : List ℕ) (n : ℕ) → IsTrue (is_kept_entity_name names x) → str_eq_ignore_ascii_case x (codes "vitalz" ++ decimal n) ≡ false
+kept_vitalz : (names : List (List ℕ)) (x : List ℕ) (n : ℕ) → IsTrue (is_kept_entity_name names x)
+    → str_eq_ignore_ascii_case x (codes "vitalz" ++ decimal n) ≡ false
 kept_vitalz names x n h = by (decimal n)
   where
     by : (ds : List ℕ) → str_eq_ignore_ascii_case x (codes "vitalz" ++ ds) ≡ false
-    by ds = unlike_lower x (codes "vitalz" ++ ds) (λ e. true≢false (sym (like_vital x (map to_ascii_lowercase ds) e) ∙ kept_no_vital names x h))
+    by ds = unlike_lower x (codes "vitalz" ++ ds)
+        (λ e. true≢false (sym (like_vital x (map to_ascii_lowercase ds) e) ∙ kept_no_vital names x h))
 
-kept_cell : (names : List (List ℕ)) (x : List ℕ) (n : ℕ) → n < 2 ^ 64 → IsTrue (is_kept_entity_name names x) → str_eq_ignore_ascii_case x (codes "cell" ++ decimal n) ≡ false
+kept_cell : (names : List (List ℕ)) (x : List ℕ) (n : ℕ) → n < 2 ^ 64 → IsTrue (is_kept_entity_name names x)
+    → str_eq_ignore_ascii_case x (codes "cell" ++ decimal n) ≡ false
 kept_cell names x n k h = no_cell x n k (kept names x h).no_cell
 
-pub cell_kept : (names : List (List ℕ)) (x : List ℕ) (n : ℕ) → n < 2 ^ 64 → IsTrue (is_kept_entity_name names x) → str_eq_ignore_ascii_case (codes "cell" ++ decimal n) x ≡ false
+pub cell_kept : (names : List (List ℕ)) (x : List ℕ) (n : ℕ) → n < 2 ^ 64 → IsTrue (is_kept_entity_name names x)
+    → str_eq_ignore_ascii_case (codes "cell" ++ decimal n) x ≡ false
 cell_kept names x n k h = case_turned (codes "cell" ++ decimal n) x ∙ kept_cell names x n k h
 
-vitalz_kept : (names : List (List ℕ)) (x : List ℕ) (n : ℕ) → IsTrue (is_kept_entity_name names x) → str_eq_ignore_ascii_case (codes "vitalz" ++ decimal n) x ≡ false
+vitalz_kept : (names : List (List ℕ)) (x : List ℕ) (n : ℕ) → IsTrue (is_kept_entity_name names x)
+    → str_eq_ignore_ascii_case (codes "vitalz" ++ decimal n) x ≡ false
 vitalz_kept names x n h = case_turned (codes "vitalz" ++ decimal n) x ∙ kept_vitalz names x n h
 
-kepts_apart : (names : List (List ℕ)) (x y : List ℕ) → Among (lowered x) names → IsTrue (is_kept_entity_name names y) → str_eq_ignore_ascii_case x y ≡ false
+kepts_apart : (names : List (List ℕ)) (x y : List ℕ) → Among (lowered x) names → IsTrue (is_kept_entity_name names y)
+    → str_eq_ignore_ascii_case x y ≡ false
 kepts_apart names x y m h = unlike_lower x y (λ same. kept_is_new names y (lowered x) (kept names y h).new m (sym same))
 
 pub both : (x z y w : List ℕ) → x ≡ z → y ≡ w → str_eq_ignore_ascii_case z w ≡ false → str_eq_ignore_ascii_case x y ≡ false
@@ -109,11 +118,13 @@ both x z y w a b h = ap (λ v. str_eq_ignore_ascii_case v y) a ∙ ap (str_eq_ig
 
 -- A name before others, which stands among them in lower case where it is kept.
 abbrev pub IsFirst : List (List ℕ) → List (List ℕ) → ℕ → List ℕ → Type 0
-IsFirst given names n x = (x ≡ codes "cell" ++ decimal n) ⊎ ((x ≡ codes "vitalz" ++ decimal n) ⊎ (IsTrue (is_kept_entity_name given x) × Among (lowered x) names))
+IsFirst given names n x = (x ≡ codes "cell" ++ decimal n)
+    ⊎ ((x ≡ codes "vitalz" ++ decimal n) ⊎ (IsTrue (is_kept_entity_name given x) × Among (lowered x) names))
 
 -- names of models of two cells
 pub forms_apart :
-    (given names : List (List ℕ)) (m n : ℕ) (x y : List ℕ) → m < 2 ^ 64 → n < 2 ^ 64 → (m ≡ n → ⊥) → IsFirst given names m x → IsFormed names n y
+    (given names : List (List ℕ)) (m n : ℕ) (x y : List ℕ) → m < 2 ^ 64 → n < 2 ^ 64 → (m ≡ n → ⊥) → IsFirst given names m x
+    → IsFormed names n y
     → str_eq_ignore_ascii_case x y ≡ false
 forms_apart given names m n x y h k apart (inl a) (inl b) = both x _ y _ a b (cells_apart m n h k apart)
 forms_apart given names m n x y h k apart (inl a) (inr (inl b)) = both x _ y _ a b (cell_vitalz m n)

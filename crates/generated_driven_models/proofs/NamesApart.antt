@@ -35,10 +35,12 @@ record IsBehind (given : List (List ℕ)) (cells : List DrivenData) (y : List �
   known : (x : List ℕ) → Among x given → Among x names
   form : IsFormed names cell.core.number y
 
-here : (given : List (List ℕ)) (cell : DrivenData) (cells : List DrivenData) (y : List ℕ) → IsFormed given cell.core.number y → IsBehind given (cell ∷ cells) y
+here : (given : List (List ℕ)) (cell : DrivenData) (cells : List DrivenData) (y : List ℕ) → IsFormed given cell.core.number y
+    → IsBehind given (cell ∷ cells) y
 here given cell cells y form = record { cell = cell; among = inl refl; names = given; known = λ x k. k; form = form }
 
-later : (given : List (List ℕ)) (last : List ℕ) (cell : DrivenData) (cells : List DrivenData) (y : List ℕ) → IsBehind (given ++ last ∷ []) cells y → IsBehind given (cell ∷ cells) y
+later : (given : List (List ℕ)) (last : List ℕ) (cell : DrivenData) (cells : List DrivenData) (y : List ℕ)
+    → IsBehind (given ++ last ∷ []) cells y → IsBehind given (cell ∷ cells) y
 later given last cell cells y h = record {
   cell = h.cell;
   among = inr h.among;
@@ -47,18 +49,22 @@ later given last cell cells y h = record {
   form = h.form;
 }
 
-entity_form : (b : Bool) (given : List (List ℕ)) (cell : DrivenData) → IsFormed given cell.core.number (driven_entity b given cell).model.name
+entity_form : (b : Bool) (given : List (List ℕ)) (cell : DrivenData)
+    → IsFormed given cell.core.number (driven_entity b given cell).model.name
 entity_form true given cell = inl refl
 entity_form false given cell = entity_formed cell.core.number given cell.core.name
 
-entity_behind_form : (given : List (List ℕ)) (cells : List DrivenData) (y : List ℕ) → Among y (entity_names (models_of (driven_entities_behind given cells))) → IsBehind given cells y
+entity_behind_form : (given : List (List ℕ)) (cells : List DrivenData) (y : List ℕ)
+    → Among y (entity_names (models_of (driven_entities_behind given cells))) → IsBehind given cells y
 entity_behind_form given [] y m = absurd m
-entity_behind_form given (cell ∷ cells) y (inl e) = here given cell cells y (subst (IsFormed given cell.core.number) e (entity_form (may_float cell) given cell))
+entity_behind_form given (cell ∷ cells) y (inl e) =
+    here given cell cells y (subst (IsFormed given cell.core.number) e (entity_form (may_float cell) given cell))
 entity_behind_form given (cell ∷ cells) y (inr m) =
     let last : List ℕ = lowered (model_name (may_float cell) given cell) in
     later given last cell cells y (entity_behind_form (given ++ last ∷ []) cells y m)
 
-driver_form : (given : List (List ℕ)) (cell : DrivenData) → IsFormed given cell.core.number (driver_name cell.core.number given cell.name)
+driver_form : (given : List (List ℕ)) (cell : DrivenData)
+    → IsFormed given cell.core.number (driver_name cell.core.number given cell.name)
 driver_form given cell = inr (driver_formed cell.core.number given cell.name)
 
 driver_among :
@@ -70,7 +76,8 @@ driver_among true given cell rest y (inl e) = inl (subst (IsFormed given cell.co
 driver_among true given cell rest y (inr m) = inr m
 driver_among false given cell rest y m = inr m
 
-driver_behind_form : (given : List (List ℕ)) (cells : List DrivenData) (y : List ℕ) → Among y (driver_names (drivers_of (driven_entities_behind given cells))) → IsBehind given cells y
+driver_behind_form : (given : List (List ℕ)) (cells : List DrivenData) (y : List ℕ)
+    → Among y (driver_names (drivers_of (driven_entities_behind given cells))) → IsBehind given cells y
 driver_behind_form given [] y m = absurd m
 driver_behind_form given (cell ∷ cells) y m =
     let last : List ℕ = lowered (model_name (may_float cell) given cell) in
@@ -79,7 +86,8 @@ driver_behind_form given (cell ∷ cells) y m =
       | inr rest ↦ later given last cell cells y (driver_behind_form (given ++ last ∷ []) cells y rest)
     ]
 
-behind_form : (given : List (List ℕ)) (cells : List DrivenData) (y : List ℕ) → Among y (all_names (driven_entities_behind given cells)) → IsBehind given cells y
+behind_form : (given : List (List ℕ)) (cells : List DrivenData) (y : List ℕ)
+    → Among y (all_names (driven_entities_behind given cells)) → IsBehind given cells y
 behind_form given cells y m =
     let xs = driven_entities_behind given cells in
     elim (among-append y (entity_names (models_of xs)) (driver_names (drivers_of xs)) m) [
@@ -89,7 +97,8 @@ behind_form given cells y m =
 
 -- One more name between others.
 
-between : {X : Type 0} (P : X → Type 0) (xs : List X) (d : X) (ys : List X) → AllByRecursion P (xs ++ ys) → P d → AllByRecursion P (xs ++ d ∷ ys)
+between : {X : Type 0} (P : X → Type 0) (xs : List X) (d : X) (ys : List X) → AllByRecursion P (xs ++ ys) → P d
+    → AllByRecursion P (xs ++ d ∷ ys)
 between P [] d ys h k = (k, h)
 between P (x ∷ xs) d ys h k = (h.0, between P xs d ys h.1 k)
 
@@ -103,7 +112,8 @@ insert e (x ∷ xs) d ys h k l =
 
 -- The first cell, and those behind it.
 
-module _ (given : List (List ℕ)) (cell : DrivenData) (cells : List DrivenData) (h : AllByRecursion IsNumberedDriven (cell ∷ cells)) (distinct : IsDistinct nat_eq (own_numbers (cell ∷ cells))) where
+module _ (given : List (List ℕ)) (cell : DrivenData) (cells : List DrivenData)
+    (h : AllByRecursion IsNumberedDriven (cell ∷ cells)) (distinct : IsDistinct nat_eq (own_numbers (cell ∷ cells))) where
   -- a name of the first cell is unlike those of others behind it
   unlike_later :
       (last x y : List ℕ) → IsFirst given (given ++ last ∷ []) cell.core.number x → IsBehind (given ++ last ∷ []) cells y
@@ -124,10 +134,13 @@ module _ (given : List (List ℕ)) (cell : DrivenData) (cells : List DrivenData)
   kept_last x (inr (inl a)) = inr (inl a)
   kept_last x (inr (inr a)) = inr (inr (a, append-among_right (lowered x) given (lowered x ∷ []) (inl refl)))
 
-  own_apart : str_eq_ignore_ascii_case (codes "cell" ++ decimal cell.core.number) (driver_name cell.core.number given cell.name) ≡ false
+  own_apart : str_eq_ignore_ascii_case (codes "cell" ++ decimal cell.core.number)
+      (driver_name cell.core.number given cell.name) ≡ false
   own_apart =
       elim (driver_formed cell.core.number given cell.name) [
-        | inl a ↦ both (codes "cell" ++ decimal cell.core.number) (codes "cell" ++ decimal cell.core.number) (driver_name cell.core.number given cell.name) (codes "vitalz" ++ decimal cell.core.number) refl a (cell_vitalz cell.core.number cell.core.number)
+        | inl a ↦ both (codes "cell" ++ decimal cell.core.number) (codes "cell" ++ decimal cell.core.number)
+            (driver_name cell.core.number given cell.name) (codes "vitalz" ++ decimal cell.core.number) refl a
+            (cell_vitalz cell.core.number cell.core.number)
         | inr a ↦ cell_kept given (driver_name cell.core.number given cell.name) cell.core.number h.0.core.number a
       ]
 
@@ -140,7 +153,8 @@ module _ (given : List (List ℕ)) (cell : DrivenData) (cells : List DrivenData)
       let name : List ℕ = entity_name cell.core.number given cell.core.name in
       IsDistinct-cons str_eq_ignore_ascii_case name (all_names rest)
       (each_among (λ y. str_eq_ignore_ascii_case name y ≡ false) (all_names rest)
-      (λ y m. unlike_later (lowered name) name y (kept_last name (entity_formed cell.core.number given cell.core.name)) (forms y m)))
+      (λ y m. unlike_later (lowered name) name y (kept_last name (entity_formed cell.core.number given cell.core.name))
+      (forms y m)))
       apart
   one_more true rest apart forms =
       let core : List ℕ = codes "cell" ++ decimal cell.core.number in
@@ -152,13 +166,15 @@ module _ (given : List (List ℕ)) (cell : DrivenData) (cells : List DrivenData)
       let of_driver : (y : List ℕ) → Among y (es ++ ds) → str_eq_ignore_ascii_case name y ≡ false =
       λ y m. unlike_later (lowered name) name y (kept_last name (driver_form given cell)) (forms y m) in
       IsDistinct-cons str_eq_ignore_ascii_case core (es ++ name ∷ ds)
-      (between (λ y. str_eq_ignore_ascii_case core y ≡ false) es name ds (each_among (λ y. str_eq_ignore_ascii_case core y ≡ false) (es ++ ds) of_core) own_apart)
+      (between (λ y. str_eq_ignore_ascii_case core y ≡ false) es name ds
+      (each_among (λ y. str_eq_ignore_ascii_case core y ≡ false) (es ++ ds) of_core) own_apart)
       (insert str_eq_ignore_ascii_case es name ds apart
       (λ x m. case_turned x name ∙ of_driver x (append-among_left x es ds m))
       (λ y m. of_driver y (append-among_right y es ds m)))
 
 pub names_apart :
-    (given : List (List ℕ)) (cells : List DrivenData) → AllByRecursion IsNumberedDriven cells → IsDistinct nat_eq (own_numbers cells)
+    (given : List (List ℕ)) (cells : List DrivenData) → AllByRecursion IsNumberedDriven cells
+    → IsDistinct nat_eq (own_numbers cells)
     → AreApart (all_names (driven_entities_behind given cells))
 unfolding IsDistinct
 names_apart given [] h d = tt

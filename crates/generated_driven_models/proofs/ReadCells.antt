@@ -25,7 +25,8 @@ named_by unit number cell (output ∷ outputs) =
     let read : DrivenData = data_by unit number cell (output ∷ outputs) in
     sym (ap (λ (b : Bool). if b then core_name number else read.name) (lt-ltb 0 (length read.driver.drives) (omega arith)))
 
-named : (unit : Option Unit) (number : ℕ) (cell : Group) → (driven_data unit number cell).core.name ≡ name_of_core (driven_data unit number cell)
+named : (unit : Option Unit) (number : ℕ) (cell : Group)
+    → (driven_data unit number cell).core.name ≡ name_of_core (driven_data unit number cell)
 unfolding driven_data
 named unit number cell = named_by unit number cell (three_state_outputs cell)
 
@@ -42,4 +43,8 @@ read-cells-numbered unit number cell h =
 
 pub distinct-of-one-library : DistinctCellsAreOfOneLibrary
 distinct-of-one-library cells h names numbers =
-    record { apart = record { numbered = h; numbers = numbers }; names = kept_distinct bytes_eq is_kept_cell_name (own_names cells) names }
+    record {
+      apart = record { numbered = h; numbers = numbers };
+      names =
+          kept_distinct bytes_eq is_kept_cell_name (own_names cells) names;
+    }

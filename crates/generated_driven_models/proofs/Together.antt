@@ -50,15 +50,19 @@ core_named n h = by (decimal n) (cell_number n h)
     by : (ds : List ℕ) → IsEntityName (codes "cell" ++ ds) → IsGivenName (codes "cell" ++ ds)
     by ds k = record { named = k; no_pin = refl }
 
-one_entity : (b : Bool) (given : List (List ℕ)) (cell : DrivenData) → IsNumberedDriven cell → IsWellFormedEntity (driven_entity b given cell).model
-one_entity true given cell h = named_well_formed cell.core (core_rules cell.core h.core) (codes "cell" ++ decimal cell.core.number) (core_named cell.core.number h.core.number)
+one_entity : (b : Bool) (given : List (List ℕ)) (cell : DrivenData) → IsNumberedDriven cell
+    → IsWellFormedEntity (driven_entity b given cell).model
+one_entity true given cell h = named_well_formed cell.core (core_rules cell.core h.core)
+    (codes "cell" ++ decimal cell.core.number) (core_named cell.core.number h.core.number)
 one_entity false given cell h = entity-well-formed cell.core given h.core
 
-all_entities : (given : List (List ℕ)) (cells : List DrivenData) → AllByRecursion IsNumberedDriven cells → All IsWellFormedEntity (models_of (driven_entities_behind given cells))
+all_entities : (given : List (List ℕ)) (cells : List DrivenData) → AllByRecursion IsNumberedDriven cells
+    → All IsWellFormedEntity (models_of (driven_entities_behind given cells))
 all_entities given [] h = All-nil IsWellFormedEntity
 all_entities given (cell ∷ cells) h =
     let names : List (List ℕ) = given ++ lowered (model_name (may_float cell) given cell) ∷ [] in
-    All-cons IsWellFormedEntity (driven_entity (may_float cell) given cell).model (models_of (driven_entities_behind names cells)) (one_entity (may_float cell) given cell h.0)
+    All-cons IsWellFormedEntity (driven_entity (may_float cell) given cell).model (models_of (driven_entities_behind names cells))
+    (one_entity (may_float cell) given cell h.0)
     (all_entities names cells h.1)
 
 front_apart : (xs ys : List (List ℕ)) → AreApart (xs ++ ys) → AreApart xs
@@ -75,11 +79,13 @@ front_apart (x ∷ xs) ys h = (front_all _ xs ys h.0, front_apart xs ys h.1)
 abbrev core_entity : DrivenData → VEntity
 core_entity cell = entity_of cell.core (codes "cell" ++ decimal cell.core.number)
 
-core_found : (cell : DrivenData) → core_ports is_same (vital_sections.core (core_entity cell) ∷ []) (codes "cell" ++ decimal cell.core.number) ≡ Some (core_entity cell).ports
+core_found : (cell : DrivenData) → core_ports is_same (vital_sections.core (core_entity cell) ∷ [])
+    (codes "cell" ++ decimal cell.core.number) ≡ Some (core_entity cell).ports
 core_found cell =
     let name : List ℕ = codes "cell" ++ decimal cell.core.number in
     ap (option_and_then (ports_at (vital_sections.core (core_entity cell) ∷ [])))
-    (found_behind (λ (core : Core). is_same name core.name) 0 [] (vital_sections.core (core_entity cell)) [] refl (same_self name))
+    (found_behind (λ (core : Core). is_same name core.name) 0 [] (vital_sections.core (core_entity cell)) [] refl
+    (same_self name))
 
 one_driver :
     (b : Bool) (given : List (List ℕ)) (cell : DrivenData) (es before after : List VEntity) → (b ≡ true → HasDrivers cell)
@@ -93,20 +99,23 @@ one_driver true given cell es before after h same rest others = (
     entity = core_entity cell;
     at = ap (λ (l : List VEntity). slice_get l (length before)) same ∙ get_at before (core_entity cell) after;
     named = refl;
-    alone = vital_drivers_are_well_formed cell given [] (vital_sections.core (core_entity cell) ∷ []) (codes "cell" ++ decimal cell.core.number) (h refl) refl (core_found cell);
+    alone = vital_drivers_are_well_formed cell given [] (vital_sections.core (core_entity cell) ∷ [])
+        (codes "cell" ++ decimal cell.core.number) (h refl) refl (core_found cell);
   },
   others,
 )
 
 all_drivers :
     (given : List (List ℕ)) (cells : List DrivenData) (es before : List VEntity) → AllByRecursion IsNumberedDriven cells
-    → es ≡ before ++ models_of (driven_entities_behind given cells) → AllByRecursion (IsOver es) (drivers_of (driven_entities_behind given cells))
+    → es ≡ before ++ models_of (driven_entities_behind given cells)
+    → AllByRecursion (IsOver es) (drivers_of (driven_entities_behind given cells))
 all_drivers given [] es before h same = tt
 all_drivers given (cell ∷ cells) es before h same =
     let names : List (List ℕ) = given ++ lowered (model_name (may_float cell) given cell) ∷ [] in
     let model : VEntity = (driven_entity (may_float cell) given cell).model in
     let after : List VEntity = models_of (driven_entities_behind names cells) in
-    one_driver (may_float cell) given cell es before after (has_drivers cell h.0) same (drivers_of (driven_entities_behind names cells))
+    one_driver (may_float cell) given cell es before after (has_drivers cell h.0) same
+    (drivers_of (driven_entities_behind names cells))
     (all_drivers names cells es (before ++ model ∷ []) h.1 (same ∙ sym (append_assoc before (model ∷ []) after)))
 
 -- All together.
@@ -120,5 +129,6 @@ well_formed_together cells h =
       entities = all_entities [] cells each;
       apart = front_apart (entity_names (models_of xs)) (driver_names (drivers_of xs)) apart;
     } in
-    let drivers : AreWellFormedDrivers written_vital well_formed_vital (models_of xs) [] (drivers_of xs) = well_formed (models_of xs) (drivers_of xs) models (all_drivers [] cells (models_of xs) [] each refl) apart in
+    let drivers : AreWellFormedDrivers written_vital well_formed_vital (models_of xs) [] (drivers_of xs) =
+    well_formed (models_of xs) (drivers_of xs) models (all_drivers [] cells (models_of xs) [] each refl) apart in
     record { models = models; drivers = drivers; read_back = read_back written_vital well_formed_vital pieces xs models drivers }

@@ -36,7 +36,8 @@ use Rattle.generated_driven_models.proofs.CellPins.{keeps_outputs, few_own, own_
 other_named : (digits : List ℕ) → IsTrue (list_all is_name_byte digits) → IsName (codes "lib_" ++ (digits ++ codes "_z"))
 unfolding is_verilog_word verilog_words
 other_named digits h = record {
-  identifier = (lib_stem (digits ++ codes "_z") (list_all-append is_name_byte digits (codes "_z") ∙ and_from (list_all is_name_byte digits) true h refl)).identifier;
+  identifier = (lib_stem (digits ++ codes "_z")
+      (list_all-append is_name_byte digits (codes "_z") ∙ and_from (list_all is_name_byte digits) true h refl)).identifier;
   no_word = refl;
 }
 
@@ -44,7 +45,8 @@ driver_named : (number : ℕ) (name : List ℕ) → number < 2 ^ 64 → IsName (
 driver_named number name h = by (is_kept_cell_name name) refl
   where
     by : (b : Bool) → is_kept_cell_name name ≡ b → IsName (if b then name else codes "lib_" ++ (decimal number ++ codes "_z"))
-    by true e = subst (λ b. IsName (if b then name else codes "cell" ++ decimal number)) e (given_is_name (codes "cell") cell_stem number name h)
+    by true e = subst (λ b. IsName (if b then name else codes "cell" ++ decimal number)) e
+        (given_is_name (codes "cell") cell_stem number name h)
     by false e = other_named (decimal number) (number_in_name (decimal number) (decimal_digits number h))
 
 -- No port is called like a wire.
@@ -60,12 +62,14 @@ no_data (suc count) x h =
     ∙ ap (λ b. b || false) (told_apart begins_own x (data_word ++ decimal (suc count)) h refl))
 
 no_wires :
-    (count : ℕ) (drives : List ℕ) (place number : ℕ) (ports : List VPort) → ((x : List ℕ) → Among x (port_names ports) → begins_own x ≡ false)
+    (count : ℕ) (drives : List ℕ) (place number : ℕ) (ports : List VPort)
+    → ((x : List ℕ) → Among x (port_names ports) → begins_own x ≡ false)
     → All (IsNoWire count) (numbered_ports drives place number ports)
 no_wires count drives place number [] h = All-nil (IsNoWire count)
 no_wires count drives place number (port ∷ ports) h =
     All-cons (IsNoWire count) _ _ (λ output other. no_data count port.name (h port.name (inl refl)))
-    (no_wires count drives (outputs_with place port) (driven_with number (port_number drives place number port)) ports (λ x m. h x (inr m)))
+    (no_wires count drives (outputs_with place port) (driven_with number (port_number drives place number port)) ports
+    (λ x m. h x (inr m)))
 
 pub verilog_drivers_are_well_formed : VerilogDriversAreWellFormed
 unfolding verilog_driver_of

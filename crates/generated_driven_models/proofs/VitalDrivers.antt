@@ -28,7 +28,8 @@ record IsDriverName (name : List ℕ) : Type 0 where
   given : IsGivenName name
   other : is_same name (codes "driven") ≡ false
 
-digits_spelled : (ds : List ℕ) → IsTrue (list_all is_ascii_digit ds) → IsEntityName (codes "cell" ++ ds) → IsEntityName (codes "vitalz" ++ ds)
+digits_spelled : (ds : List ℕ) → IsTrue (list_all is_ascii_digit ds) → IsEntityName (codes "cell" ++ ds)
+    → IsEntityName (codes "vitalz" ++ ds)
 unfolding is_reserved is_used vhdl_words used_words
 digits_spelled ds h named = record { identifier = named.identifier; no_word = refl }
 
@@ -42,9 +43,11 @@ other_named number h = record {
 }
 
 -- a name is no character
-no_character : (name : List ℕ) → IsEntityName name → str_eq_ignore_ascii_case name (codes "driven") ≡ false → is_same name (codes "driven") ≡ false
+no_character : (name : List ℕ) → IsEntityName name → str_eq_ignore_ascii_case name (codes "driven") ≡ false
+    → is_same name (codes "driven") ≡ false
 no_character [] named e = e
-no_character (b ∷ bs) named e = by (b == 39) refl (and_parts (is_ascii_alphabetic b) (list_all is_name_byte bs) named.identifier).0
+no_character (b ∷ bs) named e = by (b == 39) refl
+    (and_parts (is_ascii_alphabetic b) (list_all is_name_byte bs) named.identifier).0
   where
     by : (t : Bool) → (b == 39) ≡ t → IsTrue (is_ascii_alphabetic b) → is_same (b ∷ bs) (codes "driven") ≡ false
     by false t a = rw t e
@@ -57,9 +60,14 @@ kept_named : (given : List (List ℕ)) (name : List ℕ) → IsTrue (is_kept_dri
 kept_named given name h =
     let parts = and_parts (is_kept_entity_name given name) (not (str_eq_ignore_ascii_case name (codes "driven"))) h in
     let named = (kept given name parts.0).named in
-    record { given = named; other = no_character name named.named (not-true (str_eq_ignore_ascii_case name (codes "driven")) parts.1) }
+    record {
+      given = named;
+      other = no_character name named.named
+          (not-true (str_eq_ignore_ascii_case name (codes "driven")) parts.1);
+    }
 
-driver_named : (number : ℕ) (given : List (List ℕ)) (name : List ℕ) → number < 2 ^ 64 → IsDriverName (driver_name number given name)
+driver_named : (number : ℕ) (given : List (List ℕ)) (name : List ℕ) → number < 2 ^ 64
+    → IsDriverName (driver_name number given name)
 driver_named number given name h = by (is_kept_driver_name given name) refl
   where
     by : (b : Bool) → is_kept_driver_name given name ≡ b → IsDriverName (if b then name else codes "vitalz" ++ decimal number)
@@ -79,7 +87,8 @@ vital_drivers_are_well_formed cell given names cores core h new found =
       written = record {
         name = named.given.named;
         other = named.other;
-        ports = All-from_recursion IsPortName (port_names (ports_of name (pins_of cell))) (each_among IsPortName (port_names (ports_of name (pins_of cell))) ports.named);
+        ports = All-from_recursion IsPortName (port_names (ports_of name (pins_of cell)))
+            (each_among IsPortName (port_names (ports_of name (pins_of cell))) ports.named);
         core = cell_number cell.core.number h.core.number;
         some = h.some;
         few = omega (arith, few);

@@ -43,8 +43,8 @@ VerilogDriversAreWellFormed =
     → core_ports bytes_eq cores (module_name cell.core.number cell.core.name) ≡ Some (module_of cell.core).ports
     → verilog.IsWellFormedDriver names cores (verilog_driver_of cell)
 
--- The VHDL model of its drivers under the name that is given behind some entities is well formed, where this name is none of some,
--- and the first model of the name of the core's entity has the ports of this entity.
+-- The VHDL model of its drivers under the name that is given behind some entities is well formed, where this name is none of
+-- some, and the first model of the name of the core's entity has the ports of this entity.
 abbrev pub VitalDriversAreWellFormed : Type 0
 VitalDriversAreWellFormed =
     (cell : DrivenData) (given names : List (List ℕ)) (cores : List Core) (core : List ℕ) → HasDrivers cell

@@ -27,7 +27,8 @@ DistinctCellsAreOfOneLibrary =
     → IsDistinct nat_eq (own_numbers cells) → AreOfOneLibrary cells
 
 -- Models and drivers are well formed together, each driver behind those before it, and what is written of them reads back.
-pub record AreWellFormedTogether {M : Type 0} (w : WrittenLanguage M) (r : WellFormedness M) (xs : List (WrittenModel M)) : Type 0 where
+pub record AreWellFormedTogether {M : Type 0} (w : WrittenLanguage M) (r : WellFormedness M) (xs : List (WrittenModel M)) :
+    Type 0 where
   pub models : r.AreWellFormed (models_of xs)
   pub drivers : AreWellFormedDrivers w r (models_of xs) [] (drivers_of xs)
   pub read_back : driven_models w.language (written_text w xs) ≡ Ok (record { models = models_of xs; drivers = drivers_of xs })
@@ -35,9 +36,11 @@ pub record AreWellFormedTogether {M : Type 0} (w : WrittenLanguage M) (r : WellF
 -- the modules of the cores of the cells of one library and the drivers over them are
 abbrev pub DrivenModulesAreWellFormed : Type 0
 DrivenModulesAreWellFormed =
-    (cells : List DrivenData) → AreOfOneLibrary cells → AreWellFormedTogether written_verilog well_formed_verilog (driven_modules_of cells)
+    (cells : List DrivenData) → AreOfOneLibrary cells
+    → AreWellFormedTogether written_verilog well_formed_verilog (driven_modules_of cells)
 
 -- the entities and the drivers of cells of which no two have one number are
 abbrev pub DrivenEntitiesAreWellFormed : Type 0
 DrivenEntitiesAreWellFormed =
-    (cells : List DrivenData) → AreNumberedApart cells → AreWellFormedTogether written_vital well_formed_vital (driven_entities_of cells)
+    (cells : List DrivenData) → AreNumberedApart cells
+    → AreWellFormedTogether written_vital well_formed_vital (driven_entities_of cells)

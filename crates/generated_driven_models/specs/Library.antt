@@ -1,5 +1,5 @@
--- Which cells, some of whose outputs may float, stand together in one library. (Liberty Reference Manual, `three_state`; that the core
--- of such a cell is called by its number is this project's form.)
+-- Which cells, some of whose outputs may float, stand together in one library. (Liberty Reference Manual, `three_state`; that the
+-- core of such a cell is called by its number is this project's form.)
 use Rattle.std.specs.Prelude.{◌≡◌, ℕ, All, List, length, map, nat_eq, bytes_eq, if◌then◌else◌}
 use Rattle.std.specs.List.{IsDistinct}
 use Rattle.generated_drivers.specs.three_state_cells.Drivers.{IsDriverOf}
@@ -11,7 +11,8 @@ use Rattle.generated_entities.specs.generated_modules.Cells.{IsNumberedCell, kep
 abbrev pub name_of_core : DrivenData → List ℕ
 name_of_core cell = if may_float cell then core_name cell.core.number else cell.name
 
--- A cell as one of a library: its core is a numbered cell that keeps the rules, and its driver is one of the core and keeps limits.
+-- A cell as one of a library: its core is a numbered cell that keeps the rules, and its driver is one of the core and keeps
+-- limits.
 pub record IsNumberedDriven (cell : DrivenData) : Type 0 where
   pub core : IsNumberedCell cell.core
   pub named : cell.core.name ≡ name_of_core cell

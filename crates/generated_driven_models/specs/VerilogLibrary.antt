@@ -1,5 +1,5 @@
--- The Verilog models of cells, some of whose outputs may float. (IEEE 1364-2005, 12.1, modules. That a driver stands behind the module
--- of its cell's core is this project's form.)
+-- The Verilog models of cells, some of whose outputs may float. (IEEE 1364-2005, 12.1, modules. That a driver stands behind the
+-- module of its cell's core is this project's form.)
 use Rattle.std.specs.Prelude.{List, map, Option, Some, None, if◌then◌else◌}
 use Rattle.generated_drivers.specs.driver_models.declared.model.DriverModel.{DriverModel}
 use Rattle.generated_drivers.specs.specify_blocks.declared.model.VModule.{VModule}

@@ -11,8 +11,8 @@ pub fn read_cells_have_drivers()
     ensures { ReadCellsHaveDrivers }
 {}
 
-/// The law that the Verilog model of a cell's drivers is well formed where its name is not taken and the module of the cell's core
-/// stands in the file.
+/// The law that the Verilog model of a cell's drivers is well formed where its name is not taken and the module of the cell's
+/// core stands in the file.
 pub fn verilog_drivers_are_well_formed()
     ensures { VerilogDriversAreWellFormed }
 {}
@@ -33,16 +33,16 @@ pub fn distinct_cells_are_of_one_library()
     ensures { DistinctCellsAreOfOneLibrary }
 {}
 
-/// The modules of the cores of the cells of one library, and the models of the drivers over them, each behind those before it, are well
-/// formed together: no two of all primitives, modules and drivers share a name, and each driver finds the module of its cell's core. So
-/// what is written of them reads back, and as no others. (IEEE 1364-2005, clauses 3, 7.4 and 12.)
+/// The modules of the cores of the cells of one library, and the models of the drivers over them, each behind those before it,
+/// are well formed together: no two of all primitives, modules and drivers share a name, and each driver finds the module of its
+/// cell's core. So what is written of them reads back, and as no others. (IEEE 1364-2005, clauses 3, 7.4 and 12.)
 pub fn driven_modules_are_well_formed()
     ensures { DrivenModulesAreWellFormed }
 {}
 
-/// The entities of cells of which no two have one number, and the models of their drivers, each named behind those before it, are well
-/// formed together: no two share a name, whatever the case of its letters, and each driver stands over the entity of its core. So what
-/// is written of them reads back. (IEEE 1076-1993, 10.3 and 13.3.1.)
+/// The entities of cells of which no two have one number, and the models of their drivers, each named behind those before it, are
+/// well formed together: no two share a name, whatever the case of its letters, and each driver stands over the entity of its
+/// core. So what is written of them reads back. (IEEE 1076-1993, 10.3 and 13.3.1.)
 pub fn driven_entities_are_well_formed()
     ensures { DrivenEntitiesAreWellFormed }
 {}

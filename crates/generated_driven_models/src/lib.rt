@@ -1,6 +1,6 @@
 //! The models and the drivers that are generated for the cells of one library, some of whose outputs may float, are well formed
-//! together in both languages, and read back from what is written of them. (IEEE 1364-2005, clauses 3, 7.4 and 12; IEEE 1076-1993,
-//! 10.3 and 13.3.1.)
+//! together in both languages, and read back from what is written of them. (IEEE 1364-2005, clauses 3, 7.4 and 12; IEEE
+//! 1076-1993, 10.3 and 13.3.1.)
 #![tactic(auto)]
 
 mod laws;

@@ -1,5 +1,6 @@
 -- The models of a cell's drivers are sound and fit the models of its core.
-use Rattle.std.proofs.Common.{◌≡◌, ℕ, ◌+◌, ◌-◌, ◌≤◌, Bool, false, List, ◌++◌, length, map, refl, sym, ap, ◌∙◌, subst, arith, replicate}
+use Rattle.std.proofs.Common.{◌≡◌, ℕ, ◌+◌, ◌-◌, ◌≤◌, Bool, false, List, ◌++◌, length, map, refl, sym, ap, ◌∙◌, subst, arith}
+use Rattle.std.proofs.Common.{replicate}
 use Rattle.std.proofs.lemmas.List.{map-append, take-append-drop, length-drop}
 use Rattle.std.proofs.lemmas.List.Sums.{count_by-le-length}
 use Rattle.cell_machine.specs.declared.pins.Pin.{Pin}
@@ -19,7 +20,9 @@ use Rattle.three_state_cells.specs.Laws.{KeepsOutputs}
 use Rattle.three_state_cells.proofs.CoreDrivers.{count, flags_count, count_append, outputs_counted as core_outputs_counted}
 use Rattle.generated_drivers.specs.Generated.{pins_of, verilog_driver_of, vital_driver_of}
 use Rattle.generated_drivers.specs.Laws.{FitsCore, VerilogDriversFit, VitalDriversFit}
-use Rattle.generated_drivers.proofs.PortDirections.{port_directions, verilog_directions, vital_directions, inputs_counted, outputs_counted, directions_append, outputs_alone, inputs_none, outputs_all, core_ports_pass}
+use Rattle.generated_drivers.proofs.PortDirections.{port_directions, verilog_directions, vital_directions, inputs_counted}
+use Rattle.generated_drivers.proofs.PortDirections.{outputs_counted, directions_append, outputs_alone, inputs_none, outputs_all}
+use Rattle.generated_drivers.proofs.PortDirections.{core_ports_pass}
 
 module _ (core : CellData) (driver : Driver) (keeps : KeepsOutputs core) (is : IsDriverOf core driver) where
   abbrev driven : ℕ
@@ -114,7 +117,9 @@ pub few_drives_of : (cell : DrivenCell) → length cell.driver.drives ≤ length
 few_drives_of cell = few_drives (data_of cell.core) cell.driver (cell_rules cell.core).of_outputs (driver_of_cell cell)
 
 pub verilog_driver_is_sound : (cell : DrivenCell) → IsSound (verilog_driver_of (driven_data_of cell))
-verilog_driver_is_sound cell = (verilog_drivers_fit (driven_data_of cell) (cell_rules cell.core).of_outputs (driver_of_cell cell)).sound
+verilog_driver_is_sound cell = (verilog_drivers_fit (driven_data_of cell) (cell_rules cell.core).of_outputs
+    (driver_of_cell cell)).sound
 
 pub vital_driver_is_sound : (cell : DrivenCell) (name : List ℕ) → IsSound (vital_driver_of (driven_data_of cell) name)
-vital_driver_is_sound cell name = (vital_drivers_fit (driven_data_of cell) name name (cell_rules cell.core).of_outputs (driver_of_cell cell)).sound
+vital_driver_is_sound cell name =
+    (vital_drivers_fit (driven_data_of cell) name name (cell_rules cell.core).of_outputs (driver_of_cell cell)).sound

@@ -30,7 +30,8 @@ VitalDriversFit =
     (cell : DrivenData) (name core : List ℕ) → KeepsOutputs cell.core → IsDriverOf cell.core cell.driver
     → FitsCore (vital_driver_of cell name) (entity_of cell.core core).ports
 
--- The core of the cell with a number is called `cell` and the number in both languages, whatever the entities before it are called.
+-- The core of the cell with a number is called `cell` and the number in both languages, whatever the entities before it are
+-- called.
 pub record IsNumberedCore (number : ℕ) (given : List (List ℕ)) : Type 0 where
   pub in_verilog : module_name number (core_name number) ≡ codes "cell" ++ decimal number
   pub in_vhdl : entity_name number given (core_name number) ≡ codes "cell" ++ decimal number

@@ -5,8 +5,8 @@ ghost use Rattle.three_state_cells.specs.DrivenCells.{driven_data_of};
 ghost use Rattle.three_state_cells.specs.Drivers.{own_pins};
 ghost use Rattle.generated_drivers.specs.Generated.{verilog_driver_of, vital_driver_of};
 
-use cell_machine::Pin;
 use cell_attributes::held::both_made;
+use cell_machine::Pin;
 use driver_models::DriverModel;
 use specify_blocks::{driver_name, module_name, verilog_ports};
 use sqlite_items::Items;
@@ -25,8 +25,8 @@ pub fn own_pins(cell: &DrivenCell) -> &[Pin]
     &pins[..own]
 }
 
-/// The Verilog model of the three-state drivers of a cell that has some: a module whose core is the module of the cell's core. What
-/// it answers is sound. `AllocError` comes only where memory is wanting.
+/// The Verilog model of the three-state drivers of a cell that has some: a module whose core is the module of the cell's core.
+/// What it answers is sound. `AllocError` comes only where memory is wanting.
 #[tactic(auto, unfolding(crate::specs::Generated::verilog_driver_of), using(crate::proofs::Fitting::verilog_driver_is_sound))]
 pub fn verilog_driver(alloc: Global, cell: &DrivenCell) -> Result<DriverModel, AllocError>
     requires { 0 < length cell.now.driver.drives }

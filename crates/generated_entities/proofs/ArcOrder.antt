@@ -1,5 +1,6 @@
 -- The arcs of a cell, output by output, are its arcs in their order.
-use Rattle.std.proofs.Common.{◌≡◌, ℕ, ◌<◌, ◌≤◌, Bool, true, false, List, [], ◌∷◌, ◌++◌, map, inl, inr, refl, sym, ap, ◌∙◌, subst, arith, IsTrue, nat_eq, nat_le, if◌then◌else◌}
+use Rattle.std.proofs.Common.{◌≡◌, ℕ, ◌<◌, ◌≤◌, Bool, true, false, List, [], ◌∷◌, ◌++◌, map, inl, inr, refl, sym, ap, ◌∙◌, subst}
+use Rattle.std.proofs.Common.{arith, IsTrue, nat_eq, nat_le, if◌then◌else◌}
 use Rattle.std.specs.Prelude.{filter, flat_map}
 use Rattle.std.proofs.lemmas.Bool.{and_parts, leb-true, eqb-true, ne_eqb, cases_Bool, eq-eqb}
 use Rattle.trit_cubes.proofs.ListLemmas.{Among}
@@ -24,7 +25,8 @@ InOrder arcs = IsTrue (is_in_order (map (λ (arc : Arc). arc.to) arcs))
 -- in order, all end at the first one's end or behind it
 order_tail : (arc : Arc) (arcs : List Arc) → InOrder (arc ∷ arcs) → InOrder arcs
 order_tail arc [] h = refl
-order_tail arc (other ∷ arcs) h = (and_parts (nat_le arc.to other.to) (is_in_order (map (λ (arc : Arc). arc.to) (other ∷ arcs))) h).1
+order_tail arc (other ∷ arcs) h =
+    (and_parts (nat_le arc.to other.to) (is_in_order (map (λ (arc : Arc). arc.to) (other ∷ arcs))) h).1
 
 order_first : (arc : Arc) (arcs : List Arc) → InOrder (arc ∷ arcs) → (other : Arc) → Among other arcs → arc.to ≤ other.to
 order_first arc [] h other m = absurd m
@@ -46,10 +48,12 @@ no_arcs [] = refl
 no_arcs (p ∷ pins) = no_arcs pins
 
 -- an arc that ends at none of some pins
-unseen : (arc : Arc) (arcs : List Arc) (q : ℕ) → nat_eq arc.to q ≡ false → filter (ends_at q) (arc ∷ arcs) ≡ filter (ends_at q) arcs
+unseen : (arc : Arc) (arcs : List Arc) (q : ℕ) → nat_eq arc.to q ≡ false
+    → filter (ends_at q) (arc ∷ arcs) ≡ filter (ends_at q) arcs
 unseen arc arcs q e = ap (λ b. if b then arc ∷ filter (ends_at q) arcs else filter (ends_at q) arcs) e
 
-seen : (arc : Arc) (arcs : List Arc) (q : ℕ) → nat_eq arc.to q ≡ true → filter (ends_at q) (arc ∷ arcs) ≡ arc ∷ filter (ends_at q) arcs
+seen : (arc : Arc) (arcs : List Arc) (q : ℕ) → nat_eq arc.to q ≡ true
+    → filter (ends_at q) (arc ∷ arcs) ≡ arc ∷ filter (ends_at q) arcs
 seen arc arcs q e = ap (λ b. if b then arc ∷ filter (ends_at q) arcs else filter (ends_at q) arcs) e
 
 -- the first arc ends at the first pin
@@ -67,7 +71,8 @@ first_here p pins arc arcs above e =
 
 -- no arc ends at the first pin
 none_here :
-    (p : ℕ) (pins : List ℕ) (arcs : List Arc) → ((arc : Arc) → Among arc arcs → p < arc.to) → by_ends (p ∷ pins) arcs ≡ by_ends pins arcs
+    (p : ℕ) (pins : List ℕ) (arcs : List Arc) → ((arc : Arc) → Among arc arcs → p < arc.to)
+    → by_ends (p ∷ pins) arcs ≡ by_ends pins arcs
 none_here p pins arcs behind =
     ap (λ l. l ++ by_ends pins arcs)
     (filter_none (ends_at p) arcs (λ arc m. let less = behind arc m in ne_eqb arc.to p (λ same. omega (arith, same, less))))
@@ -76,7 +81,8 @@ later_pin : (p q : ℕ) (pins : List ℕ) → p < q → Among q (p ∷ pins) →
 later_pin p q pins h (inl e) = absurd (omega (arith, h, e))
 later_pin p q pins h (inr m) = m
 
-pub arcs_by_ends : (pins : List ℕ) (arcs : List Arc) → Ascending pins → InOrder arcs → EndAmong pins arcs → by_ends pins arcs ≡ arcs
+pub arcs_by_ends : (pins : List ℕ) (arcs : List Arc) → Ascending pins → InOrder arcs → EndAmong pins arcs
+    → by_ends pins arcs ≡ arcs
 arcs_by_ends pins [] a h k = no_arcs pins
 arcs_by_ends [] (arc ∷ arcs) a h k = absurd (k arc (inl refl))
 arcs_by_ends (p ∷ pins) (arc ∷ arcs) a h k =

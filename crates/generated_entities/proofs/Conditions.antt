@@ -1,5 +1,6 @@
 -- The conditions that a generated entity looks up are those that its cell uses, in their order.
-use Rattle.std.proofs.Common.{◌≡◌, ℕ, zero, suc, ◌+◌, ◌<◌, Bool, true, false, List, [], ◌∷◌, ◌++◌, length, map, inl, inr, refl, sym, ap, ◌∙◌, subst, arith, IsTrue, Option, Some, None, option_map, if◌then◌else◌}
+use Rattle.std.proofs.Common.{◌≡◌, ℕ, zero, suc, ◌+◌, ◌<◌, Bool, true, false, List, [], ◌∷◌, ◌++◌, length, map, inl, inr, refl}
+use Rattle.std.proofs.Common.{sym, ap, ◌∙◌, subst, arith, IsTrue, Option, Some, None, option_map, if◌then◌else◌}
 use Rattle.std.specs.Prelude.{flat_map, filter}
 use Rattle.std.proofs.lemmas.Bool.{and_parts}
 use Rattle.std.proofs.lemmas.List.{map-append, length-map}
@@ -18,7 +19,8 @@ use Rattle.specify_blocks.proofs.OutputPins.{outputs_are_pins}
 use Rattle.udp_tables.specs.declared.timing_checks.TimingCheck.{TimingCheck}
 use Rattle.vital_models.specs.Generated.{condition_of, place_of, all_zero, gate_by, path_of, output_of, check_of, entity_of}
 use Rattle.specify_blocks.proofs.cell_tables.ConditionUses.{all-among}
-use Rattle.vhdl_grammar.specs.WellFormed.{conditions_of_check, conditions_of_gate, conditions_of_path, conditions_of_output, looked_up, looks_up_in_order}
+use Rattle.vhdl_grammar.specs.WellFormed.{conditions_of_check, conditions_of_gate, conditions_of_path, conditions_of_output}
+use Rattle.vhdl_grammar.specs.WellFormed.{looked_up, looks_up_in_order}
 use Rattle.specify_blocks.proofs.cell_tables.CellParts.{Rules, arcs_hold}
 use Rattle.generated_entities.proofs.ListLemmas.{flat_flat, flat_map_map}
 use Rattle.generated_entities.proofs.LookedUp.{in_order}
@@ -29,7 +31,8 @@ above_pins : (x k : ℕ) (pins : List Pin) → x < k → AllAbove x (output_pins
 above_pins x k [] h = tt
 above_pins x k (pin ∷ pins) h = by (is_output pin.direction) (above_pins x (k + 1) pins (omega (arith, h)))
   where
-    by : (b : Bool) → AllAbove x (output_pins_from (k + 1) pins) → AllAbove x (if b then k ∷ output_pins_from (k + 1) pins else output_pins_from (k + 1) pins)
+    by : (b : Bool) → AllAbove x (output_pins_from (k + 1) pins)
+        → AllAbove x (if b then k ∷ output_pins_from (k + 1) pins else output_pins_from (k + 1) pins)
     by true rest = (h, rest)
     by false rest = rest
 
@@ -37,7 +40,8 @@ pins_ascend : (k : ℕ) (pins : List Pin) → Ascending (output_pins_from k pins
 pins_ascend k [] = tt
 pins_ascend k (pin ∷ pins) = by (is_output pin.direction) (pins_ascend (k + 1) pins)
   where
-    by : (b : Bool) → Ascending (output_pins_from (k + 1) pins) → Ascending (if b then k ∷ output_pins_from (k + 1) pins else output_pins_from (k + 1) pins)
+    by : (b : Bool) → Ascending (output_pins_from (k + 1) pins)
+        → Ascending (if b then k ∷ output_pins_from (k + 1) pins else output_pins_from (k + 1) pins)
     by true rest = (above_pins k (k + 1) pins (omega arith), rest)
     by false rest = rest
 
@@ -50,14 +54,16 @@ pin_among k (pin ∷ pins) zero h = by (is_output pin.direction) h
     by false e = absurd cc
 pin_among k (pin ∷ pins) (suc p) h = by (is_output pin.direction) (pin_among (k + 1) pins p h)
   where
-    place : (b : Bool) → Among (k + suc p) (output_pins_from (k + 1) pins) → Among (k + suc p) (if b then k ∷ output_pins_from (k + 1) pins else output_pins_from (k + 1) pins)
+    place : (b : Bool) → Among (k + suc p) (output_pins_from (k + 1) pins)
+        → Among (k + suc p) (if b then k ∷ output_pins_from (k + 1) pins else output_pins_from (k + 1) pins)
     place true m = inr m
     place false m = m
 
     by :
         (b : Bool) → Among (k + 1 + p) (output_pins_from (k + 1) pins)
         → Among (k + suc p) (if b then k ∷ output_pins_from (k + 1) pins else output_pins_from (k + 1) pins)
-    by b m = place b (let same : k + 1 + p ≡ k + suc p = omega arith in subst (λ n. Among n (output_pins_from (k + 1) pins)) same m)
+    by b m = place b (let same : k + 1 + p ≡ k + suc p = omega arith
+        in subst (λ n. Among n (output_pins_from (k + 1) pins)) same m)
 
 -- what functions make of the elements, joined
 flat_made :
@@ -88,7 +94,8 @@ module _ (cell : CellData) (h : Rules cell) where
   zero_looked [] = refl
   zero_looked (i ∷ is) = refl
 
-  gate_looked : (arc : Arc) (o : Option Node) → conditions_of_gate (gate_by cell arc o) ≡ map (place_of cell) (conditions_by cell.arcs arc o)
+  gate_looked : (arc : Arc) (o : Option Node)
+      → conditions_of_gate (gate_by cell arc o) ≡ map (place_of cell) (conditions_by cell.arcs arc o)
   gate_looked arc None = zero_looked (map (place_of cell) (conditions_by cell.arcs arc None))
   gate_looked arc (Some f) = refl
 
@@ -104,7 +111,8 @@ module _ (cell : CellData) (h : Rules cell) where
   abbrev ended : OutputPin → List Arc
   ended output = filter (ends_at output.pin) cell.arcs
 
-  output_looked : (output : OutputPin) → conditions_of_output (output_of cell output) ≡ map (place_of cell) (flat_map (arc_conditions cell.arcs) (ended output))
+  output_looked : (output : OutputPin)
+      → conditions_of_output (output_of cell output) ≡ map (place_of cell) (flat_map (arc_conditions cell.arcs) (ended output))
   output_looked output =
       flat_map_map conditions_of_path (path_of cell) (ended output)
       ∙ flat_made (place_of cell) (λ arc. conditions_of_path (path_of cell arc)) (arc_conditions cell.arcs)
@@ -130,10 +138,12 @@ module _ (cell : CellData) (h : Rules cell) where
       ∙ arcs_by_ends (output_pins_from 0 cell.pins) cell.arcs (pins_ascend 0 cell.pins) arcs_ordered arc_ends
 
   outputs_looked :
-      flat_map conditions_of_output (map (output_of cell) cell.outputs) ≡ map (place_of cell) (flat_map (arc_conditions cell.arcs) cell.arcs)
+      flat_map conditions_of_output (map (output_of cell) cell.outputs) ≡ map (place_of cell)
+      (flat_map (arc_conditions cell.arcs) cell.arcs)
   outputs_looked =
       flat_map_map conditions_of_output (output_of cell) cell.outputs
-      ∙ flat_made (place_of cell) (λ output. conditions_of_output (output_of cell output)) (λ output. flat_map (arc_conditions cell.arcs) (ended output))
+      ∙ flat_made (place_of cell) (λ output. conditions_of_output (output_of cell output))
+      (λ output. flat_map (arc_conditions cell.arcs) (ended output))
       output_looked cell.outputs
       ∙ ap (map (place_of cell))
       (flat_flat (arc_conditions cell.arcs) ended cell.outputs ∙ ap (flat_map (arc_conditions cell.arcs)) arcs_ended)
@@ -142,10 +152,12 @@ module _ (cell : CellData) (h : Rules cell) where
   looked_up_used name =
       ap (λ l. l ++ flat_map conditions_of_output (map (output_of cell) cell.outputs)) checks_looked
       ∙ ap (λ l. map (place_of cell) (flat_map (λ (k : Check). condition_list k.condition) cell.checks) ++ l) outputs_looked
-      ∙ sym (map-append (place_of cell) (flat_map (λ (k : Check). condition_list k.condition) cell.checks) (flat_map (arc_conditions cell.arcs) cell.arcs))
+      ∙ sym (map-append (place_of cell) (flat_map (λ (k : Check). condition_list k.condition) cell.checks)
+      (flat_map (arc_conditions cell.arcs) cell.arcs))
 
   pub looked_up_in_order :
-      (name : List ℕ) → IsTrue (looks_up_in_order (length (map (condition_of cell.pins) (conditions_of cell))) 0 (looked_up (entity_of cell name)))
+      (name : List ℕ) → IsTrue (looks_up_in_order (length (map (condition_of cell.pins) (conditions_of cell))) 0
+      (looked_up (entity_of cell name)))
   looked_up_in_order name =
       ap (λ n. looks_up_in_order n 0 (looked_up (entity_of cell name))) (length-map (conditions_of cell) (condition_of cell.pins))
       ∙ ap (looks_up_in_order (length (conditions_of cell)) 0) (looked_up_used name)

@@ -1,5 +1,6 @@
 -- The entity of a cell is well formed.
-use Rattle.std.proofs.Common.{◌≡◌, ℕ, zero, suc, ◌+◌, ◌<◌, ◌≤◌, Bool, true, false, ◌&&◌, IsTrue, List, [], ◌∷◌, length, map, inl, inr, refl, subst, arith, nat_lt, nat_le, nat_eq, slice_get, Option, Some, None, if◌then◌else◌}
+use Rattle.std.proofs.Common.{◌≡◌, ℕ, zero, suc, ◌+◌, ◌<◌, ◌≤◌, Bool, true, false, ◌&&◌, IsTrue, List, [], ◌∷◌, length, map, inl}
+use Rattle.std.proofs.Common.{inr, refl, subst, arith, nat_lt, nat_le, nat_eq, slice_get, Option, Some, None, if◌then◌else◌}
 use Rattle.std.specs.Prelude.{All, filter}
 use Rattle.std.specs.List.{list_all}
 use Rattle.std.specs.Option.{option_map_or}
@@ -17,7 +18,8 @@ use Rattle.cell_machine.specs.Names.{source_name}
 use Rattle.cell_machine.specs.Values.{no_values}
 use Rattle.cell_machine.specs.Outputs.{output_at, condition_at}
 use Rattle.cell_machine.specs.Supports.{Ascending}
-use Rattle.cell_machine.specs.CellRules.{is_input_pin, is_ascending, is_support, is_group, are_groups_from, is_source, is_output_of, is_check, is_arc}
+use Rattle.cell_machine.specs.CellRules.{is_input_pin, is_ascending, is_support, is_group, are_groups_from, is_source}
+use Rattle.cell_machine.specs.CellRules.{is_output_of, is_check, is_arc}
 use Rattle.cell_machine.specs.CellData.{CellData}
 use Rattle.cell_machine.specs.CellTrace.{support_at, step_at}
 use Rattle.cell_machine.proofs.StepLemmas.{ascending}
@@ -30,11 +32,13 @@ use Rattle.udp_tables.specs.declared.timing_checks.TimingCheck.{TimingCheck}
 use Rattle.vital_models.specs.declared.model.OutValue.TheVariants as value
 use Rattle.vital_models.specs.Kept.{entity_name}
 use Rattle.vital_models.specs.Ports.{ports_of, port_number}
-use Rattle.vital_models.specs.Generated.{has_violation, ports_at, state_of, states_of, condition_of, source_at, output_table, value_of_output, place_of, all_zero, gate_by, path_of, output_of, check_of, entity_of}
+use Rattle.vital_models.specs.Generated.{has_violation, ports_at, state_of, states_of, condition_of, source_at, output_table}
+use Rattle.vital_models.specs.Generated.{value_of_output, place_of, all_zero, gate_by, path_of, output_of, check_of, entity_of}
 use Rattle.specify_blocks.proofs.cell_tables.ConditionUses.{all-among, condition-over}
 use Rattle.vital_models.proofs.Soundness.{entity_is_sound}
 use Rattle.vhdl_grammar.specs.VhdlDeclarations.{port_names}
-use Rattle.vhdl_grammar.specs.WellFormed.{IsPortName, IsWrittenState, IsWrittenTruth, IsWrittenLookup, IsWrittenValue, IsNumber, names_condition, IsWrittenPath, IsWrittenOutput, IsWellFormedEntity}
+use Rattle.vhdl_grammar.specs.WellFormed.{IsPortName, IsWrittenState, IsWrittenTruth, IsWrittenLookup, IsWrittenValue, IsNumber}
+use Rattle.vhdl_grammar.specs.WellFormed.{names_condition, IsWrittenPath, IsWrittenOutput, IsWellFormedEntity}
 use Rattle.specify_blocks.proofs.cell_tables.CellParts.{Rules, outputs_hold, checks_hold, arcs_hold}
 use Rattle.generated_modules.proofs.CellParts.{few_pins, group_support, arc_numbers, check_number}
 use Rattle.generated_modules.proofs.Conditions.{condition_placed}
@@ -58,7 +62,8 @@ supports pins name (x ∷ xs) zero h =
     let group = and_parts (is_group pins name x) (are_groups_from pins (name + 2) xs) h in
     let support = and_parts (is_support pins x.support) _ group.0 in
     let inputs : Bool = list_all (is_input_pin pins) x.support in
-    let some = and_parts (nat_lt 0 (length x.support)) (nat_le (length x.support) 8 && (is_ascending x.support && inputs)) support.0 in
+    let some = and_parts (nat_lt 0 (length x.support)) (nat_le (length x.support) 8 && (is_ascending x.support && inputs))
+    support.0 in
     let few = and_parts (nat_le (length x.support) 8) (is_ascending x.support && inputs) some.1 in
     let parts = and_parts (is_ascending x.support) inputs few.1 in
     (ascending x.support parts.0, parts.1)
@@ -93,7 +98,8 @@ module _ (cell : CellData) (h : Rules cell) where
           = length-map (support_at cell g) (port_number cell.pins) in
           omega (arith, least, long)
 
-      by : (b : Bool) → 1 ≤ (if b then length (ports_at cell.pins (support_at cell g)) + 1 else length (ports_at cell.pins (support_at cell g)))
+      by : (b : Bool) → 1 ≤ (if b then length (ports_at cell.pins (support_at cell g)) + 1
+          else length (ports_at cell.pins (support_at cell g)))
       by true = omega arith
       by false = some
 
@@ -104,7 +110,8 @@ module _ (cell : CellData) (h : Rules cell) where
           = length-map (support_at cell g) (port_number cell.pins) in
           omega (arith, within_eight, long)
 
-      few : (b : Bool) → IsNumber (if b then length (ports_at cell.pins (support_at cell g)) + 1 else length (ports_at cell.pins (support_at cell g)))
+      few : (b : Bool) → IsNumber (if b then length (ports_at cell.pins (support_at cell g)) + 1
+          else length (ports_at cell.pins (support_at cell g)))
       few true = omega (arith, most)
       few false = omega (arith, most)
 
@@ -120,7 +127,8 @@ module _ (cell : CellData) (h : Rules cell) where
       record {
         rows = truths_have_rows (length (support_of f)) (condition_at (support_of f) f);
         columns = some;
-        apart = apart_pins cell.pins (support_of f) (support-ascending f) (condition-over cell (checks_hold cell h) (arcs_hold cell h) f m);
+        apart = apart_pins cell.pins (support_of f) (support-ascending f)
+            (condition-over cell (checks_hold cell h) (arcs_hold cell h) f m);
       }
     where
       some : 1 ≤ length (ports_at cell.pins (support_of f))
@@ -128,13 +136,15 @@ module _ (cell : CellData) (h : Rules cell) where
           let placed = condition_placed cell (checks_hold cell h) (arcs_hold cell h) f m in
           let parts = and_parts (nat_lt 0 (length (support_of f))) (nat_le (length (support_of f)) 10) placed in
           let least : 0 < length (support_of f) = ltb-true 0 (length (support_of f)) parts.0 in
-          let long : length (ports_at cell.pins (support_of f)) ≡ length (support_of f) = length-map (support_of f) (port_number cell.pins) in
+          let long : length (ports_at cell.pins (support_of f)) ≡ length (support_of f) =
+          length-map (support_of f) (port_number cell.pins) in
           omega (arith, least, long)
 
   conditions_written : All IsWrittenTruth (map (condition_of cell.pins) (conditions_of cell))
   conditions_written =
       all_from IsWrittenTruth (map (condition_of cell.pins) (conditions_of cell))
-      (λ truth m. let r = among-map (condition_of cell.pins) truth (conditions_of cell) m in subst IsWrittenTruth r.1 (truth_written r.0 r.2))
+      (λ truth m. let r = among-map (condition_of cell.pins) truth (conditions_of cell) m
+      in subst IsWrittenTruth r.1 (truth_written r.0 r.2))
 
   lookup_written :
       (output : OutputPin) → IsTrue (is_output_of cell.pins cell.groups output) → 0 < length output.support
@@ -144,14 +154,16 @@ module _ (cell : CellData) (h : Rules cell) where
       let few = and_parts (nat_le (length held) 10) _ k in
       let sources = and_parts (list_all (is_source cell.pins cell.groups) output.support) _ few.1 in
       let order = and_parts (is_ascending held) _ sources.1 in
-      let long : length (map (source_at cell.pins) output.support) ≡ length output.support = length-map output.support (source_at cell.pins) in
+      let long : length (map (source_at cell.pins) output.support) ≡ length output.support =
+      length-map output.support (source_at cell.pins) in
       record {
         rows = truths_have_rows (length output.support) (output_at (length cell.pins) cell.groups output);
         columns = omega (arith, some, long);
         apart = apart_sources cell.pins cell.groups output.support (ascending held order.0) sources.0;
       }
 
-  value_written : (output : OutputPin) → IsTrue (is_output_of cell.pins cell.groups output) → IsWrittenValue (value_of_output cell output)
+  value_written : (output : OutputPin) → IsTrue (is_output_of cell.pins cell.groups output)
+      → IsWrittenValue (value_of_output cell output)
   value_written output k = by (has_sources output) refl
     where
       by :
@@ -173,7 +185,8 @@ module _ (cell : CellData) (h : Rules cell) where
   output_written : (output : OutputPin) → Among output cell.outputs → IsWrittenOutput (output_of cell output)
   output_written output m =
       record {
-        valued = value_written output (all-among (is_output_of cell.pins cell.groups) cell.outputs output (outputs_hold cell h) m);
+        valued = value_written output (all-among (is_output_of cell.pins cell.groups) cell.outputs output
+            (outputs_hold cell h) m);
         paths =
             all_from IsWrittenPath (output_of cell output).paths
             (λ path k.

@@ -1,5 +1,6 @@
 -- The entities of the cells of one library are well formed together: no two share a name, whatever the case of its letters.
-use Rattle.std.proofs.Common.{◌≡◌, ℕ, ◌^◌, ◌<◌, Bool, true, false, inl, inr, List, [], ◌∷◌, ◌++◌, refl, sym, subst, codes, decimal, nat_eq, is_some, if◌then◌else◌}
+use Rattle.std.proofs.Common.{◌≡◌, ℕ, ◌^◌, ◌<◌, Bool, true, false, inl, inr, List, [], ◌∷◌, ◌++◌, refl, sym, subst, codes}
+use Rattle.std.proofs.Common.{decimal, nat_eq, is_some, if◌then◌else◌}
 use Rattle.std.specs.Prelude.{All}
 use Rattle.std.specs.List.{IsDistinct}
 use Rattle.std.specs.Str.{bytes_eq, str_eq_ignore_ascii_case}
@@ -25,7 +26,8 @@ use Rattle.generated_entities.proofs.Names.{unlike_lower, no_cell, cells_apart, 
 use Rattle.generated_entities.proofs.Entities.{entity-well-formed}
 
 -- a name that is kept is none of those before it
-pub kept_is_new : (given : List (List ℕ)) (name x : List ℕ) → is_some (number_of given (lowered name)) ≡ false → Among x given → lowered name ≡ x → ⊥
+pub kept_is_new : (given : List (List ℕ)) (name x : List ℕ) → is_some (number_of given (lowered name)) ≡ false → Among x given
+    → lowered name ≡ x → ⊥
 kept_is_new given name x h m e =
     position-some (bytes_eq (lowered name)) given
     (found-any (bytes_eq (lowered name)) x given m ((bytes_eq-Decides (lowered name) x).1 e))
@@ -33,21 +35,26 @@ kept_is_new given name x h m e =
 
 -- the names of two cells, of which the second is given behind the first
 behind_apart :
-    (cell other : CellData) (given names : List (List ℕ)) → cell.number < 2 ^ 64 → other.number < 2 ^ 64 → (cell.number ≡ other.number → ⊥)
+    (cell other : CellData) (given names : List (List ℕ)) → cell.number < 2 ^ 64 → other.number < 2 ^ 64
+    → (cell.number ≡ other.number → ⊥)
     → Among (lowered (entity_name cell.number given cell.name)) names
     → str_eq_ignore_ascii_case (entity_name cell.number given cell.name) (entity_name other.number names other.name) ≡ false
 behind_apart cell other given names h k numbers m = by (is_kept_entity_name names other.name) refl
   where
-    other_given : (c : Bool) → is_kept_entity_name given cell.name ≡ c → str_eq_ignore_ascii_case (if c then cell.name else codes "cell" ++ decimal cell.number) (codes "cell" ++ decimal other.number) ≡ false
+    other_given : (c : Bool) → is_kept_entity_name given cell.name ≡ c
+        → str_eq_ignore_ascii_case (if c then cell.name else codes "cell" ++ decimal cell.number)
+        (codes "cell" ++ decimal other.number) ≡ false
     other_given true e = no_cell cell.name other.number k (kept given cell.name e).no_cell
     other_given false e = cells_apart cell.number other.number h k numbers
 
     by :
         (b : Bool) → is_kept_entity_name names other.name ≡ b
-        → str_eq_ignore_ascii_case (entity_name cell.number given cell.name) (if b then other.name else codes "cell" ++ decimal other.number) ≡ false
+        → str_eq_ignore_ascii_case (entity_name cell.number given cell.name)
+        (if b then other.name else codes "cell" ++ decimal other.number) ≡ false
     by true e =
         unlike_lower (entity_name cell.number given cell.name) other.name
-        (λ same. kept_is_new names other.name (lowered (entity_name cell.number given cell.name)) (kept names other.name e).new m (sym same))
+        (λ same. kept_is_new names other.name (lowered (entity_name cell.number given cell.name)) (kept names other.name e).new m
+        (sym same))
     by false e = other_given (is_kept_entity_name given cell.name) refl
 
 -- a name of an entity is that of some cell, behind these names and perhaps more
@@ -58,7 +65,8 @@ record IsBehind (given : List (List ℕ)) (cells : List CellData) (y : List ℕ)
   known : (x : List ℕ) → Among x given → Among x names
   same : entity_name cell.number names cell.name ≡ y
 
-behind_form : (given : List (List ℕ)) (cells : List CellData) (y : List ℕ) → Among y (entity_names (entities_behind given cells)) → IsBehind given cells y
+behind_form : (given : List (List ℕ)) (cells : List CellData) (y : List ℕ) → Among y (entity_names (entities_behind given cells))
+    → IsBehind given cells y
 behind_form given [] y m = absurd m
 behind_form given (cell ∷ cells) y (inl e) = record { cell = cell; among = inl refl; names = given; known = λ x k. k; same = e }
 behind_form given (cell ∷ cells) y (inr m) =
@@ -93,7 +101,8 @@ entities_apart given (cell ∷ cells) h d =
     (form.known (lowered name) (append-among_right (lowered name) given (lowered name ∷ []) (inl refl))))))
     (entities_apart names cells numbered (IsDistinct-tail nat_eq cell.number (numbers_of_cells cells) d))
 
-all_well_formed : (given : List (List ℕ)) (cells : List CellData) → All IsNumberedCell cells → All IsWellFormedEntity (entities_behind given cells)
+all_well_formed : (given : List (List ℕ)) (cells : List CellData) → All IsNumberedCell cells
+    → All IsWellFormedEntity (entities_behind given cells)
 all_well_formed given [] h = All-nil IsWellFormedEntity
 all_well_formed given (cell ∷ cells) h =
     let names : List (List ℕ) = given ++ lowered (entity_name cell.number given cell.name) ∷ [] in
@@ -102,4 +111,8 @@ all_well_formed given (cell ∷ cells) h =
     (all_well_formed names cells (All-tail IsNumberedCell cell cells h))
 
 pub entities-well-formed : EntitiesAreWellFormed
-entities-well-formed cells h = record { entities = all_well_formed [] cells h.numbered; apart = entities_apart [] cells h.numbered h.numbers }
+entities-well-formed cells h = record {
+  entities = all_well_formed [] cells h.numbered;
+  apart =
+      entities_apart [] cells h.numbered h.numbers;
+}

@@ -11,7 +11,8 @@ pub all_from : {X : Type 0} (P : X → Type 0) (xs : List X) → ((x : X) → Am
 all_from P [] h = All-nil P
 all_from P (x ∷ xs) h = All-cons P x xs (h x (inl refl)) (all_from P xs (λ y m. h y (inr m)))
 
-both_lists : {X : Type 0} (P : X → Type 0) (xs ys : List X) → AllByRecursion P xs → AllByRecursion P ys → AllByRecursion P (xs ++ ys)
+both_lists : {X : Type 0} (P : X → Type 0) (xs ys : List X) → AllByRecursion P xs → AllByRecursion P ys
+    → AllByRecursion P (xs ++ ys)
 both_lists P [] ys h k = k
 both_lists P (x ∷ xs) ys h k = (h.0, both_lists P xs ys h.1 k)
 
@@ -39,11 +40,13 @@ flat_append f (x ∷ xs) ys = ap (λ zs. f x ++ zs) (flat_append f xs ys) ∙ sy
 
 -- what is given in two steps
 pub flat_flat :
-    {X Y Z : Type 0} (f : Y → List Z) (g : X → List Y) (xs : List X) → flat_map (λ x. flat_map f (g x)) xs ≡ flat_map f (flat_map g xs)
+    {X Y Z : Type 0} (f : Y → List Z) (g : X → List Y) (xs : List X)
+    → flat_map (λ x. flat_map f (g x)) xs ≡ flat_map f (flat_map g xs)
 flat_flat f g [] = refl
 flat_flat f g (x ∷ xs) = ap (λ zs. flat_map f (g x) ++ zs) (flat_flat f g xs) ∙ sym (flat_append f (g x) (flat_map g xs))
 
-pub flat_map_map : {X Y Z : Type 0} (f : Y → List Z) (g : X → Y) (xs : List X) → flat_map f (map g xs) ≡ flat_map (λ x. f (g x)) xs
+pub flat_map_map : {X Y Z : Type 0} (f : Y → List Z) (g : X → Y) (xs : List X)
+    → flat_map f (map g xs) ≡ flat_map (λ x. f (g x)) xs
 flat_map_map f g [] = refl
 flat_map_map f g (x ∷ xs) = ap (λ zs. f (g x) ++ zs) (flat_map_map f g xs)
 

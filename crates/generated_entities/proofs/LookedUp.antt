@@ -1,5 +1,6 @@
 -- The conditions of a generated entity are looked up in the order of their numbers.
-use Rattle.std.proofs.Common.{◌≡◌, ℕ, ◌+◌, ◌<◌, Bool, true, false, ◌||◌, List, [], ◌∷◌, ◌++◌, length, map, refl, sym, ap, ◌∙◌, subst, arith, append_assoc, append-nil, length-append, nat_eq, nat_lt, if◌then◌else◌}
+use Rattle.std.proofs.Common.{◌≡◌, ℕ, ◌+◌, ◌<◌, Bool, true, false, ◌||◌, List, [], ◌∷◌, ◌++◌, length, map, refl, sym, ap, ◌∙◌}
+use Rattle.std.proofs.Common.{subst, arith, append_assoc, append-nil, length-append, nat_eq, nat_lt, if◌then◌else◌}
 use Rattle.std.specs.List.{list_any}
 use Rattle.std.proofs.lemmas.Bool.{lt-ltb, ltb-true, eq-eqb}
 use Rattle.bool_functions.specs.declared.tree.Node.{Node}
@@ -9,7 +10,8 @@ use Rattle.udp_tables.specs.Conditions.{added, added_all, condition_place}
 use Rattle.vhdl_grammar.specs.WellFormed.{looks_up_in_order}
 
 -- trees that are added stand behind those before them
-added_by : (trees : List Node) (f : Node) (b : Bool) → list_any (same_tree f) trees ≡ b → added trees f ≡ (if b then trees else trees ++ f ∷ [])
+added_by : (trees : List Node) (f : Node) (b : Bool) → list_any (same_tree f) trees ≡ b
+    → added trees f ≡ (if b then trees else trees ++ f ∷ [])
 added_by trees f b e = ap (λ c. if c then trees else trees ++ f ∷ []) e
 
 added_more : (trees : List Node) (f : Node) → (more : List Node) × (added trees f ≡ trees ++ more)
@@ -53,9 +55,11 @@ place_new f (g ∷ trees) more h = by (same_tree f g) h (λ k. place_new f trees
     by false e later = let rest = later e in omega (arith, rest)
 
 -- one more look-up
-seen_again : (all seen i : ℕ) (is : List ℕ) → i < seen → looks_up_in_order all seen is ≡ true → looks_up_in_order all seen (i ∷ is) ≡ true
+seen_again : (all seen i : ℕ) (is : List ℕ) → i < seen → looks_up_in_order all seen is ≡ true
+    → looks_up_in_order all seen (i ∷ is) ≡ true
 seen_again all seen i is h rest =
-    ap (λ b. if b then looks_up_in_order all seen is else (if nat_eq i seen then looks_up_in_order all (seen + 1) is else false)) (lt-ltb i seen h)
+    ap (λ b. if b then looks_up_in_order all seen is else (if nat_eq i seen then looks_up_in_order all (seen + 1) is else false))
+    (lt-ltb i seen h)
     ∙ rest
 
 not_below : (n : ℕ) → nat_lt n n ≡ false
@@ -65,7 +69,8 @@ not_below n = by (nat_lt n n) refl
     by false e = refl
     by true e = absurd (let bad : n < n = ltb-true n n e in omega (arith, bad))
 
-seen_next : (all seen i : ℕ) (is : List ℕ) → i ≡ seen → looks_up_in_order all (seen + 1) is ≡ true → looks_up_in_order all seen (i ∷ is) ≡ true
+seen_next : (all seen i : ℕ) (is : List ℕ) → i ≡ seen → looks_up_in_order all (seen + 1) is ≡ true
+    → looks_up_in_order all seen (i ∷ is) ≡ true
 seen_next all seen i is e rest =
     ap (λ b. if b then looks_up_in_order all seen is else (if nat_eq i seen then looks_up_in_order all (seen + 1) is else false))
     (ap (λ n. nat_lt n seen) e ∙ not_below seen)
@@ -84,7 +89,8 @@ in_order final trees (f ∷ fs) h = by (list_any (same_tree f) trees) refl (λ l
 
     by :
         (b : Bool) → list_any (same_tree f) trees ≡ b
-        → ((l : List Node) → added_all l fs ≡ final → looks_up_in_order (length final) (length l) (map (condition_place final) fs) ≡ true)
+        → ((l : List Node) → added_all l fs ≡ final
+        → looks_up_in_order (length final) (length l) (map (condition_place final) fs) ≡ true)
         → looks_up_in_order (length final) (length trees) (map (condition_place final) (f ∷ fs)) ≡ true
     by true e later =
         let same : added trees f ≡ trees = added_by trees f true e in

@@ -1,6 +1,9 @@
 -- The names of generated entities and of their ports, which no case of letters makes equal.
-use Rattle.std.proofs.Common.{◌≡◌, ℕ, zero, suc, ◌+◌, ◌^◌, ◌<◌, ◌≤◌, Bool, true, false, not, ◌&&◌, ◌||◌, ◌==◌, ◌⊎◌, inl, inr, IsTrue, List, [], ◌∷◌, ◌++◌, map, refl, sym, ap, ◌∙◌, subst, arith, codes, decimal, nat_le, is_some, if◌then◌else◌}
-use Rattle.std.specs.Char.{is_ascii_alphabetic, is_ascii_alphanumeric, is_ascii_digit, is_ascii_uppercase, is_ascii_lowercase, to_ascii_lowercase}
+use Rattle.std.proofs.Common.{◌≡◌, ℕ, zero, suc, ◌+◌, ◌^◌, ◌<◌, ◌≤◌, Bool, true, false, not, ◌&&◌, ◌||◌, ◌==◌, ◌⊎◌, inl, inr}
+use Rattle.std.proofs.Common.{IsTrue, List, [], ◌∷◌, ◌++◌, map, refl, sym, ap, ◌∙◌, subst, arith, codes, decimal, nat_le, is_some}
+use Rattle.std.proofs.Common.{if◌then◌else◌}
+use Rattle.std.specs.Char.{is_ascii_alphabetic, is_ascii_alphanumeric, is_ascii_digit, is_ascii_uppercase, is_ascii_lowercase}
+use Rattle.std.specs.Char.{to_ascii_lowercase}
 use Rattle.std.specs.List.{list_all}
 use Rattle.std.specs.Str.{str_eq_ignore_ascii_case}
 use Rattle.std.proofs.lemmas.Bool.{and_parts, and_from, not-true, true≢false, cases_Bool, leb-true, eq-eqb}
@@ -31,7 +34,8 @@ number_digits [] h = absurd cc
 number_digits (d ∷ ds) h = h
 
 digit_below : (d : ℕ) → IsTrue (is_ascii_digit d) → d < 65
-digit_below d h = let parts = and_parts (nat_le 48 d) (nat_le d 57) h in let most : d ≤ 57 = leb-true d 57 parts.1 in omega (arith, most)
+digit_below d h = let parts = and_parts (nat_le 48 d) (nat_le d 57) h in let most : d ≤ 57 = leb-true d 57 parts.1
+    in omega (arith, most)
 
 digit_lower : (d : ℕ) → IsTrue (is_ascii_digit d) → to_ascii_lowercase d ≡ d
 digit_lower d h = (lowercase_is d).1 (digit_below d h)
@@ -54,7 +58,8 @@ lower_digit b d h e =
     nat_lt_or zero (suc n) = inl (omega arith)
     nat_lt_or (suc m) (suc n) = elim (nat_lt_or m n) [ inl h ↦ inl (omega (arith, h)) | inr h ↦ inr (omega (arith, h)) ]
 
-    by : (b < 65) ⊎ (65 ≤ b) → d < 65 → (b < 65 → to_ascii_lowercase b ≡ b) → (90 < b → to_ascii_lowercase b ≡ b) → ((65 ≤ b) × (b ≤ 90) → to_ascii_lowercase b ≡ b + 32) → b ≡ d
+    by : (b < 65) ⊎ (65 ≤ b) → d < 65 → (b < 65 → to_ascii_lowercase b ≡ b) → (90 < b → to_ascii_lowercase b ≡ b)
+        → ((65 ≤ b) × (b ≤ 90) → to_ascii_lowercase b ≡ b + 32) → b ≡ d
     by (inl low) below small large upper = let same = small low in omega (arith, same, e)
     by (inr high) below small large upper =
         elim (nat_lt_or 90 b) [
@@ -98,8 +103,10 @@ going_in_name under [] h = refl
 going_in_name under (b ∷ bs) h = by (b == 95) refl h (going_in_name true bs) (going_in_name false bs)
   where
     by :
-        (t : Bool) → (b == 95) ≡ t → IsTrue (if t then not under && goes_on true bs else is_ascii_alphanumeric b && goes_on false bs)
-        → (IsTrue (goes_on true bs) → IsTrue (list_all is_name_byte bs)) → (IsTrue (goes_on false bs) → IsTrue (list_all is_name_byte bs))
+        (t : Bool) → (b == 95) ≡ t → IsTrue (if t then not under && goes_on true bs else is_ascii_alphanumeric b
+        && goes_on false bs)
+        → (IsTrue (goes_on true bs) → IsTrue (list_all is_name_byte bs))
+        → (IsTrue (goes_on false bs) → IsTrue (list_all is_name_byte bs))
         → IsTrue (list_all is_name_byte (b ∷ bs))
     by true e k more other =
         and_from (is_name_byte b) (list_all is_name_byte bs) (or_true (is_ascii_alphanumeric b) (b == 95) e)
@@ -134,7 +141,8 @@ cell_number n h = by (decimal n) (number_digits (decimal n) (decimal_number n h)
 pub same_lower : (x y : List ℕ) → str_eq_ignore_ascii_case x y ≡ true → map to_ascii_lowercase x ≡ map to_ascii_lowercase y
 same_lower x y e = (bytes_eq-Decides (map to_ascii_lowercase x) (map to_ascii_lowercase y)).0 e
 
-pub unlike_lower : (x y : List ℕ) → (map to_ascii_lowercase x ≡ map to_ascii_lowercase y → ⊥) → str_eq_ignore_ascii_case x y ≡ false
+pub unlike_lower : (x y : List ℕ) → (map to_ascii_lowercase x ≡ map to_ascii_lowercase y → ⊥)
+    → str_eq_ignore_ascii_case x y ≡ false
 unlike_lower x y h =
     elim (cases_Bool (str_eq_ignore_ascii_case x y)) [
       | inl e ↦ absurd (h (same_lower x y e))
@@ -142,18 +150,21 @@ unlike_lower x y h =
     ]
 
 -- a word in lower case, with digits behind it
-word_lower : (word ds : List ℕ) → map to_ascii_lowercase word ≡ word → IsTrue (list_all is_ascii_digit ds) → map to_ascii_lowercase (word ++ ds) ≡ word ++ ds
+word_lower : (word ds : List ℕ) → map to_ascii_lowercase word ≡ word → IsTrue (list_all is_ascii_digit ds)
+    → map to_ascii_lowercase (word ++ ds) ≡ word ++ ds
 word_lower word ds e h =
     map-append to_ascii_lowercase word ds ∙ ap (λ l. l ++ map to_ascii_lowercase ds) e ∙ ap (λ l. word ++ l) (digits_lower ds h)
 
-number_lower : (word : List ℕ) (n : ℕ) → map to_ascii_lowercase word ≡ word → n < 2 ^ 64 → map to_ascii_lowercase (word ++ decimal n) ≡ word ++ decimal n
+number_lower : (word : List ℕ) (n : ℕ) → map to_ascii_lowercase word ≡ word → n < 2 ^ 64
+    → map to_ascii_lowercase (word ++ decimal n) ≡ word ++ decimal n
 number_lower word n e h = word_lower word (decimal n) e (number_digits (decimal n) (decimal_number n h))
 
 -- what is like a word with a number behind it begins so, and has the number
 equal_bytes : (a b : ℕ) → a ≡ b → (b == a) ≡ true
 equal_bytes a b e = eq-eqb b a (sym e)
 
-pub like_pin : (x ds : List ℕ) → IsTrue (is_number ds) → map to_ascii_lowercase x ≡ codes "pin" ++ ds → is_numbered (codes "pin") x ≡ true
+pub like_pin : (x ds : List ℕ) → IsTrue (is_number ds) → map to_ascii_lowercase x ≡ codes "pin" ++ ds
+    → is_numbered (codes "pin") x ≡ true
 like_pin [] ds h e = absurd cc
 like_pin (a ∷ []) ds h e = absurd cc
 like_pin (a ∷ b ∷ []) ds h e = absurd cc
@@ -169,7 +180,8 @@ like_pin (a ∷ b ∷ c ∷ x) ds h e =
     (and_from (110 == to_ascii_lowercase c) true (equal_bytes (to_ascii_lowercase c) 110 third) refl)))
     (subst (λ l. IsTrue (is_number l)) (sym same) h)
 
-pub like_cell : (x ds : List ℕ) → IsTrue (is_number ds) → map to_ascii_lowercase x ≡ codes "cell" ++ ds → is_numbered (codes "cell") x ≡ true
+pub like_cell : (x ds : List ℕ) → IsTrue (is_number ds) → map to_ascii_lowercase x ≡ codes "cell" ++ ds
+    → is_numbered (codes "cell") x ≡ true
 like_cell [] ds h e = absurd cc
 like_cell (a ∷ []) ds h e = absurd cc
 like_cell (a ∷ b ∷ []) ds h e = absurd cc
@@ -194,12 +206,15 @@ no_number :
     → ((x ds : List ℕ) → IsTrue (is_number ds) → map to_ascii_lowercase x ≡ word ++ ds → is_numbered word x ≡ true)
     → (x : List ℕ) (n : ℕ) → n < 2 ^ 64 → is_numbered word x ≡ false → str_eq_ignore_ascii_case x (word ++ decimal n) ≡ false
 no_number word low like x n h k =
-    unlike_lower x (word ++ decimal n) (λ e. true≢false (sym (like x (decimal n) (decimal_number n h) (e ∙ number_lower word n low h)) ∙ k))
+    unlike_lower x (word ++ decimal n)
+    (λ e. true≢false (sym (like x (decimal n) (decimal_number n h) (e ∙ number_lower word n low h)) ∙ k))
 
-pub no_pin : (x : List ℕ) (n : ℕ) → n < 2 ^ 64 → is_numbered (codes "pin") x ≡ false → str_eq_ignore_ascii_case x (codes "pin" ++ decimal n) ≡ false
+pub no_pin : (x : List ℕ) (n : ℕ) → n < 2 ^ 64 → is_numbered (codes "pin") x ≡ false
+    → str_eq_ignore_ascii_case x (codes "pin" ++ decimal n) ≡ false
 no_pin x n h k = no_number (codes "pin") refl like_pin x n h k
 
-pub no_cell : (x : List ℕ) (n : ℕ) → n < 2 ^ 64 → is_numbered (codes "cell") x ≡ false → str_eq_ignore_ascii_case x (codes "cell" ++ decimal n) ≡ false
+pub no_cell : (x : List ℕ) (n : ℕ) → n < 2 ^ 64 → is_numbered (codes "cell") x ≡ false
+    → str_eq_ignore_ascii_case x (codes "cell" ++ decimal n) ≡ false
 no_cell x n h k = no_number (codes "cell") refl like_cell x n h k
 
 -- numbered names of two numbers
@@ -208,12 +223,15 @@ numbers_apart :
     → str_eq_ignore_ascii_case (word ++ decimal m) (word ++ decimal n) ≡ false
 numbers_apart word low m n h k apart =
     unlike_lower (word ++ decimal m) (word ++ decimal n)
-    (λ e. apart (decimal_injective m n h k (append_cancel_left word (decimal m) (decimal n) (sym (number_lower word m low h) ∙ e ∙ number_lower word n low k))))
+    (λ e. apart (decimal_injective m n h k
+    (append_cancel_left word (decimal m) (decimal n) (sym (number_lower word m low h) ∙ e ∙ number_lower word n low k))))
 
-pub pins_apart : (m n : ℕ) → m < 2 ^ 64 → n < 2 ^ 64 → (m ≡ n → ⊥) → str_eq_ignore_ascii_case (codes "pin" ++ decimal m) (codes "pin" ++ decimal n) ≡ false
+pub pins_apart : (m n : ℕ) → m < 2 ^ 64 → n < 2 ^ 64 → (m ≡ n → ⊥)
+    → str_eq_ignore_ascii_case (codes "pin" ++ decimal m) (codes "pin" ++ decimal n) ≡ false
 pins_apart m n h k apart = numbers_apart (codes "pin") refl m n h k apart
 
-pub cells_apart : (m n : ℕ) → m < 2 ^ 64 → n < 2 ^ 64 → (m ≡ n → ⊥) → str_eq_ignore_ascii_case (codes "cell" ++ decimal m) (codes "cell" ++ decimal n) ≡ false
+pub cells_apart : (m n : ℕ) → m < 2 ^ 64 → n < 2 ^ 64 → (m ≡ n → ⊥)
+    → str_eq_ignore_ascii_case (codes "cell" ++ decimal m) (codes "cell" ++ decimal n) ≡ false
 cells_apart m n h k apart = numbers_apart (codes "cell") refl m n h k apart
 
 -- the name of an entity
@@ -253,7 +271,8 @@ kept given name h =
       new = not-true (is_some (number_of given (lowered name))) c.1;
     }
 
-pub entity_named : (number : ℕ) (given : List (List ℕ)) (name : List ℕ) → number < 2 ^ 64 → IsGivenName (entity_name number given name)
+pub entity_named : (number : ℕ) (given : List (List ℕ)) (name : List ℕ) → number < 2 ^ 64
+    → IsGivenName (entity_name number given name)
 entity_named number given name h = by (is_kept_entity_name given name) refl
   where
     no_pin_cell : (ds : List ℕ) → is_numbered (codes "pin") (codes "cell" ++ ds) ≡ false

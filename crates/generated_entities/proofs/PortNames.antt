@@ -1,5 +1,6 @@
 -- The names of the ports of a generated entity.
-use Rattle.std.proofs.Common.{◌≡◌, ℕ, ◌+◌, ◌^◌, ◌<◌, ◌≤◌, Bool, true, false, not, ◌&&◌, ◌||◌, ◌⊎◌, inl, inr, IsTrue, List, [], ◌∷◌, ◌++◌, length, refl, sym, subst, arith, codes, decimal, length-append, if◌then◌else◌}
+use Rattle.std.proofs.Common.{◌≡◌, ℕ, ◌+◌, ◌^◌, ◌<◌, ◌≤◌, Bool, true, false, not, ◌&&◌, ◌||◌, ◌⊎◌, inl, inr, IsTrue, List, []}
+use Rattle.std.proofs.Common.{◌∷◌, ◌++◌, length, refl, sym, subst, arith, codes, decimal, length-append, if◌then◌else◌}
 use Rattle.std.specs.List.{IsDistinct, list_any}
 use Rattle.std.specs.Str.{str_eq_ignore_ascii_case}
 use Rattle.std.proofs.lemmas.Bool.{and_parts, not-true}
@@ -37,7 +38,8 @@ or_parts : (a b : Bool) → (a || b) ≡ false → (a ≡ false) × (b ≡ false
 or_parts false b h = (refl, h)
 or_parts true b h = absurd cc
 
-kept_next : (entity : List ℕ) (ports : List VPort) (name : List ℕ) → IsTrue (is_kept_port_name entity ports name) → IsNext entity ports name
+kept_next : (entity : List ℕ) (ports : List VPort) (name : List ℕ) → IsTrue (is_kept_port_name entity ports name)
+    → IsNext entity ports name
 unfolding is_kept_port_name
 kept_next entity ports name h =
     let a = and_parts (is_plain name) (is_free name && not (is_taken entity ports name)) h in
@@ -57,7 +59,8 @@ kept_next entity ports name h =
       earlier = inl f.no_pin;
     }
 
-numbered_next : (entity : List ℕ) (ports : List VPort) → AreNamed entity ports → length ports + 1 < 2 ^ 64 → IsNext entity ports (codes "pin" ++ decimal (length ports + 1))
+numbered_next : (entity : List ℕ) (ports : List VPort) → AreNamed entity ports → length ports + 1 < 2 ^ 64
+    → IsNext entity ports (codes "pin" ++ decimal (length ports + 1))
 numbered_next entity ports h k = record {
   named = pin_number (length ports + 1) k;
   new = λ x m. elim (h.earlier x m) [
@@ -70,7 +73,8 @@ numbered_next entity ports h k = record {
   earlier = inr (length ports + 1, omega arith, refl);
 }
 
-next_name : (entity : List ℕ) (ports : List VPort) (name : List ℕ) → AreNamed entity ports → length ports + 1 < 2 ^ 64 → IsNext entity ports (port_name entity ports name)
+next_name : (entity : List ℕ) (ports : List VPort) (name : List ℕ) → AreNamed entity ports → length ports + 1 < 2 ^ 64
+    → IsNext entity ports (port_name entity ports name)
 next_name entity ports name h k = by (is_kept_port_name entity ports name) refl
   where
     by :
@@ -85,17 +89,20 @@ still_earlier m n x h (inl e) = inl e
 still_earlier m n x h (inr f) = let low = f.1 in inr (f.0, omega (arith, low, h), f.2)
 
 -- one port more
-port_more : (entity : List ℕ) (ports : List VPort) (port : VPort) → AreNamed entity ports → IsNext entity ports port.name → AreNamed entity (ports ++ port ∷ [])
+port_more : (entity : List ℕ) (ports : List VPort) (port : VPort) → AreNamed entity ports → IsNext entity ports port.name
+    → AreNamed entity (ports ++ port ∷ [])
 port_more entity ports port h k = record {
   named = λ x m. elim (among-append x (port_names ports) (port.name ∷ []) (subst (λ l. Among x l) names m)) [
     | inl i ↦ h.named x i
     | inr i ↦ elim i [ inl e ↦ subst IsPortName e k.named | inr none ↦ absurd none ]
   ];
-  apart = subst (λ l. AreApart (entity ∷ l)) (sym names) (push_apart str_eq_ignore_ascii_case (entity ∷ port_names ports) port.name h.apart k.new);
+  apart = subst (λ l. AreApart (entity ∷ l)) (sym names)
+      (push_apart str_eq_ignore_ascii_case (entity ∷ port_names ports) port.name h.apart k.new);
   earlier = λ x m. elim (among-append x (entity ∷ port_names ports) (port.name ∷ []) (subst (λ l. Among x (entity ∷ l)) names m)) [
     | inl i ↦ still_earlier (length ports) (length (ports ++ port ∷ [])) x (omega (arith, long)) (h.earlier x i)
     | inr i ↦ elim i [
-      | inl e ↦ subst (IsEarlier (length (ports ++ port ∷ []))) e (still_earlier (length ports + 1) (length (ports ++ port ∷ [])) port.name (omega (arith, long)) k.earlier)
+      | inl e ↦ subst (IsEarlier (length (ports ++ port ∷ []))) e
+          (still_earlier (length ports + 1) (length (ports ++ port ∷ [])) port.name (omega (arith, long)) k.earlier)
       | inr none ↦ absurd none
     ]
   ];
@@ -107,20 +114,25 @@ port_more entity ports port h k = record {
     long : length (ports ++ port ∷ []) ≡ length ports + 1
     long = length-append ports (port ∷ [])
 
-all_named : (entity : List ℕ) (ports : List VPort) (pins : List Pin) → AreNamed entity ports → length ports + length pins < 2 ^ 64 → AreNamed entity (ports_after entity ports pins)
+all_named : (entity : List ℕ) (ports : List VPort) (pins : List Pin) → AreNamed entity ports → length ports + length pins < 2 ^ 64
+    → AreNamed entity (ports_after entity ports pins)
 all_named entity ports [] h k = h
 all_named entity ports (pin ∷ pins) h k =
-    by (is_port pin) (all_named entity (ports ++ port_after entity ports pin ∷ []) pins more fits) (all_named entity ports pins h (omega (arith, k)))
+    by (is_port pin) (all_named entity (ports ++ port_after entity ports pin ∷ []) pins more fits)
+    (all_named entity ports pins h (omega (arith, k)))
   where
     more : AreNamed entity (ports ++ port_after entity ports pin ∷ [])
     more = port_more entity ports (port_after entity ports pin) h (next_name entity ports pin.name h (omega (arith, k)))
 
     fits : length (ports ++ port_after entity ports pin ∷ []) + length pins < 2 ^ 64
-    fits = let long : length (ports ++ port_after entity ports pin ∷ []) ≡ length ports + 1 = length-append ports (port_after entity ports pin ∷ []) in omega (arith, long, k)
+    fits = let long : length (ports ++ port_after entity ports pin ∷ []) ≡ length ports + 1 =
+        length-append ports (port_after entity ports pin ∷ []) in omega (arith, long, k)
 
     by :
-        (b : Bool) → AreNamed entity (ports_after entity (ports ++ port_after entity ports pin ∷ []) pins) → AreNamed entity (ports_after entity ports pins)
-        → AreNamed entity (if b then ports_after entity (ports ++ port_after entity ports pin ∷ []) pins else ports_after entity ports pins)
+        (b : Bool) → AreNamed entity (ports_after entity (ports ++ port_after entity ports pin ∷ []) pins)
+        → AreNamed entity (ports_after entity ports pins)
+        → AreNamed entity (if b then ports_after entity (ports ++ port_after entity ports pin ∷ []) pins
+        else ports_after entity ports pins)
     by true one other = one
     by false one other = other
 
@@ -133,5 +145,6 @@ no_ports entity h = record {
 }
 
 -- the names of an entity of at most 64 pins
-pub ports_are_named : (entity : List ℕ) (pins : List Pin) → IsGivenName entity → length pins ≤ 64 → AreNamed entity (ports_of entity pins)
+pub ports_are_named : (entity : List ℕ) (pins : List Pin) → IsGivenName entity → length pins ≤ 64
+    → AreNamed entity (ports_of entity pins)
 ports_are_named entity pins h few = all_named entity [] pins (no_ports entity h) (omega (arith, few))

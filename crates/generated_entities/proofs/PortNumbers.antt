@@ -19,7 +19,8 @@ less_apart : (a b : ℕ) → a < b → nat_eq a b ≡ false
 less_apart a b h = ne_eqb a b (λ e. omega (arith, e, h))
 
 -- what is given to ascending keys
-module _ {X Y : Type 0} (key : X → ℕ) (give : X → Y) (same : Y → Y → Bool) (ok : X → Bool) (differ : (x y : X) → IsTrue (ok x) → IsTrue (ok y) → key x < key y → same (give x) (give y) ≡ false) where
+module _ {X Y : Type 0} (key : X → ℕ) (give : X → Y) (same : Y → Y → Bool) (ok : X → Bool) (differ : (x y : X) → IsTrue (ok x)
+    → IsTrue (ok y) → key x < key y → same (give x) (give y) ≡ false) where
   unlike_above :
       (x : X) (ys : List X) → IsTrue (ok x) → IsTrue (list_all ok ys) → AllAbove (key x) (map key ys)
       → AllByRecursion (λ z. same (give x) z ≡ false) (map give ys)
@@ -70,4 +71,5 @@ pub apart_sources :
     → Ascending (map (source_name (length pins)) support) → IsTrue (list_all (is_source pins groups) support)
     → IsDistinct same_source (map (source_at pins) support)
 apart_sources pins groups support a h =
-    apart_given (source_name (length pins)) (source_at pins) same_source (is_source pins groups) (source_differ pins groups) support a h
+    apart_given (source_name (length pins)) (source_at pins) same_source (is_source pins groups)
+    (source_differ pins groups) support a h

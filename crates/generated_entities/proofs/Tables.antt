@@ -1,5 +1,6 @@
 -- The tables of generated entities have rows, and no row of a state's table has two edges.
-use Rattle.std.proofs.Common.{◌≡◌, ℕ, zero, suc, ◌+◌, ◌≤◌, Bool, true, false, cond, List, [], ◌∷◌, ◌++◌, map, length, replicate, inl, inr, refl, subst, arith}
+use Rattle.std.proofs.Common.{◌≡◌, ℕ, zero, suc, ◌+◌, ◌≤◌, Bool, true, false, cond, List, [], ◌∷◌, ◌++◌, map, length, replicate}
+use Rattle.std.proofs.Common.{inl, inr, refl, subst, arith}
 use Rattle.std.specs.Prelude.{All, count_by}
 use Rattle.std.proofs.lemmas.List.Sums.{sum_by-cons}
 use Rattle.trit_cubes.specs.declared.trits.Trit.{Trit}
@@ -17,7 +18,8 @@ use Rattle.vital_models.specs.declared.table.VSymbol.TheVariants as symbol
 use Rattle.vital_models.specs.declared.table.Trits.{Trits}
 use Rattle.vital_models.specs.declared.table.Trits.TheVariants as trits
 use Rattle.vital_models.specs.declared.table.VStateRow.{VStateRow}
-use Rattle.vital_models.specs.Rows.{level_symbol, edge_symbol, truth_row, truth_rows, violated, level_row, violation_rows, steady_row, closing_row, edge_columns, edge_row, keep_row, compact_rows}
+use Rattle.vital_models.specs.Rows.{level_symbol, edge_symbol, truth_row, truth_rows, violated, level_row, violation_rows}
+use Rattle.vital_models.specs.Rows.{steady_row, closing_row, edge_columns, edge_row, keep_row, compact_rows}
 use Rattle.vhdl_grammar.specs.VhdlTables.{is_edge}
 use Rattle.vhdl_grammar.specs.WellFormed.{HasOneEdge}
 use Rattle.generated_entities.proofs.ListLemmas.{all_from}
@@ -32,13 +34,15 @@ edges_more s symbols = sum_by-cons (λ x. cond (is_edge x) 1 0) s symbols
 levels_edges : (cube : List Trit) → edges (map level_symbol cube) ≡ 0
 levels_edges [] = refl
 levels_edges (t ∷ ts) =
-    let more : edges (map level_symbol (t ∷ ts)) ≡ 0 + edges (map level_symbol ts) = edges_more (level_symbol t) (map level_symbol ts) in
+    let more : edges (map level_symbol (t ∷ ts)) ≡ 0 + edges (map level_symbol ts) =
+    edges_more (level_symbol t) (map level_symbol ts) in
     omega (arith, more, levels_edges ts)
 
 steady_edges : (n : ℕ) → edges (replicate n symbol.Steady) ≡ 0
 steady_edges zero = refl
 steady_edges (suc n) =
-    let more : edges (replicate (suc n) symbol.Steady) ≡ 0 + edges (replicate n symbol.Steady) = edges_more symbol.Steady (replicate n symbol.Steady) in
+    let more : edges (replicate (suc n) symbol.Steady) ≡ 0 + edges (replicate n symbol.Steady) =
+    edges_more symbol.Steady (replicate n symbol.Steady) in
     omega (arith, more, steady_edges n)
 
 one_edge_more : (s : VSymbol) (symbols : List VSymbol) → edges (s ∷ symbols) ≤ 1 + edges symbols
@@ -60,7 +64,8 @@ column_edges p (old ∷ []) = omega arith
 column_edges p (old ∷ new ∷ rest) =
     omega (arith, insert_edges p (edge_symbol old new) (map level_symbol (init rest)), levels_edges (init rest))
 
-violated_edges : (checks : Bool) (level : Trits) (symbols : List VSymbol) → edges symbols ≤ 1 → edges (violated checks (symbol.Level level) symbols) ≤ 1
+violated_edges : (checks : Bool) (level : Trits) (symbols : List VSymbol) → edges symbols ≤ 1
+    → edges (violated checks (symbol.Level level) symbols) ≤ 1
 violated_edges false level symbols h = h
 violated_edges true level symbols h =
     let more : edges (symbol.Level level ∷ symbols) ≡ 0 + edges symbols = edges_more (symbol.Level level) symbols in
@@ -77,7 +82,8 @@ violation_one : (checks : Bool) (n : ℕ) (row : VStateRow) → Among row (viola
 violation_one false n row m = absurd m
 violation_one true n row (inr none) = absurd none
 violation_one true n row (inl e) =
-    subst HasOneEdge e (violated_edges true trits.Unknown (map level_symbol (replicate n Unknown)) (omega (arith, levels_edges (replicate n Unknown))))
+    subst HasOneEdge e (violated_edges true trits.Unknown (map level_symbol (replicate n Unknown))
+    (omega (arith, levels_edges (replicate n Unknown))))
 
 change_one :
     (checks : Bool) (n : ℕ) (step : Step) (p : ℕ) (row : VStateRow)
@@ -93,7 +99,11 @@ row_one checks n step row m =
     let forced : List VStateRow = forced_rows (level_row checks) n step in
     let changes : List VStateRow = each_below (compact_edge_rows (edge_row checks) (keep_row checks) step n) n in
     elim (among-append row (steady_row checks n ∷ (forced ++ (violation_rows checks n ++ changes))) (closing_row checks n ∷ []) m) [
-      | inr last ↦ elim last [ inl e ↦ subst HasOneEdge e (level_one checks Unknown (replicate n Unknown)) | inr none ↦ absurd none ]
+      | inr last ↦ elim last [
+        | inl e ↦ subst HasOneEdge e (level_one checks Unknown (replicate n Unknown))
+        | inr none ↦ absurd
+            none
+      ]
       | inl front ↦
           elim front [
             | inl e ↦ subst HasOneEdge e (steady_one checks n)
@@ -124,4 +134,5 @@ some_row alone [] = omega arith
 some_row alone (row ∷ rows) = omega arith
 
 pub truths_have_rows : (n : ℕ) (f : List Bool → Trit) → 1 ≤ length (truth_rows n f)
-truths_have_rows n f = some_row (truth_row Unknown (replicate n Unknown)) (value_rows truth_row (prime_list n (gives One f)) (prime_list n (gives Zero f)))
+truths_have_rows n f = some_row (truth_row Unknown (replicate n Unknown))
+    (value_rows truth_row (prime_list n (gives One f)) (prime_list n (gives Zero f)))

@@ -1,5 +1,5 @@
--- The entities of the cells of one library. (IEEE 1076-1993, 13.3.1: names are the same whatever the case of their letters; that a
--- cell's name is kept where no entity before it has it is this project's rule.)
+-- The entities of the cells of one library. (IEEE 1076-1993, 13.3.1: names are the same whatever the case of their letters; that
+-- a cell's name is kept where no entity before it has it is this project's rule.)
 use Rattle.std.specs.Prelude.{ℕ, List, [], ◌∷◌, ◌++◌}
 use Rattle.cell_machine.specs.CellData.{CellData}
 use Rattle.vhdl_tokens.specs.Kept.{lowered}

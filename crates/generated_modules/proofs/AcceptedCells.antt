@@ -1,5 +1,6 @@
 -- The accepted cells of a library have names and numbers of which none stands twice.
-use Rattle.std.proofs.Common.{◌≡◌, ℕ, ◌+◌, ◌≤◌, Bool, true, false, IsTrue, List, [], ◌∷◌, inl, inr, refl, sym, ap, ◌∙◌, subst, arith, Contains, Option, Some, None, is_some, nat_eq, if◌then◌else◌}
+use Rattle.std.proofs.Common.{◌≡◌, ℕ, ◌+◌, ◌≤◌, Bool, true, false, IsTrue, List, [], ◌∷◌, inl, inr, refl, sym, ap, ◌∙◌, subst}
+use Rattle.std.proofs.Common.{arith, Contains, Option, Some, None, is_some, nat_eq, if◌then◌else◌}
 use Rattle.std.specs.Prelude.{All}
 use Rattle.std.specs.List.{IsDistinct}
 use Rattle.std.specs.Str.{bytes_eq}
@@ -46,14 +47,16 @@ name_is_new names cell h k =
     position-some (bytes_eq name) h.earlier (list_any-from_Contains bytes_equivalence name h.earlier there)
     (no_number (number_of h.earlier name) (unknown (is_some (number_of h.earlier name)) h.group.at twice.0))
 
-rules : (names : List (List ℕ)) (cell : CellData) → IsAccepted names cell → IsTrue (is_cell cell.name cell.pins cell.groups cell.outputs cell.checks cell.arcs)
+rules : (names : List (List ℕ)) (cell : CellData) → IsAccepted names cell
+    → IsTrue (is_cell cell.name cell.pins cell.groups cell.outputs cell.checks cell.arcs)
 rules names cell h =
     subst (λ (c : CellData). IsTrue (is_cell c.name c.pins c.groups c.outputs c.checks c.arcs)) (sym h.data_is)
     (accepted_cells_are_sound h.unit h.earlier h.group h.unrefused).0
 
 -- each cell behind a place has a number from there on, and a new name
 
-number_from : (from : ℕ) (names : List (List ℕ)) (cells : List CellData) → AreAccepted from names cells → (other : CellData) → Among other cells → from ≤ other.number
+number_from : (from : ℕ) (names : List (List ℕ)) (cells : List CellData) → AreAccepted from names cells → (other : CellData)
+    → Among other cells → from ≤ other.number
 number_from from names [] h other m = absurd m
 number_from from names (cell ∷ cells) h other (inl e) = subst (λ (c : CellData). from ≤ c.number) e h.0
 number_from from names (cell ∷ cells) h other (inr m) =
@@ -61,9 +64,11 @@ number_from from names (cell ∷ cells) h other (inr m) =
     let first = h.0 in
     omega (arith, later, first)
 
-names_new : (from : ℕ) (names : List (List ℕ)) (cells : List CellData) → AreAccepted from names cells → (other : CellData) → Among other cells → Contains names other.name → ⊥
+names_new : (from : ℕ) (names : List (List ℕ)) (cells : List CellData) → AreAccepted from names cells → (other : CellData)
+    → Among other cells → Contains names other.name → ⊥
 names_new from names [] h other m k = absurd m
-names_new from names (cell ∷ cells) h other (inl e) k = name_is_new names cell h.2 (subst (λ (c : CellData). Contains names c.name) (sym e) k)
+names_new from names (cell ∷ cells) h other (inl e) k =
+    name_is_new names cell h.2 (subst (λ (c : CellData). Contains names c.name) (sym e) k)
 names_new from names (cell ∷ cells) h other (inr m) k =
     names_new (cell.number + 1) (cell.name ∷ names) cells h.3 other m (contains_later cell.name names other.name k)
 
@@ -83,8 +88,10 @@ accepted_apart from names (cell ∷ cells) h =
     let rest = accepted_apart (cell.number + 1) (cell.name ∷ names) cells h.3 in
     record {
       numbered = All-cons IsNumberedCell cell cells (record { rules = rules names cell h.2; number = h.1 }) rest.numbered;
-      names = IsDistinct-cons bytes_eq cell.name (names_of_cells cells) (each_among (λ x. bytes_eq cell.name x ≡ false) (names_of_cells cells) other_name) rest.names;
-      numbers = IsDistinct-cons nat_eq cell.number (numbers_of_cells cells) (each_among (λ n. nat_eq cell.number n ≡ false) (numbers_of_cells cells) other_number) rest.numbers;
+      names = IsDistinct-cons bytes_eq cell.name (names_of_cells cells)
+          (each_among (λ x. bytes_eq cell.name x ≡ false) (names_of_cells cells) other_name) rest.names;
+      numbers = IsDistinct-cons nat_eq cell.number (numbers_of_cells cells)
+          (each_among (λ n. nat_eq cell.number n ≡ false) (numbers_of_cells cells) other_number) rest.numbers;
     }
   where
     other_name : (x : List ℕ) → Among x (names_of_cells cells) → bytes_eq cell.name x ≡ false

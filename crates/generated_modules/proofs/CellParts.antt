@@ -1,5 +1,6 @@
 -- What the rules of cells say of a cell's groups, outputs, checks and arcs.
-use Rattle.std.proofs.Common.{◌≡◌, ℕ, zero, suc, ◌+◌, ◌^◌, ◌<◌, ◌≤◌, IsTrue, List, [], ◌∷◌, length, map, sym, ◌∙◌, ap, subst, arith, nat_lt, nat_le, slice_get}
+use Rattle.std.proofs.Common.{◌≡◌, ℕ, zero, suc, ◌+◌, ◌^◌, ◌<◌, ◌≤◌, IsTrue, List, [], ◌∷◌, length, map, sym, ◌∙◌, ap, subst}
+use Rattle.std.proofs.Common.{arith, nat_lt, nat_le, slice_get}
 use Rattle.std.specs.List.{list_all}
 use Rattle.std.specs.Option.{option_map_or}
 use Rattle.std.proofs.lemmas.Bool.{and_parts, ltb-true, leb-true}
@@ -10,7 +11,8 @@ use Rattle.cell_machine.specs.declared.outputs.OutputPin.{OutputPin}
 use Rattle.cell_machine.specs.declared.checks.Check.{Check}
 use Rattle.cell_machine.specs.declared.arcs.Arc.{Arc}
 use Rattle.cell_machine.specs.Names.{source_name}
-use Rattle.cell_machine.specs.CellRules.{longest_time, is_name, are_distinct, is_input_pin, is_output_pin, is_support, is_group, are_groups_from, is_output_of, has_events, is_check, is_arc, output_pins_from}
+use Rattle.cell_machine.specs.CellRules.{longest_time, is_name, are_distinct, is_input_pin, is_output_pin, is_support, is_group}
+use Rattle.cell_machine.specs.CellRules.{are_groups_from, is_output_of, has_events, is_check, is_arc, output_pins_from}
 use Rattle.cell_machine.specs.CellData.{CellData}
 use Rattle.cell_machine.specs.CellTrace.{support_at}
 use Rattle.specify_blocks.proofs.cell_tables.CellParts.{Rules, groups_hold}
@@ -22,7 +24,8 @@ pub record IsWithin (low high n : ℕ) : Type 0 where
   pub most : n ≤ high
 
 supports :
-    (pins : List Pin) (name : ℕ) (groups : List StateGroup) (g : ℕ) → IsTrue (are_groups_from pins name groups) → g < length groups
+    (pins : List Pin) (name : ℕ) (groups : List StateGroup) (g : ℕ) → IsTrue (are_groups_from pins name groups)
+    → g < length groups
     → IsWithin 1 8 (length (option_map_or (λ (group : StateGroup). group.support) (slice_get groups g) []))
 supports pins name [] g h within = absurd (omega arith)
 supports pins name (x ∷ xs) zero h within =
@@ -35,7 +38,8 @@ supports pins name (x ∷ xs) zero h within =
 supports pins name (x ∷ xs) (suc g) h within =
     supports pins (name + 2) xs g (and_parts (is_group pins name x) (are_groups_from pins (name + 2) xs) h).1 (omega arith)
 
-pub few_sources : (pins : List Pin) (groups : List StateGroup) (output : OutputPin) → IsTrue (is_output_of pins groups output) → length output.support ≤ 10
+pub few_sources : (pins : List Pin) (groups : List StateGroup) (output : OutputPin) → IsTrue (is_output_of pins groups output)
+    → length output.support ≤ 10
 few_sources pins groups output h =
     let held : List ℕ = map (source_name (length pins)) output.support in
     let few = and_parts (nat_le (length held) 10) _ h in

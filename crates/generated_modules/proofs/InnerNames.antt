@@ -1,5 +1,7 @@
 -- The names in a generated module: its ports, its wires and its register.
-use Rattle.std.proofs.Common.{◌≡◌, ℕ, ◌+◌, ◌^◌, ◌<◌, ◌≤◌, Bool, true, false, not, ◌⊎◌, IsTrue, List, [], ◌∷◌, ◌++◌, length, map, inl, inr, refl, sym, ap, ◌∙◌, subst, arith, append_assoc, codes, decimal, nat_eq, Option, Some, None, if◌then◌else◌}
+use Rattle.std.proofs.Common.{◌≡◌, ℕ, ◌+◌, ◌^◌, ◌<◌, ◌≤◌, Bool, true, false, not, ◌⊎◌, IsTrue, List, [], ◌∷◌, ◌++◌, length, map}
+use Rattle.std.proofs.Common.{inl, inr, refl, sym, ap, ◌∙◌, subst, arith, append_assoc, codes, decimal, nat_eq, Option, Some}
+use Rattle.std.proofs.Common.{None, if◌then◌else◌}
 use Rattle.std.specs.List.{list_any, starts_with}
 use Rattle.std.specs.Str.{bytes_eq}
 use Rattle.std.proofs.lemmas.Bool.{and_parts, not-true, true≢false}
@@ -33,7 +35,8 @@ pub record IsPortName (k : ℕ) (pins : List Pin) (x : List ℕ) : Type 0 where
   pub among : Among pin pins
   pub same : x ≡ port_name number pin.name
 
-later_name : (k : ℕ) (pin : Pin) (pins : List Pin) (x : List ℕ) (j : ℕ) → k ≤ j → j ≤ k + 1 → IsPortName j pins x → IsPortName k (pin ∷ pins) x
+later_name : (k : ℕ) (pin : Pin) (pins : List Pin) (x : List ℕ) (j : ℕ) → k ≤ j → j ≤ k + 1 → IsPortName j pins x
+    → IsPortName k (pin ∷ pins) x
 later_name k pin pins x j low high h = record {
   number = h.number;
   pin = h.pin;
@@ -51,12 +54,21 @@ port_form k (pin ∷ pins) x m = by (is_port pin) m (port_form (k + 1) pins x) (
         (b : Bool) → Among x (port_names (if b then port_of k pin ∷ ports_from (k + 1) pins else ports_from k pins))
         → (Among x (port_names (ports_from (k + 1) pins)) → IsPortName (k + 1) pins x)
         → (Among x (port_names (ports_from k pins)) → IsPortName k pins x) → IsPortName k (pin ∷ pins) x
-    by true (inl e) next other = record { number = k; pin = pin; from = omega arith; below = omega arith; among = inl refl; same = sym e }
+    by true (inl e) next other = record {
+      number = k;
+      pin = pin;
+      from = omega arith;
+      below = omega arith;
+      among = inl refl;
+      same =
+          sym e;
+    }
     by true (inr later) next other = later_name k pin pins x (k + 1) (omega arith) (omega arith) (next later)
     by false later next other = later_name k pin pins x k (omega arith) (omega arith) (other later)
 
 -- the names of ports of pins with distinct names are names of which none stands twice
-pub ports_are_named : (k : ℕ) (pins : List Pin) → IsTrue (are_distinct (map pin_name pins)) → k + length pins < 2 ^ 64 → AreNames (port_names (ports_from k pins))
+pub ports_are_named : (k : ℕ) (pins : List Pin) → IsTrue (are_distinct (map pin_name pins)) → k + length pins < 2 ^ 64
+    → AreNames (port_names (ports_from k pins))
 ports_are_named k [] d h = no_names
 ports_are_named k (pin ∷ pins) d h =
     by (is_port pin) (ports_are_named (k + 1) pins parts.1 (omega arith)) (ports_are_named k pins parts.1 (omega arith))
@@ -68,7 +80,8 @@ ports_are_named k (pin ∷ pins) d h =
     other p m e =
         true≢false
         (sym ((bytes_eq-Decides pin.name p.name).1 e)
-        ∙ none_passes (bytes_eq pin.name) p.name (map pin_name pins) (not-true (list_any (bytes_eq pin.name) (map pin_name pins)) parts.0)
+        ∙ none_passes (bytes_eq pin.name) p.name (map pin_name pins)
+        (not-true (list_any (bytes_eq pin.name) (map pin_name pins)) parts.0)
         (map-among pin_name p pins m))
 
     apart : (y : List ℕ) → IsPortName (k + 1) pins y → bytes_eq (port_name k pin.name) y ≡ false
@@ -82,15 +95,18 @@ ports_are_named k (pin ∷ pins) d h =
         (b : Bool) → AreNames (port_names (ports_from (k + 1) pins)) → AreNames (port_names (ports_from k pins))
         → AreNames (port_names (if b then port_of k pin ∷ ports_from (k + 1) pins else ports_from k pins))
     by true rest other =
-        cons_name (port_name k pin.name) (port_names (ports_from (k + 1) pins)) (given_is_name (codes "pin") pin_stem k pin.name (omega arith))
+        cons_name (port_name k pin.name) (port_names (ports_from (k + 1) pins))
+        (given_is_name (codes "pin") pin_stem k pin.name (omega arith))
         rest (λ y m. apart y (port_form (k + 1) pins y m))
     by false rest other = other
 
 -- no port begins as this project's own names
-pub port_no_lib : (k : ℕ) (pins : List Pin) (x : List ℕ) → Among x (port_names (ports_from k pins)) → starts_with nat_eq x (codes "lib_") ≡ false
+pub port_no_lib : (k : ℕ) (pins : List Pin) (x : List ℕ) → Among x (port_names (ports_from k pins))
+    → starts_with nat_eq x (codes "lib_") ≡ false
 port_no_lib k pins x m =
     let f = port_form k pins x m in
-    subst (λ y. starts_with nat_eq y (codes "lib_") ≡ false) (sym f.same) (given_no_lib (codes "pin") (λ ds. refl) f.number f.pin.name)
+    subst (λ y. starts_with nat_eq y (codes "lib_") ≡ false) (sym f.same)
+    (given_no_lib (codes "pin") (λ ds. refl) f.number f.pin.name)
 
 -- how the wires begin
 state_begins : (n : ℕ) (x : List ℕ) → Among x (state_wires n) → (ds : List ℕ) × (x ≡ codes "lib_s" ++ ds)
@@ -103,7 +119,8 @@ condition_begins n x m = let f = numbered_form (codes "lib_c") n x m in (decimal
 abbrev Begins : List ℕ → List ℕ → Type 0
 Begins word x = (ds : List ℕ) × (x ≡ word ++ ds)
 
-tells : (word : List ℕ) (t : List ℕ → Bool) (b : Bool) → ((ds : List ℕ) → t (word ++ ds) ≡ b) → (x : List ℕ) → Begins word x → t x ≡ b
+tells : (word : List ℕ) (t : List ℕ → Bool) (b : Bool) → ((ds : List ℕ) → t (word ++ ds) ≡ b) → (x : List ℕ) → Begins word x
+    → t x ≡ b
 tells word t b h x f = ap t f.1 ∙ h f.0
 
 abbrev is_condition_wire : List ℕ → Bool
@@ -123,7 +140,8 @@ wires_are_named g n h k =
     told_apart is_condition_wire x y (tells (codes "lib_s") is_condition_wire false (λ ds. refl) x (state_begins g x m))
     (tells (codes "lib_c") is_condition_wire true (λ ds. refl) y (condition_begins n y i)))
 
-wire_begins : (g n : ℕ) (x : List ℕ) → Among x (state_wires g ++ condition_wires n) → Begins (codes "lib_s") x ⊎ Begins (codes "lib_c") x
+wire_begins : (g n : ℕ) (x : List ℕ) → Among x (state_wires g ++ condition_wires n) → Begins (codes "lib_s") x
+    ⊎ Begins (codes "lib_c") x
 wire_begins g n x m =
     elim (among-append x (state_wires g) (condition_wires n) m) [
       | inl state ↦ inl (state_begins g x state)
@@ -153,14 +171,16 @@ register_is true x (inl e) = e
 register_is true x (inr none) = absurd none
 register_is false x m = absurd m
 
-own_names : (g n : ℕ) (b : Bool) → g < 2 ^ 64 → n < 2 ^ 64 → AreNames ((state_wires g ++ condition_wires n) ++ register_names (register_by b))
+own_names : (g n : ℕ) (b : Bool) → g < 2 ^ 64 → n < 2 ^ 64
+    → AreNames ((state_wires g ++ condition_wires n) ++ register_names (register_by b))
 own_names g n b h k =
     join_names (state_wires g ++ condition_wires n) (register_names (register_by b)) (wires_are_named g n h k) (register_named b)
     (λ x y m i.
     told_apart is_register x y (wire_tells is_register false (λ ds. refl) (λ ds. refl) g n x m)
     (sym (ap is_register (register_is b y i))))
 
-own_begins : (g n : ℕ) (b : Bool) (x : List ℕ) → Among x ((state_wires g ++ condition_wires n) ++ register_names (register_by b)) → is_own x ≡ true
+own_begins : (g n : ℕ) (b : Bool) (x : List ℕ) → Among x ((state_wires g ++ condition_wires n) ++ register_names (register_by b))
+    → is_own x ≡ true
 own_begins g n b x m =
     elim (among-append x (state_wires g ++ condition_wires n) (register_names (register_by b)) m) [
       | inl wire ↦ wire_tells is_own true (λ ds. refl) (λ ds. refl) g n x wire

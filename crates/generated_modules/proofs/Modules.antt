@@ -1,5 +1,6 @@
 -- The module of a cell is well formed.
-use Rattle.std.proofs.Common.{◌≡◌, ℕ, zero, suc, ◌+◌, ◌^◌, ◌<◌, ◌≤◌, Bool, true, false, List, [], ◌∷◌, ◌++◌, length, map, take, refl, sym, ap, ◌∙◌, arith, codes, get_or, nat_lt, nat_le, slice_get, Some, if◌then◌else◌}
+use Rattle.std.proofs.Common.{◌≡◌, ℕ, zero, suc, ◌+◌, ◌^◌, ◌<◌, ◌≤◌, Bool, true, false, List, [], ◌∷◌, ◌++◌, length, map, take}
+use Rattle.std.proofs.Common.{refl, sym, ap, ◌∙◌, arith, codes, get_or, nat_lt, nat_le, slice_get, Some, if◌then◌else◌}
 use Rattle.std.specs.Prelude.{All}
 use Rattle.std.specs.Option.{option_map_or}
 use Rattle.std.proofs.lemmas.Bool.{and_parts, ltb-true, leb-true}
@@ -21,9 +22,11 @@ use Rattle.cell_machine.proofs.RuleLemmas.{rules_of}
 use Rattle.udp_tables.specs.declared.table.Udp.{Udp}
 use Rattle.udp_tables.specs.Conditions.{conditions_of}
 use Rattle.udp_tables.specs.Edges.{each_below}
-use Rattle.udp_tables.specs.CellPrimitives.{primitive_name, condition_number, condition_tree, condition_primitive, group_primitive, has_sources, output_number, output_primitive}
+use Rattle.udp_tables.specs.CellPrimitives.{primitive_name, condition_number, condition_tree, condition_primitive}
+use Rattle.udp_tables.specs.CellPrimitives.{group_primitive, has_sources, output_number, output_primitive}
 use Rattle.specify_blocks.specs.Names.{module_name}
-use Rattle.specify_blocks.specs.Generated.{condition_count, output_primitives, group_primitives, condition_primitives, primitives_of, path_of, check_of, module_of}
+use Rattle.specify_blocks.specs.Generated.{condition_count, output_primitives, group_primitives, condition_primitives}
+use Rattle.specify_blocks.specs.Generated.{primitives_of, path_of, check_of, module_of}
 use Rattle.udp_tables.specs.declared.timing_checks.TimingCheck.{TimingCheck}
 use Rattle.specify_blocks.specs.WellFormed.{IsName, IsNumber, HasNumbers, IsWellFormedUdp, IsWellFormedModule}
 use Rattle.specify_blocks.proofs.Soundness.{module_is_sound}
@@ -37,7 +40,8 @@ use Rattle.generated_modules.proofs.Primitives.{function_well_formed, group_well
 use Rattle.generated_modules.proofs.Conditions.{condition_placed, few_conditions}
 use Rattle.specify_blocks.proofs.cell_tables.OutputLemmas.{among-at}
 use Rattle.specify_blocks.proofs.cell_tables.CellParts.{Rules, outputs_hold, checks_hold, arcs_hold}
-use Rattle.generated_modules.proofs.CellParts.{few_pins, distinct_pins, few_groups, group_support, few_sources, few_outputs, few_checks, few_arcs, arc_numbers, check_number}
+use Rattle.generated_modules.proofs.CellParts.{few_pins, distinct_pins, few_groups, group_support, few_sources, few_outputs}
+use Rattle.generated_modules.proofs.CellParts.{few_checks, few_arcs, arc_numbers, check_number}
 
 -- one for each number below another
 below_all : (P : Udp → Type 0) (f : ℕ → Udp) (n : ℕ) → ((i : ℕ) → i < n → P (f i)) → All P (each_below (λ i. f i ∷ []) n)
@@ -67,7 +71,8 @@ module _ (cell : CellData) (h : IsNumberedCell cell) where
       (λ g within.
       let support = group_support cell rules g within in
       let groups = few_groups cell rules in
-      group_well_formed cell g (primitive_is_name cell.number (g + 1) h.number (omega (arith, groups, within))) support.least support.most)
+      group_well_formed cell g (primitive_is_name cell.number (g + 1) h.number (omega (arith, groups, within))) support.least
+      support.most)
 
   conditions_well_formed : All IsWellFormedUdp (condition_primitives cell)
   conditions_well_formed =
@@ -80,7 +85,8 @@ module _ (cell : CellData) (h : IsNumberedCell cell) where
       (among-at (conditions_of cell) i f (slice_get-get_or (conditions_of cell) i node.Zero within)) in
       let parts = and_parts (nat_lt 0 (length (support_of f))) (nat_le (length (support_of f)) 10) places in
       let some : 0 < length (support_of f) = ltb-true 0 (length (support_of f)) parts.0 in
-      function_well_formed (primitive_name cell.number (condition_number cell i)) (length (support_of f)) (condition_at (support_of f) f)
+      function_well_formed (primitive_name cell.number (condition_number cell i)) (length (support_of f))
+      (condition_at (support_of f) f)
       (primitive_is_name cell.number (condition_number cell i) h.number (omega (arith, groups, conditions, within)))
       (omega (arith, some)) (leb-true (length (support_of f)) 10 parts.1))
 
@@ -102,7 +108,8 @@ module _ (cell : CellData) (h : IsNumberedCell cell) where
   abbrev Stand : ℕ → List OutputPin → Type 0
   Stand i outputs = (n : ℕ) → slice_get outputs n ≡ slice_get cell.outputs (i + n)
 
-  outputs_well_formed : (i : ℕ) (outputs : List OutputPin) → Stand i outputs → All IsWellFormedUdp (output_primitives cell i outputs)
+  outputs_well_formed : (i : ℕ) (outputs : List OutputPin) → Stand i outputs
+      → All IsWellFormedUdp (output_primitives cell i outputs)
   outputs_well_formed i [] at = All-nil IsWellFormedUdp
   outputs_well_formed i (output ∷ outputs) at =
       by (has_sources output) refl
@@ -117,21 +124,25 @@ module _ (cell : CellData) (h : IsNumberedCell cell) where
 
       by :
           (b : Bool) → has_sources output ≡ b → All IsWellFormedUdp (output_primitives cell (i + 1) outputs)
-          → All IsWellFormedUdp (if b then output_primitive cell i ∷ output_primitives cell (i + 1) outputs else output_primitives cell (i + 1) outputs)
+          → All IsWellFormedUdp (if b then output_primitive cell i ∷ output_primitives cell (i + 1) outputs
+          else output_primitives cell (i + 1) outputs)
       by true e rest =
           let some : 0 < length output.support = ltb-true 0 (length output.support) e in
           let rule = all-at (is_output_of cell.pins cell.groups) cell.outputs i output (outputs_hold cell rules) here in
           let few = few_sources cell.pins cell.groups output rule in
           let long : length (sources_at cell i) ≡ length output.support = ap length sources in
           All-cons IsWellFormedUdp (output_primitive cell i) (output_primitives cell (i + 1) outputs)
-          (function_well_formed (primitive_name cell.number (output_number cell i)) (length (sources_at cell i)) (output_value_at cell i)
-          (primitive_is_name cell.number (output_number cell i) h.number (output_small i)) (omega (arith, long, some)) (omega (arith, long, few)))
+          (function_well_formed (primitive_name cell.number (output_number cell i)) (length (sources_at cell i))
+          (output_value_at cell i)
+          (primitive_is_name cell.number (output_number cell i) h.number (output_small i)) (omega (arith, long, some))
+          (omega (arith, long, few)))
           rest
       by false e rest = rest
 
   primitives_well_formed : All IsWellFormedUdp (primitives_of cell)
   primitives_well_formed =
-      All-append IsWellFormedUdp (group_primitives cell) (condition_primitives cell ++ output_primitives cell 0 cell.outputs) groups_well_formed
+      All-append IsWellFormedUdp (group_primitives cell) (condition_primitives cell ++ output_primitives cell 0 cell.outputs)
+      groups_well_formed
       (All-append IsWellFormedUdp (condition_primitives cell) (output_primitives cell 0 cell.outputs) conditions_well_formed
       (outputs_well_formed 0 cell.outputs
       (λ n. let same : n ≡ 0 + n = omega arith in ap (slice_get cell.outputs) same)))
@@ -150,7 +161,8 @@ module _ (cell : CellData) (h : IsNumberedCell cell) where
       All-map (λ (k : TimingCheck). IsNumber k.limit) (check_of cell) cell.checks
       (λ i d within.
       let k : Check = get_or cell.checks i d in
-      check_number cell.pins k (all-at (is_check cell.pins) cell.checks i k (checks_hold cell rules) (slice_get-get_or cell.checks i d within)))
+      check_number cell.pins k (all-at (is_check cell.pins) cell.checks i k (checks_hold cell rules)
+      (slice_get-get_or cell.checks i d within)))
 
   pub name_is_one : IsName (module_name cell.number cell.name)
   name_is_one = given_is_name (codes "cell") cell_stem cell.number cell.name h.number

@@ -42,7 +42,8 @@ at_among P x (y ∷ xs) h (inl e) = subst P e h.0
 at_among P x (y ∷ xs) h (inr m) = at_among P x xs h.1 m
 
 -- what passes a test passes another one
-pub all_weaker : {X : Type 0} (p q : X → Bool) → ((x : X) → IsTrue (p x) → IsTrue (q x)) → (xs : List X) → IsTrue (list_all p xs) → IsTrue (list_all q xs)
+pub all_weaker : {X : Type 0} (p q : X → Bool) → ((x : X) → IsTrue (p x) → IsTrue (q x)) → (xs : List X) → IsTrue (list_all p xs)
+    → IsTrue (list_all q xs)
 all_weaker p q f [] h = refl
 all_weaker p q f (x ∷ xs) h =
     let parts = and_parts (p x) (list_all p xs) h in
@@ -50,14 +51,17 @@ all_weaker p q f (x ∷ xs) h =
 
 -- an item is not one of those behind it, where a test of their keys tells all of them apart
 pub other_key :
-    {X Y : Type 0} (same : Y → Y → Bool) (key : X → Y) → ((a b : Y) → a ≡ b → same a b ≡ true) → (x : X) (xs : List X) → IsDistinct same (map key (x ∷ xs))
+    {X Y : Type 0} (same : Y → Y → Bool) (key : X → Y) → ((a b : Y) → a ≡ b → same a b ≡ true) → (x : X) (xs : List X)
+    → IsDistinct same (map key (x ∷ xs))
     → (other : X) → Among other xs → key x ≡ key other → ⊥
 other_key same key alike x xs h other m e =
     true≢false
     (sym (alike (key x) (key other) e)
-    ∙ at_among (λ y. same (key x) y ≡ false) (key other) (map key xs) (IsDistinct-head same (key x) (map key xs) h) (map-among key other xs m))
+    ∙ at_among (λ y. same (key x) y ≡ false) (key other) (map key xs) (IsDistinct-head same (key x) (map key xs) h)
+    (map-among key other xs m))
 
-both_lists : {X : Type 0} (P : X → Type 0) (xs ys : List X) → AllByRecursion P xs → AllByRecursion P ys → AllByRecursion P (xs ++ ys)
+both_lists : {X : Type 0} (P : X → Type 0) (xs ys : List X) → AllByRecursion P xs → AllByRecursion P ys
+    → AllByRecursion P (xs ++ ys)
 both_lists P [] ys h k = k
 both_lists P (x ∷ xs) ys h k = (h.0, both_lists P xs ys h.1 k)
 
@@ -81,7 +85,8 @@ join_names (x ∷ xs) ys h k apart =
 
 -- one more name before others
 pub cons_name :
-    (x : List ℕ) (xs : List (List ℕ)) → IsName x → AreNames xs → ((y : List ℕ) → Among y xs → bytes_eq x y ≡ false) → AreNames (x ∷ xs)
+    (x : List ℕ) (xs : List (List ℕ)) → IsName x → AreNames xs → ((y : List ℕ) → Among y xs → bytes_eq x y ≡ false)
+    → AreNames (x ∷ xs)
 cons_name x xs h k apart =
     join_names (x ∷ []) xs (one_name x h) k
     (λ a b m n. elim m [ inl e ↦ subst (λ z. bytes_eq z b ≡ false) e (apart b n) | inr none ↦ absurd none ])

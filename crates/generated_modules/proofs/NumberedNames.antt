@@ -1,5 +1,6 @@
 -- Names that are a word with a number behind it.
-use Rattle.std.proofs.Common.{◌≡◌, ℕ, zero, suc, ◌^◌, ◌<◌, ◌≤◌, Bool, true, false, not, ◌&&◌, ◌||◌, ◌==◌, IsTrue, List, [], ◌∷◌, ◌++◌, length, inl, inr, refl, sym, ap, ◌∙◌, subst, arith, codes, decimal}
+use Rattle.std.proofs.Common.{◌≡◌, ℕ, zero, suc, ◌^◌, ◌<◌, ◌≤◌, Bool, true, false, not, ◌&&◌, ◌||◌, ◌==◌, IsTrue, List, [], ◌∷◌}
+use Rattle.std.proofs.Common.{◌++◌, length, inl, inr, refl, sym, ap, ◌∙◌, subst, arith, codes, decimal}
 use Rattle.std.specs.Char.{is_ascii_digit, is_ascii_alphabetic, is_ascii_uppercase, is_ascii_lowercase}
 use Rattle.std.specs.List.{list_any, list_all}
 use Rattle.std.specs.Str.{bytes_eq}
@@ -29,7 +30,8 @@ all_digits : (ds : List ℕ) → AllDigits 10 ds → IsTrue (list_all is_ascii_d
 all_digits [] h = refl
 all_digits (d ∷ ds) h =
     let bounds = digit_from_value d h.0 in
-    and_from (is_ascii_digit d) (list_all is_ascii_digit ds) (digit_is d (omega (arith, bounds)) (omega (arith, bounds))) (all_digits ds h.1)
+    and_from (is_ascii_digit d) (list_all is_ascii_digit ds) (digit_is d (omega (arith, bounds)) (omega (arith, bounds)))
+    (all_digits ds h.1)
 
 some_digits : (ds : List ℕ) → 0 < length ds → IsTrue (list_all is_ascii_digit ds) → IsTrue (is_number ds)
 some_digits [] h k = absurd (omega arith)
@@ -74,7 +76,8 @@ pub record IsStem (word : List ℕ) : Type 0 where
   pub identifier : IsTrue (is_identifier word)
   pub no_word : (ds : List ℕ) → IsTrue (is_number ds) → is_verilog_word (word ++ ds) ≡ false
 
-identifier_more : (word ds : List ℕ) → IsTrue (is_identifier word) → IsTrue (list_all is_name_byte ds) → IsTrue (is_identifier (word ++ ds))
+identifier_more : (word ds : List ℕ) → IsTrue (is_identifier word) → IsTrue (list_all is_name_byte ds)
+    → IsTrue (is_identifier (word ++ ds))
 identifier_more [] ds h k = absurd cc
 identifier_more (b ∷ bs) ds h k =
     let parts = and_parts (is_ascii_alphabetic b || b == 95) (list_all is_name_byte bs) h in
@@ -131,7 +134,8 @@ input_stem = record { identifier = refl; no_word = more }
 
 -- numbered names
 
-pub numbers_apart : (word : List ℕ) (m n : ℕ) → m < 2 ^ 64 → n < 2 ^ 64 → (m ≡ n → ⊥) → bytes_eq (word ++ decimal m) (word ++ decimal n) ≡ false
+pub numbers_apart : (word : List ℕ) (m n : ℕ) → m < 2 ^ 64 → n < 2 ^ 64 → (m ≡ n → ⊥)
+    → bytes_eq (word ++ decimal m) (word ++ decimal n) ≡ false
 numbers_apart word m n h k apart =
     unlike (word ++ decimal m) (word ++ decimal n)
     (λ e. apart (decimal_injective m n h k (append_cancel_left word (decimal m) (decimal n) e)))
@@ -161,7 +165,8 @@ numbered_names word h (suc n) k =
     })
 
 -- each is the word and a number
-pub numbered_form : (word : List ℕ) (n : ℕ) (x : List ℕ) → Among x (numbered word n) → (k : ℕ) × (0 < k) × (k ≤ n) × (x ≡ word ++ decimal k)
+pub numbered_form : (word : List ℕ) (n : ℕ) (x : List ℕ) → Among x (numbered word n) → (k : ℕ) × (0 < k) × (k ≤ n)
+    × (x ≡ word ++ decimal k)
 numbered_form word zero x m = absurd m
 numbered_form word (suc n) x m =
     elim (among-append x (numbered word n) ((word ++ decimal (suc n)) ∷ []) m) [

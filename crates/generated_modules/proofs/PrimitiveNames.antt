@@ -1,5 +1,6 @@
 -- The names of the primitives of a cell: their numbers count from 1.
-use Rattle.std.proofs.Common.{◌≡◌, ℕ, zero, suc, ◌+◌, ◌^◌, ◌<◌, Bool, true, false, cond, List, [], ◌∷◌, ◌++◌, length, take, refl, sym, ap, ◌∙◌, subst, arith, append_assoc, codes, decimal, if◌then◌else◌}
+use Rattle.std.proofs.Common.{◌≡◌, ℕ, zero, suc, ◌+◌, ◌^◌, ◌<◌, Bool, true, false, cond, List, [], ◌∷◌, ◌++◌, length, take, refl}
+use Rattle.std.proofs.Common.{sym, ap, ◌∙◌, subst, arith, append_assoc, codes, decimal, if◌then◌else◌}
 use Rattle.std.specs.Prelude.{count_by}
 use Rattle.std.specs.List.{list_all}
 use Rattle.std.proofs.lemmas.Bool.{and_from}
@@ -13,7 +14,8 @@ use Rattle.udp_tables.specs.declared.table.Udp.{Udp}
 use Rattle.udp_tables.specs.Edges.{each_below}
 use Rattle.udp_tables.specs.CellPrimitives.{primitive_name, group_primitive, condition_primitive, has_sources, output_primitive}
 use Rattle.specify_blocks.specs.Names.{numbered}
-use Rattle.specify_blocks.specs.Generated.{condition_count, output_primitives, group_primitives, condition_primitives, primitives_of}
+use Rattle.specify_blocks.specs.Generated.{condition_count, output_primitives, group_primitives, condition_primitives}
+use Rattle.specify_blocks.specs.Generated.{primitives_of}
 use Rattle.specify_blocks.specs.WellFormed.{IsName, udp_names}
 use Rattle.specify_blocks.proofs.ReadNames.{AreNames}
 use Rattle.generated_modules.proofs.NumberedNames.{number_in_name, decimal_digits, IsStem, lib_stem, stem_name, numbered_names}
@@ -26,7 +28,8 @@ pub front_stem : (c : ℕ) → c < 2 ^ 64 → IsStem (primitive_front c)
 front_stem c h =
     lib_stem (decimal c ++ codes "_")
     (list_all-append is_name_byte (decimal c) (codes "_")
-    ∙ and_from (list_all is_name_byte (decimal c)) (list_all is_name_byte (codes "_")) (number_in_name (decimal c) (decimal_digits c h)) refl)
+    ∙ and_from (list_all is_name_byte (decimal c)) (list_all is_name_byte (codes "_"))
+    (number_in_name (decimal c) (decimal_digits c h)) refl)
 
 pub primitive_named : (c j : ℕ) → primitive_front c ++ decimal j ≡ primitive_name c j
 primitive_named c j = refl
@@ -70,7 +73,8 @@ goes_on :
     → b + cond (has_sources output) 1 0 ≡ c → GoOn cell word i b (output ∷ outputs) → GoOn cell word (i + 1) c outputs
 goes_on cell word i b c output outputs e h n =
     let moved : (i + 1) + n ≡ i + suc n = omega arith in
-    let more : count_by has_sources (take (suc n) (output ∷ outputs)) ≡ cond (has_sources output) 1 0 + count_by has_sources (take n outputs)
+    let more : count_by has_sources (take (suc n) (output ∷ outputs)) ≡ cond (has_sources output) 1 0 + count_by has_sources
+    (take n outputs)
     = sum_by-cons (λ x. cond (has_sources x) 1 0) output (take n outputs) in
     let same : b + count_by has_sources (take (suc n) (output ∷ outputs)) + 1 ≡ c + count_by has_sources (take n outputs) + 1
     = omega (arith, more, e) in
@@ -91,8 +95,11 @@ outputs_named cell word i b (output ∷ outputs) h =
 
     by :
         (t : Bool) → has_sources output ≡ t
-        → ((c : ℕ) → b + cond (has_sources output) 1 0 ≡ c → numbered word c ++ udp_names (output_primitives cell (i + 1) outputs) ≡ numbered word (c + count_by has_sources outputs))
-        → numbered word b ++ udp_names (if t then output_primitive cell i ∷ output_primitives cell (i + 1) outputs else output_primitives cell (i + 1) outputs)
+        → ((c : ℕ) → b + cond (has_sources output) 1 0 ≡ c
+        → numbered word c ++ udp_names (output_primitives cell (i + 1) outputs) ≡ numbered word
+        (c + count_by has_sources outputs))
+        → numbered word b ++ udp_names (if t then output_primitive cell i ∷ output_primitives cell (i + 1) outputs
+        else output_primitives cell (i + 1) outputs)
         ≡ numbered word (b + count_by has_sources (output ∷ outputs))
     by true e rest =
         let step : ◌≡◌ {A = ℕ} (cond (has_sources output) 1 0) 1 = ap (λ t. cond t 1 0) e in
@@ -101,7 +108,8 @@ outputs_named cell word i b (output ∷ outputs) h =
         let here : i ≡ i + 0 = omega arith in
         let none : count_by has_sources (take 0 (output ∷ outputs)) ≡ 0 = refl in
         let number : b + count_by has_sources (take 0 (output ∷ outputs)) + 1 ≡ suc b = omega (arith, none) in
-        let total : suc b + count_by has_sources outputs ≡ b + count_by has_sources (output ∷ outputs) = omega (arith, counted, step) in
+        let total : suc b + count_by has_sources outputs ≡ b + count_by has_sources (output ∷ outputs) =
+        omega (arith, counted, step) in
         sym (append_assoc (numbered word b) (x ∷ []) later)
         ∙ ap (λ y. (numbered word b ++ y ∷ []) ++ later) (ap (λ m. (output_primitive cell m).name) here ∙ h 0)
         ∙ ap (λ l. l ++ later) (one_more word b (b + count_by has_sources (take 0 (output ∷ outputs)) + 1) number)
@@ -109,14 +117,16 @@ outputs_named cell word i b (output ∷ outputs) h =
         ∙ ap (numbered word) total
     by false e rest =
         let step : ◌≡◌ {A = ℕ} (cond (has_sources output) 1 0) 0 = ap (λ t. cond t 1 0) e in
-        let total : b + count_by has_sources outputs ≡ b + count_by has_sources (output ∷ outputs) = omega (arith, counted, step) in
+        let total : b + count_by has_sources outputs ≡ b + count_by has_sources (output ∷ outputs) = omega (arith, counted, step)
+        in
         rest b (omega (arith, step)) ∙ ap (numbered word) total
 
 -- how many primitives a cell has
 abbrev pub primitive_count : CellData → ℕ
 primitive_count cell = length cell.groups + condition_count cell + count_by has_sources cell.outputs
 
-pub primitives_named : (cell : CellData) → udp_names (primitives_of cell) ≡ numbered (primitive_front cell.number) (primitive_count cell)
+pub primitives_named : (cell : CellData)
+    → udp_names (primitives_of cell) ≡ numbered (primitive_front cell.number) (primitive_count cell)
 primitives_named cell =
     let word : List ℕ = primitive_front cell.number in
     let g : ℕ = length cell.groups in
@@ -127,7 +137,8 @@ primitives_named cell =
     let plain : 0 + g ≡ g = omega arith in
     names-append first (second ++ third)
     ∙ ap (λ l. l ++ udp_names (second ++ third))
-    (below_named word (group_primitive cell) 0 (λ i. let same : i + 1 ≡ 0 + i + 1 = omega arith in sym (primitive_named cell.number (i + 1)) ∙ ap (λ m. word ++ decimal m) same) g
+    (below_named word (group_primitive cell) 0 (λ i. let same : i + 1 ≡ 0 + i + 1 = omega arith
+    in sym (primitive_named cell.number (i + 1)) ∙ ap (λ m. word ++ decimal m) same) g
     ∙ ap (numbered word) plain)
     ∙ ap (λ l. numbered word g ++ l) (names-append second third)
     ∙ sym (append_assoc (numbered word g) (udp_names second) (udp_names third))
@@ -140,6 +151,8 @@ primitives_named cell =
     ∙ sym (primitive_named cell.number (g + n + count_by has_sources (take m cell.outputs) + 1)))
 
 -- the names of the primitives are names of which none stands twice
-pub primitives_are_named : (cell : CellData) → cell.number < 2 ^ 64 → primitive_count cell < 2 ^ 64 → AreNames (udp_names (primitives_of cell))
+pub primitives_are_named : (cell : CellData) → cell.number < 2 ^ 64 → primitive_count cell < 2 ^ 64
+    → AreNames (udp_names (primitives_of cell))
 primitives_are_named cell h k =
-    subst AreNames (sym (primitives_named cell)) (numbered_names (primitive_front cell.number) (front_stem cell.number h) (primitive_count cell) k)
+    subst AreNames (sym (primitives_named cell))
+    (numbered_names (primitive_front cell.number) (front_stem cell.number h) (primitive_count cell) k)

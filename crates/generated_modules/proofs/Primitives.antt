@@ -1,5 +1,6 @@
 -- The generated primitives are such as a text can declare.
-use Rattle.std.proofs.Common.{◌≡◌, ℕ, zero, suc, ◌+◌, ◌^◌, ◌<◌, ◌≤◌, Bool, true, false, List, [], ◌∷◌, ◌++◌, length, map, replicate, refl, sym, ap, subst, arith, codes, if◌then◌else◌}
+use Rattle.std.proofs.Common.{◌≡◌, ℕ, zero, suc, ◌+◌, ◌^◌, ◌<◌, ◌≤◌, Bool, true, false, List, [], ◌∷◌, ◌++◌, length, map}
+use Rattle.std.proofs.Common.{replicate, refl, sym, ap, subst, arith, codes, if◌then◌else◌}
 use Rattle.std.specs.Prelude.{All}
 use Rattle.std.specs.Str.{bytes_eq}
 use Rattle.std.proofs.lemmas.List.Elements.{All-nil, All-cons, All-head, All-tail, All-append, All-map}
@@ -63,15 +64,19 @@ function_stateless : (n : ℕ) (f : List Bool → Trit) → All HasNoState (func
 function_stateless n f =
     let ones : List (List Trit) = prime_list n (gives One f) in
     let zeros : List (List Trit) = prime_list n (gives Zero f) in
-    or_stateless (level_row Unknown (replicate n Unknown)) (value_rows level_row ones zeros) (row_stateless Unknown (replicate n Unknown))
-    (All-append HasNoState (map (level_row One) ones) (map (level_row Zero) zeros) (rows_stateless One ones) (rows_stateless Zero zeros))
+    or_stateless (level_row Unknown (replicate n Unknown)) (value_rows level_row ones zeros)
+    (row_stateless Unknown (replicate n Unknown))
+    (All-append HasNoState (map (level_row One) ones) (map (level_row Zero) zeros) (rows_stateless One ones)
+    (rows_stateless Zero zeros))
 
 -- a primitive with the numbered ports of its rows
 abbrev numbered_udp : List ℕ → Bool → ℕ → List UdpRow → Udp
-numbered_udp name sequential n rows = record { name = name; output = output_name; inputs = input_names n; sequential = sequential; rows = rows }
+numbered_udp name sequential n rows =
+    record { name = name; output = output_name; inputs = input_names n; sequential = sequential; rows = rows }
 
 numbered_well_formed :
-    (name : List ℕ) (sequential : Bool) (n : ℕ) (rows : List UdpRow) → IsName name → 1 ≤ n → n ≤ 10 → n ≤ most_inputs_of sequential → 1 ≤ length rows
+    (name : List ℕ) (sequential : Bool) (n : ℕ) (rows : List UdpRow) → IsName name → 1 ≤ n → n ≤ 10
+    → n ≤ most_inputs_of sequential → 1 ≤ length rows
     → IsTable sequential (numbered_udp name sequential n rows) → HasNoStates sequential (numbered_udp name sequential n rows)
     → IsWellFormedUdp (numbered_udp name sequential n rows)
 numbered_well_formed name sequential n rows named some few most row table stateless =
@@ -93,7 +98,8 @@ numbered_well_formed name sequential n rows named some few most row table statel
 pub function_well_formed :
     (name : List ℕ) (n : ℕ) (f : List Bool → Trit) → IsName name → 1 ≤ n → n ≤ 10 → IsWellFormedUdp (primitive_of name n f)
 function_well_formed name n f named some few =
-    numbered_well_formed name false n (function_rows n f) named some few few (some_row (level_row Unknown (replicate n Unknown)) _)
+    numbered_well_formed name false n (function_rows n f) named some few few
+    (some_row (level_row Unknown (replicate n Unknown)) _)
     (primitive-combinational name n f) (function_stateless n f)
 
 -- one input more for the notifier, where there is one
@@ -107,10 +113,12 @@ at_most false n h = omega arith
 
 -- the primitive of a group with a support of 1 to 8 pins
 pub group_well_formed :
-    (cell : CellData) (i : ℕ) → IsName (group_primitive cell i).name → 1 ≤ length (support_at cell i) → length (support_at cell i) ≤ 8
+    (cell : CellData) (i : ℕ) → IsName (group_primitive cell i).name → 1 ≤ length (support_at cell i)
+    → length (support_at cell i) ≤ 8
     → IsWellFormedUdp (group_primitive cell i)
 group_well_formed cell i named some few =
     let least : 1 ≤ group_inputs cell i = at_least (has_notifier cell) (length (support_at cell i)) some in
     let most : group_inputs cell i ≤ 9 = at_most (has_notifier cell) (length (support_at cell i)) few in
-    numbered_well_formed (group_primitive cell i).name true (group_inputs cell i) (group_primitive cell i).rows named least (omega (arith, most)) most (some_row _ _)
+    numbered_well_formed (group_primitive cell i).name true (group_inputs cell i) (group_primitive cell i).rows named least
+    (omega (arith, most)) most (some_row _ _)
     (groups_are_sequential-lem cell i) tt

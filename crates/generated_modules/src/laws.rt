@@ -1,6 +1,7 @@
 //! Theorems on the definitions, for the proofs of other crates. The functions do nothing.
 
-ghost use Rattle.generated_modules.specs.Laws.{ModuleIsWellFormed, ModulesAreWellFormed, AcceptedAreOfOneLibrary, AcceptedModulesAreWellFormed};
+ghost use Rattle.generated_modules.specs.Laws.{ModuleIsWellFormed, ModulesAreWellFormed, AcceptedAreOfOneLibrary};
+ghost use Rattle.generated_modules.specs.Laws.{AcceptedModulesAreWellFormed};
 
 /// The module that is generated for a cell is well formed: it is sound, its names are identifiers and no words, of which none
 /// stands twice, its primitives have as many inputs and rows as the language allows, and its numbers have at most 15 digits.

@@ -1,5 +1,6 @@
 -- Bytes of one kind and of another, and the digits of numbers.
-use Rattle.std.proofs.Common.{◌≡◌, ℕ, ◌+◌, ◌-◌, ◌*◌, ◌^◌, ◌<◌, ◌≤◌, Bool, true, false, not, ◌&&◌, nat_eq, nat_le, List, [], ◌∷◌, ◌++◌, length, inl, inr, Some, refl, sym, ap, ◌∙◌, arith, subst, decimal}
+use Rattle.std.proofs.Common.{◌≡◌, ℕ, ◌+◌, ◌-◌, ◌*◌, ◌^◌, ◌<◌, ◌≤◌, Bool, true, false, not, ◌&&◌, nat_eq, nat_le, List, [], ◌∷◌}
+use Rattle.std.proofs.Common.{◌++◌, length, inl, inr, Some, refl, sym, ap, ◌∙◌, arith, subst, decimal}
 use Rattle.std.proofs.lemmas.Bool.{and_parts, and_from, eqb-true, cases_Bool}
 use Rattle.std.proofs.lemmas.Bool.Decides.{nat_tests}
 use Rattle.std.proofs.lemmas.Fmt.{decimal_is_IsNumeral, length-decimal-le}
@@ -11,19 +12,22 @@ use Rattle.lexer.specs.Numbers.{number_after, number_of}
 
 pub unlike : (test : ℕ → Bool) (c b : ℕ) → not (test c) ≡ true → test b ≡ true → nat_eq c b ≡ false
 unlike test c b h e = elim (cases_Bool (nat_eq c b)) [
-  | inl t ↦ (let same : test c ≡ true = subst (λ x. test x ≡ true) (sym (eqb-true c b t)) e in let no : not (test c) ≡ false = ap not same in absurd (cc (h, no)))
+  | inl t ↦ (let same : test c ≡ true = subst (λ x. test x ≡ true) (sym (eqb-true c b t)) e
+      in let no : not (test c) ≡ false = ap not same in absurd (cc (h, no)))
   | inr f ↦ f
 ]
 
 -- a byte that passes a test is none of those that do not
-pub none_of : (test : ℕ → Bool) (cs : List ℕ) (b : ℕ) → list_all (λ c. not (test c)) cs ≡ true → test b ≡ true → list_any (λ c. nat_eq c b) cs ≡ false
+pub none_of : (test : ℕ → Bool) (cs : List ℕ) (b : ℕ) → list_all (λ c. not (test c)) cs ≡ true → test b ≡ true
+    → list_any (λ c. nat_eq c b) cs ≡ false
 none_of test [] b h e = refl
 none_of test (c ∷ cs) b h e =
     let p = and_parts (not (test c)) (list_all (λ c. not (test c)) cs) h in
     rw (unlike test c b p.0 e) (none_of test cs b p.1 e)
 
 -- a run of bytes that pass ends where none of them follows
-pub run_ends : (test : ℕ → Bool) (w r : List ℕ) → list_all test w ≡ true → prefix_len test r ≡ 0 → prefix_len test (w ++ r) ≡ length w
+pub run_ends : (test : ℕ → Bool) (w r : List ℕ) → list_all test w ≡ true → prefix_len test r ≡ 0
+    → prefix_len test (w ++ r) ≡ length w
 run_ends test [] r h e = e
 run_ends test (c ∷ w) r h e =
     let p = and_parts (test c) (list_all test w) h in

@@ -21,6 +21,8 @@ abbrev pub each : {A : Type 0} → (A → Front) → List A → Front
 each f [] s = s
 each f (x ∷ xs) s = f x (each f xs s)
 
-pub each_begins : {A : Type 0} (P : List ℕ → Type 0) (text : A → List ℕ) → ((x : A) (r : List ℕ) → P r → P (text x ++ r)) → (xs : List A) (r : List ℕ) → P r → P (flat_map text xs ++ r)
+pub each_begins : {A : Type 0} (P : List ℕ → Type 0) (text : A → List ℕ) → ((x : A) (r : List ℕ) → P r → P (text x ++ r))
+    → (xs : List A) (r : List ℕ) → P r → P (flat_map text xs ++ r)
 each_begins P text h [] r p = p
-each_begins P text h (x ∷ xs) r p = subst P (sym (append_assoc (text x) (flat_map text xs) r)) (h x (flat_map text xs ++ r) (each_begins P text h xs r p))
+each_begins P text h (x ∷ xs) r p =
+    subst P (sym (append_assoc (text x) (flat_map text xs) r)) (h x (flat_map text xs ++ r) (each_begins P text h xs r p))

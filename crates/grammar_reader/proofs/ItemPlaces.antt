@@ -1,5 +1,6 @@
 -- Items by their places.
-use Rattle.std.proofs.Common.{◌≡◌, ℕ, zero, suc, ◌+◌, Bool, true, false, ◌||◌, cond, List, [], ◌∷◌, ◌++◌, length, Option, Some, None, is_some, slice_get, refl, sym, ap, ◌∙◌, arith, subst, length-append}
+use Rattle.std.proofs.Common.{◌≡◌, ℕ, zero, suc, ◌+◌, Bool, true, false, ◌||◌, cond, List, [], ◌∷◌, ◌++◌, length, Option, Some}
+use Rattle.std.proofs.Common.{None, is_some, slice_get, refl, sym, ap, ◌∙◌, arith, subst, length-append}
 use Rattle.std.specs.List.{AllByRecursion, list_any, position_from}
 use Rattle.std.specs.Str.{bytes_eq}
 use Rattle.std.proofs.lemmas.Slice.Eq.{bytes_eq-Decides}
@@ -8,7 +9,8 @@ use Rattle.std.proofs.lemmas.Slice.Eq.{bytes_eq-Decides}
 pub same_bytes : (x : List ℕ) → bytes_eq x x ≡ true
 same_bytes x = (bytes_eq-Decides x x).1 refl
 
-pub at_place : {A : Type 0} (P : A → Type 0) (before : List A) (x : A) (after : List A) → AllByRecursion P (before ++ x ∷ after) → P x
+pub at_place : {A : Type 0} (P : A → Type 0) (before : List A) (x : A) (after : List A) → AllByRecursion P (before ++ x ∷ after)
+    → P x
 at_place P [] x after h = h.0
 at_place P (y ∷ before) x after h = at_place P before x after h.1
 
@@ -43,12 +45,14 @@ pub all_at : {A : Type 0} (P : A → Type 0) (xs : List A) (i : ℕ) (x : A) →
 all_at P xs i x all e = let at = item_at xs i x e in at_place P at.before x at.after (subst (AllByRecursion P) at.split all)
 
 -- the place of the first item that passes a test
-pub found_behind : {A : Type 0} (test : A → Bool) (i : ℕ) (before : List A) (x : A) (after : List A) → list_any test before ≡ false → test x ≡ true
+pub found_behind : {A : Type 0} (test : A → Bool) (i : ℕ) (before : List A) (x : A) (after : List A)
+    → list_any test before ≡ false → test x ≡ true
     → position_from test i (before ++ x ∷ after) ≡ Some (i + length before)
 found_behind test i [] x after none here = let same : i ≡ i + 0 = omega arith in rw here (ap (λ (n : ℕ). Some n) same)
 found_behind test i (y ∷ before) x after none here = by (λ h. found_behind test (i + 1) before x after h here) (test y) refl none
   where
-    by : (list_any test before ≡ false → position_from test (i + 1) (before ++ x ∷ after) ≡ Some (i + 1 + length before)) → (t : Bool) → test y ≡ t → (t || list_any test before) ≡ false
+    by : (list_any test before ≡ false → position_from test (i + 1) (before ++ x ∷ after) ≡ Some (i + 1 + length before))
+        → (t : Bool) → test y ≡ t → (t || list_any test before) ≡ false
         → cond (test y) (Some i) (position_from test (i + 1) (before ++ x ∷ after)) ≡ Some (i + length (y ∷ before))
     by rest true e h = absurd cc
     by rest false e h =

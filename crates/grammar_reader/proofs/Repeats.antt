@@ -6,7 +6,8 @@ use Rattle.grammar_reader.specs.declared.refusal.Refusal.{Refusal}
 use Rattle.grammar_reader.specs.Words.{begins}
 use Rattle.grammar_reader.specs.Next.{is_next, rest}
 
-module _ {A S : Type 0} (f : S → List ℕ → Option (Verdict A Refusal)) (go : S → A → List (List ℕ) → Outcome (List ℕ) Refusal S) where
+module _ {A S : Type 0} (f : S → List ℕ → Option (Verdict A Refusal)) (go : S → A → List (List ℕ)
+    → Outcome (List ℕ) Refusal S) where
   -- one turn, while there are some left
   pub turn : (n i : ℕ) (u : S) (s : List (List ℕ)) → i < n →
       repeat f go (n - i) u s ≡ choose (f u) s (λ a r. and_then (go u a r) (λ v q. repeat f go (n - (i + 1)) v q)) (Ok (u, s))

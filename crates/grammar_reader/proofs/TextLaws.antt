@@ -19,12 +19,18 @@ both_none None (Some at) e h = absurd cc
 both_none (Some at) (Some place) e h = absurd cc
 
 -- the value of a text is that of another with the same tokens
-as_other : {A F : Type 0} (l : Texts A F) (text other : List ℕ) → HaveSameTokens l.lexis text other → (a : A) → IsText l text a → IsText l other a
+as_other : {A F : Type 0} (l : Texts A F) (text other : List ℕ) → HaveSameTokens l.lexis text other → (a : A) → IsText l text a
+    → IsText l other a
 as_other l text other h a t =
     let p = parts (scan_of l.lexis text) (scan_of l.lexis other) h in
-    record { lexes = both_none (scan_of l.lexis text).1 (scan_of l.lexis other).1 p.1 t.lexes; takes = subst (λ (s : List (List ℕ)). Takes l.file s a []) p.0 t.takes }
+    record {
+      lexes = both_none (scan_of l.lexis text).1 (scan_of l.lexis other).1 p.1 t.lexes;
+      takes =
+          subst (λ (s : List (List ℕ)). Takes l.file s a []) p.0 t.takes;
+    }
 
-pub same_values : {A F : Type 0} (l : Texts A F) (text other : List ℕ) → HaveSameTokens l.lexis text other → HaveSameValues l text other
+pub same_values : {A F : Type 0} (l : Texts A F) (text other : List ℕ) → HaveSameTokens l.lexis text other
+    → HaveSameValues l text other
 same_values l text other h a = (as_other l text other h a, as_other l other text (sym h) a)
 
 pub fault_at_first_token : {A F : Type 0} (l : Texts A F) (text : List ℕ) → HasFaultAtFirstToken l text

@@ -9,7 +9,8 @@ use Rattle.grammar_reader.proofs.ItemPlaces.{none_if}
 
 -- bytes whose tokens, without a lexical fault, read as a value are its text
 pub is_text : {A F : Type 0} (l : Texts A F) (bytes : List ℕ) (value : A) (s : List (List ℕ))
-    → ◌≡◌ {A = List (List ℕ) × Bool} (text_tokens l.lexis bytes, is_some (lexical_place l.lexis bytes)) (s, false) → Reads l.file s value [] → IsText l bytes value
+    → ◌≡◌ {A = List (List ℕ) × Bool} (text_tokens l.lexis bytes, is_some (lexical_place l.lexis bytes)) (s, false)
+    → Reads l.file s value [] → IsText l bytes value
 is_text l bytes value s e h = record {
   lexes = none_if (lexical_place l.lexis bytes) (ap (λ (p : List (List ℕ) × Bool). p.1) e);
   takes = subst (λ (t : List (List ℕ)). Takes l.file t value []) (sym (ap (λ (p : List (List ℕ) × Bool). p.0) e)) h.taken;

@@ -1,5 +1,5 @@
--- Parts that repeat, each behind a word, where a part is read by a function of what was found before it and of the tokens left. A rule
--- whose part is repeated so, told by `Many` and `begins`, is read as these say.
+-- Parts that repeat, each behind a word, where a part is read by a function of what was found before it and of the tokens left. A
+-- rule whose part is repeated so, told by `Many` and `begins`, is read as these say.
 use Rattle.std.specs.Prelude.{ℕ, Bool, List, length}
 use Rattle.grammar_rules.specs.Reading.{Outcome, and_then, repeat}
 use Rattle.grammar_reader.specs.declared.refusal.Refusal.{Refusal}

@@ -8,8 +8,8 @@ use Rattle.lexer.specs.Places.{place_from}
 use Rattle.grammar_reader.specs.declared.refusal.Refusal.{Refusal}
 use Rattle.grammar_reader.specs.Words.{Grammar}
 
--- The faults of texts: that at an offset where no token begins, and that of a refusal at an offset; and of a fault its offset, and the
--- number of its kind, in the order in which kinds count at one offset.
+-- The faults of texts: that at an offset where no token begins, and that of a refusal at an offset; and of a fault its offset,
+-- and the number of its kind, in the order in which kinds count at one offset.
 pub record Faults (F : Type 0) : Type 0 where
   pub lexical : ℕ → F
   pub of_refusal : Refusal → ℕ → F
@@ -40,18 +40,22 @@ abbrev pub token_place : Lexis → List ℕ → List (List ℕ) → ℕ
 token_place lexis bytes left = place_from (length bytes) (scan_of lexis bytes).0 (length left)
 
 -- A text meets a fault: a place where no token begins; a token that the loose subset takes, although it breaks a strict rule; the
--- first token with which the tokens so far are no front of the loose subset; or the end of the text where it is a front and no text.
+-- first token with which the tokens so far are no front of the loose subset; or the end of the text where it is a front and no
+-- text.
 abbrev pub MeetsFault : {A F : Type 0} → Texts A F → List ℕ → F → Type 0
 MeetsFault l bytes f =
     ((at : ℕ) × (lexical_place l.lexis bytes ≡ Some at) × (f ≡ l.faults.lexical at))
-    ⊎ (((k : Refusal) × (m : List (List ℕ)) × Fouls l.file (text_tokens l.lexis bytes) k m × (f ≡ l.faults.of_refusal k (token_place l.lexis bytes m)))
+    ⊎ (((k : Refusal) × (m : List (List ℕ)) × Fouls l.file (text_tokens l.lexis bytes) k m
+    × (f ≡ l.faults.of_refusal k (token_place l.lexis bytes m)))
     ⊎ (((k : Refusal) × (x : List ℕ) × (m : List (List ℕ)) × Refuses (loose l.file) (text_tokens l.lexis bytes) k (x ∷ m)
     × (f ≡ l.faults.of_refusal k (token_place l.lexis bytes (x ∷ m))))
-    ⊎ ((lexical_place l.lexis bytes ≡ None) × (k : Refusal) × Refuses (loose l.file) (text_tokens l.lexis bytes) k [] × (f ≡ l.faults.of_refusal k (length bytes)))))
+    ⊎ ((lexical_place l.lexis bytes ≡ None) × (k : Refusal) × Refuses (loose l.file) (text_tokens l.lexis bytes) k []
+    × (f ≡ l.faults.of_refusal k (length bytes)))))
 
 -- the least offset counts, and at one offset the first kind
 abbrev pub CountsBefore : {A F : Type 0} → Texts A F → F → F → Type 0
-CountsBefore l f g = (l.faults.place f < l.faults.place g) ⊎ ((l.faults.place f ≡ l.faults.place g) × (l.faults.rank f ≤ l.faults.rank g))
+CountsBefore l f g = (l.faults.place f < l.faults.place g)
+    ⊎ ((l.faults.place f ≡ l.faults.place g) × (l.faults.rank f ≤ l.faults.rank g))
 
 -- This is the fault of a text: of those that it meets, the first.
 pub record IsFault {A F : Type 0} (l : Texts A F) (bytes : List ℕ) (f : F) : Type 0 where
@@ -79,7 +83,8 @@ answer_of l len tokens lexical (Err e) = Err (refusal_fault l.faults len tokens 
 
 -- the value of a text, or its fault
 abbrev pub text : {A F : Type 0} → Texts A F → List ℕ → Result A F
-text l bytes = answer_of l (length bytes) (scan_of l.lexis bytes).0 (scan_of l.lexis bytes).1 (read l.file (text_tokens l.lexis bytes))
+text l bytes = answer_of l (length bytes) (scan_of l.lexis bytes).0 (scan_of l.lexis bytes).1
+    (read l.file (text_tokens l.lexis bytes))
 
 -- A text has a value or a fault, and one of them.
 pub record IsAnswer {A F : Type 0} (l : Texts A F) (bytes : List ℕ) : Type 0 where

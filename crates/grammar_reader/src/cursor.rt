@@ -5,8 +5,8 @@ ghost use Rattle.lexer.specs.Spans.{LieInside, spelled};
 ghost use Rattle.grammar_reader.specs.Next.{is_next, is_next_name, next_bytes, rest};
 
 use crate::language::Language;
-use std::marker::{Model, PhantomData};
 use lexer::KeptSpan;
+use std::marker::{Model, PhantomData};
 
 /// The tokens of a text that are not read yet, each seen as its bytes, in a language `L`.
 #[derive(Drop)]

@@ -77,7 +77,8 @@ impl<L: Language> Cursor<'_, L> {
 
     /// A name that is declared here, where `taken` says whether it was declared before.
     pub fn fresh_name(&mut self, alloc: Global, taken: bool) -> Result<Items<u8>, Stop>
-        ensures { (names : List (List ℕ)) → taken ≡ spec.is_among L.is_same names (next_bytes self.old) → Reads (read (spec.new_name L.is_name L.is_same names) self.old) result self.new }
+        ensures { (names : List (List ℕ)) → taken ≡ spec.is_among L.is_same names (next_bytes self.old)
+            → Reads (read (spec.new_name L.is_name L.is_same names) self.old) result self.new }
     {
         if !self.is_next_name() {
             return Err(Stop::Refused(Refusal::Syntax));
@@ -135,10 +136,12 @@ impl<L: Language> Cursor<'_, L> {
         Ok(value)
     }
 
-    /// The value that a name was found to stand for, if it stands for one. What was found of a token that is no name is not asked.
+    /// The value that a name was found to stand for, if it stands for one. What was found of a token that is no name is not
+    /// asked.
     #[tactic(auto, using(crate::proofs::Values::next_known, crate::proofs::Values::next_unknown, crate::proofs::Values::next_no_name))]
     pub fn known<A: Drop>(&mut self, found: Option<A>) -> Result<A, Stop>
-        ensures { (find : List ℕ → Option A) → (is_next_name L.is_name self.old ≡ true → found ≡ find (next_bytes self.old)) → Reads (read (spec.known L.is_name find) self.old) result self.new }
+        ensures { (find : List ℕ → Option A) → (is_next_name L.is_name self.old ≡ true → found ≡ find (next_bytes self.old))
+            → Reads (read (spec.known L.is_name find) self.old) result self.new }
     {
         if !self.is_next_name() {
             return Err(Stop::Refused(Refusal::Syntax));

@@ -2,7 +2,8 @@
 use Rattle.std.proofs.Common.{◌≡◌, ◌≤◌, List, [], ◌∷◌, length, Ok, inl, inr, refl, sym, ap, ◌∙◌, arith}
 use Rattle.grammar_rules.specs.Rule.{Rule, Gives, Token, Peek, Then, Many, Choice, Last, Marked, Fits, Takes}
 use Rattle.grammar_rules.specs.Reading.{marked, read}
-use Rattle.grammar_rules.proofs.Steps.{value_is, rest_is, ok_pair, judge_ok, choose_ok, choose_fits, choose_stops, and_then_ok, and_then_at, marked_ok}
+use Rattle.grammar_rules.proofs.Steps.{value_is, rest_is, ok_pair, judge_ok, choose_ok, choose_fits, choose_stops, and_then_ok}
+use Rattle.grammar_rules.proofs.Steps.{and_then_at, marked_ok}
 use Rattle.grammar_rules.proofs.Turns.{Shrinks, repeat_shrinks, ends, reaches, repeat_sound}
 
 pub shrinks : {T K A : Type 0} (p : Rule T K A) (s : List T) (b : A) (r : List T) → read p s ≡ Ok (b, r) → length r ≤ length s
@@ -20,7 +21,8 @@ shrinks (Then p g) s b r e =
     let i = shrinks p s t.0 t.1 t.2 in
     let j = shrinks (g t.0) t.1 b r t.3 in
     omega arith
-shrinks (Many f g u) s b r e = repeat_shrinks f (λ w a m. read (g w a) m) (λ w a m v q h. shrinks (g w a) m v q h) (length s) u s b r e
+shrinks (Many f g u) s b r e = repeat_shrinks f (λ w a m. read (g w a) m) (λ w a m v q h. shrinks (g w a) m v q h)
+    (length s) u s b r e
 shrinks (Choice f g p) s b r e =
     elim (choose_ok f s (λ a m. read (g a) m) (read p s) (b, r) e) [
       | inl (x, a, m, is, fits, h) ↦ (let i = shrinks (g a) m b r h in let k = ap length is in omega arith)
@@ -37,9 +39,11 @@ pub complete : {T K A : Type 0} (p : Rule T K A) (s : List T) (b : A) (r : List 
 complete (Gives a) s b r (e, i) = ok_pair e i
 complete (Token f k) s b r (x, e, fits) = rw e (rw fits refl)
 complete {T} {K} {A} (Peek f k) s b r (x, m, e, fits, i) = rw (sym i) (rw e (rw fits refl))
-complete (Then p g) s b r (a, m, t, i) = and_then_at (read p s) (λ a m. read (g a) m) a m (complete p s a m t) ∙ complete (g a) m b r i
+complete (Then p g) s b r (a, m, t, i) = and_then_at (read p s) (λ a m. read (g a) m) a m (complete p s a m t)
+    ∙ complete (g a) m b r i
 complete (Many f g u) s b r (n, t, h) =
-    reaches f (λ w a m. read (g w a) m) (parts_shrink g) (λ w a m. Takes (g w a) m) (λ w a m v q i. complete (g w a) m v q i) n u s b r t
+    reaches f (λ w a m. read (g w a) m) (parts_shrink g) (λ w a m. Takes (g w a) m) (λ w a m v q i. complete (g w a) m v q i) n u
+    s b r t
     ∙ ends f (λ w a m. read (g w a) m) (parts_shrink g) b r h
 complete (Choice f g p) s b r (inl (x, a, m, e, fits, t)) =
     rw e (choose_fits f x m a (λ a m. read (g a) m) (read p (x ∷ m)) fits ∙ complete (g a) m b r t)
@@ -61,7 +65,8 @@ sound (Then p g) s b r e =
     let t = and_then_ok (read p s) (λ a m. read (g a) m) (b, r) e in
     (t.0, t.1, sound p s t.0 t.1 t.2, sound (g t.0) t.1 b r t.3)
 sound (Many f g u) s b r e =
-    repeat_sound f (λ w a m. read (g w a) m) (parts_shrink g) (λ w a m. Takes (g w a) m) (λ w a m v q i. sound (g w a) m v q i) (length s) u s b r (omega arith) e
+    repeat_sound f (λ w a m. read (g w a) m) (parts_shrink g) (λ w a m. Takes (g w a) m) (λ w a m v q i. sound (g w a) m v q i)
+    (length s) u s b r (omega arith) e
 sound (Choice f g p) s b r e =
     elim (choose_ok f s (λ a m. read (g a) m) (read p s) (b, r) e) [
       | inl (x, a, m, is, fits, h) ↦ inl (x, a, m, is, fits, sound (g a) m b r h)

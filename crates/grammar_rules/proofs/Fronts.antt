@@ -1,6 +1,8 @@
 -- Fronts are what a reading uses up; a reading looks one token ahead and no further.
-use Rattle.std.proofs.Common.{◌≡◌, ℕ, zero, suc, ◌≤◌, List, [], ◌∷◌, length, Option, Some, None, Ok, Err, ◌⊎◌, inl, inr, refl, sym, ap, subst, ◌∙◌, arith}
-use Rattle.grammar_rules.specs.Rule.{Rule, Gives, Token, Peek, Then, Many, Choice, Last, Marked, Verdict, Fits, Foul, Misfit, Stops, Times, Takes, Front}
+use Rattle.std.proofs.Common.{◌≡◌, ℕ, zero, suc, ◌≤◌, List, [], ◌∷◌, length, Option, Some, None, Ok, Err, ◌⊎◌, inl, inr, refl}
+use Rattle.std.proofs.Common.{sym, ap, subst, ◌∙◌, arith}
+use Rattle.grammar_rules.specs.Rule.{Rule, Gives, Token, Peek, Then, Many, Choice, Last, Marked, Verdict, Fits, Foul, Misfit}
+use Rattle.grammar_rules.specs.Rule.{Stops, Times, Takes, Front}
 use Rattle.grammar_rules.specs.Reading.{Outcome, and_then, marked, judge, judge_first, choose, repeat, read}
 use Rattle.grammar_rules.proofs.Steps.{rest_of, choose_fits, choose_stops, and_then_at}
 use Rattle.grammar_rules.proofs.Turns.{Shrinks, turns, unroll, reaches}
@@ -10,7 +12,8 @@ use Rattle.grammar_rules.proofs.Exact.{parts_shrink, complete, sound}
 abbrev pub UsesUp : {T K A : Type 0} → Outcome T K A → Type 0
 UsesUp o = rest_of o ≡ []
 
-pub then_used : {T K A B : Type 0} (o : Outcome T K A) (g : A → List T → Outcome T K B) → UsesUp o → ((a : A) → UsesUp (g a [])) → UsesUp (and_then o g)
+pub then_used : {T K A B : Type 0} (o : Outcome T K A) (g : A → List T → Outcome T K B) → UsesUp o → ((a : A) → UsesUp (g a []))
+    → UsesUp (and_then o g)
 then_used (Ok p) g h i = subst (λ r. UsesUp (g p.0 r)) (sym h) (i p.0)
 then_used (Err z) g h i = h
 
@@ -44,7 +47,8 @@ front_ends (Token f k) s (inr (a, t)) = ap rest_of (complete (Token f k) s a [] 
 front_ends (Peek f k) s e = subst (λ s. UsesUp (read (Peek f k) s)) (sym e) refl
 front_ends (Then p g) s (inl h) = then_used (read p s) (λ a r. read (g a) r) (front_ends p s h) (λ a. at_end (g a))
 front_ends (Then p g) s (inr (a, m, t, h)) =
-    used_like (read (Then p g) s) (read (g a) m) (and_then_at (read p s) (λ a r. read (g a) r) a m (complete p s a m t)) (front_ends (g a) m h)
+    used_like (read (Then p g) s) (read (g a) m) (and_then_at (read p s) (λ a r. read (g a) r) a m (complete p s a m t))
+    (front_ends (g a) m h)
 front_ends {T} {K} (Many {A = A} {S = S} f g u) s (n, v, r, t, inl e) =
     let go : S → A → List T → Outcome T K S = λ w a q. read (g w a) q in
     used_like (turns f go u s) (turns f go v r)
@@ -78,22 +82,27 @@ pub then_splits : {T K A B : Type 0} (o : Outcome T K A) (g : A → List T → O
 then_splits (Ok p) g h = inl (p.0, p.1, refl, h)
 then_splits (Err z) g h = inr h
 
-pub first_used : {T K A B : Type 0} (v : Option (Verdict A K)) (go : A → Outcome T K B) (x : T) (s : List T) (other : Outcome T K B) →
-    UsesUp (judge_first v go (λ k. Err (k, x ∷ s)) other) → ((a : A) × (v ≡ Some (Fits a)) × UsesUp (go a)) ⊎ ((v ≡ None) × UsesUp other)
+pub first_used : {T K A B : Type 0} (v : Option (Verdict A K)) (go : A → Outcome T K B) (x : T) (s : List T)
+    (other : Outcome T K B) →
+    UsesUp (judge_first v go (λ k. Err (k, x ∷ s)) other) → ((a : A) × (v ≡ Some (Fits a)) × UsesUp (go a))
+    ⊎ ((v ≡ None) × UsesUp other)
 first_used None go x s other h = inr (refl, h)
 first_used (Some (Fits a)) go x s other h = inl (a, refl, h)
 first_used (Some (Foul k a)) go x s other h = absurd cc
 first_used (Some (Misfit k)) go x s other h = absurd cc
 
-choose_used : {T K A B : Type 0} (f : T → Option (Verdict A K)) (s : List T) (go : A → List T → Outcome T K B) (other : Outcome T K B) →
-    UsesUp (choose f s go other) → ((x : T) × (a : A) × (m : List T) × (s ≡ x ∷ m) × (f x ≡ Some (Fits a)) × UsesUp (go a m)) ⊎ (Stops f s × UsesUp other)
+choose_used : {T K A B : Type 0} (f : T → Option (Verdict A K)) (s : List T) (go : A → List T
+    → Outcome T K B) (other : Outcome T K B) →
+    UsesUp (choose f s go other) → ((x : T) × (a : A) × (m : List T) × (s ≡ x ∷ m) × (f x ≡ Some (Fits a)) × UsesUp (go a m))
+    ⊎ (Stops f s × UsesUp other)
 choose_used f [] go other h = inr (tt, h)
 choose_used f (x ∷ s) go other h =
     elim (first_used (f x) (λ a. go a s) x s other h)
     [ inl i ↦ inl (x, i.0, s, refl, i.1, i.2) | inr i ↦ inr (i.0, i.1) ]
 
 -- the fronts of a repeated part, over any fronts F of a part
-abbrev pub TurnFront : {T K A S : Type 0} → (S → T → Option (Verdict A K)) → (S → A → List T → S → List T → Type 0) → (S → A → List T → Type 0) → S → List T → Type 0
+abbrev pub TurnFront : {T K A S : Type 0} → (S → T → Option (Verdict A K)) → (S → A → List T → S → List T → Type 0)
+    → (S → A → List T → Type 0) → S → List T → Type 0
 TurnFront {T} {K} {A} {S} f G F u s =
     (n : ℕ) × (v : S) × (r : List T) × Times f G n u s v r
     × ((r ≡ []) ⊎ ((x : T) × (a : A) × (m : List T) × (r ≡ x ∷ m) × (f v x ≡ Some (Fits a)) × F v a m))

@@ -1,5 +1,6 @@
 -- The tokens that break strict rules, in the order in which a loose reading takes them.
-use Rattle.std.proofs.Common.{◌≡◌, ℕ, zero, suc, ◌≤◌, ◌<◌, List, [], ◌∷◌, ◌++◌, length, Option, Some, None, Ok, Err, refl, ap, subst, arith}
+use Rattle.std.proofs.Common.{◌≡◌, ℕ, zero, suc, ◌≤◌, ◌<◌, List, [], ◌∷◌, ◌++◌, length, Option, Some, None, Ok, Err, refl, ap}
+use Rattle.std.proofs.Common.{subst, arith}
 use Rattle.grammar_rules.specs.Rule.{Rule, Gives, Token, Peek, Then, Many, Choice, Last, Marked, Verdict, Fits, Foul, Misfit}
 use Rattle.grammar_rules.specs.Reading.{Outcome, and_then, marked, judge, judge_first, repeat, read}
 use Rattle.grammar_rules.specs.Loose.{lenient, lenient_first, loose}
@@ -16,16 +17,19 @@ mark_of (Fits a) m = []
 mark_of (Foul k a) m = (k, m) ∷ []
 mark_of (Misfit k) m = []
 
-abbrev pub first_marks : {T K A : Type 0} → Option (Verdict A K) → List T → (A → List (K × List T)) → List (K × List T) → List (K × List T)
+abbrev pub first_marks : {T K A : Type 0} → Option (Verdict A K) → List T → (A → List (K × List T)) → List (K × List T)
+    → List (K × List T)
 first_marks None m next other = other
 first_marks (Some (Fits a)) m next other = next a
 first_marks (Some (Foul k a)) m next other = (k, m) ∷ next a
 first_marks (Some (Misfit k)) m next other = []
 
-abbrev pub turn_marks : {T K A S : Type 0} → (S → T → Option (Verdict A K)) → (S → A → List T → List (K × List T)) → (S → A → List T → Outcome T K S) → ℕ → S → List T → List (K × List T)
+abbrev pub turn_marks : {T K A S : Type 0} → (S → T → Option (Verdict A K)) → (S → A → List T → List (K × List T))
+    → (S → A → List T → Outcome T K S) → ℕ → S → List T → List (K × List T)
 turn_marks f mk go zero u s = []
 turn_marks f mk go (suc n) u [] = []
-turn_marks f mk go (suc n) u (x ∷ r) = first_marks (f u x) (x ∷ r) (λ a. mk u a r ++ after (go u a r) (λ v q. turn_marks f mk go n v q)) []
+turn_marks f mk go (suc n) u (x ∷ r) =
+    first_marks (f u x) (x ∷ r) (λ a. mk u a r ++ after (go u a r) (λ v q. turn_marks f mk go n v q)) []
 
 abbrev pub renamed : {T J K : Type 0} → (J → K) → List (J × List T) → List (K × List T)
 renamed h [] = []
@@ -55,35 +59,42 @@ judged_splits (Fits a) x r = refl
 judged_splits (Foul k a) x r = refl
 judged_splits (Misfit k) x r = refl
 
-then_splits : {T K A B : Type 0} (o l : Outcome T K A) (ms : List (K × List T)) (g h : A → List T → Outcome T K B) (mg : A → List T → List (K × List T)) →
+then_splits : {T K A B : Type 0} (o l : Outcome T K A) (ms : List (K × List T)) (g h : A → List T → Outcome T K B) (mg : A
+    → List T → List (K × List T)) →
     o ≡ first_or ms l → ((a : A) (r : List T) → g a r ≡ first_or (mg a r) (h a r)) →
     and_then o g ≡ first_or (ms ++ after l mg) (and_then l h)
 then_splits o (Ok p) [] g h mg e i = rw e (i p.0 p.1)
 then_splits o (Err z) [] g h mg e i = rw e refl
 then_splits o l (z ∷ zs) g h mg e i = rw e refl
 
-first_splits : {T K A B : Type 0} (v : Option (Verdict A K)) (m : List T) (g h : A → Outcome T K B) (mg : A → List (K × List T)) (other loosely : Outcome T K B) (mo : List (K × List T)) →
+first_splits : {T K A B : Type 0} (v : Option (Verdict A K)) (m : List T) (g h : A → Outcome T K B) (mg : A
+    → List (K × List T)) (other loosely : Outcome T K B) (mo : List (K × List T)) →
     ((a : A) → g a ≡ first_or (mg a) (h a)) → other ≡ first_or mo loosely →
-    judge_first v g (λ k. Err (k, m)) other ≡ first_or (first_marks v m mg mo) (judge_first (lenient_first v) h (λ k. Err (k, m)) loosely)
+    judge_first v g (λ k. Err (k, m)) other ≡ first_or (first_marks v m mg mo)
+    (judge_first (lenient_first v) h (λ k. Err (k, m)) loosely)
 first_splits None m g h mg other loosely mo i e = e
 first_splits (Some (Fits a)) m g h mg other loosely mo i e = i a
 first_splits (Some (Foul k a)) m g h mg other loosely mo i e = refl
 first_splits (Some (Misfit k)) m g h mg other loosely mo i e = refl
 
-marked_splits : {T J K A : Type 0} (h : J → K) (o l : Outcome T J A) (ms : List (J × List T)) → o ≡ first_or ms l → marked h o ≡ first_or (renamed h ms) (marked h l)
+marked_splits : {T J K A : Type 0} (h : J → K) (o l : Outcome T J A) (ms : List (J × List T)) → o ≡ first_or ms l
+    → marked h o ≡ first_or (renamed h ms) (marked h l)
 marked_splits h o l [] e = ap (marked h) e
 marked_splits h o l (z ∷ zs) e = rw e refl
 
-repeat_splits : {T K A S : Type 0} (f : S → T → Option (Verdict A K)) (go gl : S → A → List T → Outcome T K S) (mk : S → A → List T → List (K × List T)) →
+repeat_splits : {T K A S : Type 0} (f : S → T → Option (Verdict A K)) (go gl : S → A → List T → Outcome T K S) (mk : S → A
+    → List T → List (K × List T)) →
     ((w : S) (a : A) (m : List T) → go w a m ≡ first_or (mk w a m) (gl w a m)) →
-    (n : ℕ) (u : S) (s : List T) → repeat f go n u s ≡ first_or (turn_marks f mk gl n u s) (repeat (λ w x. lenient_first (f w x)) gl n u s)
+    (n : ℕ) (u : S) (s : List T) → repeat f go n u s ≡ first_or (turn_marks f mk gl n u s)
+    (repeat (λ w x. lenient_first (f w x)) gl n u s)
 repeat_splits f go gl mk h zero u s = refl
 repeat_splits f go gl mk h (suc n) u [] = refl
 repeat_splits {T} {K} {A} {S} f go gl mk h (suc n) u (x ∷ r) =
     first_splits (f u x) (x ∷ r) (λ a. and_then (go u a r) (λ w q. repeat f go n w q))
     (λ a. and_then (gl u a r) (λ w q. repeat (λ w x. lenient_first (f w x)) gl n w q))
     (λ a. mk u a r ++ after (gl u a r) (λ w q. turn_marks f mk gl n w q)) (Ok (u, x ∷ r)) (Ok (u, x ∷ r)) []
-    (λ a. then_splits (go u a r) (gl u a r) (mk u a r) (λ w q. repeat f go n w q) (λ w q. repeat (λ w x. lenient_first (f w x)) gl n w q)
+    (λ a. then_splits (go u a r) (gl u a r) (mk u a r) (λ w q. repeat f go n w q)
+    (λ w q. repeat (λ w x. lenient_first (f w x)) gl n w q)
     (λ w q. turn_marks f mk gl n w q) (h u a r) (λ w q. repeat_splits f go gl mk h n w q))
     refl
 
@@ -94,13 +105,16 @@ splits (Token f k) [] = refl
 splits (Token f k) (x ∷ r) = judged_splits (f x) x r
 splits (Peek f k) s = refl
 splits (Then p g) s =
-    then_splits (read p s) (read (loose p) s) (marks p s) (λ a r. read (g a) r) (λ a r. read (loose (g a)) r) (λ a r. marks (g a) r)
+    then_splits (read p s) (read (loose p) s) (marks p s) (λ a r. read (g a) r) (λ a r. read (loose (g a)) r)
+    (λ a r. marks (g a) r)
     (splits p s) (λ a r. splits (g a) r)
 splits (Many f g u) s =
-    repeat_splits f (λ w a r. read (g w a) r) (λ w a r. read (loose (g w a)) r) (λ w a r. marks (g w a) r) (λ w a r. splits (g w a) r) (length s) u s
+    repeat_splits f (λ w a r. read (g w a) r) (λ w a r. read (loose (g w a)) r) (λ w a r. marks (g w a) r)
+    (λ w a r. splits (g w a) r) (length s) u s
 splits (Choice f g p) [] = splits p []
 splits (Choice f g p) (x ∷ r) =
-    first_splits (f x) (x ∷ r) (λ a. read (g a) r) (λ a. read (loose (g a)) r) (λ a. marks (g a) r) (read p (x ∷ r)) (read (loose p) (x ∷ r)) (marks p (x ∷ r))
+    first_splits (f x) (x ∷ r) (λ a. read (g a) r) (λ a. read (loose (g a)) r) (λ a. marks (g a) r) (read p (x ∷ r))
+    (read (loose p) (x ∷ r)) (marks p (x ∷ r))
     (λ a. splits (g a) r) (splits p (x ∷ r))
 splits (Last f a) s = refl
 splits (Marked h p) s = marked_splits h (read p s) (read (loose p) s) (marks p s) (splits p s)
@@ -110,11 +124,13 @@ abbrev pub Falls : {T K : Type 0} → ℕ → ℕ → List (K × List T) → Typ
 Falls top low [] = Unit {0}
 Falls top low (z ∷ zs) = (length z.1 < top) × (low < length z.1) × Falls (length z.1) low zs
 
-pub falls_under : {T K : Type 0} (top higher low : ℕ) (zs : List (K × List T)) → top ≤ higher → Falls top low zs → Falls higher low zs
+pub falls_under : {T K : Type 0} (top higher low : ℕ) (zs : List (K × List T)) → top ≤ higher → Falls top low zs
+    → Falls higher low zs
 falls_under top higher low [] h i = tt
 falls_under top higher low (z ∷ zs) h (i, j, l) = (omega arith, j, l)
 
-pub falls_on : {T K : Type 0} (top mid low : ℕ) (xs ys : List (K × List T)) → mid < top → low ≤ mid → Falls top mid xs → Falls (suc mid) low ys → Falls top low (xs ++ ys)
+pub falls_on : {T K : Type 0} (top mid low : ℕ) (xs ys : List (K × List T)) → mid < top → low ≤ mid → Falls top mid xs
+    → Falls (suc mid) low ys → Falls top low (xs ++ ys)
 falls_on top mid low [] ys h l i j = falls_under (suc mid) top low ys (omega arith) j
 falls_on top mid low (z ∷ xs) ys h l (i, b, c) j = (i, omega arith, falls_on (length z.1) mid low xs ys b l c j)
 
@@ -122,29 +138,37 @@ falls_on top mid low (z ∷ xs) ys h l (i, b, c) j = (i, omega arith, falls_on (
 abbrev pub FallsFrom : {T K A : Type 0} → List T → Outcome T K A → List (K × List T) → Type 0
 FallsFrom s o zs = Falls (suc (length s)) (length (rest_of o)) zs
 
-then_falls : {T K A B : Type 0} (s : List T) (o : Outcome T K A) (g : A → List T → Outcome T K B) (ms : List (K × List T)) (mg : A → List T → List (K × List T)) →
-    AtMost (length s) o → FallsFrom s o ms → ((a : A) (r : List T) → AtMost (length r) (g a r)) → ((a : A) (r : List T) → FallsFrom r (g a r) (mg a r)) →
+then_falls : {T K A B : Type 0} (s : List T) (o : Outcome T K A) (g : A → List T → Outcome T K B) (ms : List (K × List T)) (mg : A
+    → List T → List (K × List T)) →
+    AtMost (length s) o → FallsFrom s o ms → ((a : A) (r : List T) → AtMost (length r) (g a r))
+    → ((a : A) (r : List T) → FallsFrom r (g a r) (mg a r)) →
     FallsFrom s (and_then o g) (ms ++ after o mg)
 then_falls s (Ok p) g ms mg h i j l =
-    let b = j p.0 p.1 in falls_on (suc (length s)) (length p.1) (length (rest_of (g p.0 p.1))) ms (mg p.0 p.1) (omega arith) b i (l p.0 p.1)
+    let b = j p.0 p.1 in falls_on (suc (length s)) (length p.1) (length (rest_of (g p.0 p.1))) ms (mg p.0 p.1) (omega arith) b i
+    (l p.0 p.1)
 then_falls s (Err z) g ms mg h i j l = falls_on (suc (length s)) (length z.1) (length z.1) ms [] (omega arith) (omega arith) i tt
 
-first_falls : {T K A B : Type 0} (v : Option (Verdict A K)) (x : T) (r : List T) (g : A → Outcome T K B) (mg : A → List (K × List T)) (other : Outcome T K B) (mo : List (K × List T)) →
+first_falls : {T K A B : Type 0} (v : Option (Verdict A K)) (x : T) (r : List T) (g : A → Outcome T K B) (mg : A
+    → List (K × List T)) (other : Outcome T K B) (mo : List (K × List T)) →
     ((a : A) → AtMost (length r) (g a)) → ((a : A) → FallsFrom r (g a) (mg a)) → FallsFrom (x ∷ r) other mo →
     FallsFrom (x ∷ r) (judge_first (lenient_first v) g (λ k. Err (k, x ∷ r)) other) (first_marks v (x ∷ r) mg mo)
 first_falls None x r g mg other mo w h i = i
-first_falls (Some (Fits a)) x r g mg other mo w h i = falls_under (suc (length r)) (suc (suc (length r))) (length (rest_of (g a))) (mg a) (omega arith) (h a)
+first_falls (Some (Fits a)) x r g mg other mo w h i =
+    falls_under (suc (length r)) (suc (suc (length r))) (length (rest_of (g a))) (mg a) (omega arith) (h a)
 first_falls (Some (Foul k a)) x r g mg other mo w h i = let b = w a in (omega arith, omega arith, h a)
 first_falls (Some (Misfit k)) x r g mg other mo w h i = tt
 
-repeat_falls : {T K A S : Type 0} (f : S → T → Option (Verdict A K)) (go : S → A → List T → Outcome T K S) (mk : S → A → List T → List (K × List T)) →
-    ((w : S) (a : A) (m : List T) → AtMost (length m) (go w a m)) → ((w : S) (a : A) (m : List T) → FallsFrom m (go w a m) (mk w a m)) →
+repeat_falls : {T K A S : Type 0} (f : S → T → Option (Verdict A K)) (go : S → A → List T → Outcome T K S) (mk : S → A → List T
+    → List (K × List T)) →
+    ((w : S) (a : A) (m : List T) → AtMost (length m) (go w a m))
+    → ((w : S) (a : A) (m : List T) → FallsFrom m (go w a m) (mk w a m)) →
     (n : ℕ) (u : S) (s : List T) → FallsFrom s (repeat (λ w x. lenient_first (f w x)) go n u s) (turn_marks f mk go n u s)
 repeat_falls f go mk w h zero u s = tt
 repeat_falls f go mk w h (suc n) u [] = tt
 repeat_falls {T} {K} {A} {S} f go mk w h (suc n) u (x ∷ r) =
     let next : S → List T → Outcome T K S = λ v q. repeat (λ w x. lenient_first (f w x)) go n v q in
-    first_falls (f u x) x r (λ a. and_then (go u a r) next) (λ a. mk u a r ++ after (go u a r) (λ v q. turn_marks f mk go n v q)) (Ok (u, x ∷ r)) []
+    first_falls (f u x) x r (λ a. and_then (go u a r) next) (λ a. mk u a r ++ after (go u a r) (λ v q. turn_marks f mk go n v q))
+    (Ok (u, x ∷ r)) []
     (λ a. then_within (go u a r) next (length r) (w u a r) (λ v q e. repeat_within (λ w x. lenient_first (f w x)) go w n v q))
     (λ a. then_falls r (go u a r) next (mk u a r) (λ v q. turn_marks f mk go n v q) (w u a r) (h u a r)
     (λ v q. repeat_within (λ w x. lenient_first (f w x)) go w n v q) (λ v q. repeat_falls f go mk w h n v q))
@@ -156,7 +180,8 @@ mark_falls (Fits a) x r = tt
 mark_falls (Foul k a) x r = (omega arith, omega arith, tt)
 mark_falls (Misfit k) x r = tt
 
-renamed_falls : {T J K : Type 0} (h : J → K) (top low : ℕ) (ms : List (J × List T)) → Falls top low ms → Falls top low (renamed h ms)
+renamed_falls : {T J K : Type 0} (h : J → K) (top low : ℕ) (ms : List (J × List T)) → Falls top low ms
+    → Falls top low (renamed h ms)
 renamed_falls h top low [] i = tt
 renamed_falls h top low (z ∷ zs) (i, j, l) = (i, j, renamed_falls h (length z.1) low zs l)
 
@@ -173,7 +198,8 @@ falls (Then p g) s =
     then_falls s (read (loose p) s) (λ a r. read (loose (g a)) r) (marks p s) (λ a r. marks (g a) r)
     (within (loose p) s) (falls p s) (λ a r. within (loose (g a)) r) (λ a r. falls (g a) r)
 falls (Many f g u) s =
-    repeat_falls f (λ w a r. read (loose (g w a)) r) (λ w a r. marks (g w a) r) (λ w a r. within (loose (g w a)) r) (λ w a r. falls (g w a) r) (length s) u s
+    repeat_falls f (λ w a r. read (loose (g w a)) r) (λ w a r. marks (g w a) r) (λ w a r. within (loose (g w a)) r)
+    (λ w a r. falls (g w a) r) (length s) u s
 falls (Choice f g p) [] = falls p []
 falls (Choice f g p) (x ∷ r) =
     first_falls (f x) x r (λ a. read (loose (g a)) r) (λ a. marks (g a) r) (read (loose p) (x ∷ r)) (marks p (x ∷ r))

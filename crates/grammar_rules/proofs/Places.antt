@@ -1,6 +1,8 @@
 -- The laws of specs/Laws, for every rule.
-use Rattle.std.proofs.Common.{◌≡◌, ℕ, zero, suc, List, [], ◌∷◌, ◌++◌, length, Option, Some, None, Ok, Err, ◌⊎◌, inl, inr, refl, sym, ap, subst, ◌∙◌, arith, length-append, append_assoc}
-use Rattle.grammar_rules.specs.Rule.{Rule, Gives, Token, Peek, Then, Many, Choice, Last, Marked, Verdict, Fits, Foul, Misfit, Takes, Refuses}
+use Rattle.std.proofs.Common.{◌≡◌, ℕ, zero, suc, List, [], ◌∷◌, ◌++◌, length, Option, Some, None, Ok, Err, ◌⊎◌, inl, inr, refl}
+use Rattle.std.proofs.Common.{sym, ap, subst, ◌∙◌, arith, length-append, append_assoc}
+use Rattle.grammar_rules.specs.Rule.{Rule, Gives, Token, Peek, Then, Many, Choice, Last, Marked, Verdict, Fits, Foul, Misfit}
+use Rattle.grammar_rules.specs.Rule.{Takes, Refuses}
 use Rattle.grammar_rules.specs.Reading.{Outcome, and_then, marked, judge, judge_first, repeat, read}
 use Rattle.grammar_rules.specs.Laws.{ReadsExactly, HasOneReading, IsNoLongerFront, RefusesAtFirst, LooksOneAhead, FrontsAreUsedUp}
 use Rattle.grammar_rules.proofs.Steps.{rest_of, value_is, rest_is, kind_is, place_is}
@@ -10,7 +12,11 @@ use Rattle.grammar_rules.proofs.Fronts.{UsesUp, front_ends, ends_front}
 use Rattle.grammar_rules.proofs.Local.{extended, LeavesSome, cons_or_nil, local, onward}
 
 pub reads_exactly : {T K A : Type 0} (p : Rule T K A) → ReadsExactly p
-reads_exactly p = record { takes = λ s a r. (complete p s a r, sound p s a r); refuses = λ s k m. (refuses p s k m, refused p s k m) }
+reads_exactly p = record {
+  takes = λ s a r. (complete p s a r, sound p s a r);
+  refuses =
+      λ s k m. (refuses p s k m, refused p s k m);
+}
 
 pub has_one_reading : {T K A : Type 0} (p : Rule T K A) → HasOneReading p
 has_one_reading {T} {K} {A} p = record {
@@ -20,7 +26,8 @@ has_one_reading {T} {K} {A} p = record {
   not_both = λ s a r k m h i. let e = sym (complete p s a r h) ∙ refuses p s k m i in absurd cc;
 }
   where
-    some_of : (s : List T) (o : Outcome T K A) → read p s ≡ o → ((a : A) × (r : List T) × Takes p s a r) ⊎ ((k : K) × (m : List T) × Refuses p s k m)
+    some_of : (s : List T) (o : Outcome T K A) → read p s ≡ o → ((a : A) × (r : List T) × Takes p s a r)
+        ⊎ ((k : K) × (m : List T) × Refuses p s k m)
     some_of s (Ok y) e = inl (y.0, y.1, sound p s y.0 y.1 e)
     some_of s (Err z) e = inr (z.0, z.1, refused p s z.0 z.1 e)
 
@@ -42,14 +49,17 @@ judged_suffix (Fits a) x s r h = h
 judged_suffix (Foul k a) x s r h = ([], refl)
 judged_suffix (Misfit k) x s r h = ([], refl)
 
-first_suffix : {T K A B : Type 0} (v : Option (Verdict A K)) (x : T) (m : List T) (next : A → Outcome T K B) (other : Outcome T K B) →
-    ((a : A) → Suffix m (rest_of (next a))) → Suffix (x ∷ m) (rest_of other) → Suffix (x ∷ m) (rest_of (judge_first v next (λ k. Err (k, x ∷ m)) other))
+first_suffix : {T K A B : Type 0} (v : Option (Verdict A K)) (x : T) (m : List T) (next : A
+    → Outcome T K B) (other : Outcome T K B) →
+    ((a : A) → Suffix m (rest_of (next a))) → Suffix (x ∷ m) (rest_of other)
+    → Suffix (x ∷ m) (rest_of (judge_first v next (λ k. Err (k, x ∷ m)) other))
 first_suffix None x m next other h i = i
 first_suffix (Some (Fits a)) x m next other h i = suffix_trans (x ∷ m) m (rest_of (next a)) (x ∷ [], refl) (h a)
 first_suffix (Some (Foul k a)) x m next other h i = ([], refl)
 first_suffix (Some (Misfit k)) x m next other h i = ([], refl)
 
-repeat_suffix : {T K A S : Type 0} (f : S → T → Option (Verdict A K)) (go : S → A → List T → Outcome T K S) → ((w : S) (a : A) (m : List T) → Suffix m (rest_of (go w a m))) →
+repeat_suffix : {T K A S : Type 0} (f : S → T → Option (Verdict A K)) (go : S → A → List T → Outcome T K S)
+    → ((w : S) (a : A) (m : List T) → Suffix m (rest_of (go w a m))) →
     (n : ℕ) (u : S) (s : List T) → Suffix s (rest_of (repeat f go n u s))
 repeat_suffix f go h zero u s = ([], refl)
 repeat_suffix f go h (suc n) u [] = ([], refl)
@@ -66,12 +76,14 @@ suffix (Peek f k) (x ∷ s) = judged_suffix (f x) x s (x ∷ s) ([], refl)
 suffix (Then p g) s = then_suffix (read p s) (λ a r. read (g a) r) s (suffix p s) (λ a r. suffix (g a) r)
 suffix (Many f g u) s = repeat_suffix f (λ w a q. read (g w a) q) (λ w a q. suffix (g w a) q) (length s) u s
 suffix (Choice f g p) [] = suffix p []
-suffix (Choice f g p) (x ∷ m) = first_suffix (f x) x m (λ a. read (g a) m) (read p (x ∷ m)) (λ a. suffix (g a) m) (suffix p (x ∷ m))
+suffix (Choice f g p) (x ∷ m) = first_suffix (f x) x m (λ a. read (g a) m) (read p (x ∷ m)) (λ a. suffix (g a) m)
+    (suffix p (x ∷ m))
 suffix (Last f a) [] = ([], refl)
 suffix (Last f a) (x ∷ s) = ([], refl)
 suffix (Marked h p) s = marked_suffix h (read p s) s (suffix p s)
   where
-    marked_suffix : {T J K A : Type 0} (h : J → K) (o : Outcome T J A) (s : List T) → Suffix s (rest_of o) → Suffix s (rest_of (marked h o))
+    marked_suffix : {T J K A : Type 0} (h : J → K) (o : Outcome T J A) (s : List T) → Suffix s (rest_of o)
+        → Suffix s (rest_of (marked h o))
     marked_suffix h (Ok p) s i = i
     marked_suffix h (Err z) s i = i
 
@@ -87,7 +99,8 @@ longer (x ∷ r) m e = let i = ap length e in let j = length-append r m in absur
 used_before : {T K A : Type 0} (p : Rule T K A) (front m : List T) → rest_of (read p (front ++ m)) ≡ m → UsesUp (read p front)
 used_before p front m e =
     elim (cons_or_nil (rest_of (read p front))) [
-      | inl c ↦ longer (rest_of (read p front)) m (sym (rest-extended m (read p front)) ∙ ap rest_of (sym (local p front m c)) ∙ e)
+      | inl c ↦ longer (rest_of (read p front)) m (sym (rest-extended m (read p front)) ∙ ap rest_of (sym (local p front m c))
+          ∙ e)
       | inr h ↦ h
     ]
 
@@ -114,7 +127,8 @@ refuses_at_first {T} {K} {A} p = record {
     shorter_used : (s more : List T) → UsesUp (read p (s ++ more)) → UsesUp (read p s)
     shorter_used s more h =
         elim (cons_or_nil (rest_of (read p s))) [
-          | inl c ↦ absurd (none_before (rest_of (read p s)) more c (sym (rest-extended more (read p s)) ∙ ap rest_of (sym (local p s more c)) ∙ h))
+          | inl c ↦ absurd (none_before (rest_of (read p s)) more c
+              (sym (rest-extended more (read p s)) ∙ ap rest_of (sym (local p s more c)) ∙ h))
           | inr i ↦ i
         ]
       where
@@ -126,18 +140,22 @@ pub looks_one_ahead : {T K A : Type 0} (p : Rule T K A) → LooksOneAhead p
 looks_one_ahead {T} {K} {A} p = record {
   takes = λ s a x r more h.
       (let e = complete p s a (x ∷ r) h in
-      sound p (s ++ more) a ((x ∷ r) ++ more) (local p s more (subst (λ (o : Outcome T K A). LeavesSome o) (sym e) tt) ∙ ap (extended more) e));
+      sound p (s ++ more) a ((x ∷ r) ++ more) (local p s more (subst (λ (o : Outcome T K A). LeavesSome o) (sym e) tt)
+      ∙ ap (extended more) e));
   refuses = λ s k x m more h.
       (let e = refuses p s k (x ∷ m) h in
-      refused p (s ++ more) k ((x ∷ m) ++ more) (local p s more (subst (λ (o : Outcome T K A). LeavesSome o) (sym e) tt) ∙ ap (extended more) e));
+      refused p (s ++ more) k ((x ∷ m) ++ more) (local p s more (subst (λ (o : Outcome T K A). LeavesSome o) (sym e) tt)
+      ∙ ap (extended more) e));
 }
 
 pub fronts_are_used_up : {T K A : Type 0} (p : Rule T K A) → FrontsAreUsedUp p
 fronts_are_used_up {T} {K} {A} p = record {
   used = λ s h. used_of s (read p s) refl (front_ends p s h);
-  fronts = λ s h. ends_front p s (elim h [ inl i ↦ ap rest_of (complete p s i.0 [] i.1) | inr i ↦ ap rest_of (refuses p s i.0 [] i.1) ]);
+  fronts = λ s h. ends_front p s (elim h
+      [ inl i ↦ ap rest_of (complete p s i.0 [] i.1) | inr i ↦ ap rest_of (refuses p s i.0 [] i.1) ]);
 }
   where
-    used_of : (s : List T) (o : Outcome T K A) → read p s ≡ o → UsesUp o → ((a : A) × Takes p s a []) ⊎ ((k : K) × Refuses p s k [])
+    used_of : (s : List T) (o : Outcome T K A) → read p s ≡ o → UsesUp o → ((a : A) × Takes p s a [])
+        ⊎ ((k : K) × Refuses p s k [])
     used_of s (Ok y) e h = inl (y.0, sound p s y.0 [] (e ∙ ap (λ (r : List T). Ok (y.0, r)) h))
     used_of s (Err z) e h = inr (z.0, refused p s z.0 [] (e ∙ ap (λ (r : List T). Err (z.0, r)) h))

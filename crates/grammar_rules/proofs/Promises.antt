@@ -19,7 +19,8 @@ gives {P = P} {Q = Q} q = record { kept = λ s b left all t. (subst Q t.0 q, sub
 pub last : {T K A : Type 0} {P : T → Type 0} {Q : A → Type 0} {f : T → K} {a : A} → Q a → Promises P (r.Last f a) Q
 last {P = P} {Q = Q} q = record { kept = λ s b left all t. (subst Q t.0 q, subst (AllByRecursion P) (sym t.2) tt) }
 
-pub token : {T K A : Type 0} {P : T → Type 0} {Q : A → Type 0} {f : T → Verdict A K} {k : K} → ((x : T) (a : A) → P x → f x ≡ Fits a → Q a) → Promises P (r.Token f k) Q
+pub token : {T K A : Type 0} {P : T → Type 0} {Q : A → Type 0} {f : T → Verdict A K} {k : K}
+    → ((x : T) (a : A) → P x → f x ≡ Fits a → Q a) → Promises P (r.Token f k) Q
 token {P = P} h = record {
   kept = λ s b left all t.
       let parts = subst (AllByRecursion P) t.1 all in
@@ -36,14 +37,16 @@ in_turn first more = record {
 
 times : {T K A S : Type 0} (P : T → Type 0) (Q : S → Type 0) (f : S → T → Option (Verdict A K)) (g : S → A → Rule T K S)
     → ((w : S) (x : T) (a : A) → Q w → P x → f w x ≡ Some (Fits a) → Promises P (g w a) Q)
-    → (n : ℕ) (u : S) (s : List T) (v : S) (left : List T) → Q u → AllByRecursion P s → Times f (λ w a m. Takes (g w a) m) n u s v left → Kept P Q v left
+    → (n : ℕ) (u : S) (s : List T) (v : S) (left : List T) → Q u → AllByRecursion P s
+    → Times f (λ w a m. Takes (g w a) m) n u s v left → Kept P Q v left
 times P Q f g h zero u s v left q all t = (subst Q t.0 q, subst (AllByRecursion P) t.1 all)
 times P Q f g h (suc n) u s v left q all (x, a, m, w, more, e, begins, turn, rest) =
     let parts : AllByRecursion P (x ∷ m) = subst (AllByRecursion P) e all in
     let here = (h u x a q parts.0 begins).kept m w more parts.1 turn in
     times P Q f g h n w more v left here.0 here.1 rest
 
-pub many : {T K A S : Type 0} {P : T → Type 0} {Q : S → Type 0} {f : S → T → Option (Verdict A K)} {g : S → A → Rule T K S} {u : S}
+pub many : {T K A S : Type 0} {P : T → Type 0} {Q : S → Type 0} {f : S → T → Option (Verdict A K)} {g : S → A
+    → Rule T K S} {u : S}
     → Q u → ((w : S) (x : T) (a : A) → Q w → P x → f w x ≡ Some (Fits a) → Promises P (g w a) Q) → Promises P (r.Many f g u) Q
 many {P = P} {Q = Q} {f = f} {g = g} {u = u} q h = record { kept = λ s v left all t. times P Q f g h t.0 u s v left q all t.1 }
 
@@ -55,12 +58,14 @@ chosen P Q f g p one other s b left all (inl (x, a, m, e, begins, t)) =
     (one x a parts.0 begins).kept m b left parts.1 t
 chosen P Q f g p one other s b left all (inr t) = other.kept s b left all t.1
 
-pub choice : {T K A B : Type 0} {P : T → Type 0} {Q : B → Type 0} {f : T → Option (Verdict A K)} {g : A → Rule T K B} {p : Rule T K B}
+pub choice : {T K A B : Type 0} {P : T → Type 0} {Q : B → Type 0} {f : T → Option (Verdict A K)} {g : A
+    → Rule T K B} {p : Rule T K B}
     → ((x : T) (a : A) → P x → f x ≡ Some (Fits a) → Promises P (g a) Q) → Promises P p Q → Promises P (r.Choice f g p) Q
 choice {P = P} {Q = Q} {f = f} {g = g} {p = p} one other = record { kept = chosen P Q f g p one other }
 
 -- a promise, and what follows from it
-pub weaker : {T K A : Type 0} {P : T → Type 0} {Q R : A → Type 0} {p : Rule T K A} → Promises P p Q → ((a : A) → Q a → R a) → Promises P p R
+pub weaker : {T K A : Type 0} {P : T → Type 0} {Q R : A → Type 0} {p : Rule T K A} → Promises P p Q → ((a : A) → Q a → R a)
+    → Promises P p R
 weaker h f = record { kept = λ s a left all t. let k = h.kept s a left all t in (f a k.0, k.1) }
 
 -- nothing is said of a value

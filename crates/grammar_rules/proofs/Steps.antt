@@ -51,14 +51,17 @@ condemned (Fits a) good bad j c = absurd c
 condemned (Foul k a) good bad j c = ap (λ x. Err (bad x)) c
 condemned (Misfit k) good bad j c = ap (λ x. Err (bad x)) c
 
-pub first_ok : {T J K A B : Type 0} (v : Option (Verdict A J)) (good : A → Outcome T K B) (bad : J → K × List T) (other : Outcome T K B) (y : B × List T) →
-    judge_first v good (λ j. Err (bad j)) other ≡ Ok y → ((a : A) × (v ≡ Some (Fits a)) × (good a ≡ Ok y)) ⊎ ((v ≡ None) × (other ≡ Ok y))
+pub first_ok : {T J K A B : Type 0} (v : Option (Verdict A J)) (good : A → Outcome T K B) (bad : J → K
+    × List T) (other : Outcome T K B) (y : B × List T) →
+    judge_first v good (λ j. Err (bad j)) other ≡ Ok y → ((a : A) × (v ≡ Some (Fits a)) × (good a ≡ Ok y))
+    ⊎ ((v ≡ None) × (other ≡ Ok y))
 first_ok None good bad other y e = inr (refl, e)
 first_ok (Some (Fits a)) good bad other y e = inl (a, refl, e)
 first_ok (Some (Foul k a)) good bad other y e = absurd cc
 first_ok (Some (Misfit k)) good bad other y e = absurd cc
 
-pub choose_ok : {T K A B : Type 0} (f : T → Option (Verdict A K)) (s : List T) (go : A → List T → Outcome T K B) (other : Outcome T K B) (y : B × List T) →
+pub choose_ok : {T K A B : Type 0} (f : T → Option (Verdict A K)) (s : List T) (go : A → List T
+    → Outcome T K B) (other : Outcome T K B) (y : B × List T) →
     choose f s go other ≡ Ok y
     → ((x : T) × (a : A) × (m : List T) × (s ≡ x ∷ m) × (f x ≡ Some (Fits a)) × (go a m ≡ Ok y)) ⊎ (Stops f s × (other ≡ Ok y))
 choose_ok f [] go other y e = inr (tt, e)
@@ -66,36 +69,50 @@ choose_ok f (x ∷ s) go other y e =
     elim (first_ok (f x) (λ a. go a s) (λ k. (k, x ∷ s)) other y e)
     [ inl h ↦ inl (x, h.0, s, refl, h.1, h.2) | inr h ↦ inr (h.0, h.1) ]
 
-abbrev pub FirstErr : {T K A B : Type 0} → (v : Option (Verdict A K)) → (A → Outcome T K B) → List T → Outcome T K B → K × List T → Type 0
+abbrev pub FirstErr : {T K A B : Type 0} → (v : Option (Verdict A K)) → (A → Outcome T K B) → List T → Outcome T K B → K × List T
+    → Type 0
 FirstErr {T} {K} {A} v good s other z =
-    ((w : Verdict A K) × (v ≡ Some w) × Condemns w z.0 × (s ≡ z.1)) ⊎ (((a : A) × (v ≡ Some (Fits a)) × (good a ≡ Err z)) ⊎ ((v ≡ None) × (other ≡ Err z)))
+    ((w : Verdict A K) × (v ≡ Some w) × Condemns w z.0 × (s ≡ z.1))
+    ⊎ (((a : A) × (v ≡ Some (Fits a)) × (good a ≡ Err z)) ⊎ ((v ≡ None) × (other ≡ Err z)))
 
-pub first_err : {T K A B : Type 0} (v : Option (Verdict A K)) (good : A → Outcome T K B) (s : List T) (other : Outcome T K B) (z : K × List T) →
+pub first_err : {T K A B : Type 0} (v : Option (Verdict A K)) (good : A → Outcome T K B) (s : List T) (other : Outcome T K B)
+    (z : K × List T) →
     judge_first v good (λ k. Err (k, s)) other ≡ Err z → FirstErr v good s other z
 first_err None good s other z e = inr (inr (refl, e))
 first_err (Some (Fits a)) good s other z e = inr (inl (a, refl, e))
-first_err {T} {K} {A} {B} (Some (Foul k a)) good s other z e = inl (Foul k a, refl, kind_is {T = T} {K = K} {A = B} e, place_is {T = T} {K = K} {A = B} e)
-first_err {T} {K} {A} {B} (Some (Misfit k)) good s other z e = inl (Misfit k, refl, kind_is {T = T} {K = K} {A = B} e, place_is {T = T} {K = K} {A = B} e)
+first_err {T} {K} {A} {B} (Some (Foul k a)) good s other z e =
+    inl (Foul k a, refl, kind_is {T = T} {K = K} {A = B} e, place_is {T = T} {K = K} {A = B} e)
+first_err {T} {K} {A} {B} (Some (Misfit k)) good s other z e =
+    inl (Misfit k, refl, kind_is {T = T} {K = K} {A = B} e, place_is {T = T} {K = K} {A = B} e)
 
-pub choose_err : {T K A B : Type 0} (f : T → Option (Verdict A K)) (s : List T) (go : A → List T → Outcome T K B) (other : Outcome T K B) (z : K × List T) →
+pub choose_err : {T K A B : Type 0} (f : T → Option (Verdict A K)) (s : List T) (go : A → List T
+    → Outcome T K B) (other : Outcome T K B) (z : K × List T) →
     choose f s go other ≡ Err z
     → ((s ≡ z.1) × CondemnsFirst f s z.0)
-    ⊎ (((x : T) × (a : A) × (m : List T) × (s ≡ x ∷ m) × (f x ≡ Some (Fits a)) × (go a m ≡ Err z)) ⊎ (Stops f s × (other ≡ Err z)))
+    ⊎ (((x : T) × (a : A) × (m : List T) × (s ≡ x ∷ m) × (f x ≡ Some (Fits a)) × (go a m ≡ Err z))
+    ⊎ (Stops f s × (other ≡ Err z)))
 choose_err f [] go other z e = inr (inr (tt, e))
 choose_err f (x ∷ s) go other z e =
-    elim (first_err (f x) (λ a. go a s) (x ∷ s) other z e)
-    [ inl h ↦ inl (h.3, (h.0, h.1, h.2)) | inr (inl h) ↦ inr (inl (x, h.0, s, refl, h.1, h.2)) | inr (inr h) ↦ inr (inr (h.0, h.1)) ]
+    elim (first_err (f x) (λ a. go a s) (x ∷ s) other z e) [
+      | inl h ↦ inl (h.3, (h.0, h.1, h.2))
+      | inr (inl h) ↦ inr (inl (x, h.0, s, refl, h.1, h.2))
+      | inr (inr h) ↦ inr
+          (inr (h.0, h.1))
+    ]
 
-pub choose_fits : {T K A B : Type 0} (f : T → Option (Verdict A K)) (x : T) (m : List T) (a : A) (go : A → List T → Outcome T K B) (other : Outcome T K B) →
+pub choose_fits : {T K A B : Type 0} (f : T → Option (Verdict A K)) (x : T) (m : List T) (a : A) (go : A → List T
+    → Outcome T K B) (other : Outcome T K B) →
     f x ≡ Some (Fits a) → choose f (x ∷ m) go other ≡ go a m
 choose_fits f x m a go other e = rw e refl
 
-pub choose_stops : {T K A B : Type 0} (f : T → Option (Verdict A K)) (s : List T) (go : A → List T → Outcome T K B) (other : Outcome T K B) →
+pub choose_stops : {T K A B : Type 0} (f : T → Option (Verdict A K)) (s : List T) (go : A → List T
+    → Outcome T K B) (other : Outcome T K B) →
     Stops f s → choose f s go other ≡ other
 choose_stops f [] go other h = refl
 choose_stops f (x ∷ s) go other h = rw h refl
 
-pub choose_condemns : {T K A B : Type 0} (f : T → Option (Verdict A K)) (s : List T) (go : A → List T → Outcome T K B) (other : Outcome T K B) (k : K) →
+pub choose_condemns : {T K A B : Type 0} (f : T → Option (Verdict A K)) (s : List T) (go : A → List T
+    → Outcome T K B) (other : Outcome T K B) (k : K) →
     CondemnsFirst f s k → choose f s go other ≡ Err (k, s)
 choose_condemns f [] go other k c = absurd c
 choose_condemns f (x ∷ s) go other k (v, e, c) = rw e (condemned v (λ a. go a s) (λ j. (j, x ∷ s)) k c)
@@ -130,16 +147,19 @@ first_same (Some (Fits a)) g h bad other e = e a refl
 first_same (Some (Foul k a)) g h bad other e = refl
 first_same (Some (Misfit k)) g h bad other e = refl
 
-pub choose_same : {T K A B : Type 0} (f : T → Option (Verdict A K)) (s : List T) (g h : A → List T → Outcome T K B) (other : Outcome T K B) →
+pub choose_same : {T K A B : Type 0} (f : T → Option (Verdict A K)) (s : List T) (g h : A → List T
+    → Outcome T K B) (other : Outcome T K B) →
     ((x : T) (a : A) (m : List T) → s ≡ x ∷ m → g a m ≡ h a m) → choose f s g other ≡ choose f s h other
 choose_same f [] g h other e = refl
-choose_same f (x ∷ s) g h other e = first_same (f x) (λ a. g a s) (λ a. h a s) (λ k. Err (k, x ∷ s)) other (λ a fits. e x a s refl)
+choose_same f (x ∷ s) g h other e =
+    first_same (f x) (λ a. g a s) (λ a. h a s) (λ k. Err (k, x ∷ s)) other (λ a fits. e x a s refl)
 
 pub marked_ok : {T J K A : Type 0} (h : J → K) (o : Outcome T J A) (y : A × List T) → marked h o ≡ Ok y → o ≡ Ok y
 marked_ok h (Ok p) y e = cc
 marked_ok h (Err z) y e = absurd cc
 
-pub marked_err : {T J K A : Type 0} (h : J → K) (o : Outcome T J A) (k : K) (m : List T) → marked h o ≡ Err (k, m) → (j : J) × (o ≡ Err (j, m)) × (h j ≡ k)
+pub marked_err : {T J K A : Type 0} (h : J → K) (o : Outcome T J A) (k : K) (m : List T) → marked h o ≡ Err (k, m) → (j : J)
+    × (o ≡ Err (j, m)) × (h j ≡ k)
 marked_err h (Ok p) k m e = absurd cc
 marked_err {T} {J} {K} {A} h (Err z) k m e =
     (z.0, err_pair {T = T} {K = J} {A = A} refl (place_is {T = T} {K = K} {A = A} e), kind_is {T = T} {K = K} {A = A} e)

@@ -44,12 +44,14 @@ pub record FrontsAreUsedUp {T K A : Type 0} (p : Rule T K A) : Type 0 where
 -- strict rule. Its refusal is at the first token that breaks one, or, where none does, where the loose rule refuses.
 pub record IsStricterThanLoose {T K A : Type 0} (p : Rule T K A) : Type 0 where
   pub takes : (s : List T) (a : A) (r : List T) → Takes p s a r ↔ (Takes (loose p) s a r × IsClean p s)
-  pub refuses : (s : List T) (k : K) (m : List T) → Refuses p s k m ↔ (IsFirstFoul p s k m ⊎ (IsClean p s × Refuses (loose p) s k m))
+  pub refuses : (s : List T) (k : K) (m : List T) → Refuses p s k m
+      ↔ (IsFirstFoul p s k m ⊎ (IsClean p s × Refuses (loose p) s k m))
 
 -- A token that breaks a strict rule ends a front of the loose rule, so it stands before the place where this one refuses. At
 -- one place it breaks one strict rule.
 pub record FoulsInFronts {T K A : Type 0} (p : Rule T K A) : Type 0 where
   pub front : (s : List T) (k : K) (m : List T) → Fouls p s k m →
-      (before : List T) × (x : T) × (after : List T) × (s ≡ before ++ x ∷ after) × (m ≡ x ∷ after) × Front (loose p) (before ++ x ∷ [])
+      (before : List T) × (x : T) × (after : List T) × (s ≡ before ++ x ∷ after) × (m ≡ x ∷ after)
+      × Front (loose p) (before ++ x ∷ [])
   pub earlier : (s : List T) (k j : K) (m n : List T) → Fouls p s k m → Refuses (loose p) s j n → length n < length m
   pub one_kind : (s : List T) (k j : K) (m n : List T) → Fouls p s k m → Fouls p s j n → length m ≡ length n → (k ≡ j) × (m ≡ n)

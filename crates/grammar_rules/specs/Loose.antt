@@ -1,6 +1,7 @@
 -- The loose subset of a rule: the same rule with its strict rules left out, and the tokens that break these.
 use Rattle.std.specs.Prelude.{◌≡◌, ℕ, ◌≤◌, List, [], ◌∷◌, length, Option, Some, None, ◌⊎◌}
-use Rattle.grammar_rules.specs.Rule.{Rule, Gives, Token, Peek, Then, Many, Choice, Last, Marked, Verdict, Fits, Foul, Misfit, Stops, Times, Takes}
+use Rattle.grammar_rules.specs.Rule.{Rule, Gives, Token, Peek, Then, Many, Choice, Last, Marked, Verdict, Fits, Foul, Misfit}
+use Rattle.grammar_rules.specs.Rule.{Stops, Times, Takes}
 
 -- a token that breaks a strict rule is taken like one that fits
 abbrev pub lenient : {A K : Type 0} → Verdict A K → Verdict A K

@@ -27,11 +27,13 @@ abbrev pub judge_first : {A K R : Type 0} → Option (Verdict A K) → (A → R)
 judge_first None good bad other = other
 judge_first (Some v) good bad other = judge v good bad
 
-abbrev pub choose : {T K A B : Type 0} → (T → Option (Verdict A K)) → List T → (A → List T → Outcome T K B) → Outcome T K B → Outcome T K B
+abbrev pub choose : {T K A B : Type 0} → (T → Option (Verdict A K)) → List T → (A → List T → Outcome T K B) → Outcome T K B
+    → Outcome T K B
 choose f s go other = at_next s (λ x r. judge_first (f x) (λ a. go a r) (λ k. Err (k, x ∷ r)) other) other
 
 -- at most n turns of a repeated part
-abbrev pub repeat : {T K A S : Type 0} → (S → T → Option (Verdict A K)) → (S → A → List T → Outcome T K S) → ℕ → S → List T → Outcome T K S
+abbrev pub repeat : {T K A S : Type 0} → (S → T → Option (Verdict A K)) → (S → A → List T → Outcome T K S) → ℕ → S → List T
+    → Outcome T K S
 repeat f go zero u s = Ok (u, s)
 repeat f go (suc n) u s = choose (f u) s (λ a r. and_then (go u a r) (λ v q. repeat f go n v q)) (Ok (u, s))
 

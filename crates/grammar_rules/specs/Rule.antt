@@ -37,10 +37,12 @@ Stops f [] = Unit {0}
 Stops f (x ∷ s) = f x ≡ None
 
 -- a part n times, each from what there was after the one before
-abbrev pub Times : {T K A S : Type 0} → (S → T → Option (Verdict A K)) → (S → A → List T → S → List T → Type 0) → ℕ → S → List T → S → List T → Type 0
+abbrev pub Times : {T K A S : Type 0} → (S → T → Option (Verdict A K)) → (S → A → List T → S → List T → Type 0) → ℕ → S → List T
+    → S → List T → Type 0
 Times f G zero u s v r = (u ≡ v) × (s ≡ r)
 Times {T} {K} {A} {S} f G (suc n) u s v r =
-    (x : T) × (a : A) × (m : List T) × (w : S) × (q : List T) × (s ≡ x ∷ m) × (f u x ≡ Some (Fits a)) × G u a m w q × Times f G n w q v r
+    (x : T) × (a : A) × (m : List T) × (w : S) × (q : List T) × (s ≡ x ∷ m) × (f u x ≡ Some (Fits a)) × G u a m w q
+    × Times f G n w q v r
 
 -- From these tokens a phrase of the rule with this value can be taken, which leaves the others.
 abbrev pub Takes : {T K A : Type 0} → Rule T K A → List T → A → List T → Type 0
@@ -99,9 +101,11 @@ Refuses (Peek f j) s k m = (s ≡ m) × CondemnsNext f j s k
 Refuses {T} (Then {A = A} p g) s k m = Refuses p s k m ⊎ ((a : A) × (r : List T) × Takes p s a r × Refuses (g a) r k m)
 Refuses {T} (Many {A = A} {S = S} f g u) s k m =
     (n : ℕ) × (v : S) × (r : List T) × Times f (λ w a q. Takes (g w a) q) n u s v r
-    × (((r ≡ m) × CondemnsFirst (f v) r k) ⊎ ((x : T) × (a : A) × (q : List T) × (r ≡ x ∷ q) × (f v x ≡ Some (Fits a)) × Refuses (g v a) q k m))
+    × (((r ≡ m) × CondemnsFirst (f v) r k)
+    ⊎ ((x : T) × (a : A) × (q : List T) × (r ≡ x ∷ q) × (f v x ≡ Some (Fits a)) × Refuses (g v a) q k m))
 Refuses {T} (Choice {A = A} f g p) s k m =
     ((s ≡ m) × CondemnsFirst f s k)
-    ⊎ (((x : T) × (a : A) × (q : List T) × (s ≡ x ∷ q) × (f x ≡ Some (Fits a)) × Refuses (g a) q k m) ⊎ (Stops f s × Refuses p s k m))
+    ⊎ (((x : T) × (a : A) × (q : List T) × (s ≡ x ∷ q) × (f x ≡ Some (Fits a)) × Refuses (g a) q k m)
+    ⊎ (Stops f s × Refuses p s k m))
 Refuses (Last f a) s k m = (s ≡ m) × CondemnsMore f s k
 Refuses (Marked {J = J} h p) s k m = (j : J) × Refuses p s j m × (h j ≡ k)

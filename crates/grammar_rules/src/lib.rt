@@ -8,7 +8,8 @@
 
 ghost use Rattle.grammar_rules.specs.Rule.{Rule};
 ghost use Rattle.grammar_rules.specs.Loose.{loose};
-ghost use Rattle.grammar_rules.specs.Laws.{ReadsExactly, HasOneReading, RefusesAtFirst, LooksOneAhead, FrontsAreUsedUp, IsStricterThanLoose, FoulsInFronts};
+ghost use Rattle.grammar_rules.specs.Laws.{ReadsExactly, HasOneReading, RefusesAtFirst, LooksOneAhead, FrontsAreUsedUp};
+ghost use Rattle.grammar_rules.specs.Laws.{IsStricterThanLoose, FoulsInFronts};
 
 /// A grammar over tokens, with kinds of faults, whose phrases stand for values.
 pub trait Grammar {
@@ -29,10 +30,11 @@ pub trait Grammar {
 /// - `first_place`: the place of a refusal is the first token with which the tokens so far are no front of the rule;
 /// - `one_ahead`: what stands behind the token after a phrase, or behind the place of a refusal, changes nothing;
 /// - `used_up`: tokens are a front exactly where the rule takes them all, or refuses the end of the text after them;
-/// - `stricter`: a phrase of the rule is one of the loose subset with no token that breaks a strict rule, and a refusal is at the first
-///   such token, or, where there is none, where the loose subset refuses;
+/// - `stricter`: a phrase of the rule is one of the loose subset with no token that breaks a strict rule, and a refusal is at the
+/// first such token, or, where there is none, where the loose subset refuses;
 /// - `fouls`: a token that breaks a strict rule ends a front of the loose subset, and breaks one strict rule;
-/// - `first_loose_place`: the place of a refusal of the loose subset is the first token with which the tokens so far are no front of it.
+/// - `first_loose_place`: the place of a refusal of the loose subset is the first token with which the tokens so far are no front
+/// of it.
 pub fn laws_hold<G: Grammar>()
     ensures exact { (g : G) → ReadsExactly (G.rule g) }
     ensures one_reading { (g : G) → HasOneReading (G.rule g) }

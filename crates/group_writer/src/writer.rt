@@ -45,7 +45,8 @@ fn push_named(
     values: &[Value],
     behind: &[u8],
 ) -> Result<(), AllocError>
-    ensures { OnOk result (out.new.items ≡ out.old.items ++ (name.now ++ before.now ++ values_text true values.now ++ behind.now)) }
+    ensures { OnOk result (out.new.items ≡ out.old.items
+        ++ (name.now ++ before.now ++ values_text true values.now ++ behind.now)) }
 {
     out.extend_from_slice(name)?;
     out.extend_from_slice(before)?;

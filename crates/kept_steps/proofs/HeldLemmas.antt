@@ -34,7 +34,8 @@ no_rise false true x y h = absurd cc
 no_rise false false x y h = refl
 
 clocked_held :
-    (k : Clocked) (name : ℕ) (before after : List Bool) (s : Bool) → (clock_of (kind.Ff k) before || not (clock_of (kind.Ff k) after)) ≡ true
+    (k : Clocked) (name : ℕ) (before after : List Bool) (s : Bool)
+    → (clock_of (kind.Ff k) before || not (clock_of (kind.Ff k) after)) ≡ true
     → kind_step (kind.Ff k) name before after s ≡ kind_step (kind.Ff k) name after after s
 clocked_held k name before after s h =
     ap (cleared_step k.clear k.preset k.both1 after s)
@@ -46,10 +47,12 @@ step_by :
     (cell : CellData) (i : ℕ) (group : StateGroup) (k : GroupKind) (before after : List Bool) (s : Bool)
     → slice_get cell.groups i ≡ Some group → group.kind ≡ k
     → step_at cell i before after s
-    ≡ kind_step k (state_name (length cell.pins) i) (written no_values group.support before) (written no_values group.support after) s
+    ≡ kind_step k (state_name (length cell.pins) i) (written no_values group.support before)
+    (written no_values group.support after) s
 step_by cell i group k before after s at is =
     ap (λ step. step before after s) (step_at-is cell i group at)
-    ∙ ap (λ x. kind_step x (state_name (length cell.pins) i) (written no_values group.support before) (written no_values group.support after) s) is
+    ∙ ap (λ x. kind_step x (state_name (length cell.pins) i) (written no_values group.support before)
+    (written no_values group.support after) s) is
 
 -- a flip-flop whose clock does not rise
 pub held_clocked :
@@ -62,7 +65,8 @@ held_clocked cell i group k before after at is h s =
     let from = written no_values group.support before in
     let to = written no_values group.support after in
     let clocks : (clock_of (kind.Ff k) from || not (clock_of (kind.Ff k) to)) ≡ true
-    = sym (λ j. clock_at-is cell i group (kind.Ff k) before at is j || not (clock_at-is cell i group (kind.Ff k) after at is j)) ∙ h in
+    = sym (λ j. clock_at-is cell i group (kind.Ff k) before at is j || not (clock_at-is cell i group (kind.Ff k) after at is j))
+    ∙ h in
     step_by cell i group (kind.Ff k) before after s at is ∙ clocked_held k name from to s clocks
     ∙ sym (step_by cell i group (kind.Ff k) after after s at is)
 

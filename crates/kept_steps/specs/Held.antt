@@ -12,8 +12,8 @@ use Rattle.cell_machine.specs.CellTrace.{step_at}
 use Rattle.cell_machine.specs.Values.{no_values, written}
 use Rattle.kept_steps.specs.declared.held.HeldPoint.{HeldPoint}
 
--- The value of a group's clock where the names have these values (Liberty Reference Manual, `clocked_on` of an `ff` group). A latch
--- and a node of a state table have no clock, and 0 stands for it.
+-- The value of a group's clock where the names have these values (Liberty Reference Manual, `clocked_on` of an `ff` group). A
+-- latch and a node of a state table have no clock, and 0 stands for it.
 abbrev pub clock_of : GroupKind → List Bool → Bool
 clock_of (kind.Ff k) values = value_of values k.clocked_on
 clock_of (kind.Latch k) values = false
@@ -22,7 +22,8 @@ clock_of (kind.Table table node inputs) values = false
 -- the value of the clock of group i at a point of its support
 abbrev pub clock_at : CellData → ℕ → List Bool → Bool
 clock_at cell i point =
-    option_map_or (λ (group : StateGroup). clock_of group.kind (written no_values group.support point)) (slice_get cell.groups i) false
+    option_map_or (λ (group : StateGroup). clock_of group.kind (written no_values group.support point))
+    (slice_get cell.groups i) false
 
 abbrev pub held_at : CellData → ℕ → List Bool → HeldPoint
 held_at cell i point = record {

@@ -82,7 +82,8 @@ impl<'a> KeptSteps<'a> {
     fn clock_stays(&self, before: usize, after: usize) -> bool
         requires before { before < 2 ^ self.now.places }
         requires after { after < 2 ^ self.now.places }
-        ensures { result ≡ (clock_at_point (data_of self.now.cell.now) self.now.group (point_with self.now.places before) || not (clock_at_point (data_of self.now.cell.now) self.now.group (point_with self.now.places after))) }
+        ensures { result ≡ (clock_at_point (data_of self.now.cell.now) self.now.group (point_with self.now.places before)
+            || not (clock_at_point (data_of self.now.cell.now) self.now.group (point_with self.now.places after))) }
     {
         self.at(before).clock || !self.at(after).clock
     }
@@ -91,7 +92,10 @@ impl<'a> KeptSteps<'a> {
     fn is_held(&self, before: usize, after: usize) -> bool
         requires before { before < 2 ^ self.now.places }
         requires after { after < 2 ^ self.now.places }
-        ensures { result ≡ true → (s : Bool) → step_at (data_of self.now.cell.now) self.now.group (point_with self.now.places before) (point_with self.now.places after) s ≡ step_at (data_of self.now.cell.now) self.now.group (point_with self.now.places after) (point_with self.now.places after) s }
+        ensures { result ≡ true → (s : Bool)
+            → step_at (data_of self.now.cell.now) self.now.group (point_with self.now.places before)
+            (point_with self.now.places after) s ≡ step_at (data_of self.now.cell.now) self.now.group
+            (point_with self.now.places after) (point_with self.now.places after) s }
     {
         match &self.cell.group(self.group).kind {
             GroupKind::Ff(_) => self.clock_stays(before, after),
@@ -102,7 +106,8 @@ impl<'a> KeptSteps<'a> {
 
     /// The step of the group at a change between the points with these numbers, from this state.
     fn stepped(&self, before: usize, after: usize, state: bool) -> Trit
-        ensures { result ≡ step_at (data_of self.now.cell.now) self.now.group (point_with self.now.places before) (point_with self.now.places after) state }
+        ensures { result ≡ step_at (data_of self.now.cell.now) self.now.group (point_with self.now.places before)
+            (point_with self.now.places after) state }
     {
         let before = point_of(self.places, before);
         let after = point_of(self.places, after);
@@ -120,7 +125,8 @@ impl<'a> KeptSteps<'a> {
     pub fn step(&self, before: usize, after: usize, state: bool) -> Trit
         requires before { before < 2 ^ self.now.places }
         requires after { after < 2 ^ self.now.places }
-        ensures { result ≡ step_at (data_of self.now.cell.now) self.now.group (point_with self.now.places before) (point_with self.now.places after) state }
+        ensures { result ≡ step_at (data_of self.now.cell.now) self.now.group (point_with self.now.places before)
+            (point_with self.now.places after) state }
     {
         if !self.is_held(before, after) {
             return self.stepped(before, after, state);

@@ -1,5 +1,6 @@
 -- Bytes that differ only behind a blank of the second, and what the tokens in front of them are.
-use Rattle.std.proofs.Common.{◌≡◌, ℕ, suc, ◌+◌, ◌≤◌, ◌||◌, Bool, true, false, not, nat_eq, nat_le, cond, if◌then◌else◌, List, [], ◌∷◌, ◌++◌, length, refl, sym, ap, ◌∙◌, arith}
+use Rattle.std.proofs.Common.{◌≡◌, ℕ, suc, ◌+◌, ◌≤◌, ◌||◌, Bool, true, false, not, nat_eq, nat_le, cond, if◌then◌else◌, List, []}
+use Rattle.std.proofs.Common.{◌∷◌, ◌++◌, length, refl, sym, ap, ◌∙◌, arith}
 use Rattle.std.proofs.lemmas.Bool.{and_parts, and_from, eqb-true}
 use Rattle.std.specs.List.{prefix_len, list_all}
 use Rattle.std.specs.Char.{is_ascii_digit}
@@ -65,7 +66,8 @@ abbrev pub are_no_blanks : List ℕ → Bool
 are_no_blanks cs = list_all (λ c. not (is_blank c)) cs
 
 -- what begins the second bytes begins the first, where it has no blank
-pub begins_first : (lit : List ℕ) → are_no_blanks lit ≡ true → {r p : List ℕ} → Alike r p → begins_with p lit ≡ true → begins_with r lit ≡ true
+pub begins_first : (lit : List ℕ) → are_no_blanks lit ≡ true → {r p : List ℕ} → Alike r p → begins_with p lit ≡ true
+    → begins_with r lit ≡ true
 begins_first [] n h e = refl
 begins_first (l ∷ ls) n (blank {r} {p} c b) e =
     let s = and_parts (nat_eq l c) (begins_with p ls) e in
@@ -78,7 +80,8 @@ begins_first (l ∷ ls) n (cons {r} {p} c h) e =
     let s = and_parts (nat_eq l c) (begins_with p ls) e in
     and_from (nat_eq l c) (begins_with r ls) s.0 (begins_first ls (and_parts (not (is_blank l)) (are_no_blanks ls) n).1 h s.1)
 
-pub begins_not : (lit : List ℕ) → are_no_blanks lit ≡ true → {r p : List ℕ} → Alike r p → begins_with r lit ≡ false → begins_with p lit ≡ false
+pub begins_not : (lit : List ℕ) → are_no_blanks lit ≡ true → {r p : List ℕ} → Alike r p → begins_with r lit ≡ false
+    → begins_with p lit ≡ false
 begins_not lit n {r} {p} h e = by (begins_with p lit) refl
   where
     by : (t : Bool) → begins_with p lit ≡ t → t ≡ false
@@ -86,7 +89,8 @@ begins_not lit n {r} {p} h e = by (begins_with p lit) refl
     by false f = refl
 
 -- what begins bytes, and is no longer than their front, begins each others with this front
-pub begins_still : (lit w r p : List ℕ) → length lit ≤ length w → begins_with (w ++ r) lit ≡ true → begins_with (w ++ p) lit ≡ true
+pub begins_still : (lit w r p : List ℕ) → length lit ≤ length w → begins_with (w ++ r) lit ≡ true
+    → begins_with (w ++ p) lit ≡ true
 begins_still [] w r p n e = refl
 begins_still (l ∷ ls) [] r p n e = absurd (omega arith)
 begins_still (l ∷ ls) (c ∷ w) r p n e =
@@ -102,6 +106,8 @@ decimal_by run rt n r e = by (nat_le run 15) refl e
     by false f g = absurd (omega arith)
 
 -- a decimal number stays
-pub decimal_stays : (b : ℕ) (w : List ℕ) {r p : List ℕ} → Alike r p → decimal_length (b ∷ w ++ r) ≡ suc (length w) → decimal_length (b ∷ w ++ p) ≡ suc (length w)
+pub decimal_stays : (b : ℕ) (w : List ℕ) {r p : List ℕ} → Alike r p → decimal_length (b ∷ w ++ r) ≡ suc (length w)
+    → decimal_length (b ∷ w ++ p) ≡ suc (length w)
 decimal_stays b w {r} {p} h e =
-    decimal_by (prefix_len is_ascii_digit (b ∷ w ++ r)) (prefix_len is_ascii_digit (b ∷ w ++ p)) (length w) (run_ends is_ascii_digit no_digit (b ∷ w) h) e
+    decimal_by (prefix_len is_ascii_digit (b ∷ w ++ r)) (prefix_len is_ascii_digit (b ∷ w ++ p)) (length w)
+    (run_ends is_ascii_digit no_digit (b ∷ w) h) e

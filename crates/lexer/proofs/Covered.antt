@@ -1,5 +1,6 @@
 -- The tokens of a text, with only separators between them, are its bytes.
-use Rattle.std.proofs.Common.{◌≡◌, ℕ, zero, suc, ◌+◌, ◌≤◌, ◌<◌, Bool, true, false, not, ◌==◌, cond, List, [], ◌∷◌, ◌++◌, length, take, drop, Option, refl, sym, ap, ◌∙◌, arith, subst, append_assoc, length-append}
+use Rattle.std.proofs.Common.{◌≡◌, ℕ, zero, suc, ◌+◌, ◌≤◌, ◌<◌, Bool, true, false, not, ◌==◌, cond, List, [], ◌∷◌, ◌++◌, length}
+use Rattle.std.proofs.Common.{take, drop, Option, refl, sym, ap, ◌∙◌, arith, subst, append_assoc, length-append}
 use Rattle.std.proofs.lemmas.Bool.{and_parts, eqb-true}
 use Rattle.std.proofs.lemmas.List.{length-take-le, take-append-drop}
 use Rattle.std.specs.List.{prefix_len, list_all}
@@ -32,20 +33,23 @@ abbrev pub AsSeparator : (List ℕ → List ℕ → Type 0) → ℕ → List ℕ
 AsSeparator IsSeparator b s k = IsSeparator (b ∷ take k s) (drop k s) × (k ≤ length s)
 
 -- a byte that is a separator
-pub blank_here : (IsSeparator : List ℕ → List ℕ → Type 0) (b k : ℕ) (s : List ℕ) → IsSeparator (b ∷ []) s → 1 ≡ suc k → AsSeparator IsSeparator b s k
+pub blank_here : (IsSeparator : List ℕ → List ℕ → Type 0) (b k : ℕ) (s : List ℕ) → IsSeparator (b ∷ []) s → 1 ≡ suc k
+    → AsSeparator IsSeparator b s k
 blank_here IsSeparator b zero s e h = (e, omega arith)
 blank_here IsSeparator b (suc k) s e h = absurd (omega arith)
 
 -- a comment of one line, which begins with a mark given twice
 module _ (IsSeparator : List ℕ → List ℕ → Type 0) (mark : ℕ) (is_no_end : not (mark == 10) ≡ true)
-    (comment : (rest body : List ℕ) → list_all (λ c. not (c == 10)) body ≡ true → EndsLine rest → IsSeparator (mark ∷ mark ∷ body) rest) where
+    (comment : (rest body : List ℕ) → list_all (λ c. not (c == 10)) body ≡ true → EndsLine rest
+    → IsSeparator (mark ∷ mark ∷ body) rest) where
   two_at_least : (s : List ℕ) → prefix_len (λ d. not (d == 10)) (mark ∷ mark ∷ s) ≡ 1 → ⊥
   two_at_least s e =
       let n : ℕ = prefix_len (λ d. not (d == 10)) s in
       let z : 1 + (1 + n) ≡ 1 = sym (ap (λ (t : Bool). cond t (1 + cond t (1 + n) 0) 0) is_no_end) ∙ e in
       absurd (omega arith)
 
-  pub line_here : (b k : ℕ) (s : List ℕ) → begins_with (b ∷ s) (mark ∷ mark ∷ []) ≡ true → prefix_len (λ c. not (c == 10)) (b ∷ s) ≡ suc k → AsSeparator IsSeparator b s k
+  pub line_here : (b k : ℕ) (s : List ℕ) → begins_with (b ∷ s) (mark ∷ mark ∷ []) ≡ true
+      → prefix_len (λ c. not (c == 10)) (b ∷ s) ≡ suc k → AsSeparator IsSeparator b s k
   line_here b k [] e h = absurd (let p = (and_parts (mark == b) (begins_with [] (mark ∷ [])) e).1 in cc)
   line_here b zero (c ∷ s) e h =
       let p = and_parts (mark == b) (begins_with (c ∷ s) (mark ∷ [])) e in
@@ -54,7 +58,8 @@ module _ (IsSeparator : List ℕ → List ℕ → Type 0) (mark : ℕ) (is_no_en
       let j : mark ≡ c = eqb-true mark c q.0 in
       absurd
       (two_at_least s
-      (subst (λ (x : ℕ). prefix_len (λ d. not (d == 10)) (mark ∷ x ∷ s) ≡ 1) (sym j) (subst (λ (x : ℕ). prefix_len (λ d. not (d == 10)) (x ∷ c ∷ s) ≡ 1) (sym i) h)))
+      (subst (λ (x : ℕ). prefix_len (λ d. not (d == 10)) (mark ∷ x ∷ s) ≡ 1) (sym j)
+      (subst (λ (x : ℕ). prefix_len (λ d. not (d == 10)) (x ∷ c ∷ s) ≡ 1) (sym i) h)))
   line_here b (suc k) (c ∷ s) e h =
       let p = and_parts (mark == b) (begins_with (c ∷ s) (mark ∷ [])) e in
       let q = and_parts (mark == c) true p.1 in
@@ -64,7 +69,8 @@ module _ (IsSeparator : List ℕ → List ℕ → Type 0) (mark : ℕ) (is_no_en
       let n = more (not (c == 10)) (prefix_len (λ d. not (d == 10)) s) k m.1 in
       let r = run_at (λ d. not (d == 10)) k s n.1 in (
         subst (λ (x : ℕ). IsSeparator (x ∷ c ∷ take k s) (drop k s)) i
-            (subst (λ (x : ℕ). IsSeparator (mark ∷ x ∷ take k s) (drop k s)) j (comment (drop k s) (take k s) r.0 (line_ends k s n.1))),
+            (subst (λ (x : ℕ). IsSeparator (mark ∷ x ∷ take k s) (drop k s)) j
+            (comment (drop k s) (take k s) r.0 (line_ends k s n.1))),
         omega (arith, r.1),
       )
 
@@ -81,7 +87,8 @@ module _ (l : Spelling) (s rest : List ℕ) (from : ℕ) (sep : l.IsSeparator s 
         ends = subst (λ (n : ℕ). EndsWith n c.rest f) e c.ends;
       }
 
-  before_first : (t : Bool) (k : Token) (r : List ℕ) → CoversFirst l t (from + length s) rest k r → CoversFirst l t from (s ++ rest) k r
+  before_first : (t : Bool) (k : Token) (r : List ℕ) → CoversFirst l t (from + length s) rest k r
+      → CoversFirst l t from (s ++ rest) k r
   before_first t k r c =
       let e : from + length s + length c.gap ≡ from + length (s ++ c.gap) = omega (arith, length-append s c.gap) in
       record {
@@ -101,8 +108,10 @@ module _ (l : Spelling) (s rest : List ℕ) (from : ℕ) (sep : l.IsSeparator s 
 -- front is longer.
 pub record Finds (l : Spelling) : Type 0 where
   pub separator_here : (b k : ℕ) (s : List ℕ) → l.lexis.separator_length (b ∷ s) ≡ suc k → AsSeparator l.IsSeparator b s k
-  pub token_here : (t : Bool) (b : ℕ) (s : List ℕ) (m : ℕ) → l.lexis.token_length t (b ∷ s) ≡ suc m → (l.spells_token t (b ∷ take m s) ≡ true) × (m ≤ length s)
-  pub token_least : (t : Bool) (u r : List ℕ) → l.spells_token t u ≡ true → 0 < l.lexis.token_length t (u ++ r) → length u ≤ l.lexis.token_length t (u ++ r)
+  pub token_here : (t : Bool) (b : ℕ) (s : List ℕ) (m : ℕ) → l.lexis.token_length t (b ∷ s) ≡ suc m
+      → (l.spells_token t (b ∷ take m s) ≡ true) × (m ≤ length s)
+  pub token_least : (t : Bool) (u r : List ℕ) → l.spells_token t u ≡ true → 0 < l.lexis.token_length t (u ++ r)
+      → length u ≤ l.lexis.token_length t (u ++ r)
 
 module _ (l : Spelling) (finds : Finds l) where
   -- no longer token begins where this one does
@@ -114,8 +123,10 @@ module _ (l : Spelling) (finds : Finds l) where
       let i = finds.token_least t (w ++ more) others s (omega (arith, long, p)) in
       absurd (omega (arith, i, long, q, length-append w more))
 
-  first : (t : Bool) (from : ℕ) (bytes rest : List ℕ) (k : Token) (r : List Token × Option ℕ) → CoversFirst l t from bytes k rest →
-      Covers l (l.lexis.flag_after t k.bytes) (k.at + length k.bytes) rest r.0 r.1 → Covers l t from bytes (after k r).0 (after k r).1
+  first : (t : Bool) (from : ℕ) (bytes rest : List ℕ) (k : Token) (r : List Token × Option ℕ) → CoversFirst l t from bytes k rest
+      →
+      Covers l (l.lexis.flag_after t k.bytes) (k.at + length k.bytes) rest r.0 r.1
+      → Covers l t from bytes (after k r).0 (after k r).1
   first t from bytes rest k (ts, f) c d = (rest, c, d)
 
   token_first : (t : Bool) (at b m : ℕ) (s : List ℕ) → l.lexis.token_length t (b ∷ s) ≡ suc m →
@@ -133,7 +144,8 @@ module _ (l : Spelling) (finds : Finds l) where
         longest = no_longer t (b ∷ take m s) (drop m s) (ap (l.lexis.token_length t) joined ∙ e ∙ many) (omega arith);
       }
 
-  front : (t : Bool) (at b : ℕ) (s : List ℕ) (go : Bool → ℕ → List Token × Option ℕ) (n m : ℕ) → l.lexis.separator_length (b ∷ s) ≡ n → l.lexis.token_length t (b ∷ s) ≡ m →
+  front : (t : Bool) (at b : ℕ) (s : List ℕ) (go : Bool → ℕ → List Token × Option ℕ) (n m : ℕ)
+      → l.lexis.separator_length (b ∷ s) ≡ n → l.lexis.token_length t (b ∷ s) ≡ m →
       ((o : Bool) (k : ℕ) → Covers l o (at + 1 + k) (drop k s) (go o k).0 (go o k).1) →
       Covers l t at (b ∷ s) (at_front l.lexis t at (b ∷ s) go n m).0 (at_front l.lexis t at (b ∷ s) go n m).1
   front t at b s go zero zero e f all =
@@ -144,26 +156,30 @@ module _ (l : Spelling) (finds : Finds l) where
       let place : at + 1 + m ≡ at + length (b ∷ take m s) = omega (arith, length-take-le m s h.1) in
       let o = l.lexis.flag_after t (b ∷ take m s) in
       let r = go o m in
-      first t at (b ∷ s) (drop m s) k r (token_first t at b m s f) (subst (λ (from : ℕ). Covers l o from (drop m s) r.0 r.1) place (all o m))
+      first t at (b ∷ s) (drop m s) k r (token_first t at b m s f)
+      (subst (λ (from : ℕ). Covers l o from (drop m s) r.0 r.1) place (all o m))
   front t at b s go (suc n) m e f all =
       let h = finds.separator_here b n s e in
       let place : at + 1 + n ≡ at + length (b ∷ take n s) = omega (arith, length-take-le n s h.1) in
       let r = go t n in
       let joined : b ∷ take n s ++ drop n s ≡ b ∷ s = ap (λ (x : List ℕ). b ∷ x) (take-append-drop n s) in
       subst (λ (x : List ℕ). Covers l t at x r.0 r.1) joined
-      (before l (b ∷ take n s) (drop n s) at h.0 t r.0 r.1 (subst (λ (from : ℕ). Covers l t from (drop n s) r.0 r.1) place (all t n)))
+      (before l (b ∷ take n s) (drop n s) at h.0 t r.0 r.1
+      (subst (λ (from : ℕ). Covers l t from (drop n s) r.0 r.1) place (all t n)))
 
   covers : (t : Bool) (at n : ℕ) (s : List ℕ) → Covers l t (at + n) (drop n s) (scan l.lexis t at n s).0 (scan l.lexis t at n s).1
   covers t at zero [] = record { gap = []; rest = []; split = refl; between = cover.nothing_between; ends = refl }
   covers t at (suc n) [] = record { gap = []; rest = []; split = refl; between = cover.nothing_between; ends = refl }
   covers t at (suc n) (b ∷ s) =
       let place : at + 1 + n ≡ at + suc n = omega arith in
-      subst (λ (from : ℕ). Covers l t from (drop n s) (scan l.lexis t (at + 1) n s).0 (scan l.lexis t (at + 1) n s).1) place (covers t (at + 1) n s)
+      subst (λ (from : ℕ). Covers l t from (drop n s) (scan l.lexis t (at + 1) n s).0 (scan l.lexis t (at + 1) n s).1) place
+      (covers t (at + 1) n s)
   covers t at zero (b ∷ s) =
       let place : at ≡ at + 0 = omega arith in
       let r = scan l.lexis t at 0 (b ∷ s) in
       subst (λ (from : ℕ). Covers l t from (b ∷ s) r.0 r.1) place
-      (front t at b s (λ o k. scan l.lexis o (at + 1) k s) (l.lexis.separator_length (b ∷ s)) (l.lexis.token_length t (b ∷ s)) refl refl (λ o k. covers o (at + 1) k s))
+      (front t at b s (λ o k. scan l.lexis o (at + 1) k s) (l.lexis.separator_length (b ∷ s)) (l.lexis.token_length t (b ∷ s))
+      refl refl (λ o k. covers o (at + 1) k s))
 
   pub covered : (text : List ℕ) → IsCovered l text
   covered text = covers false 0 0 text

@@ -1,5 +1,6 @@
 -- The digits of a number, and what they come to.
-use Rattle.std.proofs.Common.{◌≡◌, ℕ, ◌+◌, ◌-◌, ◌*◌, ◌^◌, ◌<◌, ◌≤◌, zero, suc, Bool, true, false, ◌&&◌, nat_le, if◌then◌else◌, List, [], ◌∷◌, length, drop, get_or, Some, None, refl, sym, subst, arith, add-one}
+use Rattle.std.proofs.Common.{◌≡◌, ℕ, ◌+◌, ◌-◌, ◌*◌, ◌^◌, ◌<◌, ◌≤◌, zero, suc, Bool, true, false, ◌&&◌, nat_le, if◌then◌else◌}
+use Rattle.std.proofs.Common.{List, [], ◌∷◌, length, drop, get_or, Some, None, refl, sym, subst, arith, add-one}
 use Rattle.std.specs.Char.{is_ascii_digit}
 use Rattle.std.specs.List.{list_all}
 use Rattle.std.proofs.Math.Seq.{drop-cons}
@@ -16,10 +17,12 @@ digits_grow before (d ∷ ds) =
     omega arith
 
 -- with one digit more it is no more than with all
-pub next_fits : (value : ℕ) (ds : List ℕ) (i : ℕ) → i < length ds → value * 10 + (get_or ds i 0 - 48) ≤ number_after value (drop i ds)
+pub next_fits : (value : ℕ) (ds : List ℕ) (i : ℕ) → i < length ds
+    → value * 10 + (get_or ds i 0 - 48) ≤ number_after value (drop i ds)
 next_fits value ds i h =
     let first : drop i ds ≡ get_or ds i 0 ∷ drop (suc i) ds = drop-cons ds i 0 h in
-    subst (λ l. value * 10 + (get_or ds i 0 - 48) ≤ number_after value l) (sym first) (digits_grow (value * 10 + (get_or ds i 0 - 48)) (drop (suc i) ds))
+    subst (λ l. value * 10 + (get_or ds i 0 - 48) ≤ number_after value l) (sym first)
+    (digits_grow (value * 10 + (get_or ds i 0 - 48)) (drop (suc i) ds))
 
 -- a digit is below ten
 pub digit_below : (d : ℕ) → is_ascii_digit d ≡ true → d - 48 ≤ 9

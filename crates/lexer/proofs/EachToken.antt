@@ -10,12 +10,15 @@ after_passes : (P : List ℕ → Type 0) (t : Token) (r : List Token × Option �
 after_passes P t (ts, f) h k = (h, k)
 
 -- what holds of the longest token in front of any bytes
-module _ (l : Lexis) (P : List ℕ → Type 0) (passes : (flag : Bool) (n : ℕ) (bytes : List ℕ) → l.token_length flag bytes ≡ suc n → P (take (suc n) bytes)) where
-  front_passes : (t : Bool) (at : ℕ) (bytes : List ℕ) (f : Bool → ℕ → List Token × Option ℕ) (n m : ℕ) → l.token_length t bytes ≡ m
+module _ (l : Lexis) (P : List ℕ → Type 0) (passes : (flag : Bool) (n : ℕ) (bytes : List ℕ) → l.token_length flag bytes ≡ suc n
+    → P (take (suc n) bytes)) where
+  front_passes : (t : Bool) (at : ℕ) (bytes : List ℕ) (f : Bool → ℕ → List Token × Option ℕ) (n m : ℕ)
+      → l.token_length t bytes ≡ m
       → ((o : Bool) (k : ℕ) → AllPass P (f o k)) → AllPass P (at_front l t at bytes f n m)
   front_passes t at bytes f zero zero e h = tt
   front_passes t at bytes f zero (suc m) e h =
-      after_passes P (record { at = at; bytes = take (suc m) bytes }) (f (l.flag_after t (take (suc m) bytes)) m) (passes t m bytes e)
+      after_passes P (record { at = at; bytes = take (suc m) bytes }) (f (l.flag_after t (take (suc m) bytes)) m)
+      (passes t m bytes e)
       (h (l.flag_after t (take (suc m) bytes)) m)
   front_passes t at bytes f (suc n) m e h = h t n
 
@@ -23,7 +26,8 @@ module _ (l : Lexis) (P : List ℕ → Type 0) (passes : (flag : Bool) (n : ℕ)
   scan_passes t at n [] = tt
   scan_passes t at (suc n) (b ∷ bs) = scan_passes t (at + 1) n bs
   scan_passes t at zero (b ∷ bs) =
-      front_passes t at (b ∷ bs) (λ o k. scan l o (at + 1) k bs) (l.separator_length (b ∷ bs)) (l.token_length t (b ∷ bs)) refl (λ o k. scan_passes o (at + 1) k bs)
+      front_passes t at (b ∷ bs) (λ o k. scan l o (at + 1) k bs) (l.separator_length (b ∷ bs)) (l.token_length t (b ∷ bs)) refl
+      (λ o k. scan_passes o (at + 1) k bs)
 
   pub each_token : (bytes : List ℕ) → AllByRecursion P (spellings (scan_of l bytes).0)
   each_token bytes = scan_passes false 0 0 bytes

@@ -6,4 +6,9 @@ use Rattle.lexer.proofs.Padding.{Lets, same_tokens}
 use Rattle.lexer.proofs.Standing.{stand_in_order}
 
 pub lawful : (l : Spelling) → Finds l → Lets l.lexis l.IsComment → Lawful l
-lawful l finds lets = record { covered = covered l finds; in_order = stand_in_order l.lexis; same_tokens = same_tokens l.lexis l.IsComment lets }
+lawful l finds lets = record {
+  covered = covered l finds;
+  in_order = stand_in_order l.lexis;
+  same_tokens =
+      same_tokens l.lexis l.IsComment lets;
+}

@@ -1,5 +1,6 @@
 -- The places of the tokens of a text ascend.
-use Rattle.std.proofs.Common.{◌≡◌, ◌≤◌, ◌<◌, ℕ, zero, suc, ◌+◌, Bool, true, false, ◌==◌, if◌then◌else◌, List, [], ◌∷◌, take, length, Option, Some, None, refl, subst, arith, eqb-true}
+use Rattle.std.proofs.Common.{◌≡◌, ◌≤◌, ◌<◌, ℕ, zero, suc, ◌+◌, Bool, true, false, ◌==◌, if◌then◌else◌, List, [], ◌∷◌, take}
+use Rattle.std.proofs.Common.{length, Option, Some, None, refl, subst, arith, eqb-true}
 use Rattle.std.proofs.lemmas.Bool.{eqb-false}
 use Rattle.lexer.specs.Tokens.{Token, Lexis, at_front, scan, scan_of}
 use Rattle.lexer.specs.Places.{place_from}
@@ -33,30 +34,37 @@ fewer_left n k h d = omega arith
 abbrev pub Lies : ℕ → ℕ → ℕ → Type 0
 Lies low top place = (low ≤ place) × (place < top)
 
-here_or_later : (low top at later n left : ℕ) (is : Bool) → (suc n == left) ≡ is → low ≤ at → suc at ≤ top → left ≤ suc n → (left ≤ n → Lies (suc at) top later) →
+here_or_later : (low top at later n left : ℕ) (is : Bool) → (suc n == left) ≡ is → low ≤ at → suc at ≤ top → left ≤ suc n
+    → (left ≤ n → Lies (suc at) top later) →
     Lies low top (if is then at else later)
 here_or_later low top at later n left true e a b h next = (a, omega arith)
 here_or_later low top at later n left false e a b h next =
     let c = next (fewer_left n left h (λ d. eqb-false (suc n) left e d)) in (omega arith, c.1)
 
-pub place_within : (len low top : ℕ) (ts : List Token) (left : ℕ) → Ascend low ts top → left ≤ length ts → 0 < left → Lies low top (place_from len ts left)
+pub place_within : (len low top : ℕ) (ts : List Token) (left : ℕ) → Ascend low ts top → left ≤ length ts → 0 < left
+    → Lies low top (place_from len ts left)
 place_within len low top [] left a h i = absurd (omega arith)
 place_within len low top (t ∷ ts) left (a, b) h i =
-    here_or_later low top t.at (place_from len ts left) (length ts) left (length (t ∷ ts) == left) refl a (ascend_below (suc t.at) top ts b) h
+    here_or_later low top t.at (place_from len ts left) (length ts) left (length (t ∷ ts) == left) refl a
+    (ascend_below (suc t.at) top ts b) h
     (λ k. place_within len (suc t.at) top ts left b k i)
 
-here_before : (at later latest n left fewer : ℕ) (is was : Bool) → (suc n == left) ≡ is → (suc n == fewer) ≡ was → left ≤ suc n → fewer < left →
+here_before : (at later latest n left fewer : ℕ) (is was : Bool) → (suc n == left) ≡ is → (suc n == fewer) ≡ was → left ≤ suc n
+    → fewer < left →
     (fewer ≤ n → at < latest) → (left ≤ n → later < latest) → (if is then at else later) < (if was then at else latest)
 here_before at later latest n left fewer is true e f h j first next = let d = eqb-true (suc n) fewer f in absurd (omega arith)
 here_before at later latest n left fewer true false e f h j first next = first (omega arith)
-here_before at later latest n left fewer false false e f h j first next = next (fewer_left n left h (λ d. eqb-false (suc n) left e d))
+here_before at later latest n left fewer false false e f h j first next =
+    next (fewer_left n left h (λ d. eqb-false (suc n) left e d))
 
 -- with fewer tokens left a place is later
-pub place_later : (len low top : ℕ) (ts : List Token) (left fewer : ℕ) → Ascend low ts top → left ≤ length ts → 0 < fewer → fewer < left →
+pub place_later : (len low top : ℕ) (ts : List Token) (left fewer : ℕ) → Ascend low ts top → left ≤ length ts → 0 < fewer
+    → fewer < left →
     place_from len ts left < place_from len ts fewer
 place_later len low top [] left fewer a h i j = absurd (omega arith)
 place_later len low top (t ∷ ts) left fewer (a, b) h i j =
-    here_before t.at (place_from len ts left) (place_from len ts fewer) (length ts) left fewer (length (t ∷ ts) == left) (length (t ∷ ts) == fewer) refl refl h j
+    here_before t.at (place_from len ts left) (place_from len ts fewer) (length ts) left fewer (length (t ∷ ts) == left)
+    (length (t ∷ ts) == fewer) refl refl h j
     (λ k. let c = place_within len (suc t.at) top ts fewer b k i in omega arith)
     (λ k. place_later len (suc t.at) top ts left fewer b k i j)
 
@@ -74,8 +82,10 @@ module _ (l : Lexis) where
       ascend_from at (at + 1) (stop_of end (scan l flag (at + 1) n bs).1) (scan l flag (at + 1) n bs).0 (omega arith)
       (scan_ordered flag (at + 1) n end bs (omega arith))
   scan_ordered flag at zero end (b ∷ bs) e =
-      front_ordered flag at (b ∷ bs) (λ set n. scan l set (at + 1) n bs) (l.separator_length (b ∷ bs)) (l.token_length flag (b ∷ bs)) end (omega arith)
-      (λ set n. subst (λ (low : ℕ). Ordered low end (scan l set (at + 1) n bs)) (omega arith) (scan_ordered set (at + 1) n end bs (omega arith)))
+      front_ordered flag at (b ∷ bs) (λ set n. scan l set (at + 1) n bs) (l.separator_length (b ∷ bs))
+      (l.token_length flag (b ∷ bs)) end (omega arith)
+      (λ set n. subst (λ (low : ℕ). Ordered low end (scan l set (at + 1) n bs)) (omega arith)
+      (scan_ordered set (at + 1) n end bs (omega arith)))
 
   -- the tokens of a text ascend up to where they end
   pub text_ordered : (bytes : List ℕ) → Ordered 0 (length bytes) (scan_of l bytes)

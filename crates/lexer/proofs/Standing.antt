@@ -1,9 +1,11 @@
 -- The tokens of a text stand in it one behind the other.
-use Rattle.std.proofs.Common.{◌≡◌, ℕ, zero, suc, ◌+◌, ◌≤◌, ◌<◌, Bool, false, List, [], ◌∷◌, length, take, Option, Some, None, arith, length-take}
+use Rattle.std.proofs.Common.{◌≡◌, ℕ, zero, suc, ◌+◌, ◌≤◌, ◌<◌, Bool, false, List, [], ◌∷◌, length, take, Option, Some, None}
+use Rattle.std.proofs.Common.{arith, length-take}
 use Rattle.lexer.specs.Tokens.{Token, Lexis, at_front, after, scan, scan_of}
 use Rattle.lexer.specs.Places.{AreInOrder, StandInOrder}
 
-earlier : (from before len : ℕ) (ts : List Token) (f : Option ℕ) → before ≤ from → AreInOrder from len ts f → AreInOrder before len ts f
+earlier : (from before len : ℕ) (ts : List Token) (f : Option ℕ) → before ≤ from → AreInOrder from len ts f
+    → AreInOrder before len ts f
 earlier from before len [] None h o = tt
 earlier from before len [] (Some at) h o = (omega (arith, o.0), o.1)
 earlier from before len (t ∷ ts) f h o = (omega (arith, o.0), o.1, o.2, o.3)
@@ -28,7 +30,8 @@ module _ (l : Lexis) where
       (earlier (at + 1 + m) (at + suc (length (take m s))) len r.0 r.1 (omega (arith, c.0)) (o (l.flag_after t (b ∷ take m s)) m))
   front t at len b s go (suc n) m e o = earlier (at + 1 + n) at len (go t n).0 (go t n).1 (omega arith) (o t n)
 
-  in_order : (t : Bool) (at n len : ℕ) (s : List ℕ) → len ≡ at + length s → AreInOrder (at + n) len (scan l t at n s).0 (scan l t at n s).1
+  in_order : (t : Bool) (at n len : ℕ) (s : List ℕ) → len ≡ at + length s
+      → AreInOrder (at + n) len (scan l t at n s).0 (scan l t at n s).1
   in_order t at n len [] e = tt
   in_order t at (suc n) len (b ∷ s) e =
       let h : len ≡ at + 1 + length s = omega arith in
@@ -42,4 +45,5 @@ module _ (l : Lexis) where
       (front t at len b s go (l.separator_length (b ∷ s)) (l.token_length t (b ∷ s)) e (λ o k. in_order o (at + 1) k len s h))
 
   pub stand_in_order : (text : List ℕ) → StandInOrder l text
-  stand_in_order text = earlier (0 + 0) 0 (length text) (scan_of l text).0 (scan_of l text).1 (omega arith) (in_order false 0 0 (length text) text (omega arith))
+  stand_in_order text = earlier (0 + 0) 0 (length text) (scan_of l text).0 (scan_of l text).1 (omega arith)
+      (in_order false 0 0 (length text) text (omega arith))

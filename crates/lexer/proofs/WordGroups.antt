@@ -1,6 +1,7 @@
--- Words by their first letters: where those of a table begin with one letter after another, a word is among them exactly where it is
--- among those with its own first letter.
-use Rattle.std.proofs.Common.{◌≡◌, ℕ, zero, suc, ◌+◌, ◌<◌, Bool, true, false, ◌&&◌, ◌||◌, nat_eq, List, [], ◌∷◌, ◌++◌, map, length, get_or, refl, sym, ap, ◌∙◌, arith}
+-- Words by their first letters: where those of a table begin with one letter after another, a word is among them exactly where it
+-- is among those with its own first letter.
+use Rattle.std.proofs.Common.{◌≡◌, ℕ, zero, suc, ◌+◌, ◌<◌, Bool, true, false, ◌&&◌, ◌||◌, nat_eq, List, [], ◌∷◌, ◌++◌, map}
+use Rattle.std.proofs.Common.{length, get_or, refl, sym, ap, ◌∙◌, arith}
 use Rattle.std.proofs.lemmas.Bool.{and_parts, eqb-true}
 use Rattle.std.proofs.lemmas.Bool.Decides.{nat_tests}
 use Rattle.std.proofs.lemmas.List.Folds.{list_any-append}
@@ -9,7 +10,8 @@ use Rattle.std.specs.Str.{bytes_eq}
 use Rattle.lexer.specs.WordGroups.{begins, begin_from, joined}
 
 -- words that begin with another letter
-none_of : (letter first : ℕ) (rest : List ℕ) → nat_eq first letter ≡ false → (words : List (List ℕ)) → list_all (begins letter) words ≡ true →
+none_of : (letter first : ℕ) (rest : List ℕ) → nat_eq first letter ≡ false → (words : List (List ℕ))
+    → list_all (begins letter) words ≡ true →
     list_any (bytes_eq (first ∷ rest)) words ≡ false
 none_of letter first rest n [] e = refl
 none_of letter first rest n ([] ∷ words) e = absurd cc
@@ -34,28 +36,33 @@ module _ {G W : Type 0} (words : G → List W) (bytes : W → List ℕ) where
   at (g ∷ groups) (suc i) = at groups i
 
   -- a letter before that of the first group
-  before : (letter first : ℕ) (rest : List ℕ) (groups : List G) → begin_from groups words bytes letter ≡ true → first < letter → list_any (bytes_eq (first ∷ rest)) (joined groups words bytes) ≡ false
+  before : (letter first : ℕ) (rest : List ℕ) (groups : List G) → begin_from groups words bytes letter ≡ true → first < letter
+      → list_any (bytes_eq (first ∷ rest)) (joined groups words bytes) ≡ false
   before letter first rest [] e h = refl
   before letter first rest (g ∷ groups) e h =
       let p = and_parts (list_all (begins letter) (texts g)) (begin_from groups words bytes (letter + 1)) e in
       let other : nat_eq first letter ≡ false = grind (arith, nat_tests, h) in
       list_any-append (bytes_eq (first ∷ rest)) (texts g) (joined groups words bytes)
-      ∙ ap (λ (b : Bool). b || list_any (bytes_eq (first ∷ rest)) (joined groups words bytes)) (none_of letter first rest other (texts g) p.0)
+      ∙ ap (λ (b : Bool). b || list_any (bytes_eq (first ∷ rest)) (joined groups words bytes))
+      (none_of letter first rest other (texts g) p.0)
       ∙ before (letter + 1) first rest groups p.1 (omega arith)
 
-  by_place : (letter first i : ℕ) (rest : List ℕ) (groups : List G) → begin_from groups words bytes letter ≡ true → first ≡ letter + i →
+  by_place : (letter first i : ℕ) (rest : List ℕ) (groups : List G) → begin_from groups words bytes letter ≡ true
+      → first ≡ letter + i →
       list_any (bytes_eq (first ∷ rest)) (joined groups words bytes) ≡ list_any (bytes_eq (first ∷ rest)) (at groups i)
   by_place letter first i rest [] e h = refl
   by_place letter first zero rest (g ∷ groups) e h =
       let p = and_parts (list_all (begins letter) (texts g)) (begin_from groups words bytes (letter + 1)) e in
       list_any-append (bytes_eq (first ∷ rest)) (texts g) (joined groups words bytes)
-      ∙ ap (λ (b : Bool). list_any (bytes_eq (first ∷ rest)) (texts g) || b) (before (letter + 1) first rest groups p.1 (omega arith))
+      ∙ ap (λ (b : Bool). list_any (bytes_eq (first ∷ rest)) (texts g) || b)
+      (before (letter + 1) first rest groups p.1 (omega arith))
       ∙ or_false (list_any (bytes_eq (first ∷ rest)) (texts g))
   by_place letter first (suc i) rest (g ∷ groups) e h =
       let p = and_parts (list_all (begins letter) (texts g)) (begin_from groups words bytes (letter + 1)) e in
       let other : nat_eq first letter ≡ false = grind (arith, nat_tests, h) in
       list_any-append (bytes_eq (first ∷ rest)) (texts g) (joined groups words bytes)
-      ∙ ap (λ (b : Bool). b || list_any (bytes_eq (first ∷ rest)) (joined groups words bytes)) (none_of letter first rest other (texts g) p.0)
+      ∙ ap (λ (b : Bool). b || list_any (bytes_eq (first ∷ rest)) (joined groups words bytes))
+      (none_of letter first rest other (texts g) p.0)
       ∙ by_place (letter + 1) first i rest groups p.1 (omega arith)
 
   some_at : (groups : List G) (i : ℕ) (d : G) → i < length groups → at groups i ≡ texts (get_or groups i d)
@@ -68,8 +75,10 @@ module _ {G W : Type 0} (words : G → List W) (bytes : W → List ℕ) where
   any_text test (w ∷ ws) = ap (λ (b : Bool). test (bytes w) || b) (any_text test ws)
 
   -- the words of the group with this letter
-  pub told : (letter first i : ℕ) (rest : List ℕ) (groups : List G) (d : G) → begin_from groups words bytes letter ≡ true → first ≡ letter + i → i < length groups →
-      list_any (λ w. bytes_eq (first ∷ rest) (bytes w)) (words (get_or groups i d)) ≡ list_any (bytes_eq (first ∷ rest)) (joined groups words bytes)
+  pub told : (letter first i : ℕ) (rest : List ℕ) (groups : List G) (d : G) → begin_from groups words bytes letter ≡ true
+      → first ≡ letter + i → i < length groups →
+      list_any (λ w. bytes_eq (first ∷ rest) (bytes w)) (words (get_or groups i d)) ≡ list_any (bytes_eq (first ∷ rest))
+      (joined groups words bytes)
   told letter first i rest groups d e h k =
       any_text (bytes_eq (first ∷ rest)) (words (get_or groups i d))
       ∙ ap (list_any (bytes_eq (first ∷ rest))) (sym (some_at groups i d k)) ∙ sym (by_place letter first i rest groups e h)

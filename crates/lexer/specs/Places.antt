@@ -2,8 +2,8 @@
 use Rattle.std.specs.Prelude.{ℕ, ◌+◌, ◌<◌, ◌≤◌, ◌==◌, if◌then◌else◌, List, [], ◌∷◌, length, Option, Some, None}
 use Rattle.lexer.specs.Tokens.{Token, Lexis, scan_of}
 
--- From an offset on each token begins at or behind the end of the one before, and the lexical fault, if there is one, behind all of
--- them. Each token has at least one byte, and all lie inside a text of so many bytes.
+-- From an offset on each token begins at or behind the end of the one before, and the lexical fault, if there is one, behind all
+-- of them. Each token has at least one byte, and all lie inside a text of so many bytes.
 abbrev pub AreInOrder : ℕ → ℕ → List Token → Option ℕ → Type 0
 AreInOrder from len [] None = Unit {0}
 AreInOrder from len [] (Some at) = (from ≤ at) × (at < len)

@@ -27,7 +27,7 @@ tokens_of text spans = map (token_of text) spans
 abbrev pub after_tokens : List Token → List Token × Option ℕ → List Token × Option ℕ
 after_tokens before (tokens, fault) = (before ++ tokens, fault)
 
--- What a scan of a text gives that stands at an offset: the tokens found so far, and those that begin from there on, where no token
--- begins before the offset `next`.
+-- What a scan of a text gives that stands at an offset: the tokens found so far, and those that begin from there on, where no
+-- token begins before the offset `next`.
 abbrev pub from_here : Lexis → List ℕ → List Span → Bool → ℕ → ℕ → List Token × Option ℕ
 from_here l text spans flag next at = after_tokens (tokens_of text spans) (scan l flag at (next - at) (drop at text))

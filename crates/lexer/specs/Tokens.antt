@@ -1,6 +1,7 @@
 -- Tokens of a text, in any language: what the language says of the front of bytes, and what its tokens are then. At each place
 -- outside a token a separator begins, or a token, or neither, which is a lexical fault.
-use Rattle.std.specs.Prelude.{ℕ, zero, suc, ◌+◌, Bool, false, not, ◌||◌, ◌==◌, nat_eq, nat_le, if◌then◌else◌, List, [], ◌∷◌, codes, map, take, Option, Some, None}
+use Rattle.std.specs.Prelude.{ℕ, zero, suc, ◌+◌, Bool, false, not, ◌||◌, ◌==◌, nat_eq, nat_le, if◌then◌else◌, List, [], ◌∷◌}
+use Rattle.std.specs.Prelude.{codes, map, take, Option, Some, None}
 use Rattle.std.specs.Char.{is_ascii_alphanumeric, is_ascii_digit}
 use Rattle.std.specs.List.{list_any, prefix_len, starts_with}
 
@@ -10,8 +11,8 @@ pub record Token : Type 0 where
   pub bytes : List ℕ
 
 -- What a language says of the bytes at a place outside a token: how many belong to a separator that begins there, and how many to
--- the longest token; none where there is none. A flag that each token sets, as it was before and as the token is spelled, says what
--- a token may be.
+-- the longest token; none where there is none. A flag that each token sets, as it was before and as the token is spelled, says
+-- what a token may be.
 pub record Lexis : Type 0 where
   pub separator_length : List ℕ → ℕ
   pub token_length : Bool → List ℕ → ℕ

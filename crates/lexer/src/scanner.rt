@@ -20,17 +20,21 @@ struct Scanner<L> {
 }
 
 impl<'a, L: TokenState<'a>> Scanner<L> {
-    /// Goes behind the separator or the token that stands next, and behind the blanks that follow it. False says that neither does.
-    /// The tokens that were found so far stand apart from the scanner, so that its place can stay in registers.
+    /// Goes behind the separator or the token that stands next, and behind the blanks that follow it. False says that neither
+    /// does. The tokens that were found so far stand apart from the scanner, so that its place can stay in registers.
     #[inline(always)]
     fn step(&mut self, tokens: &mut Vec<KeptSpan>, text: &'a [u8]) -> Result<bool, AllocError>
         requires here { self.old.next < length text.now }
         requires short { length text.now < 2 ^ 32 }
         requires inside { LieInside text.now tokens.old.items }
-        ensures goes_on { IfOk result (λ good. good ≡ true → from_here L.lexis text.now tokens.new.items (L.flag self.new.before) self.new.next self.new.next ≡ from_here L.lexis text.now tokens.old.items (L.flag self.old.before) self.old.next self.old.next) }
+        ensures goes_on { IfOk result (λ good. good ≡ true
+            → from_here L.lexis text.now tokens.new.items (L.flag self.new.before) self.new.next self.new.next ≡ from_here L.lexis
+            text.now tokens.old.items (L.flag self.old.before) self.old.next self.old.next) }
         ensures onwards { IfOk result (λ good. good ≡ true → self.old.next < self.new.next) }
         ensures within { IfOk result (λ good. self.new.next ≤ length text.now) }
-        ensures stops { IfOk result (λ good. good ≡ false → from_here L.lexis text.now tokens.old.items (L.flag self.old.before) self.old.next self.old.next ≡ (tokens_of text.now tokens.new.items, Some self.new.next)) }
+        ensures stops { IfOk result (λ good. good ≡ false
+            → from_here L.lexis text.now tokens.old.items (L.flag self.old.before) self.old.next
+            self.old.next ≡ (tokens_of text.now tokens.new.items, Some self.new.next)) }
         ensures inside { IfOk result (λ good. LieInside text.now tokens.new.items) }
     {
         let at = self.next;

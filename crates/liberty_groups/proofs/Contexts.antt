@@ -5,7 +5,8 @@ use Rattle.liberty_text.specs.declared.token.Stop.{Stop}
 use Rattle.liberty_text.specs.declared.token.Stop.TheVariants.{End, BadByte, OpenText, OpenComment, OpenContinuation}
 use Rattle.liberty_text.specs.Tokens.{ends_word, TextBytes, CommentBytes, AreBlanks, Lexes}
 use Rattle.liberty_text.specs.Tokens as lex
-use Rattle.liberty_groups.proofs.TokenSteps.{Step, step_blank, step_line_end, step_continuation, step_comment, step_mark, step_text, step_word, Front, front_on, front_here}
+use Rattle.liberty_groups.proofs.TokenSteps.{Step, step_blank, step_line_end, step_continuation, step_comment, step_mark}
+use Rattle.liberty_groups.proofs.TokenSteps.{step_text, step_word, Front, front_on, front_here}
 
 -- what is open where the bytes of a text stop
 abbrev pub IsOpen : Stop → ℕ → List ℕ → Type 0
@@ -31,11 +32,13 @@ pub record Context (at : ℕ) (line : Bool) (bs : List ℕ) (ts : List Token) (s
 abbrev EndsWord : List ℕ → Type 0
 EndsWord z = ends_word z ≡ true
 
-as_context : {at : ℕ} {line : Bool} {bs : List ℕ} {ts : List Token} {stop : Stop} {a : ℕ} {l : Bool} {o : List ℕ} → Front EndsWord at line bs ts a l o → IsOpen stop a o → Context at line bs ts stop
+as_context : {at : ℕ} {line : Bool} {bs : List ℕ} {ts : List Token} {stop : Stop} {a : ℕ} {l : Bool} {o : List ℕ}
+    → Front EndsWord at line bs ts a l o → IsOpen stop a o → Context at line bs ts stop
 as_context {a = a} {l = l} {o = o} f is_open =
     record { q = f.q; o = o; a = a; l = l; split = f.split; place = f.place; is_open = is_open; goes = f.goes; word = f.word }
 
-front_of : {at : ℕ} {line : Bool} {bs : List ℕ} {ts : List Token} {stop : Stop} (c : Context at line bs ts stop) → Front EndsWord at line bs ts c.a c.l c.o
+front_of : {at : ℕ} {line : Bool} {bs : List ℕ} {ts : List Token} {stop : Stop} (c : Context at line bs ts stop)
+    → Front EndsWord at line bs ts c.a c.l c.o
 front_of c = record { q = c.q; split = c.split; place = c.place; goes = c.goes; word = c.word }
 
 -- nothing before the open end
@@ -43,11 +46,13 @@ here : {at : ℕ} {line : Bool} {bs : List ℕ} {stop : Stop} → IsOpen stop at
 here is_open = as_context (front_here (λ z h e. h)) is_open
 
 -- a separator or a token more in front
-on : {at : ℕ} {line : Bool} {bs : List ℕ} {us : List Token} {there : ℕ} {ended : Bool} {rest : List ℕ} {ts : List Token} {stop : Stop} →
+on : {at : ℕ} {line : Bool} {bs : List ℕ} {us : List Token} {there : ℕ} {ended : Bool} {rest : List ℕ} {ts : List Token}
+    {stop : Stop} →
     Step at line bs us there ended rest → Context there ended rest ts stop → Context at line bs (us ++ ts) stop
 on p c = as_context (front_on p (front_of c)) c.is_open
 
-pub context : {at : ℕ} {line : Bool} {bs : List ℕ} {ts : List Token} {stop : Stop} → Lexes at line bs ts stop → Context at line bs ts stop
+pub context : {at : ℕ} {line : Bool} {bs : List ℕ} {ts : List Token} {stop : Stop} → Lexes at line bs ts stop
+    → Context at line bs ts stop
 context lex.end = here refl
 context (lex.blank e d) = on (step_blank e) (context d)
 context (lex.line_end e d) = on (step_line_end e) (context d)

@@ -14,7 +14,8 @@ library_turns n found s = repeat (λ _. starts) (λ u a r. read (counting u a) r
 less : (n i : ℕ) → i < n → n - i ≡ suc (n - (i + 1))
 less n i h = omega arith
 
-empty_suc : (n : ℕ) (found : Found) (s : List Lexeme) → next_start s ≡ start.Empty → library_turns (suc n) found s ≡ library_turns n found (rest s)
+empty_suc : (n : ℕ) (found : Found) (s : List Lexeme) → next_start s ≡ start.Empty
+    → library_turns (suc n) found s ≡ library_turns n found (rest s)
 empty_suc n found [] e = absurd cc
 empty_suc n found (x ∷ s) e = rw e refl
 
@@ -23,22 +24,28 @@ pub empty_turn : (n i : ℕ) (found : Found) (s : List Lexeme) → i < n → nex
 empty_turn n i found s h e = ap (λ (k : ℕ). library_turns k found s) (less n i h) ∙ empty_suc (n - (i + 1)) found s e
 
 named_suc : (n : ℕ) (found : Found) (s : List Lexeme) (more : Found) (r : List Lexeme) → next_start s ≡ start.Named →
-    read (counted_statement found (next_bytes s) (next_at s)) (rest s) ≡ Ok (more, r) → library_turns (suc n) found s ≡ library_turns n more r
+    read (counted_statement found (next_bytes s) (next_at s)) (rest s) ≡ Ok (more, r)
+    → library_turns (suc n) found s ≡ library_turns n more r
 named_suc n found [] more r e h = absurd cc
 named_suc n found (x ∷ s) more r e h = rw (e, h) refl
 
-pub named_turn : (n i : ℕ) (found : Found) (s : List Lexeme) (more : Found) (r : List Lexeme) → i < n → next_start s ≡ start.Named →
-    read (counted_statement found (next_bytes s) (next_at s)) (rest s) ≡ Ok (more, r) → library_turns (n - i) found s ≡ library_turns (n - (i + 1)) more r
-named_turn n i found s more r h e t = ap (λ (k : ℕ). library_turns k found s) (less n i h) ∙ named_suc (n - (i + 1)) found s more r e t
+pub named_turn : (n i : ℕ) (found : Found) (s : List Lexeme) (more : Found) (r : List Lexeme) → i < n → next_start s ≡ start.Named
+    →
+    read (counted_statement found (next_bytes s) (next_at s)) (rest s) ≡ Ok (more, r)
+    → library_turns (n - i) found s ≡ library_turns (n - (i + 1)) more r
+named_turn n i found s more r h e t = ap (λ (k : ℕ). library_turns k found s) (less n i h)
+    ∙ named_suc (n - (i + 1)) found s more r e t
 
 failed_suc : (n : ℕ) (found : Found) (s : List Lexeme) (k : Found × Refusal) (m : List Lexeme) → next_start s ≡ start.Named →
     read (counted_statement found (next_bytes s) (next_at s)) (rest s) ≡ Err (k, m) → library_turns (suc n) found s ≡ Err (k, m)
 failed_suc n found [] k m e h = absurd cc
 failed_suc n found (x ∷ s) k m e h = rw (e, h) refl
 
-pub failed_turn : (n i : ℕ) (found : Found) (s : List Lexeme) (k : Found × Refusal) (m : List Lexeme) → i < n → next_start s ≡ start.Named →
+pub failed_turn : (n i : ℕ) (found : Found) (s : List Lexeme) (k : Found × Refusal) (m : List Lexeme) → i < n
+    → next_start s ≡ start.Named →
     read (counted_statement found (next_bytes s) (next_at s)) (rest s) ≡ Err (k, m) → library_turns (n - i) found s ≡ Err (k, m)
-failed_turn n i found s k m h e t = ap (λ (j : ℕ). library_turns j found s) (less n i h) ∙ failed_suc (n - (i + 1)) found s k m e t
+failed_turn n i found s k m h e t = ap (λ (j : ℕ). library_turns j found s) (less n i h)
+    ∙ failed_suc (n - (i + 1)) found s k m e t
 
 pub no_turn : (n : ℕ) (found : Found) (s : List Lexeme) → next_start s ≡ start.Other → library_turns n found s ≡ Ok (found, s)
 no_turn zero found s e = refl

@@ -1,5 +1,6 @@
 -- The answer of the code is the one that the definition says, and no other.
-use Rattle.std.proofs.Common.{◌≡◌, ℕ, ◌==◌, ◌&&◌, Bool, true, false, List, [], ◌∷◌, ◌++◌, length, slice_range, Option, Some, None, Ok, Err, inl, inr, refl, sym, ap, subst, ◌∙◌, arith, cond}
+use Rattle.std.proofs.Common.{◌≡◌, ℕ, ◌==◌, ◌&&◌, Bool, true, false, List, [], ◌∷◌, ◌++◌, length, slice_range, Option, Some, None}
+use Rattle.std.proofs.Common.{Ok, Err, inl, inr, refl, sym, ap, subst, ◌∙◌, arith, cond}
 use Rattle.std.specs.Prelude.{unwrap_or}
 use Rattle.std.proofs.lemmas.Bool.Decides.{nat_tests}
 use Rattle.liberty_text.specs.declared.token.Token.{Token}
@@ -24,7 +25,9 @@ use Rattle.liberty_groups.specs.declared.read.End.TheVariants.{Whole, Cut, Fault
 use Rattle.liberty_groups.specs.Lexeme.{Lexeme, lexeme_of, lexemes_of}
 use Rattle.liberty_groups.specs.Fault.{fault_at, lexical_fault}
 use Rattle.liberty_groups.specs.Library.{Found, library, is_word}
-use Rattle.liberty_groups.specs.Answer.{IsFrontOfText, GathersFirst, FaultsAt, EndsSo, IsReading, may_become_other, is_nil, is_last, is_unfinished, halt_at, halt_of, found_in, fault_of, goes_on_after, may_go_on, end_by, end_of, outcome_of, found_of_bytes, end_of_bytes}
+use Rattle.liberty_groups.specs.Answer.{IsFrontOfText, GathersFirst, FaultsAt, EndsSo, IsReading, may_become_other, is_nil}
+use Rattle.liberty_groups.specs.Answer.{is_last, is_unfinished, halt_at, halt_of, found_in, fault_of, goes_on_after, may_go_on}
+use Rattle.liberty_groups.specs.Answer.{end_by, end_of, outcome_of, found_of_bytes, end_of_bytes}
 use Rattle.liberty_groups.specs.declared.outline.Standing.TheVariants.{Start}
 use Rattle.liberty_groups.specs.Outline.{stands}
 use Rattle.liberty_groups.proofs.Pieces.{head_same, tail_same}
@@ -41,8 +44,14 @@ last_lexeme text (t ∷ []) [] x e = ([], t, refl, refl, head_same e)
 last_lexeme text (t ∷ u ∷ ts) [] x e = absurd (let i = ap length e in omega arith)
 last_lexeme text (t ∷ ts) (y ∷ front) x e =
     let i = last_lexeme text ts front x (tail_same e) in
-    let h : lexeme_of text t ≡ y = head_same e in
-    (t ∷ i.0, i.1, ap (λ (s : List Token). t ∷ s) i.2, ap (λ (s : List Lexeme). lexeme_of text t ∷ s) i.3 ∙ ap (λ (z : Lexeme). z ∷ front) h, i.4)
+    let h : lexeme_of text t ≡ y = head_same e in (
+      t ∷ i.0,
+      i.1,
+      ap (λ (s : List Token). t ∷ s) i.2,
+      ap (λ (s : List Lexeme). lexeme_of text t ∷ s) i.3
+          ∙ ap (λ (z : Lexeme). z ∷ front) h,
+      i.4,
+    )
 
 a_word : (k : TokenKind) → is_word k ≡ true → k ≡ Word
 a_word Word e = refl
@@ -57,11 +66,13 @@ is_none [] e = refl
 is_none (x ∷ s) e = absurd cc
 
 -- a refused last word, in a reading
-unfinished_goes_on : (bytes : List ℕ) (ts : List Token) (x : Lexeme) (front : List Lexeme) → Reads bytes ts stops.End → lexemes_of bytes ts ≡ front ++ x ∷ [] →
+unfinished_goes_on : (bytes : List ℕ) (ts : List Token) (x : Lexeme) (front : List Lexeme) → Reads bytes ts stops.End
+    → lexemes_of bytes ts ≡ front ++ x ∷ [] →
     Front library front → is_unfinished (length bytes) (is_last (lexemes_of bytes ts)) (x ∷ []) ≡ true → IsFrontOfText bytes
 unfinished_goes_on bytes ts x front d s f u =
     let i = last_lexeme bytes ts front x s in
-    let v = and_splits (is_word x.token.kind) (x.token.end == length bytes && may_become_other (is_last (lexemes_of bytes ts)) x.bytes) u in
+    let v = and_splits (is_word x.token.kind)
+    (x.token.end == length bytes && may_become_other (is_last (lexemes_of bytes ts)) x.bytes) u in
     let w = and_splits (x.token.end == length bytes) (may_become_other (is_last (lexemes_of bytes ts)) x.bytes) v.1 in
     let t = i.1 in
     let same : t ≡ x.token = ap (λ (z : Lexeme). z.token) i.4 in
@@ -85,7 +96,8 @@ unfinished_goes_on bytes ts x front d s f u =
     alone (c ∷ b ∷ E) t e = absurd cc
 
 -- bytes that may go on are the front of a library text
-pub goes_front : (bytes : List ℕ) (ts : List Token) (stop : Stop) → Reads bytes ts stop → decides bytes ts stop ≡ true → IsFrontOfText bytes
+pub goes_front : (bytes : List ℕ) (ts : List Token) (stop : Stop) → Reads bytes ts stop → decides bytes ts stop ≡ true
+    → IsFrontOfText bytes
 goes_front bytes ts stop d h = by_outcome (read library (lexemes_of bytes ts)) refl
   where
     s : List Lexeme
@@ -94,14 +106,19 @@ goes_front bytes ts stop d h = by_outcome (read library (lexemes_of bytes ts)) r
     when_used : UsesUp (read library (lexemes_of bytes ts)) → IsFrontOfText bytes
     when_used u =
         let p = used_stands (lexemes_of bytes ts) u in
-        front_goes_on bytes ts stop p.0 d p.1 (sym (front_halts bytes (length bytes) (is_last (lexemes_of bytes ts)) (read library (lexemes_of bytes ts)) stop u) ∙ h)
+        front_goes_on bytes ts stop p.0 d p.1
+        (sym (front_halts bytes (length bytes) (is_last (lexemes_of bytes ts)) (read library (lexemes_of bytes ts)) stop u)
+        ∙ h)
 
-    by_stop : (stop : Stop) → Reads bytes ts stop → (z : (Found × Refusal) × List Lexeme) (x : Lexeme) (m : List Lexeme) → read library (lexemes_of bytes ts) ≡ Err (z.0, x ∷ m) →
+    by_stop : (stop : Stop) → Reads bytes ts stop → (z : (Found × Refusal) × List Lexeme) (x : Lexeme) (m : List Lexeme)
+        → read library (lexemes_of bytes ts) ≡ Err (z.0, x ∷ m) →
         may_go_on bytes (halt_at (length bytes) (is_last (lexemes_of bytes ts)) z.0.1 (x ∷ m)) stop ≡ true → IsFrontOfText bytes
     by_stop stops.End d z x m e g =
-        let v = and_splits (is_nil m) (is_word x.token.kind && (x.token.end == length bytes && may_become_other (is_last (lexemes_of bytes ts)) x.bytes)) g in
+        let v = and_splits (is_nil m) (is_word x.token.kind
+        && (x.token.end == length bytes && may_become_other (is_last (lexemes_of bytes ts)) x.bytes)) g in
         let none : m ≡ [] = is_none m v.0 in
-        let r = (refuses_at_first library).place (lexemes_of bytes ts) z.0 (x ∷ m) (refused library (lexemes_of bytes ts) z.0 (x ∷ m) e) in
+        let r = (refuses_at_first library).place (lexemes_of bytes ts) z.0 (x ∷ m)
+        (refused library (lexemes_of bytes ts) z.0 (x ∷ m) e) in
         unfinished_goes_on bytes ts x r.0 d (r.1 ∙ ap (λ (t : List Lexeme). r.0 ++ x ∷ t) none) r.2
         (subst (λ (t : List Lexeme). is_unfinished (length bytes) (is_last (lexemes_of bytes ts)) (x ∷ t) ≡ true) none g)
     by_stop (stops.BadByte a) d z x m e g = absurd cc
@@ -110,21 +127,24 @@ goes_front bytes ts stop d h = by_outcome (read library (lexemes_of bytes ts)) r
     by_stop (stops.OpenContinuation a) d z x m e g = absurd cc
 
     by_outcome : (o : Outcome Lexeme (Found × Refusal) Found) → read library (lexemes_of bytes ts) ≡ o → IsFrontOfText bytes
-    by_outcome (Ok y) e = when_used (ap rest_of e ∙ whole (lexemes_of bytes ts) y.0 y.1 (sound library (lexemes_of bytes ts) y.0 y.1 e))
+    by_outcome (Ok y) e = when_used (ap rest_of e
+        ∙ whole (lexemes_of bytes ts) y.0 y.1 (sound library (lexemes_of bytes ts) y.0 y.1 e))
     by_outcome (Err z) e = by_rest z.1 refl
       where
         by_rest : (m : List Lexeme) → z.1 ≡ m → IsFrontOfText bytes
         by_rest [] i = when_used (ap rest_of e ∙ i)
         by_rest (x ∷ m) i =
             let e' : read library (lexemes_of bytes ts) ≡ Err (z.0, x ∷ m) = e ∙ ap (λ (t : List Lexeme). Err (z.0, t)) i in
-            by_stop stop d z x m e' (ap (λ (o : Outcome Lexeme (Found × Refusal) Found). may_go_on bytes (halt_of (length bytes) (is_last (lexemes_of bytes ts)) o) stop) (sym e') ∙ h)
+            by_stop stop d z x m e' (ap (λ (o : Outcome Lexeme (Found × Refusal) Found). may_go_on bytes
+            (halt_of (length bytes) (is_last (lexemes_of bytes ts)) o) stop) (sym e') ∙ h)
 
 -- what the code says of a fault: it comes so, or the text is whole
 abbrev FaultIs : ℕ → List Lexeme → Stop → Option LibraryFault → Type 0
 FaultIs len s stop None = (stop ≡ stops.End) × (found : Found) × Takes library s found []
 FaultIs len s stop (Some f) = FaultsAt len s stop f
 
-fault_is : (len : ℕ) (s : List Lexeme) (only : Bool) (stop : Stop) → FaultIs len s stop (fault_of len (halt_of len only (read library s)) stop)
+fault_is : (len : ℕ) (s : List Lexeme) (only : Bool) (stop : Stop)
+    → FaultIs len s stop (fault_of len (halt_of len only (read library s)) stop)
 fault_is len s only stop = by_outcome (read library s) refl
   where
     when_whole : (stop : Stop) (found : Found) → Takes library s found [] → FaultIs len s stop (lexical_fault stop)
@@ -132,20 +152,28 @@ fault_is len s only stop = by_outcome (read library s) refl
     when_whole (stops.BadByte a) found t = inr (inl (ends_front library s (ap rest_of (complete library s found [] t)), refl))
     when_whole (stops.OpenText a) found t = inr (inl (ends_front library s (ap rest_of (complete library s found [] t)), refl))
     when_whole (stops.OpenComment a) found t = inr (inl (ends_front library s (ap rest_of (complete library s found [] t)), refl))
-    when_whole (stops.OpenContinuation a) found t = inr (inl (ends_front library s (ap rest_of (complete library s found [] t)), refl))
+    when_whole (stops.OpenContinuation a) found t =
+        inr (inl (ends_front library s (ap rest_of (complete library s found [] t)), refl))
 
-    when_short : (stop : Stop) (found : Found) (k : Refusal) → Refuses library s (found, k) [] → FaultsAt len s stop (unwrap_or (lexical_fault stop) (fault_at k len))
+    when_short : (stop : Stop) (found : Found) (k : Refusal) → Refuses library s (found, k) []
+        → FaultsAt len s stop (unwrap_or (lexical_fault stop) (fault_at k len))
     when_short stops.End found k t = inr (inr (refl, found, k, t, refl))
-    when_short (stops.BadByte a) found k t = inr (inl (ends_front library s (ap rest_of (refuses library s (found, k) [] t)), refl))
-    when_short (stops.OpenText a) found k t = inr (inl (ends_front library s (ap rest_of (refuses library s (found, k) [] t)), refl))
-    when_short (stops.OpenComment a) found k t = inr (inl (ends_front library s (ap rest_of (refuses library s (found, k) [] t)), refl))
-    when_short (stops.OpenContinuation a) found k t = inr (inl (ends_front library s (ap rest_of (refuses library s (found, k) [] t)), refl))
+    when_short (stops.BadByte a) found k t =
+        inr (inl (ends_front library s (ap rest_of (refuses library s (found, k) [] t)), refl))
+    when_short (stops.OpenText a) found k t =
+        inr (inl (ends_front library s (ap rest_of (refuses library s (found, k) [] t)), refl))
+    when_short (stops.OpenComment a) found k t =
+        inr (inl (ends_front library s (ap rest_of (refuses library s (found, k) [] t)), refl))
+    when_short (stops.OpenContinuation a) found k t =
+        inr (inl (ends_front library s (ap rest_of (refuses library s (found, k) [] t)), refl))
 
-    by_rest : (k : Found × Refusal) (m : List Lexeme) → Refuses library s k m → FaultIs len s stop (fault_of len (halt_at len only k.1 m) stop)
+    by_rest : (k : Found × Refusal) (m : List Lexeme) → Refuses library s k m
+        → FaultIs len s stop (fault_of len (halt_at len only k.1 m) stop)
     by_rest k [] t = when_short stop k.0 k.1 t
     by_rest k (x ∷ m) t = inl (k.0, k.1, x, m, t, refl)
 
-    by_outcome : (o : Outcome Lexeme (Found × Refusal) Found) → read library s ≡ o → FaultIs len s stop (fault_of len (halt_of len only o) stop)
+    by_outcome : (o : Outcome Lexeme (Found × Refusal) Found) → read library s ≡ o
+        → FaultIs len s stop (fault_of len (halt_of len only o) stop)
     by_outcome (Ok y) e =
         let t = sound library s y.0 y.1 e in
         when_whole stop y.0 (subst (λ (r : List Lexeme). Takes library s y.0 r) (whole s y.0 y.1 t) t)
@@ -155,7 +183,8 @@ fault_is len s only stop = by_outcome (read library s) refl
 fault_one : (len : ℕ) (s : List Lexeme) (only : Bool) (stop : Stop) (f : LibraryFault) → FaultsAt len s stop f →
     fault_of len (halt_of len only (read library s)) stop ≡ Some f
 fault_one len s only stop f (inl (found, k, x, m, t, e)) =
-    ap (λ (o : Outcome Lexeme (Found × Refusal) Found). fault_of len (halt_of len only o) stop) (refuses library s (found, k) (x ∷ m) t) ∙ ap Some (sym e)
+    ap (λ (o : Outcome Lexeme (Found × Refusal) Found). fault_of len (halt_of len only o) stop)
+    (refuses library s (found, k) (x ∷ m) t) ∙ ap Some (sym e)
 fault_one len s only stop f (inr (inl (front, e))) = by_outcome (read library s) (front_ends library s front)
   where
     by_outcome : (o : Outcome Lexeme (Found × Refusal) Found) → UsesUp o → fault_of len (halt_of len only o) stop ≡ Some f
@@ -164,7 +193,8 @@ fault_one len s only stop f (inr (inl (front, e))) = by_outcome (read library s)
         ap (λ (m : List Lexeme). fault_of len (halt_at len only z.0.1 m) stop) u
         ∙ ap (λ (o : Option LibraryFault). Some (unwrap_or o (fault_at z.0.1 len))) e
 fault_one len s only stop f (inr (inr (none, found, k, t, e))) =
-    ap (λ (o : Outcome Lexeme (Found × Refusal) Found). fault_of len (halt_of len only o) stop) (refuses library s (found, k) [] t)
+    ap (λ (o : Outcome Lexeme (Found × Refusal) Found). fault_of len (halt_of len only o) stop)
+    (refuses library s (found, k) [] t)
     ∙ ap (λ (o : Option LibraryFault). Some (unwrap_or o (fault_at k len))) none ∙ ap Some (sym e)
 
 gathers_so : (s : List Lexeme) → GathersFirst s (found_in (read library s))
@@ -182,12 +212,15 @@ gathers_one s found (inr (k, m, t)) = sym (ap found_in (refuses library s (found
 
 -- with the tokens of the bytes
 ends_so : (bytes : List ℕ) (is_whole : Bool) (ts : List Token) (stop : Stop) → Reads bytes ts stop → scan_of bytes ≡ (ts, stop) →
-    EndsSo bytes is_whole (lexemes_of bytes ts) stop (end_of bytes is_whole (halt_of (length bytes) (is_last (lexemes_of bytes ts)) (read library (lexemes_of bytes ts))) stop)
+    EndsSo bytes is_whole (lexemes_of bytes ts) stop
+    (end_of bytes is_whole (halt_of (length bytes) (is_last (lexemes_of bytes ts)) (read library (lexemes_of bytes ts))) stop)
 ends_so bytes true ts stop d e =
-    by_fault (fault_of (length bytes) (halt_of (length bytes) (is_last (lexemes_of bytes ts)) (read library (lexemes_of bytes ts))) stop)
+    by_fault (fault_of (length bytes)
+    (halt_of (length bytes) (is_last (lexemes_of bytes ts)) (read library (lexemes_of bytes ts))) stop)
     (fault_is (length bytes) (lexemes_of bytes ts) (is_last (lexemes_of bytes ts)) stop)
   where
-    by_fault : (f : Option LibraryFault) → FaultIs (length bytes) (lexemes_of bytes ts) stop f → EndsSo bytes true (lexemes_of bytes ts) stop (end_by f)
+    by_fault : (f : Option LibraryFault) → FaultIs (length bytes) (lexemes_of bytes ts) stop f
+        → EndsSo bytes true (lexemes_of bytes ts) stop (end_by f)
     by_fault None h = h
     by_fault (Some f) h = h
 ends_so bytes false ts stop d e = by_test (decides bytes ts stop) refl
@@ -197,29 +230,36 @@ ends_so bytes false ts stop d e = by_test (decides bytes ts stop) refl
 
     never : decides bytes ts stop ≡ false → IsFrontOfText bytes → ⊥
     never q f =
-        let h : decides bytes ts stop ≡ true = ap (λ (v : List Token × Stop). decides bytes v.0 v.1) (sym e) ∙ front_of_text bytes f in absurd cc
+        let h : decides bytes ts stop ≡ true = ap (λ (v : List Token × Stop). decides bytes v.0 v.1) (sym e)
+        ∙ front_of_text bytes f in absurd cc
 
-    goes_on : (stop : Stop) → stop ≡ stops.End → (found : Found) → Takes library (lexemes_of bytes ts) found [] → decides bytes ts stop ≡ true
+    goes_on : (stop : Stop) → stop ≡ stops.End → (found : Found) → Takes library (lexemes_of bytes ts) found []
+        → decides bytes ts stop ≡ true
     goes_on stop s found t =
-        front_halts bytes (length bytes) (is_last (lexemes_of bytes ts)) (read library (lexemes_of bytes ts)) stop (ap rest_of (complete library (lexemes_of bytes ts) found [] t))
+        front_halts bytes (length bytes) (is_last (lexemes_of bytes ts)) (read library (lexemes_of bytes ts)) stop
+        (ap rest_of (complete library (lexemes_of bytes ts) found [] t))
         ∙ ap (goes_on_after bytes) s
 
-    by_fault : (f : Option LibraryFault) → decides bytes ts stop ≡ false → FaultIs (length bytes) (lexemes_of bytes ts) stop f → EndsSo bytes false (lexemes_of bytes ts) stop (end_by f)
+    by_fault : (f : Option LibraryFault) → decides bytes ts stop ≡ false → FaultIs (length bytes) (lexemes_of bytes ts) stop f
+        → EndsSo bytes false (lexemes_of bytes ts) stop (end_by f)
     by_fault None q (s, found, t) = absurd (let h = goes_on stop s found t in cc)
     by_fault (Some f) q h = (never q, h)
 
     by_test : (q : Bool) → decides bytes ts stop ≡ q →
         EndsSo bytes false (lexemes_of bytes ts) stop
-        (cond q Cut (end_by (fault_of (length bytes) (halt_of (length bytes) (is_last (lexemes_of bytes ts)) (read library (lexemes_of bytes ts))) stop)))
+        (cond q Cut (end_by (fault_of (length bytes)
+        (halt_of (length bytes) (is_last (lexemes_of bytes ts)) (read library (lexemes_of bytes ts))) stop)))
     by_test true q = goes_front bytes ts stop d q
     by_test false q =
-        by_fault (fault_of (length bytes) (halt_of (length bytes) (is_last (lexemes_of bytes ts)) (read library (lexemes_of bytes ts))) stop) q
+        by_fault (fault_of (length bytes)
+        (halt_of (length bytes) (is_last (lexemes_of bytes ts)) (read library (lexemes_of bytes ts))) stop) q
         (fault_is (length bytes) (lexemes_of bytes ts) (is_last (lexemes_of bytes ts)) stop)
 
 pub reads_so : (bytes : List ℕ) (is_whole : Bool) → IsReading bytes is_whole (found_of_bytes bytes) (end_of_bytes bytes is_whole)
 unfolding outcome_of
 reads_so bytes is_whole =
-    let d : Reads bytes (scan_of bytes).0 (scan_of bytes).1 = (one_reading bytes (scan_of bytes).0 (scan_of bytes).1).1 refl in record {
+    let d : Reads bytes (scan_of bytes).0 (scan_of bytes).1 = (one_reading bytes (scan_of bytes).0 (scan_of bytes).1).1 refl
+    in record {
       tokens = (scan_of bytes).0;
       stop = (scan_of bytes).1;
       lexes = d;
@@ -227,34 +267,47 @@ reads_so bytes is_whole =
       ends = ends_so bytes is_whole (scan_of bytes).0 (scan_of bytes).1 d refl;
     }
 
-end_one : (bytes : List ℕ) (is_whole : Bool) (ts : List Token) (stop : Stop) (end : End) → Reads bytes ts stop → scan_of bytes ≡ (ts, stop) → EndsSo bytes is_whole (lexemes_of bytes ts) stop end →
+end_one : (bytes : List ℕ) (is_whole : Bool) (ts : List Token) (stop : Stop) (end : End) → Reads bytes ts stop
+    → scan_of bytes ≡ (ts, stop) → EndsSo bytes is_whole (lexemes_of bytes ts) stop end →
     end ≡ end_of bytes is_whole (halt_of (length bytes) (is_last (lexemes_of bytes ts)) (read library (lexemes_of bytes ts))) stop
 end_one bytes true ts stop Whole d e (s, found, t) =
-    sym (ap (λ (o : Outcome Lexeme (Found × Refusal) Found). end_by (fault_of (length bytes) (halt_of (length bytes) (is_last (lexemes_of bytes ts)) o) stop)) (complete library (lexemes_of bytes ts) found [] t)
+    sym (ap (λ (o : Outcome Lexeme (Found × Refusal) Found). end_by
+    (fault_of (length bytes) (halt_of (length bytes) (is_last (lexemes_of bytes ts)) o) stop))
+    (complete library (lexemes_of bytes ts) found [] t)
     ∙ ap (λ (v : Stop). end_by (lexical_fault v)) s)
 end_one bytes true ts stop Cut d e h = absurd h
-end_one bytes true ts stop (Fault f) d e h = sym (ap end_by (fault_one (length bytes) (lexemes_of bytes ts) (is_last (lexemes_of bytes ts)) stop f h))
+end_one bytes true ts stop (Fault f) d e h =
+    sym (ap end_by (fault_one (length bytes) (lexemes_of bytes ts) (is_last (lexemes_of bytes ts)) stop f h))
 end_one bytes false ts stop Whole d e h = absurd h
 end_one bytes false ts stop Cut d e h =
-    let q : decides bytes ts stop ≡ true = ap (λ (v : List Token × Stop). decides bytes v.0 v.1) (sym e) ∙ front_of_text bytes h in rw q refl
+    let q : decides bytes ts stop ≡ true = ap (λ (v : List Token × Stop). decides bytes v.0 v.1) (sym e) ∙ front_of_text bytes h
+    in rw q refl
 end_one bytes false ts stop (Fault f) d e (never, h) = by_test (decides bytes ts stop) refl
   where
     by_test : (q : Bool) → decides bytes ts stop ≡ q →
-        Fault f ≡ cond (decides bytes ts stop) Cut (end_by (fault_of (length bytes) (halt_of (length bytes) (is_last (lexemes_of bytes ts)) (read library (lexemes_of bytes ts))) stop))
+        Fault f ≡ cond (decides bytes ts stop) Cut
+        (end_by (fault_of (length bytes)
+        (halt_of (length bytes) (is_last (lexemes_of bytes ts)) (read library (lexemes_of bytes ts))) stop))
     by_test true q = absurd (never (goes_front bytes ts stop d q))
     by_test false q =
-        sym (ap (λ (b : Bool). cond b Cut (end_by (fault_of (length bytes) (halt_of (length bytes) (is_last (lexemes_of bytes ts)) (read library (lexemes_of bytes ts))) stop))) q
+        sym (ap (λ (b : Bool). cond b Cut
+        (end_by (fault_of (length bytes)
+        (halt_of (length bytes) (is_last (lexemes_of bytes ts)) (read library (lexemes_of bytes ts))) stop))) q
         ∙ ap end_by (fault_one (length bytes) (lexemes_of bytes ts) (is_last (lexemes_of bytes ts)) stop f h))
 
-pub found_one : (bytes : List ℕ) (is_whole : Bool) (found : Found) (end : End) → IsReading bytes is_whole found end → found ≡ found_of_bytes bytes
+pub found_one : (bytes : List ℕ) (is_whole : Bool) (found : Found) (end : End) → IsReading bytes is_whole found end
+    → found ≡ found_of_bytes bytes
 unfolding outcome_of
 found_one bytes is_whole found end r =
     let e : scan_of bytes ≡ (r.tokens, r.stop) = (one_reading bytes r.tokens r.stop).0 r.lexes in
-    gathers_one (lexemes_of bytes r.tokens) found r.gathers ∙ ap (λ (v : List Token × Stop). found_in (read library (lexemes_of bytes v.0))) (sym e)
+    gathers_one (lexemes_of bytes r.tokens) found r.gathers
+    ∙ ap (λ (v : List Token × Stop). found_in (read library (lexemes_of bytes v.0))) (sym e)
 
-pub ends_one : (bytes : List ℕ) (is_whole : Bool) (found : Found) (end : End) → IsReading bytes is_whole found end → end ≡ end_of_bytes bytes is_whole
+pub ends_one : (bytes : List ℕ) (is_whole : Bool) (found : Found) (end : End) → IsReading bytes is_whole found end
+    → end ≡ end_of_bytes bytes is_whole
 unfolding outcome_of
 ends_one bytes is_whole found end r =
     let e : scan_of bytes ≡ (r.tokens, r.stop) = (one_reading bytes r.tokens r.stop).0 r.lexes in
     end_one bytes is_whole r.tokens r.stop end r.lexes e r.ends
-    ∙ ap (λ (v : List Token × Stop). end_of bytes is_whole (halt_of (length bytes) (is_last (lexemes_of bytes v.0)) (read library (lexemes_of bytes v.0))) v.1) (sym e)
+    ∙ ap (λ (v : List Token × Stop). end_of bytes is_whole
+    (halt_of (length bytes) (is_last (lexemes_of bytes v.0)) (read library (lexemes_of bytes v.0))) v.1) (sym e)

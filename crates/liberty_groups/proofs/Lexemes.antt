@@ -1,5 +1,6 @@
 -- Tokens with their bytes, in a text and in a longer one.
-use Rattle.std.proofs.Common.{◌≡◌, ℕ, ◌+◌, ◌-◌, ◌≤◌, true, false, nat_eq, List, [], ◌∷◌, ◌++◌, length, take, drop, slice_range, refl, sym, ap, ◌∙◌, arith, length-drop}
+use Rattle.std.proofs.Common.{◌≡◌, ℕ, ◌+◌, ◌-◌, ◌≤◌, true, false, nat_eq, List, [], ◌∷◌, ◌++◌, length, take, drop, slice_range}
+use Rattle.std.proofs.Common.{refl, sym, ap, ◌∙◌, arith, length-drop}
 use Rattle.std.proofs.lemmas.List.{append-nil, drop-append-le, take-append-le, take-append-drop, map-append}
 use Rattle.std.proofs.Math.Seq.{drop-append_seam, take-append_seam, take-append-add}
 use Rattle.std.proofs.lemmas.Slice.Eq.{bytes_eq-Decides}
@@ -52,7 +53,9 @@ slice_over bs more a n e f h k =
     ap (take (e - a)) (drop-append-le a bs more a')
     ∙ ap (λ (i : ℕ). take i (drop a bs ++ more)) g
     ∙ take-append-add (drop a bs) more (e - n)
-    ∙ ap (λ (s : List ℕ). s ++ take (e - n) more) (sym (ap (λ (i : ℕ). take i (drop a bs)) m ∙ ap (take (length (drop a bs))) (sym (append-nil (drop a bs))) ∙ take-append_seam (drop a bs) []))
+    ∙ ap (λ (s : List ℕ). s ++ take (e - n) more)
+    (sym (ap (λ (i : ℕ). take i (drop a bs)) m ∙ ap (take (length (drop a bs))) (sym (append-nil (drop a bs)))
+    ∙ take-append_seam (drop a bs) []))
 
 pub lexemes_more : (bs more : List ℕ) (ts : List Token) → LieInside bs ts → lexemes_of (bs ++ more) ts ≡ lexemes_of bs ts
 lexemes_more bs more [] h = refl

@@ -1,5 +1,6 @@
 -- One turn of a list of values.
-use Rattle.std.proofs.Common.{◌≡◌, ℕ, zero, suc, ◌+◌, ◌-◌, ◌<◌, true, false, List, [], ◌∷◌, ◌++◌, Some, None, Ok, refl, ap, ◌∙◌, arith}
+use Rattle.std.proofs.Common.{◌≡◌, ℕ, zero, suc, ◌+◌, ◌-◌, ◌<◌, true, false, List, [], ◌∷◌, ◌++◌, Some, None, Ok, refl, ap, ◌∙◌}
+use Rattle.std.proofs.Common.{arith}
 use Rattle.liberty_text.specs.declared.token.Token.{Token}
 use Rattle.grammar_rules.specs.Rule.{Gives}
 use Rattle.grammar_rules.specs.Reading.{Outcome, repeat, read}
@@ -13,7 +14,8 @@ use Rattle.liberty_groups.specs.Grammar.{goes_on, part_at, next_part}
 abbrev pub part_turns : Place → ℕ → List Value → List Lexeme → Outcome Lexeme Refusal (List Value)
 part_turns p n found s = repeat (λ _. part_at p) (λ v a r. read (Gives (v ++ a)) r) n found s
 
-part_turn_suc : (p : Place) (n : ℕ) (found : List Value) (s : List Lexeme) (t : Token) → next_token s ≡ Some t → goes_on p t ≡ true →
+part_turn_suc : (p : Place) (n : ℕ) (found : List Value) (s : List Lexeme) (t : Token) → next_token s ≡ Some t
+    → goes_on p t ≡ true →
     part_turns p (suc n) found s ≡ part_turns p n (found ++ next_part s) (rest s)
 part_turn_suc p n found [] t e h = absurd cc
 part_turn_suc p n found (x ∷ s) t e h =
@@ -22,7 +24,8 @@ part_turn_suc p n found (x ∷ s) t e h =
     some_is : {a b : Token} → Some a ≡ Some b → a ≡ b
     some_is e = cc
 
-pub part_turn : (p : Place) (n i : ℕ) (found : List Value) (s : List Lexeme) (t : Token) → i < n → next_token s ≡ Some t → goes_on p t ≡ true →
+pub part_turn : (p : Place) (n i : ℕ) (found : List Value) (s : List Lexeme) (t : Token) → i < n → next_token s ≡ Some t
+    → goes_on p t ≡ true →
     part_turns p (n - i) found s ≡ part_turns p (n - (i + 1)) (found ++ next_part s) (rest s)
 part_turn p n i found s t l e h =
     let k : n - i ≡ suc (n - (i + 1)) = omega arith in

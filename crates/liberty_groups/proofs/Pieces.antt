@@ -1,5 +1,6 @@
 -- The pieces of a text when other bytes come behind them, and their fronts.
-use Rattle.std.proofs.Common.{◌≡◌, ℕ, ◌==◌, ◌||◌, ◌&&◌, not, Bool, true, false, List, [], ◌∷◌, ◌++◌, ◌⊎◌, inl, inr, refl, sym, ap, subst, ◌∙◌, arith}
+use Rattle.std.proofs.Common.{◌≡◌, ℕ, ◌==◌, ◌||◌, ◌&&◌, not, Bool, true, false, List, [], ◌∷◌, ◌++◌, ◌⊎◌, inl, inr, refl, sym, ap}
+use Rattle.std.proofs.Common.{subst, ◌∙◌, arith}
 use Rattle.std.proofs.lemmas.Bool.Decides.{nat_tests}
 use Rattle.liberty_text.specs.Scanner.{class_of}
 use Rattle.liberty_text.specs.Tokens.{is_word_class, opens_comment, ends_word, WordBytes, TextBytes, CommentBytes, AreBlanks}
@@ -20,7 +21,8 @@ class_word b bs e = (not_or (is_word_class (class_of b)) (opens_comment (b ∷ b
 no_comment : (b : ℕ) (bs : List ℕ) → ends_word (b ∷ bs) ≡ false → opens_comment (b ∷ bs) ≡ false
 no_comment b bs e = (not_or (is_word_class (class_of b)) (opens_comment (b ∷ bs)) e).1
 
-goes_on_so : (b : ℕ) (bs : List ℕ) → is_word_class (class_of b) ≡ true → opens_comment (b ∷ bs) ≡ false → ends_word (b ∷ bs) ≡ false
+goes_on_so : (b : ℕ) (bs : List ℕ) → is_word_class (class_of b) ≡ true → opens_comment (b ∷ bs) ≡ false
+    → ends_word (b ∷ bs) ≡ false
 goes_on_so b bs e f = rw (e, f) refl
 
 star_goes_on : (s : List ℕ) → ends_word (42 ∷ s) ≡ false
@@ -39,7 +41,8 @@ slash_before b (c ∷ s) e = and_false (b == 47) (c == 42) (by_star (c == 42) re
         absurd cc
     by_star false h = refl
 
-byte_any : (b : ℕ) (w rest y : List ℕ) → ends_word (b ∷ (w ++ rest)) ≡ false → ends_word y ≡ true → ends_word (b ∷ (w ++ y)) ≡ false
+byte_any : (b : ℕ) (w rest y : List ℕ) → ends_word (b ∷ (w ++ rest)) ≡ false → ends_word y ≡ true
+    → ends_word (b ∷ (w ++ y)) ≡ false
 byte_any b [] rest y h e = goes_on_so b y (class_word b rest h) (slash_before b y e)
 byte_any b (c ∷ w) rest y h e = goes_on_so b (c ∷ (w ++ y)) (class_word b (c ∷ (w ++ rest)) h) (no_comment b (c ∷ (w ++ rest)) h)
 
@@ -54,7 +57,8 @@ word_end (lex.word_byte h more) = word_end more
 
 byte_front : (b : ℕ) (u v rest : List ℕ) → ends_word (b ∷ ((u ++ v) ++ rest)) ≡ false → ends_word (b ∷ (u ++ [])) ≡ false
 byte_front b [] v rest h = goes_on_so b [] (class_word b (v ++ rest) h) refl
-byte_front b (c ∷ u) v rest h = goes_on_so b (c ∷ (u ++ [])) (class_word b (c ∷ ((u ++ v) ++ rest)) h) (no_comment b (c ∷ ((u ++ v) ++ rest)) h)
+byte_front b (c ∷ u) v rest h = goes_on_so b (c ∷ (u ++ [])) (class_word b (c ∷ ((u ++ v) ++ rest)) h)
+    (no_comment b (c ∷ ((u ++ v) ++ rest)) h)
 
 pub word_front : (u v rest : List ℕ) → WordBytes (u ++ v) rest → WordBytes u []
 word_front [] v rest h = lex.word_ends refl
@@ -103,7 +107,8 @@ splits {T} (b ∷ bs) more (a ∷ u) rest e =
 
 byte_slash : (b : ℕ) (w rest : List ℕ) → ends_word (b ∷ (w ++ rest)) ≡ false → ends_word (b ∷ ((w ++ 47 ∷ []) ++ [])) ≡ false
 byte_slash b [] rest h = goes_on_so b (47 ∷ []) (class_word b rest h) (and_false (b == 47) false refl)
-byte_slash b (c ∷ w) rest h = goes_on_so b (c ∷ ((w ++ 47 ∷ []) ++ [])) (class_word b (c ∷ (w ++ rest)) h) (no_comment b (c ∷ (w ++ rest)) h)
+byte_slash b (c ∷ w) rest h = goes_on_so b (c ∷ ((w ++ 47 ∷ []) ++ [])) (class_word b (c ∷ (w ++ rest)) h)
+    (no_comment b (c ∷ (w ++ rest)) h)
 
 -- a word and a slash are a word where no star comes behind
 pub word_slash : {u rest : List ℕ} → WordBytes u rest → WordBytes (u ++ 47 ∷ []) []
@@ -129,6 +134,7 @@ ends_kept x [] more h = by_class (is_word_class (class_of x)) refl
     by_more [] e = absurd cc
     by_more (c ∷ m) e = let i = and_true (x == 47) (c == 42) e in grind (arith, nat_tests, i)
 
-    by_class : (q : Bool) → is_word_class (class_of x) ≡ q → ((z : List ℕ) → ends_word (x ∷ z) ≡ true) ⊎ ((◌≡◌ {A = List ℕ} [] []) × (x ≡ 47))
+    by_class : (q : Bool) → is_word_class (class_of x) ≡ q → ((z : List ℕ) → ends_word (x ∷ z) ≡ true)
+        ⊎ ((◌≡◌ {A = List ℕ} [] []) × (x ≡ 47))
     by_class true e = inr (refl, by_more more (or_true (is_word_class (class_of x)) (opens_comment (x ∷ more)) h e))
     by_class false e = inl (λ z. rw e refl)

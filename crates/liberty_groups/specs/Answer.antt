@@ -1,5 +1,6 @@
 -- What a Liberty text is read as: its groups, and its end or its first fault.
-use Rattle.std.specs.Prelude.{◌≡◌, ◌⊎◌, ℕ, Bool, true, false, ◌||◌, ◌&&◌, ◌==◌, nat_eq, if◌then◌else◌, List, [], ◌∷◌, ◌++◌, length, Option, Some, None, unwrap_or, Ok, Err, codes}
+use Rattle.std.specs.Prelude.{◌≡◌, ◌⊎◌, ℕ, Bool, true, false, ◌||◌, ◌&&◌, ◌==◌, nat_eq, if◌then◌else◌, List, [], ◌∷◌, ◌++◌}
+use Rattle.std.specs.Prelude.{length, Option, Some, None, unwrap_or, Ok, Err, codes}
 use Rattle.std.specs.Str.{bytes_eq}
 use Rattle.std.specs.List.{starts_with}
 use Rattle.liberty_text.specs.declared.token.Token.{Token}
@@ -23,7 +24,8 @@ use Rattle.liberty_groups.specs.Outline.{has_outline}
 
 -- The bytes are a library text: they are tokens, without a fault, that the grammar takes.
 abbrev pub IsLibraryText : List ℕ → Type 0
-IsLibraryText bytes = (ts : List Token) × (found : Found) × lex.Reads bytes ts stops.End × Takes library (lexemes_of bytes ts) found []
+IsLibraryText bytes = (ts : List Token) × (found : Found) × lex.Reads bytes ts stops.End
+    × Takes library (lexemes_of bytes ts) found []
 
 -- Some library text begins with these bytes.
 abbrev pub IsFrontOfText : List ℕ → Type 0
@@ -39,9 +41,11 @@ GathersFirst s found = Takes library s found [] ⊎ ((k : Refusal) × (m : List 
 -- comment that stopped the tokens; and where there is none either, the end of the text.
 abbrev pub FaultsAt : ℕ → List Lexeme → Stop → LibraryFault → Type 0
 FaultsAt len s stop fault =
-    ((found : Found) × (k : Refusal) × (x : Lexeme) × (m : List Lexeme) × Refuses library s (found, k) (x ∷ m) × (fault ≡ fault_at k x.token.at))
+    ((found : Found) × (k : Refusal) × (x : Lexeme) × (m : List Lexeme) × Refuses library s (found, k) (x ∷ m)
+    × (fault ≡ fault_at k x.token.at))
     ⊎ ((Front library s × (lexical_fault stop ≡ Some fault))
-    ⊎ ((lexical_fault stop ≡ None) × (found : Found) × (k : Refusal) × Refuses library s (found, k) [] × (fault ≡ fault_at k len)))
+    ⊎ ((lexical_fault stop ≡ None) × (found : Found) × (k : Refusal) × Refuses library s (found, k) []
+    × (fault ≡ fault_at k len)))
 
 -- How a reading ends. A text that is whole ends so, or has its first fault. Bytes that are only the
 -- front of a file are cut where some library text begins with them, and have the fault else.
@@ -145,7 +149,8 @@ abbrev pub found_of_bytes : List ℕ → Found
 found_of_bytes bytes = found_in (outcome_of bytes)
 
 abbrev pub end_of_bytes : List ℕ → Bool → End
-end_of_bytes bytes whole = end_of bytes whole (halt_of (length bytes) (is_last (lexemes_of bytes (scan_of bytes).0)) (outcome_of bytes)) (scan_of bytes).1
+end_of_bytes bytes whole = end_of bytes whole
+    (halt_of (length bytes) (is_last (lexemes_of bytes (scan_of bytes).0)) (outcome_of bytes)) (scan_of bytes).1
 
 -- Bytes are read as one thing, and this is it.
 pub record HasOneReading (bytes : List ℕ) (whole : Bool) : Type 0 where

@@ -5,7 +5,8 @@ use Rattle.liberty_text.specs.declared.token.Token.{Token}
 use Rattle.liberty_text.specs.Scanner.{scan_of}
 use Rattle.liberty_text.specs.Tokens.{ends_word}
 use Rattle.liberty_groups.specs.declared.fault.LibraryFault.{LibraryFault}
-use Rattle.liberty_groups.specs.declared.fault.LibraryFault.TheVariants.{BadByte, OpenText, OpenComment, Syntax, TooDeep, NotLibrary}
+use Rattle.liberty_groups.specs.declared.fault.LibraryFault.TheVariants.{BadByte, OpenText, OpenComment, Syntax, TooDeep}
+use Rattle.liberty_groups.specs.declared.fault.LibraryFault.TheVariants.{NotLibrary}
 use Rattle.liberty_groups.specs.declared.read.End.TheVariants.{Fault}
 use Rattle.liberty_groups.specs.Library.{is_word}
 use Rattle.liberty_groups.specs.Answer.{IsLibraryText, IsFrontOfText, end_of_bytes}

@@ -1,5 +1,6 @@
 -- The grammar of Liberty texts over tokens (Liberty Reference Manual, general syntax of a library file).
-use Rattle.std.specs.Prelude.{◌≡◌, ℕ, zero, suc, ◌++◌, Bool, true, false, not, ◌||◌, ◌&&◌, ◌==◌, ◌-◌, length, slice_range, if◌then◌else◌, List, [], ◌∷◌, Option, Some, None, Result, Ok, Err}
+use Rattle.std.specs.Prelude.{◌≡◌, ℕ, zero, suc, ◌++◌, Bool, true, false, not, ◌||◌, ◌&&◌, ◌==◌, ◌-◌, length, slice_range}
+use Rattle.std.specs.Prelude.{if◌then◌else◌, List, [], ◌∷◌, Option, Some, None, Result, Ok, Err}
 use Rattle.liberty_text.specs.declared.token.Token.{Token}
 use Rattle.liberty_text.specs.declared.token.TokenKind.{TokenKind}
 use Rattle.liberty_text.specs.declared.token.TokenKind.TheVariants as kind
@@ -181,7 +182,8 @@ group_of name arguments items at = item.Inner (roll-Group (record { name = name;
 -- a group, by a rule for what follows its opening brace, or else a complex attribute
 unfoldable pub complex_or_group : ℕ → Grammar (List Item) → List ℕ → List Value → ℕ → Grammar Item
 complex_or_group levels body name arguments at =
-    r.Choice (opens levels) (λ _. body >>= λ items. r.Gives (group_of name arguments items at)) (r.Gives (item.Complex name arguments at))
+    r.Choice (opens levels) (λ _. body >>= λ items. r.Gives (group_of name arguments items at))
+    (r.Gives (item.Complex name arguments at))
 
 -- "(" args ")", and "{" { statement } "}" if it is a group, after the name of a statement
 unfoldable pub bracketed : ℕ → Grammar (List Item) → List ℕ → ℕ → Grammar Item

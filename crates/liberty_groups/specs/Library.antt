@@ -1,5 +1,6 @@
 -- The library: what is read of it, and what stops a reading (Liberty Reference Manual, the `library` group).
-use Rattle.std.specs.Prelude.{◌≡◌, ℕ, ◌++◌, Bool, true, false, ◌&&◌, if◌then◌else◌, List, [], ◌∷◌, Option, Some, None, Result, Ok, Err, codes}
+use Rattle.std.specs.Prelude.{◌≡◌, ℕ, ◌++◌, Bool, true, false, ◌&&◌, if◌then◌else◌, List, [], ◌∷◌, Option, Some, None, Result, Ok}
+use Rattle.std.specs.Prelude.{Err, codes}
 use Rattle.std.specs.Str.{bytes_eq}
 use Rattle.liberty_text.specs.declared.token.TokenKind.{TokenKind}
 use Rattle.liberty_text.specs.declared.token.TokenKind.TheVariants as kind
@@ -59,12 +60,14 @@ with_named name at f = if bytes_eq name (codes "include_file") then with_left_ou
 abbrev pub with_group : Group → Found → Found
 with_group group f =
     if bytes_eq (out-Group group).name (codes "cell") then with_cell group f
-    else (if bytes_eq (out-Group group).name (codes "type") then with_type group f else with_named (out-Group group).name (out-Group group).at f)
+    else (if bytes_eq (out-Group group).name (codes "type") then with_type group f
+    else with_named (out-Group group).name (out-Group group).at f)
 
 -- A group `cell` is a cell, a group `type` is a type, a simple attribute `time_unit` is a time unit, and a statement
 -- `include_file` of any form names another file, which is not read. All else is skipped.
 abbrev pub counted_by : Found → Item-F Item Group → Found
-counted_by f (Item-F.Simple name value at) = if bytes_eq name (codes "time_unit") then with_unit value at f else with_named name at f
+counted_by f (Item-F.Simple name value at) = if bytes_eq name (codes "time_unit") then with_unit value at f
+    else with_named name at f
 counted_by f (Item-F.Complex name _ at) = with_named name at f
 counted_by f (Item-F.Inner group) = with_group group f
 

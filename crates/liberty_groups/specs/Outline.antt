@@ -1,7 +1,10 @@
 -- The outline of a library text: where its next token stands, without the tree of its groups.
-use Rattle.std.specs.Prelude.{ℕ, zero, suc, ◌+◌, Bool, List, [], ◌∷◌, Option, Some, None, option_and_then, is_some, if◌then◌else◌, nat_lt}
+use Rattle.std.specs.Prelude.{ℕ, zero, suc, ◌+◌, Bool, List, [], ◌∷◌, Option, Some, None, option_and_then, is_some, if◌then◌else◌}
+use Rattle.std.specs.Prelude.{nat_lt}
 use Rattle.liberty_groups.specs.declared.outline.Standing.{Standing}
-use Rattle.liberty_groups.specs.declared.outline.Standing.TheVariants.{Start, AfterLibrary, HeadArguments, AfterHead, Statements, AfterName, Arguments, AfterArguments, ValueStart, Value, Done}
+use Rattle.liberty_groups.specs.declared.outline.Standing.TheVariants.{Start, AfterLibrary, HeadArguments, AfterHead, Statements}
+use Rattle.liberty_groups.specs.declared.outline.Standing.TheVariants.{AfterName, Arguments, AfterArguments, ValueStart, Value}
+use Rattle.liberty_groups.specs.declared.outline.Standing.TheVariants.{Done}
 use Rattle.liberty_groups.specs.declared.reader.Mark.TheVariants as mark
 use Rattle.liberty_groups.specs.declared.reader.Place.TheVariants as place
 use Rattle.liberty_groups.specs.declared.reader.Start.{Start as Begun}

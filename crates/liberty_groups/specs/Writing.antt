@@ -102,7 +102,8 @@ plain_item = fold-Item Item Group plain_item_step plain_group_step
 -- The tokens are a group: its name, and what follows the name of a statement.
 abbrev pub AreGroup : ℕ → List Lexeme → Group → Type 0
 AreGroup levels s g =
-    (x : Lexeme) × (t : List Lexeme) × (s ≡ x ∷ t) × (x.token.kind ≡ kind.Word) × Takes (statement levels x.bytes x.token.at) t (item.Inner g) []
+    (x : Lexeme) × (t : List Lexeme) × (s ≡ x ∷ t) × (x.token.kind ≡ kind.Word)
+    × Takes (statement levels x.bytes x.token.at) t (item.Inner g) []
 
 -- The text of a group is that of a group again, and this is the same but for offsets and quotes.
 pub record ReadsBack (levels : ℕ) (g : Group) : Type 0 where
@@ -119,7 +120,8 @@ WritingReadsBack = (levels : ℕ) (g : Group) → is_writable levels g ≡ true 
 pub record WritableParts : Type 0 where
   pub group : (levels : ℕ) (name : List ℕ) (arguments : List Value) (items : List Item) (at : ℕ) →
       is_writable levels (roll-Group (record { name = name; arguments = arguments; items = items; at = at }))
-      ≡ (not (levels == 0) && (is_name name && (list_all is_quotable arguments && list_all (item_is_writable (levels - 1)) items)))
+      ≡ (not (levels == 0) && (is_name name
+      && (list_all is_quotable arguments && list_all (item_is_writable (levels - 1)) items)))
   pub simple : (levels : ℕ) (name : List ℕ) (value : List Value) (at : ℕ) →
       item_is_writable levels (item.Simple name value at) ≡ (is_name name && list_all is_quotable value)
   pub complex : (levels : ℕ) (name : List ℕ) (arguments : List Value) (at : ℕ) →

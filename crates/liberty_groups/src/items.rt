@@ -13,7 +13,8 @@ use crate::tree::{Group, Item, Value};
 use sqlite_items::Items;
 use std::alloc::{AllocError, Global};
 
-/// A list of at most so many statements is moved to exactly the room that it needs, since the first growth was one of four places.
+/// A list of at most so many statements is moved to exactly the room that it needs, since the first growth was one of four
+/// places.
 const FEW: usize = 2;
 
 /// The same statements, few of them in no more room than they need. An `Err` comes only where memory is wanting.

@@ -3,7 +3,8 @@
 ghost use Rattle.std.specs.Prelude.{◌≡◌};
 ghost use Rattle.grammar_rules.specs.Reading.{read};
 ghost use Rattle.liberty_groups.specs.Grammar.{Reads};
-ghost use Rattle.liberty_groups.specs.Library.{nothing_found, found_of, header, contents, counted_statement, rest_of_library, library, is_library_name, next_is_library, Gathers};
+ghost use Rattle.liberty_groups.specs.Library.{nothing_found, found_of, header, contents, counted_statement, rest_of_library};
+ghost use Rattle.liberty_groups.specs.Library.{library, is_library_name, next_is_library, Gathers};
 
 use crate::contents::Contents;
 use crate::cursor::Cursor;
@@ -50,7 +51,8 @@ impl Cursor<'_> {
         at: usize,
         contents: &mut Contents,
     ) -> Result<(), Stop>
-        ensures { Gathers (read (counted_statement (found_of contents.old) name at) self.old) result (found_of contents.new) self.new }
+        ensures { Gathers (read (counted_statement (found_of contents.old) name at) self.old) result
+            (found_of contents.new) self.new }
     {
         let item = self.statement(alloc, LEVELS_INSIDE, name, at)?;
         contents.count(alloc, item)

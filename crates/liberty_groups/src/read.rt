@@ -6,7 +6,9 @@ ghost use Rattle.grammar_rules.specs.Reading.{read};
 ghost use Rattle.liberty_text.specs.Scanner.{scan_of};
 ghost use Rattle.liberty_groups.specs.Lexeme.{lexemes_of, LieInside};
 ghost use Rattle.liberty_groups.specs.Library.{Found, nothing_found, found_of, library};
-ghost use Rattle.liberty_groups.specs.Answer.{found_in_reading, found_of_bytes, end_of_bytes, halt_of, found_in, outcome_of, may_become_other, closed_has_outline, goes_on_after, may_go_on, fault_of, is_last, is_unfinished, end_of, IsReading, Is, HasOneReading};
+ghost use Rattle.liberty_groups.specs.Answer.{found_in_reading, found_of_bytes, end_of_bytes, halt_of, found_in, outcome_of};
+ghost use Rattle.liberty_groups.specs.Answer.{may_become_other, closed_has_outline, goes_on_after, may_go_on, fault_of, is_last};
+ghost use Rattle.liberty_groups.specs.Answer.{is_unfinished, end_of, IsReading, Is, HasOneReading};
 ghost use Rattle.liberty_groups.specs.FirstMisfit.{FaultsAreFirst};
 
 use crate::contents::{Contents, UnitLine};
@@ -89,7 +91,8 @@ fn read_tokens(
 ) -> Result<Halt, AllocError>
     requires inside { LieInside bytes.now tokens.now }
     requires nothing { found_of found.old ≡ nothing_found }
-    ensures halt { IfOk result (λ halt. halt ≡ halt_of (length bytes.now) (is_last (lexemes_of bytes.now tokens.now)) (read library (lexemes_of bytes.now tokens.now))) }
+    ensures halt { IfOk result (λ halt. halt ≡ halt_of (length bytes.now) (is_last (lexemes_of bytes.now tokens.now))
+        (read library (lexemes_of bytes.now tokens.now))) }
     ensures found { OnOk result (found_of found.new ≡ found_in (read library (lexemes_of bytes.now tokens.now))) }
 {
     let mut cursor = Cursor::new(bytes, tokens);

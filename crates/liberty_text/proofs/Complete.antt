@@ -1,5 +1,6 @@
 -- A reading by the lexical grammar is what is found byte by byte.
-use Rattle.std.proofs.Common.{◌≡◌, ℕ, ◌+◌, ◌<◌, ◌++◌, Bool, true, false, not, List, [], ◌∷◌, Option, Some, None, length, ◌==◌, ◌||◌, ◌&&◌, refl, sym, ◌∙◌, ap, subst, arith, cond}
+use Rattle.std.proofs.Common.{◌≡◌, ℕ, ◌+◌, ◌<◌, ◌++◌, Bool, true, false, not, List, [], ◌∷◌, Option, Some, None, length, ◌==◌}
+use Rattle.std.proofs.Common.{◌||◌, ◌&&◌, refl, sym, ◌∙◌, ap, subst, arith, cond}
 use Rattle.std.proofs.lemmas.Bool.Decides.{nat_tests}
 use Rattle.std.specs.List.{list_any}
 use Rattle.std.proofs.lemmas.List.{append-nil}
@@ -11,8 +12,10 @@ use Rattle.liberty_text.specs.declared.class.Class.{Class}
 use Rattle.liberty_text.specs.declared.class.Class.TheVariants.{LineEnd, Blank, Mark, Quote, Backslash, WordByte, Bad}
 use Rattle.liberty_text.specs.declared.scanner.Mode.{Mode}
 use Rattle.liberty_text.specs.declared.scanner.Mode.TheVariants.{Between, InWord, InText, InComment, InContinuation, Stopped}
-use Rattle.liberty_text.specs.Scanner.{class_of, token, slash_at, opened_by, in_word_by, comment_in_word, in_continuation, after_tokens, run}
-use Rattle.liberty_text.specs.Tokens.{is_word_class, opens_comment, ends_word, WordBytes, TextBytes, CommentBytes, AreBlanks, IsNoBlank, Lexes, Reads}
+use Rattle.liberty_text.specs.Scanner.{class_of, token, slash_at, opened_by, in_word_by, comment_in_word, in_continuation}
+use Rattle.liberty_text.specs.Scanner.{after_tokens, run}
+use Rattle.liberty_text.specs.Tokens.{is_word_class, opens_comment, ends_word, WordBytes, TextBytes, CommentBytes, AreBlanks}
+use Rattle.liberty_text.specs.Tokens.{IsNoBlank, Lexes, Reads}
 use Rattle.liberty_text.specs.Tokens as lex
 use Rattle.liberty_text.proofs.Sound.{or_assoc, both, reads}
 use Rattle.liberty_text.specs.TokenLaws.{HaveOneReading}
@@ -31,19 +34,24 @@ moved : (mode : Mode) (bs : List ℕ) (m n : ℕ) → m ≡ n → run mode m bs 
 moved mode bs m n e = ap (λ k. run mode k bs) e
 
 -- the bytes of a text are passed
-pub past_text : (begun : ℕ) (line : Bool) {escaped last : Bool} {body : List ℕ} → TextBytes escaped last body → (at : ℕ) (rest : List ℕ) →
+pub past_text : (begun : ℕ) (line : Bool) {escaped last : Bool} {body : List ℕ} → TextBytes escaped last body
+    → (at : ℕ) (rest : List ℕ) →
     run (InText begun line escaped) at (body ++ rest) ≡ run (InText begun line last) (at + length body) rest
 past_text begun line {escaped = escaped} lex.text_ends at rest = moved (InText begun line escaped) rest at (at + 0) (omega arith)
 past_text begun line {escaped = escaped} {last = last} (lex.text_byte {b = b} {bs = bs} e more) at rest =
-    chosen (b == 34 && not escaped) false (Between false, token Text begun (at + 1) line ∷ []) (InText begun line (b == 92), []) (at + 1) (bs ++ rest) e
+    chosen (b == 34 && not escaped) false (Between false, token Text begun (at + 1) line ∷ []) (InText begun line (b == 92), [])
+    (at + 1) (bs ++ rest) e
     ∙ past_text begun line more (at + 1) rest
     ∙ moved (InText begun line last) rest (at + 1 + length bs) (at + length (b ∷ bs)) (omega arith)
 
 -- the bytes of a comment are passed
-pub past_comment : (begun : ℕ) (line : Bool) {star last : Bool} {body : List ℕ} → CommentBytes star last body → (at : ℕ) (rest : List ℕ) →
-    run (InComment begun line star) at (body ++ rest) ≡ run (InComment begun (line || list_any (λ b. b == 10) body) last) (at + length body) rest
+pub past_comment : (begun : ℕ) (line : Bool) {star last : Bool} {body : List ℕ} → CommentBytes star last body
+    → (at : ℕ) (rest : List ℕ) →
+    run (InComment begun line star) at (body ++ rest) ≡ run (InComment begun (line || list_any (λ b. b == 10) body) last)
+    (at + length body) rest
 past_comment begun line {star = star} lex.comment_ends at rest =
-    ap (λ l. run (InComment begun l star) at rest) (or_none line) ∙ moved (InComment begun (line || false) star) rest at (at + 0) (omega arith)
+    ap (λ l. run (InComment begun l star) at rest) (or_none line) ∙ moved (InComment begun (line || false) star) rest at (at + 0)
+    (omega arith)
   where
     or_none : (a : Bool) → a ≡ (a || false)
     or_none true = refl
@@ -52,7 +60,8 @@ past_comment begun line {star = star} {last = last} (lex.comment_byte {b = b} {b
     chosen (b == 47 && star) false (Between line, []) (InComment begun (line || b == 10) (b == 42), []) (at + 1) (bs ++ rest) e
     ∙ past_comment begun (line || b == 10) more (at + 1) rest
     ∙ ap (λ l. run (InComment begun l last) (at + 1 + length bs) rest) (or_assoc line (b == 10) (list_any (λ x. x == 10) bs))
-    ∙ moved (InComment begun (line || list_any (λ x. x == 10) (b ∷ bs)) last) rest (at + 1 + length bs) (at + length (b ∷ bs)) (omega arith)
+    ∙ moved (InComment begun (line || list_any (λ x. x == 10) (b ∷ bs)) last) rest (at + 1 + length bs) (at + length (b ∷ bs))
+    (omega arith)
 
 -- blanks behind a backslash are passed
 pub past_blanks : (begun : ℕ) (line : Bool) (blanks : List ℕ) → AreBlanks blanks → (at : ℕ) (rest : List ℕ) →
@@ -64,10 +73,12 @@ past_blanks begun line (b ∷ bs) (e, all) at rest =
     ∙ moved (InContinuation begun line) rest (at + 1 + length bs) (at + length (b ∷ bs)) (omega arith)
 
 -- a byte with which a word goes on is a word's
-pub goes_on_class : (b : ℕ) (bs : List ℕ) → ends_word (b ∷ bs) ≡ false → (class_of b ≡ WordByte) × (opens_comment (b ∷ bs) ≡ false)
+pub goes_on_class : (b : ℕ) (bs : List ℕ) → ends_word (b ∷ bs) ≡ false → (class_of b ≡ WordByte)
+    × (opens_comment (b ∷ bs) ≡ false)
 goes_on_class b bs = by_class (class_of b) refl
   where
-    by_class : (k : Class) → class_of b ≡ k → (not (is_word_class k) || opens_comment (b ∷ bs)) ≡ false → (class_of b ≡ WordByte) × (opens_comment (b ∷ bs) ≡ false)
+    by_class : (k : Class) → class_of b ≡ k → (not (is_word_class k) || opens_comment (b ∷ bs)) ≡ false → (class_of b ≡ WordByte)
+        × (opens_comment (b ∷ bs) ≡ false)
     by_class WordByte e f = (e, f)
     by_class LineEnd e f = absurd cc
     by_class Blank e f = absurd cc
@@ -82,7 +93,8 @@ IsKept None bs = Unit {0}
 IsKept (Some slash) bs = opens_comment (47 ∷ bs) ≡ false
 
 -- a word's byte is taken
-pub word_byte_step : (begun : ℕ) (line : Bool) (slash : Option ℕ) (at b : ℕ) (bs : List ℕ) → class_of b ≡ WordByte → IsKept slash (b ∷ bs) →
+pub word_byte_step : (begun : ℕ) (line : Bool) (slash : Option ℕ) (at b : ℕ) (bs : List ℕ) → class_of b ≡ WordByte
+    → IsKept slash (b ∷ bs) →
     run (InWord begun line slash) at (b ∷ bs) ≡ run (InWord begun line (slash_at at b)) (at + 1) bs
 word_byte_step begun line None at b bs e kept = ap (λ k. behind (in_word_by begun line at b k) (at + 1) bs) e
 word_byte_step begun line (Some slash) at b bs e kept =
@@ -100,24 +112,30 @@ pub other_number : (m n : ℕ) → m < n → (m == n) ≡ false
 other_number m n less = grind (arith, nat_tests)
 
 -- a slash and a star open a comment
-pub comment_opens : (line : Bool) (at : ℕ) (bs : List ℕ) → run (Between line) at (47 ∷ 42 ∷ bs) ≡ run (InComment at line false) (at + 1 + 1) bs
+pub comment_opens : (line : Bool) (at : ℕ) (bs : List ℕ)
+    → run (Between line) at (47 ∷ 42 ∷ bs) ≡ run (InComment at line false) (at + 1 + 1) bs
 comment_opens line at bs =
-    chosen (at == at) true (InComment at line false, []) (InComment at false false, token Word at at line ∷ []) (at + 1 + 1) bs (same_number at)
+    chosen (at == at) true (InComment at line false, []) (InComment at false false, token Word at at line ∷ []) (at + 1 + 1) bs
+    (same_number at)
 
 -- a word ends before a slash and a star
-pub word_then_comment : (begun : ℕ) (line : Bool) (slash : Option ℕ) (at : ℕ) (bs : List ℕ) → IsKept slash (47 ∷ 42 ∷ bs) → begun < at →
+pub word_then_comment : (begun : ℕ) (line : Bool) (slash : Option ℕ) (at : ℕ) (bs : List ℕ) → IsKept slash (47 ∷ 42 ∷ bs)
+    → begun < at →
     run (InWord begun line slash) at (47 ∷ 42 ∷ bs) ≡ word_then begun line at (47 ∷ 42 ∷ bs)
 word_then_comment begun line slash at bs kept past =
     word_byte_step begun line slash at 47 (42 ∷ bs) refl kept
-    ∙ chosen (begun == at) false (InComment at line false, []) (InComment at false false, token Word begun at line ∷ []) (at + 1 + 1) bs (other_number begun at past)
+    ∙ chosen (begun == at) false (InComment at line false, []) (InComment at false false, token Word begun at line ∷ [])
+    (at + 1 + 1) bs (other_number begun at past)
     ∙ ap (after_tokens (token Word begun at line ∷ [])) (sym (comment_opens false at bs))
 
 -- a word ends before a byte of no word
-pub word_then_byte : (begun : ℕ) (line : Bool) (slash : Option ℕ) (at b : ℕ) (bs : List ℕ) → is_word_class (class_of b) ≡ false → IsKept slash (b ∷ bs) →
+pub word_then_byte : (begun : ℕ) (line : Bool) (slash : Option ℕ) (at b : ℕ) (bs : List ℕ) → is_word_class (class_of b) ≡ false
+    → IsKept slash (b ∷ bs) →
     run (InWord begun line slash) at (b ∷ bs) ≡ word_then begun line at (b ∷ bs)
 word_then_byte begun line slash at b bs other kept = by_slash slash kept
   where
-    by_class : (k : Class) → is_word_class k ≡ false → behind (in_word_by begun line at b k) (at + 1) bs ≡ word_then begun line at (b ∷ bs)
+    by_class : (k : Class) → is_word_class k ≡ false
+        → behind (in_word_by begun line at b k) (at + 1) bs ≡ word_then begun line at (b ∷ bs)
     by_class WordByte f = absurd cc
     by_class LineEnd f = refl
     by_class Blank f = refl
@@ -126,17 +144,20 @@ word_then_byte begun line slash at b bs other kept = by_slash slash kept
     by_class Backslash f = refl
     by_class Bad f = refl
 
-    by_slash : (slash : Option ℕ) → IsKept slash (b ∷ bs) → run (InWord begun line slash) at (b ∷ bs) ≡ word_then begun line at (b ∷ bs)
+    by_slash : (slash : Option ℕ) → IsKept slash (b ∷ bs)
+        → run (InWord begun line slash) at (b ∷ bs) ≡ word_then begun line at (b ∷ bs)
     by_slash None kept = by_class (class_of b) other
     by_slash (Some slash) kept =
         chosen (b == 42) false (comment_in_word begun line slash) (in_word_by begun line at b (class_of b)) (at + 1) bs kept
         ∙ by_class (class_of b) other
 
 -- a word ends where it ends
-pub word_then_rest : (begun : ℕ) (line : Bool) (slash : Option ℕ) (at : ℕ) (rest : List ℕ) → ends_word rest ≡ true → IsKept slash rest → begun < at →
+pub word_then_rest : (begun : ℕ) (line : Bool) (slash : Option ℕ) (at : ℕ) (rest : List ℕ) → ends_word rest ≡ true
+    → IsKept slash rest → begun < at →
     run (InWord begun line slash) at rest ≡ word_then begun line at rest
 word_then_rest begun line slash at [] e kept past = refl
-word_then_rest begun line slash at (b ∷ []) e kept past = word_then_byte begun line slash at b [] (not_word (is_word_class (class_of b)) e) kept
+word_then_rest begun line slash at (b ∷ []) e kept past =
+    word_then_byte begun line slash at b [] (not_word (is_word_class (class_of b)) e) kept
   where
     not_word : (q : Bool) → (not q || false) ≡ true → q ≡ false
     not_word true f = absurd cc
@@ -147,13 +168,15 @@ word_then_rest begun line slash at (b ∷ c ∷ bs) e kept past = by_test (is_wo
     opens true f g = g
     opens false f g = absurd cc
 
-    by_test : (q : Bool) → is_word_class (class_of b) ≡ q → run (InWord begun line slash) at (b ∷ c ∷ bs) ≡ word_then begun line at (b ∷ c ∷ bs)
+    by_test : (q : Bool) → is_word_class (class_of b) ≡ q
+        → run (InWord begun line slash) at (b ∷ c ∷ bs) ≡ word_then begun line at (b ∷ c ∷ bs)
     by_test false f = word_then_byte begun line slash at b (c ∷ bs) f kept
     by_test true f =
         let parts = both (b == 47) (c == 42) (opens (is_word_class (class_of b)) f e) in
         let slash_is : 47 ≡ b = grind (arith, nat_tests, parts.0) in
         let star_is : 42 ≡ c = grind (arith, nat_tests, parts.1) in
-        let P : ℕ → ℕ → Type 0 = λ x y. IsKept slash (x ∷ y ∷ bs) → run (InWord begun line slash) at (x ∷ y ∷ bs) ≡ word_then begun line at (x ∷ y ∷ bs) in
+        let P : ℕ → ℕ → Type 0 = λ x y. IsKept slash (x ∷ y ∷ bs)
+        → run (InWord begun line slash) at (x ∷ y ∷ bs) ≡ word_then begun line at (x ∷ y ∷ bs) in
         subst (λ x. P x c) slash_is (subst (λ y. P 47 y) star_is (λ k. word_then_comment begun line slash at bs k past)) kept
 
 -- a slash at an offset is kept where no comment opens with it
@@ -167,7 +190,8 @@ keeps at b bs e = by_test (b == 47) refl
     by_test false f = tt
 
 -- the bytes of a word are passed
-pub past_word : (begun : ℕ) (line : Bool) {w rest : List ℕ} → WordBytes w rest → (slash : Option ℕ) (at : ℕ) → IsKept slash (w ++ rest) → begun < at →
+pub past_word : (begun : ℕ) (line : Bool) {w rest : List ℕ} → WordBytes w rest → (slash : Option ℕ) (at : ℕ)
+    → IsKept slash (w ++ rest) → begun < at →
     run (InWord begun line slash) at (w ++ rest) ≡ word_then begun line (at + length w) rest
 past_word begun line {rest = rest} (lex.word_ends e) slash at kept past =
     word_then_rest begun line slash at rest e kept past ∙ ap (λ n. word_then begun line n rest) (omega arith)
@@ -226,7 +250,8 @@ complete {at = at} {line = line} (lex.bad_backslash blanks b rest all other spli
 complete {at = at} {line = line} (lex.open_text {body = body} last all) =
     ap (run (InText at line false) (at + 1)) (sym (append-nil body)) ∙ past_text at line all (at + 1) []
 complete {at = at} {line = line} (lex.open_comment {body = body} last all) =
-    comment_opens line at body ∙ ap (run (InComment at line false) (at + 1 + 1)) (sym (append-nil body)) ∙ past_comment at line all (at + 1 + 1) []
+    comment_opens line at body ∙ ap (run (InComment at line false) (at + 1 + 1)) (sym (append-nil body))
+    ∙ past_comment at line all (at + 1 + 1) []
 complete {at = at} {line = line} (lex.open_continuation {blanks = blanks} all) =
     ap (run (InContinuation at line) (at + 1)) (sym (append-nil blanks)) ∙ past_blanks at line blanks all (at + 1) []
 

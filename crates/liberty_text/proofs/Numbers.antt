@@ -1,5 +1,6 @@
 -- Digits behind leading zeros, and what they come to.
-use Rattle.std.proofs.Common.{◌≡◌, ℕ, ◌+◌, ◌-◌, ◌*◌, ◌^◌, ◌<◌, ◌≤◌, ◌++◌, zero, suc, Bool, true, false, List, [], ◌∷◌, length, drop, get_or, refl, sym, ◌∙◌, ap, subst, arith, cond, ◌==◌, add-one}
+use Rattle.std.proofs.Common.{◌≡◌, ℕ, ◌+◌, ◌-◌, ◌*◌, ◌^◌, ◌<◌, ◌≤◌, ◌++◌, zero, suc, Bool, true, false, List, [], ◌∷◌, length}
+use Rattle.std.proofs.Common.{drop, get_or, refl, sym, ◌∙◌, ap, subst, arith, cond, ◌==◌, add-one}
 use Rattle.std.specs.Prelude.{nat_lt}
 use Rattle.std.proofs.Math.Seq.{drop-cons}
 use Rattle.std.proofs.lemmas.Bool.Decides.{nat_tests}
@@ -14,12 +15,14 @@ value_append before [] es = refl
 value_append before (d ∷ ds) es = value_append (before * 10 + (d - 48)) ds es
 
 -- digits behind leading zeros, in two parts
-pub significant_append : (ds es : List ℕ) → significant (ds ++ es) ≡ cond (significant ds == 0) (significant es) (significant ds + length es)
+pub significant_append : (ds es : List ℕ)
+    → significant (ds ++ es) ≡ cond (significant ds == 0) (significant es) (significant ds + length es)
 significant_append [] es = refl
 significant_append (d ∷ ds) es = by_test (significant_append ds es) (d == 48)
   where
     by_test : (significant (ds ++ es) ≡ cond (significant ds == 0) (significant es) (significant ds + length es)) → (q : Bool) →
-        cond q (significant (ds ++ es)) (length (d ∷ ds ++ es)) ≡ cond (cond q (significant ds) (length (d ∷ ds)) == 0) (significant es) (cond q (significant ds) (length (d ∷ ds)) + length es)
+        cond q (significant (ds ++ es)) (length (d ∷ ds ++ es)) ≡ cond (cond q (significant ds) (length (d ∷ ds)) == 0)
+        (significant es) (cond q (significant ds) (length (d ∷ ds)) + length es)
     by_test next true = next
     by_test next false =
         let some : (length (d ∷ ds) == 0) ≡ false = grind (arith, nat_tests) in
@@ -30,7 +33,8 @@ pub value_fits : (ds : List ℕ) → AreDigits ds → digits_value 0 ds < 10 ^ s
 value_fits [] all = omega arith
 value_fits (d ∷ ds) (e, all) = by_test (value_fits ds all) (d == 48) refl
   where
-    by_test : digits_value 0 ds < 10 ^ significant ds → (q : Bool) → (d == 48) ≡ q → digits_value (0 * 10 + (d - 48)) ds < 10 ^ cond q (significant ds) (length (d ∷ ds))
+    by_test : digits_value 0 ds < 10 ^ significant ds → (q : Bool) → (d == 48) ≡ q
+        → digits_value (0 * 10 + (d - 48)) ds < 10 ^ cond q (significant ds) (length (d ∷ ds))
     by_test next true f =
         let zero_is : 0 ≡ 0 * 10 + (d - 48) = grind (arith, nat_tests, f) in
         subst (λ v. digits_value v ds < 10 ^ significant ds) zero_is next
@@ -53,7 +57,8 @@ pub value_exceeds : (ds : List ℕ) → AreDigits ds → 2 < significant ds → 
 value_exceeds [] all long = absurd (omega arith)
 value_exceeds (d ∷ ds) (e, all) long = by_test (value_exceeds ds all) (d == 48) refl long
   where
-    by_test : (2 < significant ds → 30 < digits_value 0 ds) → (q : Bool) → (d == 48) ≡ q → 2 < cond q (significant ds) (length (d ∷ ds)) → 30 < digits_value (0 * 10 + (d - 48)) ds
+    by_test : (2 < significant ds → 30 < digits_value 0 ds) → (q : Bool) → (d == 48) ≡ q
+        → 2 < cond q (significant ds) (length (d ∷ ds)) → 30 < digits_value (0 * 10 + (d - 48)) ds
     by_test next true f h =
         let zero_is : 0 ≡ 0 * 10 + (d - 48) = grind (arith, nat_tests, f) in
         subst (λ v. 30 < digits_value v ds) zero_is (next h)
@@ -78,14 +83,16 @@ digits_append [] es all more = more
 digits_append (d ∷ ds) es (e, all) more = (e, digits_append ds es all more)
 
 -- eighteen digits behind leading zeros fit a signed number of 64 bits
-pub long_value : (ds es : List ℕ) → AreDigits ds → AreDigits es → nat_lt 18 (significant (ds ++ es)) ≡ false → digits_value (digits_value 0 ds) es < 2 ^ 63
+pub long_value : (ds es : List ℕ) → AreDigits ds → AreDigits es → nat_lt 18 (significant (ds ++ es)) ≡ false
+    → digits_value (digits_value 0 ds) es < 2 ^ 63
 long_value ds es all more e =
     let few : significant (ds ++ es) ≤ 18 = grind (arith, nat_tests, e) in
     let fits = value_within 18 (ds ++ es) (digits_append ds es all more) few in
     let same = value_append 0 ds es in
     omega (arith, fits, same)
 
-pub first_value : (ds es : List ℕ) → AreDigits ds → AreDigits es → nat_lt 18 (significant (ds ++ es)) ≡ false → digits_value 0 ds < 2 ^ 63
+pub first_value : (ds es : List ℕ) → AreDigits ds → AreDigits es → nat_lt 18 (significant (ds ++ es)) ≡ false
+    → digits_value 0 ds < 2 ^ 63
 first_value ds es all more e =
     let fits = long_value ds es all more e in
     let grown = digits_grow (digits_value 0 ds) es in

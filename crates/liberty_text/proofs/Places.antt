@@ -24,7 +24,8 @@ pub wider : (m n : ℕ) → m ≡ n → (ts : List Token) → Inside m ts → In
 wider m n e ts = subst (λ k. Inside k ts) e
 
 -- a mark is one byte, and no Text
-mark_inside : (at b : ℕ) (line : Bool) (len : ℕ) (kind : TokenKind) → class_of b ≡ Mark kind → at + 1 ≤ len → IsInside len (token kind at (at + 1) line)
+mark_inside : (at b : ℕ) (line : Bool) (len : ℕ) (kind : TokenKind) → class_of b ≡ Mark kind → at + 1 ≤ len
+    → IsInside len (token kind at (at + 1) line)
 mark_inside at b line len Text e fits = absurd (grind (arith, nat_tests, e))
 mark_inside at b line len kind e fits = record { some = omega arith; within = fits; quotes = λ f. absurd cc }
 
@@ -76,8 +77,10 @@ pub in_order : {at : ℕ} {line : Bool} {bs : List ℕ} {ts : List Token} {stop 
 in_order lex.end = tt
 in_order {at = at} {ts = ts} (lex.blank e d) = earlier at (at + 1) (omega arith) ts (in_order d)
 in_order {at = at} {ts = ts} (lex.line_end e d) = earlier at (at + 1) (omega arith) ts (in_order d)
-in_order {at = at} {ts = ts} (lex.continuation blanks rest all split d) = earlier at (at + 1 + length blanks + 1) (omega arith) ts (in_order d)
-in_order {at = at} {ts = ts} (lex.comment body rest all split d) = earlier at (at + 2 + length body + 1) (omega arith) ts (in_order d)
+in_order {at = at} {ts = ts} (lex.continuation blanks rest all split d) =
+    earlier at (at + 1 + length blanks + 1) (omega arith) ts (in_order d)
+in_order {at = at} {ts = ts} (lex.comment body rest all split d) =
+    earlier at (at + 2 + length body + 1) (omega arith) ts (in_order d)
 in_order {at = at} (lex.mark kind e d) = (omega arith, in_order d)
 in_order {at = at} (lex.text body rest all split d) = (omega arith, in_order d)
 in_order {at = at} (lex.word b w rest all split d) = (omega arith, in_order d)
@@ -88,7 +91,8 @@ in_order (lex.open_comment last all) = tt
 in_order (lex.open_continuation all) = tt
 
 pub all_inside : (bytes : List ℕ) (ts : List Token) → ts ≡ (scan_of bytes).0 → All (IsInside (length bytes)) ts
-all_inside bytes ts e = All-from_recursion (IsInside (length bytes)) ts (wider (0 + length bytes) (length bytes) (omega arith) ts (inside (reads bytes ts (scan_of bytes).1 e refl)))
+all_inside bytes ts e = All-from_recursion (IsInside (length bytes)) ts
+    (wider (0 + length bytes) (length bytes) (omega arith) ts (inside (reads bytes ts (scan_of bytes).1 e refl)))
 
 pub all_in_order : (bytes : List ℕ) (ts : List Token) → ts ≡ (scan_of bytes).0 → AreInOrder 0 ts
 all_in_order bytes ts e = in_order (reads bytes ts (scan_of bytes).1 e refl)

@@ -1,5 +1,6 @@
 -- What a text stands for, by rules and piece by piece, and what a value is written as.
-use Rattle.std.proofs.Common.{◌≡◌, ℕ, ◌+◌, ◌++◌, zero, suc, Bool, true, false, not, List, [], ◌∷◌, Option, Some, None, length, drop, ◌==◌, ◌&&◌, ◌||◌, refl, sym, ◌∙◌, ap, subst, arith, cond}
+use Rattle.std.proofs.Common.{◌≡◌, ℕ, ◌+◌, ◌++◌, zero, suc, Bool, true, false, not, List, [], ◌∷◌, Option, Some, None, length}
+use Rattle.std.proofs.Common.{drop, ◌==◌, ◌&&◌, ◌||◌, refl, sym, ◌∙◌, ap, subst, arith, cond}
 use Rattle.std.proofs.lemmas.Bool.Decides.{nat_tests}
 use Rattle.std.specs.List.{list_any}
 use Rattle.liberty_text.specs.declared.class.Class.{Class}
@@ -7,7 +8,9 @@ use Rattle.liberty_text.specs.declared.class.Class.TheVariants.{LineEnd, Blank, 
 use Rattle.liberty_text.specs.Scanner.{class_of}
 use Rattle.liberty_text.specs.Tokens.{AreBlanks, TextBytes}
 use Rattle.liberty_text.specs.Tokens as lex
-use Rattle.liberty_text.specs.TextValue.{blank_line_by, blank_line_behind, blank_line, begins_with_quote, behind_backslash, piece, value_behind, value_of, StandsFor, HaveOneValue, quoted, ends_in_backslash, IsQuotable, ReadsBack, QuotesReadBack}
+use Rattle.liberty_text.specs.TextValue.{blank_line_by, blank_line_behind, blank_line, begins_with_quote, behind_backslash, piece}
+use Rattle.liberty_text.specs.TextValue.{value_behind, value_of, StandsFor, HaveOneValue, quoted, ends_in_backslash, IsQuotable}
+use Rattle.liberty_text.specs.TextValue.{ReadsBack, QuotesReadBack}
 use Rattle.liberty_text.specs.TextValue as text
 use Rattle.liberty_text.proofs.Sound.{line_end_byte}
 use Rattle.liberty_text.proofs.TextValues.{value_skip}
@@ -33,7 +36,8 @@ blank_found passed (b ∷ bs) n = by_class (blank_found (passed + 1) bs n) (clas
       count = omega (arith, k.count);
     }
 
-    by_class : (blank_line_behind (passed + 1) bs ≡ Some n → BlankLine (passed + 1) bs n) → (k : Class) → class_of b ≡ k → blank_line_by k passed (blank_line_behind (passed + 1) bs) ≡ Some n → BlankLine passed (b ∷ bs) n
+    by_class : (blank_line_behind (passed + 1) bs ≡ Some n → BlankLine (passed + 1) bs n) → (k : Class) → class_of b ≡ k
+        → blank_line_by k passed (blank_line_behind (passed + 1) bs) ≡ Some n → BlankLine passed (b ∷ bs) n
     by_class next LineEnd f e = record {
       blanks = [];
       more = bs;
@@ -48,7 +52,8 @@ blank_found passed (b ∷ bs) n = by_class (blank_found (passed + 1) bs n) (clas
     by_class next WordByte f e = absurd cc
     by_class next Bad f e = absurd cc
 
-pub blank_hits : (passed : ℕ) (blanks more : List ℕ) → AreBlanks blanks → blank_line_behind passed (blanks ++ (10 ∷ more)) ≡ Some (passed + length blanks + 1)
+pub blank_hits : (passed : ℕ) (blanks more : List ℕ) → AreBlanks blanks
+    → blank_line_behind passed (blanks ++ (10 ∷ more)) ≡ Some (passed + length blanks + 1)
 blank_hits passed [] more all = ap Some (omega arith)
 blank_hits passed (b ∷ bs) more (f, all) =
     ap (λ k. blank_line_by k passed (blank_line_behind (passed + 1) (bs ++ (10 ∷ more)))) f
@@ -80,7 +85,8 @@ pub plain_value : (b : ℕ) (bs value : List ℕ) → piece b bs ≡ (b ∷ [], 
 plain_value b bs value e f = ap (λ p. p.0 ++ value_behind p.1 bs) e ∙ ap (λ l. b ∷ l) f
 
 -- no blanks with a line end stand there
-pub no_blank_line : (bs : List ℕ) → ((blanks more : List ℕ) → AreBlanks blanks → bs ≡ blanks ++ (10 ∷ more) → ⊥) → blank_line bs ≡ None
+pub no_blank_line : (bs : List ℕ) → ((blanks more : List ℕ) → AreBlanks blanks → bs ≡ blanks ++ (10 ∷ more) → ⊥)
+    → blank_line bs ≡ None
 no_blank_line bs none = by_answer (blank_line bs) refl
   where
     by_answer : (o : Option ℕ) → blank_line bs ≡ o → o ≡ None
@@ -101,7 +107,9 @@ pub value_complete : {bs value : List ℕ} → StandsFor bs value → value_of b
 value_complete text.nothing = refl
 value_complete (text.continued blanks rest all split d) =
     ap value_of split
-    ∙ ap (λ o. (behind_backslash o (begins_with_quote (blanks ++ (10 ∷ rest)))).0 ++ value_behind (behind_backslash o (begins_with_quote (blanks ++ (10 ∷ rest)))).1 (blanks ++ (10 ∷ rest))) (blank_hits 0 blanks rest all)
+    ∙ ap (λ o. (behind_backslash o (begins_with_quote (blanks ++ (10 ∷ rest)))).0
+    ++ value_behind (behind_backslash o (begins_with_quote (blanks ++ (10 ∷ rest)))).1 (blanks ++ (10 ∷ rest)))
+    (blank_hits 0 blanks rest all)
     ∙ value_skip (0 + length blanks + 1) (blanks ++ (10 ∷ rest))
     ∙ ap value_of (after_blanks (0 + length blanks + 1) blanks rest refl)
     ∙ value_complete d
@@ -113,7 +121,8 @@ value_complete (text.itself {b = b} {rest = rest} {value = value} no_line no_bla
     by_test : (q : Bool) → (b == 92) ≡ q → piece b rest ≡ (b ∷ [], 0)
     by_test true e =
         let same : b ≡ 92 = grind (arith, nat_tests, e) in
-        subst (λ x. piece x rest ≡ (x ∷ [], 0)) (sym same) (plain_backslash rest (no_blank_line rest (no_blanks same)) (no_quote_there rest (no_quote same)))
+        subst (λ x. piece x rest ≡ (x ∷ [], 0)) (sym same)
+        (plain_backslash rest (no_blank_line rest (no_blanks same)) (no_quote_there rest (no_quote same)))
     by_test false e = plain_byte b rest (grind (arith, nat_tests, no_line)) e
 
 -- the quote that stands there
@@ -128,33 +137,40 @@ value_sound [] (suc n) = text.nothing
 value_sound (b ∷ bs) (suc n) = value_sound bs n
 value_sound (b ∷ bs) zero = by_line (value_sound bs) (b == 10) refl
   where
-    backslash : ((n : ℕ) → StandsFor (drop n bs) (value_behind n bs)) → (o : Option ℕ) (q : Bool) → blank_line bs ≡ o → begins_with_quote bs ≡ q →
+    backslash : ((n : ℕ) → StandsFor (drop n bs) (value_behind n bs)) → (o : Option ℕ) (q : Bool) → blank_line bs ≡ o
+        → begins_with_quote bs ≡ q →
         StandsFor (92 ∷ bs) ((behind_backslash o q).0 ++ value_behind (behind_backslash o q).1 bs)
     backslash next (Some n) q e f =
         let k = blank_found 0 bs n e in
         let others : drop n bs ≡ k.more = ap (drop n) k.split ∙ after_blanks n k.blanks k.more k.count in
-        text.continued k.blanks k.more k.all (ap (λ l. 92 ∷ l) k.split) (subst (λ l. StandsFor l (value_behind n bs)) others (next n))
+        text.continued k.blanks k.more k.all (ap (λ l. 92 ∷ l) k.split)
+        (subst (λ l. StandsFor l (value_behind n bs)) others (next n))
     backslash next None true e f =
         let k = quote_first bs f in
         subst (λ l. StandsFor (92 ∷ l) (34 ∷ value_behind 1 bs)) (sym k.1)
         (text.quote (subst (λ l. StandsFor l (value_behind 1 bs)) (ap (drop 1) k.1) (next 1)))
     backslash next None false e f =
         text.itself (λ g. absurd (omega arith))
-        (λ g blanks more all split. let hit : blank_line bs ≡ Some (0 + length blanks + 1) = ap blank_line split ∙ blank_hits 0 blanks more all in absurd cc)
+        (λ g blanks more all split. let hit : blank_line bs ≡ Some (0 + length blanks + 1) =
+        ap blank_line split ∙ blank_hits 0 blanks more all in absurd cc)
         (λ g more split. let hit : begins_with_quote bs ≡ true = ap begins_with_quote split in absurd cc)
         (next 0)
 
     by_backslash : ((n : ℕ) → StandsFor (drop n bs) (value_behind n bs)) → (q : Bool) → (b == 92) ≡ q → (b == 10) ≡ false →
-        (let p = cond q (behind_backslash (blank_line bs) (begins_with_quote bs)) (b ∷ [], 0) in StandsFor (b ∷ bs) (p.0 ++ value_behind p.1 bs))
+        (let p = cond q (behind_backslash (blank_line bs) (begins_with_quote bs)) (b ∷ [], 0)
+        in StandsFor (b ∷ bs) (p.0 ++ value_behind p.1 bs))
     by_backslash next true e f =
         let same : 92 ≡ b = grind (arith, nat_tests, e) in
         let p = behind_backslash (blank_line bs) (begins_with_quote bs) in
-        subst (λ x. StandsFor (x ∷ bs) (p.0 ++ value_behind p.1 bs)) same (backslash next (blank_line bs) (begins_with_quote bs) refl refl)
+        subst (λ x. StandsFor (x ∷ bs) (p.0 ++ value_behind p.1 bs)) same
+        (backslash next (blank_line bs) (begins_with_quote bs) refl refl)
     by_backslash next false e f =
-        text.itself (λ g. absurd (grind (arith, nat_tests, f, g))) (λ g. absurd (grind (arith, nat_tests, e, g))) (λ g. absurd (grind (arith, nat_tests, e, g))) (next 0)
+        text.itself (λ g. absurd (grind (arith, nat_tests, f, g))) (λ g. absurd (grind (arith, nat_tests, e, g)))
+        (λ g. absurd (grind (arith, nat_tests, e, g))) (next 0)
 
     by_line : ((n : ℕ) → StandsFor (drop n bs) (value_behind n bs)) → (q : Bool) → (b == 10) ≡ q →
-        (let p = cond q (32 ∷ [], 0) (cond (b == 92) (behind_backslash (blank_line bs) (begins_with_quote bs)) (b ∷ [], 0)) in StandsFor (b ∷ bs) (p.0 ++ value_behind p.1 bs))
+        (let p = cond q (32 ∷ [], 0) (cond (b == 92) (behind_backslash (blank_line bs) (begins_with_quote bs)) (b ∷ [], 0))
+        in StandsFor (b ∷ bs) (p.0 ++ value_behind p.1 bs))
     by_line next true e =
         let same : 10 ≡ b = grind (arith, nat_tests, e) in
         subst (λ x. StandsFor (x ∷ bs) (32 ∷ value_of bs)) same (text.space (next 0))
@@ -191,19 +207,24 @@ quoted_begins (b ∷ bs) = by_test (b == 34) refl
     by_test false e = ap begins_with_quote (quoted_byte b bs e) ∙ e
 
 -- one line holds no line end
-pub line_parts : (b : ℕ) (bs : List ℕ) → list_any (λ x. x == 10) (b ∷ bs) ≡ false → ((b == 10) ≡ false) × (list_any (λ x. x == 10) bs ≡ false)
+pub line_parts : (b : ℕ) (bs : List ℕ) → list_any (λ x. x == 10) (b ∷ bs) ≡ false → ((b == 10) ≡ false)
+    × (list_any (λ x. x == 10) bs ≡ false)
 line_parts b bs e = by_test (b == 10) refl e
   where
-    by_test : (q : Bool) → (b == 10) ≡ q → (q || list_any (λ x. x == 10) bs) ≡ false → ((b == 10) ≡ false) × (list_any (λ x. x == 10) bs ≡ false)
+    by_test : (q : Bool) → (b == 10) ≡ q → (q || list_any (λ x. x == 10) bs) ≡ false → ((b == 10) ≡ false)
+        × (list_any (λ x. x == 10) bs ≡ false)
     by_test true f g = absurd cc
     by_test false f g = (f, g)
 
-pub quoted_one_line : (passed : ℕ) (bs : List ℕ) → list_any (λ x. x == 10) bs ≡ false → blank_line_behind passed (quoted bs) ≡ None
+pub quoted_one_line : (passed : ℕ) (bs : List ℕ) → list_any (λ x. x == 10) bs ≡ false
+    → blank_line_behind passed (quoted bs) ≡ None
 quoted_one_line passed [] e = refl
 quoted_one_line passed (b ∷ bs) e = by_test (quoted_one_line (passed + 1) bs) (b == 34) refl
   where
-    by_class : (blank_line_behind (passed + 1) (quoted bs) ≡ None) → (k : Class) → class_of b ≡ k → blank_line_by k passed (blank_line_behind (passed + 1) (quoted bs)) ≡ None
-    by_class next LineEnd f = let parts = line_parts b bs e in let line = line_end_byte b f in absurd (grind (arith, nat_tests, parts.0, line))
+    by_class : (blank_line_behind (passed + 1) (quoted bs) ≡ None) → (k : Class) → class_of b ≡ k
+        → blank_line_by k passed (blank_line_behind (passed + 1) (quoted bs)) ≡ None
+    by_class next LineEnd f = let parts = line_parts b bs e in let line = line_end_byte b f
+        in absurd (grind (arith, nat_tests, parts.0, line))
     by_class next Blank f = next
     by_class next (Mark kind) f = refl
     by_class next Quote f = refl
@@ -211,9 +232,11 @@ quoted_one_line passed (b ∷ bs) e = by_test (quoted_one_line (passed + 1) bs) 
     by_class next WordByte f = refl
     by_class next Bad f = refl
 
-    by_test : (list_any (λ x. x == 10) bs ≡ false → blank_line_behind (passed + 1) (quoted bs) ≡ None) → (q : Bool) → (b == 34) ≡ q → blank_line_behind passed (quoted (b ∷ bs)) ≡ None
+    by_test : (list_any (λ x. x == 10) bs ≡ false → blank_line_behind (passed + 1) (quoted bs) ≡ None) → (q : Bool)
+        → (b == 34) ≡ q → blank_line_behind passed (quoted (b ∷ bs)) ≡ None
     by_test next true f = ap (blank_line_behind passed) (quoted_quote b bs f)
-    by_test next false f = ap (blank_line_behind passed) (quoted_byte b bs f) ∙ by_class (next (line_parts b bs e).1) (class_of b) refl
+    by_test next false f = ap (blank_line_behind passed) (quoted_byte b bs f)
+        ∙ by_class (next (line_parts b bs e).1) (class_of b) refl
 
 -- a value of one line is read back
 pub quoted_value : (bs : List ℕ) → list_any (λ x. x == 10) bs ≡ false → value_of (quoted bs) ≡ bs
@@ -223,7 +246,8 @@ quoted_value (b ∷ bs) e = by_test (quoted_value bs (line_parts b bs e).1) (b =
     by_backslash : (q : Bool) → (b == 92) ≡ q → piece b (quoted bs) ≡ (b ∷ [], 0)
     by_backslash true f =
         let same : 92 ≡ b = grind (arith, nat_tests, f) in
-        subst (λ x. piece x (quoted bs) ≡ (x ∷ [], 0)) same (plain_backslash (quoted bs) (quoted_one_line 0 bs (line_parts b bs e).1) (quoted_begins bs))
+        subst (λ x. piece x (quoted bs) ≡ (x ∷ [], 0)) same
+        (plain_backslash (quoted bs) (quoted_one_line 0 bs (line_parts b bs e).1) (quoted_begins bs))
     by_backslash false f = plain_byte b (quoted bs) (line_parts b bs e).0 f
 
     by_test : value_of (quoted bs) ≡ bs → (q : Bool) → (b == 34) ≡ q → value_of (quoted (b ∷ bs)) ≡ b ∷ bs
@@ -237,17 +261,20 @@ pub quoted_bytes : (before : Bool) (bs : List ℕ) → TextBytes before (ends_in
 quoted_bytes before [] = lex.text_ends
 quoted_bytes before (b ∷ bs) = by_test (λ e. quoted_bytes e bs) (b == 34) refl
   where
-    by_test : ((e : Bool) → TextBytes e (ends_in_backslash e bs) (quoted bs)) → (q : Bool) → (b == 34) ≡ q → TextBytes before (ends_in_backslash (b == 92) bs) (quoted (b ∷ bs))
+    by_test : ((e : Bool) → TextBytes e (ends_in_backslash e bs) (quoted bs)) → (q : Bool) → (b == 34) ≡ q
+        → TextBytes before (ends_in_backslash (b == 92) bs) (quoted (b ∷ bs))
     by_test next true f =
         let other : false ≡ (b == 92) = grind (arith, nat_tests, f) in
         subst (λ l. TextBytes before (ends_in_backslash (b == 92) bs) l) (sym (quoted_quote b bs f))
-        (lex.text_byte refl (lex.text_byte refl (subst (λ e. TextBytes false (ends_in_backslash e bs) (quoted bs)) other (next false))))
+        (lex.text_byte refl (lex.text_byte refl
+        (subst (λ e. TextBytes false (ends_in_backslash e bs) (quoted bs)) other (next false))))
     by_test next false f =
         subst (λ l. TextBytes before (ends_in_backslash (b == 92) bs) l) (sym (quoted_byte b bs f))
         (lex.text_byte (ap (λ q. q && not before) f) (next (b == 92)))
 
 -- the last of the bytes of a text is one backslash or none
-pub one_last : {before first second : Bool} {bs : List ℕ} → TextBytes before first bs → TextBytes before second bs → first ≡ second
+pub one_last : {before first second : Bool} {bs : List ℕ} → TextBytes before first bs → TextBytes before second bs
+    → first ≡ second
 one_last lex.text_ends lex.text_ends = refl
 one_last (lex.text_byte e d) (lex.text_byte f g) = one_last d g
 

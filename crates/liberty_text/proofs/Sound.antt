@@ -1,5 +1,6 @@
 -- What is found byte by byte is a reading by the lexical grammar.
-use Rattle.std.proofs.Common.{◌≡◌, ◌⊎◌, ℕ, ◌+◌, ◌++◌, Bool, true, false, not, List, [], ◌∷◌, Some, None, length, ◌==◌, ◌||◌, ◌&&◌, refl, sym, ◌∙◌, ap, subst, inl, inr, arith, cond, ◌<◌}
+use Rattle.std.proofs.Common.{◌≡◌, ◌⊎◌, ℕ, ◌+◌, ◌++◌, Bool, true, false, not, List, [], ◌∷◌, Some, None, length, ◌==◌, ◌||◌, ◌&&◌}
+use Rattle.std.proofs.Common.{refl, sym, ◌∙◌, ap, subst, inl, inr, arith, cond, ◌<◌}
 use Rattle.std.proofs.lemmas.Bool.Decides.{nat_tests}
 use Rattle.std.specs.List.{list_any}
 use Rattle.liberty_text.specs.declared.token.TokenKind.TheVariants.{Word, Text}
@@ -10,8 +11,10 @@ use Rattle.liberty_text.specs.declared.class.Class.{Class}
 use Rattle.liberty_text.specs.declared.class.Class.TheVariants.{LineEnd, Blank, Mark, Quote, Backslash, WordByte, Bad}
 use Rattle.liberty_text.specs.declared.scanner.Mode.{Mode}
 use Rattle.liberty_text.specs.declared.scanner.Mode.TheVariants.{Between, InWord, InText, InComment, InContinuation, Stopped}
-use Rattle.liberty_text.specs.Scanner.{class_of, token, opened_by, opened, in_word_by, comment_in_word, in_word, in_continuation, after_token, run, scan_of}
-use Rattle.liberty_text.specs.Tokens.{is_word_class, opens_comment, ends_word, WordBytes, TextBytes, CommentBytes, AreBlanks, IsNoBlank, Lexes, Reads}
+use Rattle.liberty_text.specs.Scanner.{class_of, token, opened_by, opened, in_word_by, comment_in_word, in_word, in_continuation}
+use Rattle.liberty_text.specs.Scanner.{after_token, run, scan_of}
+use Rattle.liberty_text.specs.Tokens.{is_word_class, opens_comment, ends_word, WordBytes, TextBytes, CommentBytes, AreBlanks}
+use Rattle.liberty_text.specs.Tokens.{IsNoBlank, Lexes, Reads}
 use Rattle.liberty_text.specs.Tokens as lex
 
 pub or_assoc : (a b c : Bool) → ((a || b) || c) ≡ (a || (b || c))
@@ -85,7 +88,8 @@ abbrev pub Follows : Mode → ℕ → List ℕ → List Token → Stop → Type 
 Follows (Between line) at bs ts stop = Lexes at line bs ts stop
 Follows (InWord begun line None) at bs ts stop = begun < at → WordGoesOn begun line at bs ts stop
 Follows (InWord begun line (Some slash)) at bs ts stop =
-    slash + 1 ≡ at → (begun ≡ slash → Lexes slash line (47 ∷ bs) ts stop) × (begun < slash → WordGoesOn begun line slash (47 ∷ bs) ts stop)
+    slash + 1 ≡ at → (begun ≡ slash → Lexes slash line (47 ∷ bs) ts stop)
+    × (begun < slash → WordGoesOn begun line slash (47 ∷ bs) ts stop)
 Follows (InText begun line escaped) at bs ts stop =
     TextCloses begun line escaped at bs ts stop ⊎ TextStays begun escaped bs ts stop
 Follows (InComment begun line star) at bs ts stop =
@@ -136,13 +140,15 @@ pub comment_moves : {begun at b : ℕ} {line star : Bool} {bs : List ℕ} {ts : 
     CommentCloses line star at (b ∷ bs) ts stop ⊎ CommentStays begun star (b ∷ bs) ts stop
 comment_moves {at = at} {b = b} {line = line} {ts = ts} {stop = stop} e (inl k) =
     let moved : at + 1 + length k.body + 1 ≡ at + length (b ∷ k.body) + 1 = omega arith in
-    let joined : ((line || b == 10) || list_any (λ x. x == 10) k.body) ≡ (line || list_any (λ x. x == 10) (b ∷ k.body)) = or_assoc line (b == 10) _ in
+    let joined : ((line || b == 10) || list_any (λ x. x == 10) k.body) ≡ (line || list_any (λ x. x == 10) (b ∷ k.body)) =
+    or_assoc line (b == 10) _ in
     inl (record {
       body = b ∷ k.body;
       rest = k.rest;
       within = lex.comment_byte e k.within;
       split = ap (λ l. b ∷ l) k.split;
-      goes_on = subst (λ n. Lexes n (line || list_any (λ x. x == 10) (b ∷ k.body)) k.rest ts stop) moved (subst (λ l. Lexes (at + 1 + length k.body + 1) l k.rest ts stop) joined k.goes_on);
+      goes_on = subst (λ n. Lexes n (line || list_any (λ x. x == 10) (b ∷ k.body)) k.rest ts stop) moved
+          (subst (λ l. Lexes (at + 1 + length k.body + 1) l k.rest ts stop) joined k.goes_on);
     })
 comment_moves e (inr k) = inr (record { last = k.last; within = lex.comment_byte e k.within; tokens = k.tokens; stops = k.stops })
 
@@ -186,7 +192,8 @@ comment_closes {at = at} {b = b} {line = line} {star = star} {bs = bs} {ts = ts}
       rest = bs;
       within = subst (λ v. CommentBytes v true []) (sym parts.1) lex.comment_ends;
       split = ap (λ x. x ∷ bs) slash;
-      goes_on = subst (λ n. Lexes n (line || false) bs ts stop) moved (subst (λ l. Lexes (at + 1) l bs ts stop) (sym (or_false line)) next);
+      goes_on = subst (λ n. Lexes n (line || false) bs ts stop) moved
+          (subst (λ l. Lexes (at + 1) l bs ts stop) (sym (or_false line)) next);
     }
   where
     or_false : (a : Bool) → (a || false) ≡ a
@@ -194,8 +201,10 @@ comment_closes {at = at} {b = b} {line = line} {star = star} {bs = bs} {ts = ts}
     or_false false = refl
 
 pub in_text_sound : {begun at b : ℕ} {line escaped : Bool} {bs : List ℕ} → IsSound bs →
-    Follows (InText begun line escaped) at (b ∷ bs) (run (InText begun line escaped) at (b ∷ bs)).0 (run (InText begun line escaped) at (b ∷ bs)).1
-in_text_sound {begun = begun} {at = at} {b = b} {line = line} {escaped = escaped} {bs = bs} ih = by_test (b == 34 && not escaped) refl
+    Follows (InText begun line escaped) at (b ∷ bs) (run (InText begun line escaped) at (b ∷ bs)).0
+    (run (InText begun line escaped) at (b ∷ bs)).1
+in_text_sound {begun = begun} {at = at} {b = b} {line = line} {escaped = escaped} {bs = bs} ih =
+    by_test (b == 34 && not escaped) refl
   where
     by_test : (q : Bool) → (b == 34 && not escaped) ≡ q →
         FollowsStep (cond q (Between false, token Text begun (at + 1) line ∷ []) (InText begun line (b == 92), [])) (at + 1) bs
@@ -204,7 +213,8 @@ in_text_sound {begun = begun} {at = at} {b = b} {line = line} {escaped = escaped
     by_test false e = text_moves e (ih (InText begun line (b == 92)) (at + 1))
 
 pub in_comment_sound : {begun at b : ℕ} {line star : Bool} {bs : List ℕ} → IsSound bs →
-    Follows (InComment begun line star) at (b ∷ bs) (run (InComment begun line star) at (b ∷ bs)).0 (run (InComment begun line star) at (b ∷ bs)).1
+    Follows (InComment begun line star) at (b ∷ bs) (run (InComment begun line star) at (b ∷ bs)).0
+    (run (InComment begun line star) at (b ∷ bs)).1
 in_comment_sound {begun = begun} {at = at} {b = b} {line = line} {star = star} {bs = bs} ih = by_test (b == 47 && star) refl
   where
     by_test : (q : Bool) → (b == 47 && star) ≡ q →
@@ -215,7 +225,8 @@ in_comment_sound {begun = begun} {at = at} {b = b} {line = line} {star = star} {
 
 -- a byte behind a backslash and blanks
 pub in_continuation_sound : {begun at b : ℕ} {line : Bool} {bs : List ℕ} → IsSound bs →
-    Follows (InContinuation begun line) at (b ∷ bs) (run (InContinuation begun line) at (b ∷ bs)).0 (run (InContinuation begun line) at (b ∷ bs)).1
+    Follows (InContinuation begun line) at (b ∷ bs) (run (InContinuation begun line) at (b ∷ bs)).0
+    (run (InContinuation begun line) at (b ∷ bs)).1
 in_continuation_sound {begun = begun} {at = at} {b = b} {line = line} {bs = bs} ih = by_class (class_of b) refl
   where
     blank : {ts : List Token} {stop : Stop} → class_of b ≡ Blank →
@@ -242,7 +253,8 @@ in_continuation_sound {begun = begun} {at = at} {b = b} {line = line} {bs = bs} 
     }))
     blank e (inr (inr k)) = inr (inr (record { within = (e, k.within); tokens = k.tokens; stops = k.stops }))
 
-    broken : {ts : List Token} {stop : Stop} → IsNoBlank (class_of b) → (ts ≡ []) × (stop ≡ BadByte begun) → IsBroken begun (b ∷ bs) ts stop
+    broken : {ts : List Token} {stop : Stop} → IsNoBlank (class_of b) → (ts ≡ []) × (stop ≡ BadByte begun)
+        → IsBroken begun (b ∷ bs) ts stop
     broken other k = record {
       blanks = [];
       byte = b;
@@ -263,7 +275,8 @@ in_continuation_sound {begun = begun} {at = at} {b = b} {line = line} {bs = bs} 
           rest = bs;
           within = tt;
           split = ap (λ x. x ∷ bs) (line_end_byte b e);
-          goes_on = subst (λ n. Lexes n line bs (run (Between line) (at + 1) bs).0 (run (Between line) (at + 1) bs).1) moved (ih (Between line) (at + 1));
+          goes_on = subst (λ n. Lexes n line bs (run (Between line) (at + 1) bs).0 (run (Between line) (at + 1) bs).1) moved
+              (ih (Between line) (at + 1));
         })
     by_class Blank e = blank e (ih (InContinuation begun line) (at + 1))
     by_class (Mark kind) e = inr (inl (broken (subst IsNoBlank (sym e) tt) (ih (Stopped begun) (at + 1))))
@@ -287,7 +300,8 @@ pub word_moves : {begun at b : ℕ} {line : Bool} {bs : List ℕ} {ts : List Tok
     WordGoesOn begun line at (b ∷ bs) ts stop
 word_moves {begun = begun} {at = at} {b = b} {line = line} {bs = bs} {stop = stop} e opens k =
     let moved : at + 1 + length k.body ≡ at + length (b ∷ k.body) = omega arith in
-    let here : ends_word (b ∷ bs) ≡ false = subst (λ v. (not (is_word_class v) || opens_comment (b ∷ bs)) ≡ false) (sym e) opens in
+    let here : ends_word (b ∷ bs) ≡ false = subst (λ v. (not (is_word_class v) || opens_comment (b ∷ bs)) ≡ false) (sym e) opens
+    in
     record {
       body = b ∷ k.body;
       rest = k.rest;
@@ -318,9 +332,11 @@ pub word_begins : {at b : ℕ} {line : Bool} {bs : List ℕ} {ts : List Token} {
     class_of b ≡ WordByte → opens_comment (b ∷ bs) ≡ false → WordGoesOn at line (at + 1) bs ts stop →
     Lexes at line (b ∷ bs) ts stop
 word_begins {at = at} {b = b} {line = line} {bs = bs} {ts = ts} {stop = stop} e opens k =
-    let here : ends_word (b ∷ bs) ≡ false = subst (λ v. (not (is_word_class v) || opens_comment (b ∷ bs)) ≡ false) (sym e) opens in
+    let here : ends_word (b ∷ bs) ≡ false = subst (λ v. (not (is_word_class v) || opens_comment (b ∷ bs)) ≡ false) (sym e) opens
+    in
     subst (λ l. Lexes at line (b ∷ bs) l stop) (sym k.tokens)
-    (lex.word b k.body k.rest (lex.word_byte (subst (λ l. ends_word (b ∷ l) ≡ false) k.split here) k.within) (ap (λ l. b ∷ l) k.split) k.goes_on)
+    (lex.word b k.body k.rest (lex.word_byte (subst (λ l. ends_word (b ∷ l) ≡ false) k.split here) k.within)
+    (ap (λ l. b ∷ l) k.split) k.goes_on)
 
 -- a comment that begins at a slash and a star
 pub comment_begins : {begun at : ℕ} {line : Bool} {bs : List ℕ} {ts : List Token} {stop : Stop} → begun + 1 ≡ at →
@@ -328,7 +344,8 @@ pub comment_begins : {begun at : ℕ} {line : Bool} {bs : List ℕ} {ts : List T
     Lexes begun line (47 ∷ 42 ∷ bs) ts stop
 comment_begins {begun = begun} {at = at} {line = line} {bs = bs} {ts = ts} {stop = stop} e (inl k) =
     let moved : at + 1 + length k.body + 1 ≡ begun + 2 + length k.body + 1 = omega arith in
-    lex.comment k.body k.rest k.within (ap (λ l. 47 ∷ 42 ∷ l) k.split) (subst (λ n. Lexes n (line || list_any (λ b. b == 10) k.body) k.rest ts stop) moved k.goes_on)
+    lex.comment k.body k.rest k.within (ap (λ l. 47 ∷ 42 ∷ l) k.split)
+    (subst (λ n. Lexes n (line || list_any (λ b. b == 10) k.body) k.rest ts stop) moved k.goes_on)
 comment_begins {begun = begun} {line = line} {bs = bs} {ts = ts} {stop = stop} e (inr k) =
     subst (λ l. Lexes begun line (47 ∷ 42 ∷ bs) l stop) (sym k.tokens)
     (subst (λ v. Lexes begun line (47 ∷ 42 ∷ bs) [] v) (sym k.stops) (lex.open_comment k.last k.within))
@@ -351,7 +368,8 @@ pub continuation_begins : {at : ℕ} {line : Bool} {bs : List ℕ} {ts : List To
 continuation_begins (inl k) = lex.continuation k.blanks k.rest k.within (ap (λ l. 92 ∷ l) k.split) k.goes_on
 continuation_begins {at = at} {line = line} {bs = bs} {ts = ts} {stop = stop} (inr (inl k)) =
     subst (λ l. Lexes at line (92 ∷ bs) l stop) (sym k.tokens)
-    (subst (λ v. Lexes at line (92 ∷ bs) [] v) (sym k.stops) (lex.bad_backslash k.blanks k.byte k.rest k.within k.other (ap (λ l. 92 ∷ l) k.split)))
+    (subst (λ v. Lexes at line (92 ∷ bs) [] v) (sym k.stops)
+    (lex.bad_backslash k.blanks k.byte k.rest k.within k.other (ap (λ l. 92 ∷ l) k.split)))
 continuation_begins {at = at} {line = line} {bs = bs} {ts = ts} {stop = stop} (inr (inr k)) =
     subst (λ l. Lexes at line (92 ∷ bs) l stop) (sym k.tokens)
     (subst (λ v. Lexes at line (92 ∷ bs) [] v) (sym k.stops) (lex.open_continuation k.within))
@@ -365,7 +383,8 @@ between_sound {at = at} {b = b} {line = line} {bs = bs} ih = by_class (class_of 
         FollowsStep (InWord at line (cond q (Some at) None), []) (at + 1) bs (Lexes at line (b ∷ bs))
     word true e q =
         let slash : 47 ≡ b = grind (arith, nat_tests, q) in
-        subst (λ v. Lexes at line (v ∷ bs) (run (InWord at line (Some at)) (at + 1) bs).0 (run (InWord at line (Some at)) (at + 1) bs).1) slash
+        subst (λ v. Lexes at line (v ∷ bs) (run (InWord at line (Some at)) (at + 1) bs).0
+        (run (InWord at line (Some at)) (at + 1) bs).1) slash
         ((ih (InWord at line (Some at)) (at + 1) refl).0 refl)
     word false e q = word_begins e (no_slash b bs q) (ih (InWord at line None) (at + 1) (omega arith))
 
@@ -374,9 +393,12 @@ between_sound {at = at} {b = b} {line = line} {bs = bs} ih = by_class (class_of 
     by_class Blank e = lex.blank e (ih (Between line) (at + 1))
     by_class (Mark kind) e = lex.mark kind e (ih (Between false) (at + 1))
     by_class Quote e =
-        subst (λ v. Lexes at line (v ∷ bs) (run (InText at line false) (at + 1) bs).0 (run (InText at line false) (at + 1) bs).1) (sym (quote_byte b e)) (text_begins (ih (InText at line false) (at + 1)))
+        subst (λ v. Lexes at line (v ∷ bs) (run (InText at line false) (at + 1) bs).0 (run (InText at line false) (at + 1) bs).1)
+        (sym (quote_byte b e)) (text_begins (ih (InText at line false) (at + 1)))
     by_class Backslash e =
-        subst (λ v. Lexes at line (v ∷ bs) (run (InContinuation at line) (at + 1) bs).0 (run (InContinuation at line) (at + 1) bs).1) (sym (backslash_byte b e)) (continuation_begins (ih (InContinuation at line) (at + 1)))
+        subst (λ v. Lexes at line (v ∷ bs) (run (InContinuation at line) (at + 1) bs).0
+        (run (InContinuation at line) (at + 1) bs).1) (sym (backslash_byte b e))
+        (continuation_begins (ih (InContinuation at line) (at + 1)))
     by_class WordByte e = word (b == 47) e refl
     by_class Bad e =
         let stopped = ih (Stopped at) (at + 1) in
@@ -392,17 +414,21 @@ word_goes_on {begun = begun} {at = at} {b = b} {line = line} {bs = bs} ih past =
         FollowsStep (InWord begun line (cond q (Some at) None), []) (at + 1) bs (WordGoesOn begun line at (b ∷ bs))
     word true e q =
         let slash : 47 ≡ b = grind (arith, nat_tests, q) in
-        subst (λ v. WordGoesOn begun line at (v ∷ bs) (run (InWord begun line (Some at)) (at + 1) bs).0 (run (InWord begun line (Some at)) (at + 1) bs).1) slash
+        subst (λ v. WordGoesOn begun line at (v ∷ bs) (run (InWord begun line (Some at)) (at + 1) bs).0
+        (run (InWord begun line (Some at)) (at + 1) bs).1) slash
         ((ih (InWord begun line (Some at)) (at + 1) refl).1 past)
     word false e q = word_moves e (no_slash b bs q) (ih (InWord begun line None) (at + 1) (omega arith))
 
     stops : (k : Class) → class_of b ≡ k → is_word_class k ≡ false →
         FollowsStep (after_token (token Word begun at line) (opened false at b)) (at + 1) bs (WordGoesOn begun line at (b ∷ bs))
     stops k e other =
-        let ends : ends_word (b ∷ bs) ≡ true = subst (λ v. (not (is_word_class v) || opens_comment (b ∷ bs)) ≡ true) (sym e) (subst (λ v. (not v || opens_comment (b ∷ bs)) ≡ true) (sym other) refl) in
+        let ends : ends_word (b ∷ bs) ≡ true =
+        subst (λ v. (not (is_word_class v) || opens_comment (b ∷ bs)) ≡ true) (sym e)
+        (subst (λ v. (not v || opens_comment (b ∷ bs)) ≡ true) (sym other) refl) in
         word_stops ends (between_sound ih)
 
-    by_class : (k : Class) → class_of b ≡ k → FollowsStep (in_word_by begun line at b k) (at + 1) bs (WordGoesOn begun line at (b ∷ bs))
+    by_class : (k : Class) → class_of b ≡ k
+        → FollowsStep (in_word_by begun line at b k) (at + 1) bs (WordGoesOn begun line at (b ∷ bs))
     by_class WordByte e = word (b == 47) e refl
     by_class LineEnd e = stops LineEnd e refl
     by_class Blank e = stops Blank e refl
@@ -416,8 +442,10 @@ pub slash_goes_on : {begun slash at b : ℕ} {line : Bool} {bs : List ℕ} {ts :
     class_of 47 ≡ WordByte → opens_comment (47 ∷ b ∷ bs) ≡ false →
     (begun < at → WordGoesOn begun line at (b ∷ bs) ts stop) →
     (begun ≡ slash → Lexes slash line (47 ∷ b ∷ bs) ts stop) × (begun < slash → WordGoesOn begun line slash (47 ∷ b ∷ bs) ts stop)
-slash_goes_on {begun = begun} {slash = slash} {at = at} {b = b} {line = line} {bs = bs} {ts = ts} {stop = stop} next e opens go_on =
-    let moved : (n : ℕ) → WordGoesOn n line at (b ∷ bs) ts stop → WordGoesOn n line (slash + 1) (b ∷ bs) ts stop = λ n. subst (λ m. WordGoesOn n line m (b ∷ bs) ts stop) (sym next) in (
+slash_goes_on {begun = begun} {slash = slash} {at = at} {b = b} {line = line} {bs = bs} {ts = ts} {stop = stop} next e opens go_on
+    =
+    let moved : (n : ℕ) → WordGoesOn n line at (b ∷ bs) ts stop
+    → WordGoesOn n line (slash + 1) (b ∷ bs) ts stop = λ n. subst (λ m. WordGoesOn n line m (b ∷ bs) ts stop) (sym next) in (
       λ same. word_begins e opens (moved slash (subst (λ n. WordGoesOn n line at (b ∷ bs) ts stop) same (go_on (omega arith)))),
       λ less. word_moves e opens (moved begun (go_on (omega arith))),
     )
@@ -425,19 +453,24 @@ slash_goes_on {begun = begun} {slash = slash} {at = at} {b = b} {line = line} {b
 -- a byte behind a slash of a word
 pub slash_sound : {begun slash at b : ℕ} {line : Bool} {bs : List ℕ} → IsSound bs → slash + 1 ≡ at →
     FollowsStep (in_word begun line (Some slash) at b) (at + 1) bs
-    (λ ts stop. (begun ≡ slash → Lexes slash line (47 ∷ b ∷ bs) ts stop) × (begun < slash → WordGoesOn begun line slash (47 ∷ b ∷ bs) ts stop))
+    (λ ts stop. (begun ≡ slash → Lexes slash line (47 ∷ b ∷ bs) ts stop)
+    × (begun < slash → WordGoesOn begun line slash (47 ∷ b ∷ bs) ts stop))
 slash_sound {begun = begun} {slash = slash} {at = at} {b = b} {line = line} {bs = bs} ih next = by_star (b == 42) refl
   where
     Claim : List Token → Stop → Type 0
-    Claim ts stop = (begun ≡ slash → Lexes slash line (47 ∷ b ∷ bs) ts stop) × (begun < slash → WordGoesOn begun line slash (47 ∷ b ∷ bs) ts stop)
+    Claim ts stop = (begun ≡ slash → Lexes slash line (47 ∷ b ∷ bs) ts stop)
+        × (begun < slash → WordGoesOn begun line slash (47 ∷ b ∷ bs) ts stop)
 
-    comment : (l : Bool) → 42 ≡ b → Lexes slash l (47 ∷ b ∷ bs) (run (InComment slash l false) (at + 1) bs).0 (run (InComment slash l false) (at + 1) bs).1
+    comment : (l : Bool) → 42 ≡ b → Lexes slash l (47 ∷ b ∷ bs) (run (InComment slash l false) (at + 1) bs).0
+        (run (InComment slash l false) (at + 1) bs).1
     comment l e =
-        subst (λ v. Lexes slash l (47 ∷ v ∷ bs) (run (InComment slash l false) (at + 1) bs).0 (run (InComment slash l false) (at + 1) bs).1) e
+        subst (λ v. Lexes slash l (47 ∷ v ∷ bs) (run (InComment slash l false) (at + 1) bs).0
+        (run (InComment slash l false) (at + 1) bs).1) e
         (comment_begins next (ih (InComment slash l false) (at + 1)))
 
     by_begin : (q : Bool) → 42 ≡ b → (begun == slash) ≡ q →
-        FollowsStep (cond q (InComment slash line false, []) (InComment slash false false, token Word begun slash line ∷ [])) (at + 1) bs Claim
+        FollowsStep (cond q (InComment slash line false, []) (InComment slash false false, token Word begun slash line ∷ []))
+        (at + 1) bs Claim
     by_begin true star e = (λ _. comment line star, λ less. absurd (grind (arith, nat_tests, e, less)))
     by_begin false star e = (
       λ same. absurd (grind (arith, nat_tests, e, same)),
@@ -453,9 +486,12 @@ pub sound : (bs : List ℕ) → IsSound bs
 sound [] (Between line) at = lex.end
 sound [] (InWord begun line None) at = λ past. word_stops refl lex.end
 sound [] (InWord begun line (Some slash)) at = λ next.
-    let last : (l : Bool) → WordGoesOn begun l slash (47 ∷ []) (token Word begun at l ∷ []) End = λ l. word_moves slash_class refl (subst (λ n. WordGoesOn begun l n [] (token Word begun at l ∷ []) End) (sym next) (word_stops refl lex.end)) in (
+    let last : (l : Bool) → WordGoesOn begun l slash (47 ∷ []) (token Word begun at l ∷ []) End =
+    λ l. word_moves slash_class refl
+    (subst (λ n. WordGoesOn begun l n [] (token Word begun at l ∷ []) End) (sym next) (word_stops refl lex.end)) in (
       λ same. subst (λ n. Lexes n line (47 ∷ []) (token Word begun at line ∷ []) End) same
-          (word_begins slash_class refl (subst (λ n. WordGoesOn begun line n [] (token Word begun at line ∷ []) End) (sym (ap (λ n. n + 1) same ∙ next)) (word_stops refl lex.end))),
+          (word_begins slash_class refl (subst (λ n. WordGoesOn begun line n [] (token Word begun at line ∷ []) End)
+          (sym (ap (λ n. n + 1) same ∙ next)) (word_stops refl lex.end))),
       λ less. last line,
     )
 sound [] (InText begun line escaped) at = inr (record { last = escaped; within = lex.text_ends; tokens = refl; stops = refl })

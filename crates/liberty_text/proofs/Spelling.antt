@@ -1,10 +1,12 @@
 -- A text is a number in one way at most, and this one is found.
-use Rattle.std.proofs.Common.{◌≡◌, ℕ, ◌+◌, ◌<◌, ◌++◌, suc, Bool, true, false, List, [], ◌∷◌, Option, Some, None, length, take, drop, ◌==◌, ◌&&◌, ◌||◌, refl, sym, ◌∙◌, ap, subst, arith, cond}
+use Rattle.std.proofs.Common.{◌≡◌, ℕ, ◌+◌, ◌<◌, ◌++◌, suc, Bool, true, false, List, [], ◌∷◌, Option, Some, None, length, take}
+use Rattle.std.proofs.Common.{drop, ◌==◌, ◌&&◌, ◌||◌, refl, sym, ◌∙◌, ap, subst, arith, cond}
 use Rattle.std.specs.Prelude.{nat_lt}
 use Rattle.std.proofs.lemmas.Bool.Decides.{nat_tests}
 use Rattle.std.proofs.lemmas.List.{take-append-drop, append-nil}
 use Rattle.std.proofs.Math.Seq.{take-length, take-append_seam, drop-append_seam}
-use Rattle.liberty_text.specs.Number.{Written, is_digit, AreDigits, IsSign, IsPoint, IsExponent, IsNumber, digit_run, sign_of, fraction_of, is_run, exponent_of, written_with, written_behind, written_of}
+use Rattle.liberty_text.specs.Number.{Written, is_digit, AreDigits, IsSign, IsPoint, IsExponent, IsNumber, digit_run, sign_of}
+use Rattle.liberty_text.specs.Number.{fraction_of, is_run, exponent_of, written_with, written_behind, written_of}
 use Rattle.liberty_text.specs.Number as n
 use Rattle.liberty_text.proofs.Sound.{both}
 
@@ -35,16 +37,19 @@ sign_parts (b ∷ bs) = by_minus (b == 45) refl
     by_minus : (q : Bool) → (b == 45) ≡ q → HasSign (b ∷ bs)
     by_minus true e =
         let same : b ≡ 45 = grind (arith, nat_tests, e) in
-        made (true, bs) (ap (λ q. cond q (true, bs) (cond (b == 43) (false, bs) (false, b ∷ bs))) e) (45 ∷ [], n.minus, ap (λ x. x ∷ bs) same)
+        made (true, bs) (ap (λ q. cond q (true, bs) (cond (b == 43) (false, bs) (false, b ∷ bs))) e)
+        (45 ∷ [], n.minus, ap (λ x. x ∷ bs) same)
     by_minus false e =
-        made (cond (b == 43) (false, bs) (false, b ∷ bs)) (ap (λ q. cond q (true, bs) (cond (b == 43) (false, bs) (false, b ∷ bs))) e) (by_plus (b == 43) refl)
+        made (cond (b == 43) (false, bs) (false, b ∷ bs))
+        (ap (λ q. cond q (true, bs) (cond (b == 43) (false, bs) (false, b ∷ bs))) e) (by_plus (b == 43) refl)
 
 -- the digits at the front are digits
 pub run_digits : (bs : List ℕ) → AreDigits (take (digit_run bs) bs)
 run_digits [] = tt
 run_digits (b ∷ bs) = by_test (run_digits bs) (is_digit b) refl
   where
-    by_test : AreDigits (take (digit_run bs) bs) → (q : Bool) → is_digit b ≡ q → AreDigits (take (cond q (1 + digit_run bs) 0) (b ∷ bs))
+    by_test : AreDigits (take (digit_run bs) bs) → (q : Bool) → is_digit b ≡ q
+        → AreDigits (take (cond q (1 + digit_run bs) 0) (b ∷ bs))
     by_test next true e =
         let more : 1 + digit_run bs ≡ suc (digit_run bs) = omega arith in
         subst (λ k. AreDigits (take k (b ∷ bs))) (sym more) (e, next)
@@ -65,7 +70,8 @@ pub fraction_parts : (text : List ℕ) → HasFraction text
 fraction_parts [] = record { dot = []; dot_is = n.no_point; digits = tt; split = refl }
 fraction_parts (b ∷ bs) = by_test (b == 46) refl
   where
-    made : (s : List ℕ × List ℕ) → fraction_of (b ∷ bs) ≡ s → (dot : List ℕ) → IsPoint dot s.0 → AreDigits s.0 → b ∷ bs ≡ dot ++ (s.0 ++ s.1) → HasFraction (b ∷ bs)
+    made : (s : List ℕ × List ℕ) → fraction_of (b ∷ bs) ≡ s → (dot : List ℕ) → IsPoint dot s.0 → AreDigits s.0
+        → b ∷ bs ≡ dot ++ (s.0 ++ s.1) → HasFraction (b ∷ bs)
     made s e dot k l m = record {
       dot = dot;
       dot_is = subst (λ v. IsPoint dot v.0) (sym e) k;
@@ -78,7 +84,8 @@ fraction_parts (b ∷ bs) = by_test (b == 46) refl
         let same : b ≡ 46 = grind (arith, nat_tests, e) in
         let parts : List ℕ × List ℕ = (take (digit_run bs) bs, drop (digit_run bs) bs) in
         made parts (ap (λ q. cond q parts ([], b ∷ bs)) e)
-        (46 ∷ []) n.some_point (run_digits bs) (ap (λ x. x ∷ bs) same ∙ ap (λ l. 46 ∷ l) (sym (take-append-drop (digit_run bs) bs)))
+        (46 ∷ []) n.some_point (run_digits bs)
+        (ap (λ x. x ∷ bs) same ∙ ap (λ l. 46 ∷ l) (sym (take-append-drop (digit_run bs) bs)))
     by_test false e =
         made ([], b ∷ bs) (ap (λ q. cond q (take (digit_run bs) bs, drop (digit_run bs) bs) ([], b ∷ bs)) e) [] n.no_point tt refl
 
@@ -96,7 +103,8 @@ exponent_parts [] e f =
     subst (λ v. IsExponent [] v.0 v.1) same n.no_exponent
 exponent_parts (b ∷ bs) e f = by_test ((b == 101 || b == 69) && is_run (sign_of bs).1) refl f
   where
-    by_test : (q : Bool) → ((b == 101 || b == 69) && is_run (sign_of bs).1) ≡ q → cond q (Some (sign_of bs)) None ≡ Some e → IsExponent (b ∷ bs) e.0 e.1
+    by_test : (q : Bool) → ((b == 101 || b == 69) && is_run (sign_of bs).1) ≡ q → cond q (Some (sign_of bs)) None ≡ Some e
+        → IsExponent (b ∷ bs) e.0 e.1
     by_test true g h =
         let parts = both (b == 101 || b == 69) (is_run (sign_of bs).1) g in
         let run = run_parts (sign_of bs).1 parts.1 in
@@ -107,17 +115,33 @@ exponent_parts (b ∷ bs) e f = by_test ((b == 101 || b == 69) && is_run (sign_o
     by_test false g h = absurd cc
 
 -- the parts that were found make the number
-pub number_made : (text whole rest : List ℕ) (e : Bool × List ℕ) (w : Written) → (sign_of text).1 ≡ whole ++ rest → AreDigits whole →
+pub number_made : (text whole rest : List ℕ) (e : Bool × List ℕ) (w : Written) → (sign_of text).1 ≡ whole ++ rest
+    → AreDigits whole →
     exponent_of (fraction_of rest).1 ≡ Some e →
     written_with (sign_of text).0 whole (fraction_of rest).0 (Some e) ≡ Some w → IsNumber text w
 number_made text whole rest e w split digits tail = by_test (nat_lt 0 (length whole + length (fraction_of rest).0)) refl
   where
-    by_test : (q : Bool) → nat_lt 0 (length whole + length (fraction_of rest).0) ≡ q → cond q (Some (record { negative = (sign_of text).0; whole = whole; fraction = (fraction_of rest).0; exponent_negative = e.0; exponent = e.1 })) None ≡ Some w → IsNumber text w
+    by_test : (q : Bool) → nat_lt 0 (length whole + length (fraction_of rest).0) ≡ q
+        → cond q (Some (record {
+          negative = (sign_of text).0;
+          whole = whole;
+          fraction = (fraction_of rest).0;
+          exponent_negative =
+              e.0;
+          exponent = e.1;
+        })) None ≡ Some w → IsNumber text w
     by_test true g h =
         let s = sign_parts text in
         let f = fraction_parts rest in
         let some : 0 < length whole + length (fraction_of rest).0 = grind (arith, nat_tests, g) in
-        let same : record { negative = (sign_of text).0; whole = whole; fraction = (fraction_of rest).0; exponent_negative = e.0; exponent = e.1 } ≡ w = cc in
+        let same : record {
+          negative = (sign_of text).0;
+          whole = whole;
+          fraction = (fraction_of rest).0;
+          exponent_negative =
+              e.0;
+          exponent = e.1;
+        } ≡ w = cc in
         subst (IsNumber text) same
         (record {
           sign = s.sign;
@@ -136,16 +160,19 @@ number_made text whole rest e w split digits tail = by_test (nat_lt 0 (length wh
 pub number_sound : (text : List ℕ) (w : Written) → written_of text ≡ Some w → IsNumber text w
 number_sound text w e =
     let body = (sign_of text).1 in
-    by_exponent (take (digit_run body) body) (drop (digit_run body) body) (sym (take-append-drop (digit_run body) body)) (run_digits body)
+    by_exponent (take (digit_run body) body) (drop (digit_run body) body) (sym (take-append-drop (digit_run body) body))
+    (run_digits body)
     (exponent_of (fraction_of (drop (digit_run body) body)).1) refl e
   where
     by_exponent : (whole rest : List ℕ) → (sign_of text).1 ≡ whole ++ rest → AreDigits whole →
-        (o : Option (Bool × List ℕ)) → exponent_of (fraction_of rest).1 ≡ o → written_with (sign_of text).0 whole (fraction_of rest).0 o ≡ Some w → IsNumber text w
+        (o : Option (Bool × List ℕ)) → exponent_of (fraction_of rest).1 ≡ o
+        → written_with (sign_of text).0 whole (fraction_of rest).0 o ≡ Some w → IsNumber text w
     by_exponent whole rest split digits None f g = absurd cc
     by_exponent whole rest split digits (Some x) f g = number_made text whole rest x w split digits f g
 
 -- a sign is passed before bytes that begin with none
-pub sign_skips : {sign : List ℕ} {negative : Bool} → IsSign sign negative → (rest : List ℕ) → sign_of rest ≡ (false, rest) → sign_of (sign ++ rest) ≡ (negative, rest)
+pub sign_skips : {sign : List ℕ} {negative : Bool} → IsSign sign negative → (rest : List ℕ) → sign_of rest ≡ (false, rest)
+    → sign_of (sign ++ rest) ≡ (negative, rest)
 sign_skips n.no_sign rest e = e
 sign_skips n.plus rest e = refl
 sign_skips n.minus rest e = refl
@@ -191,7 +218,8 @@ pub record ExponentFound (tail digits : List ℕ) (negative : Bool) : Type 0 whe
   pub no_dot : fraction_of tail ≡ ([], tail)
   pub found : exponent_of tail ≡ Some (negative, digits)
 
-pub exponent_found : {tail digits : List ℕ} {negative : Bool} → IsExponent tail negative digits → ExponentFound tail digits negative
+pub exponent_found : {tail digits : List ℕ} {negative : Bool} → IsExponent tail negative digits
+    → ExponentFound tail digits negative
 exponent_found n.no_exponent = record { no_digit = refl; no_dot = refl; found = refl }
 exponent_found {digits = digits} {negative = negative} (n.some_exponent mark sign marked sign_is all some split) =
     let rest = sign ++ digits in
@@ -199,7 +227,8 @@ exponent_found {digits = digits} {negative = negative} (n.some_exponent mark sig
     let no_dot : (mark == 46) ≡ false = grind (arith, nat_tests, marked) in
     let behind : sign_of rest ≡ (negative, digits) = sign_skips sign_is digits (digits_plain digits all some) in
     let run : is_run (sign_of rest).1 ≡ true = ap (λ s. is_run s.1) behind ∙ digits_run digits all some in
-    let chosen : ((mark == 101 || mark == 69) && is_run (sign_of rest).1) ≡ true = ap (λ q. q && is_run (sign_of rest).1) marked ∙ run in
+    let chosen : ((mark == 101 || mark == 69) && is_run (sign_of rest).1) ≡ true = ap (λ q. q && is_run (sign_of rest).1) marked
+    ∙ run in
     subst (λ l. ExponentFound l digits negative) (sym split)
     (record {
       no_digit = ap (λ q. cond q (1 + digit_run rest) 0) other;
@@ -212,15 +241,18 @@ pub record FractionFound (dot fraction tail : List ℕ) : Type 0 where
   pub no_digit : digit_run (dot ++ (fraction ++ tail)) ≡ 0
   pub found : fraction_of (dot ++ (fraction ++ tail)) ≡ (fraction, tail)
 
-pub fraction_found : {dot fraction : List ℕ} → IsPoint dot fraction → (tail : List ℕ) → AreDigits fraction → digit_run tail ≡ 0 → fraction_of tail ≡ ([], tail) → FractionFound dot fraction tail
+pub fraction_found : {dot fraction : List ℕ} → IsPoint dot fraction → (tail : List ℕ) → AreDigits fraction → digit_run tail ≡ 0
+    → fraction_of tail ≡ ([], tail) → FractionFound dot fraction tail
 fraction_found n.no_point tail all e f = record { no_digit = e; found = f }
 fraction_found (n.some_point {fraction = fraction}) tail all e f = record {
   no_digit = refl;
-  found = ap (λ l. (l, drop (digit_run (fraction ++ tail)) (fraction ++ tail))) (take_run fraction tail all e) ∙ ap (λ l. (fraction, l)) (drop_run fraction tail all e);
+  found = ap (λ l. (l, drop (digit_run (fraction ++ tail)) (fraction ++ tail))) (take_run fraction tail all e)
+      ∙ ap (λ l. (fraction, l)) (drop_run fraction tail all e);
 }
 
 -- a number begins with no second sign
-pub number_plain : {dot fraction : List ℕ} → IsPoint dot fraction → (whole tail : List ℕ) → AreDigits whole → 0 < length whole + length fraction →
+pub number_plain : {dot fraction : List ℕ} → IsPoint dot fraction → (whole tail : List ℕ) → AreDigits whole
+    → 0 < length whole + length fraction →
     sign_of (whole ++ (dot ++ (fraction ++ tail))) ≡ (false, whole ++ (dot ++ (fraction ++ tail)))
 number_plain {dot = dot} {fraction = fraction} p (d ∷ ds) tail all some = digit_plain d (ds ++ (dot ++ (fraction ++ tail))) all.0
 number_plain n.no_point [] tail all some = absurd (omega arith)
@@ -232,14 +264,23 @@ number_complete text w k =
     let f = fraction_found k.dot_is k.tail k.fraction_is e.no_digit e.no_dot in
     let rest = k.dot ++ (w.fraction ++ k.tail) in
     let body = w.whole ++ rest in
-    let split : sign_of text ≡ (w.negative, body) = ap sign_of k.text_is ∙ sign_skips k.sign_is body (number_plain k.dot_is w.whole k.tail k.whole_is k.some) in
+    let split : sign_of text ≡ (w.negative, body) =
+    ap sign_of k.text_is ∙ sign_skips k.sign_is body (number_plain k.dot_is w.whole k.tail k.whole_is k.some) in
     let some : nat_lt 0 (length w.whole + length w.fraction) ≡ true = let h = k.some in grind (arith, nat_tests, h) in
     ap (λ s. written_behind s.0 (take (digit_run s.1) s.1) (fraction_of (drop (digit_run s.1) s.1))) split
-    ∙ ap (λ l. written_behind w.negative l (fraction_of (drop (digit_run body) body))) (take_run w.whole rest k.whole_is f.no_digit)
+    ∙ ap (λ l. written_behind w.negative l (fraction_of (drop (digit_run body) body)))
+    (take_run w.whole rest k.whole_is f.no_digit)
     ∙ ap (λ l. written_behind w.negative w.whole (fraction_of l)) (drop_run w.whole rest k.whole_is f.no_digit)
     ∙ ap (λ l. written_behind w.negative w.whole l) f.found
     ∙ ap (λ o. written_with w.negative w.whole w.fraction o) e.found
-    ∙ ap (λ q. cond q (Some (record { negative = w.negative; whole = w.whole; fraction = w.fraction; exponent_negative = w.exponent_negative; exponent = w.exponent })) None) some
+    ∙ ap (λ q. cond q (Some (record {
+      negative = w.negative;
+      whole = w.whole;
+      fraction = w.fraction;
+      exponent_negative =
+          w.exponent_negative;
+      exponent = w.exponent;
+    })) None) some
 
 -- the digits of an exponent are digits
 pub exponent_digits : {tail digits : List ℕ} {negative : Bool} → IsExponent tail negative digits → AreDigits digits
@@ -247,5 +288,6 @@ exponent_digits n.no_exponent = tt
 exponent_digits (n.some_exponent mark sign marked sign_is all some split) = all
 
 -- the parts of a number are digits
-pub spelled_digits : (text : List ℕ) (w : Written) → written_of text ≡ Some w → AreDigits w.whole × AreDigits w.fraction × AreDigits w.exponent
+pub spelled_digits : (text : List ℕ) (w : Written) → written_of text ≡ Some w → AreDigits w.whole × AreDigits w.fraction
+    × AreDigits w.exponent
 spelled_digits text w e = let k = number_sound text w e in (k.whole_is, k.fraction_is, exponent_digits k.tail_is)

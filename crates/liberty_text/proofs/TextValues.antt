@@ -1,5 +1,6 @@
 -- The value of a text, byte by byte.
-use Rattle.std.proofs.Common.{◌≡◌, ℕ, ◌+◌, ◌<◌, ◌++◌, zero, suc, Bool, true, false, ◌==◌, ◌&&◌, cond, List, [], ◌∷◌, length, drop, get_or, refl, sym, ◌∙◌, ap, arith, add-one, append_assoc}
+use Rattle.std.proofs.Common.{◌≡◌, ℕ, ◌+◌, ◌<◌, ◌++◌, zero, suc, Bool, true, false, ◌==◌, ◌&&◌, cond, List, [], ◌∷◌, length, drop}
+use Rattle.std.proofs.Common.{get_or, refl, sym, ◌∙◌, ap, arith, add-one, append_assoc}
 use Rattle.std.proofs.Math.Seq.{drop-cons}
 use Rattle.std.proofs.lemmas.List.{drop-drop}
 use Rattle.std.specs.List.{list_all}
@@ -15,16 +16,19 @@ value_skip (suc n) (b ∷ bs) = value_skip n bs
 
 -- the value from an offset on, a piece first
 pub value_step : (bytes : List ℕ) (at : ℕ) → at < length bytes →
-    value_of (drop at bytes) ≡ (piece (get_or bytes at 0) (drop (at + 1) bytes)).0 ++ value_of (drop (at + (1 + (piece (get_or bytes at 0) (drop (at + 1) bytes)).1)) bytes)
+    value_of (drop at bytes) ≡ (piece (get_or bytes at 0) (drop (at + 1) bytes)).0
+    ++ value_of (drop (at + (1 + (piece (get_or bytes at 0) (drop (at + 1) bytes)).1)) bytes)
 value_step bytes at h =
     let p = piece (get_or bytes at 0) (drop (at + 1) bytes) in
     let first : drop at bytes ≡ get_or bytes at 0 ∷ drop (at + 1) bytes = rw add-one (drop-cons bytes at 0 h) in
     let sum : at + 1 + p.1 ≡ at + (1 + p.1) = omega arith in
     ap value_of first
-    ∙ ap (λ v. p.0 ++ v) (value_skip p.1 (drop (at + 1) bytes) ∙ ap value_of (drop-drop p.1 (at + 1) bytes) ∙ ap (λ n. value_of (drop n bytes)) sum)
+    ∙ ap (λ v. p.0 ++ v) (value_skip p.1 (drop (at + 1) bytes) ∙ ap value_of (drop-drop p.1 (at + 1) bytes)
+    ∙ ap (λ n. value_of (drop n bytes)) sum)
 
 -- a piece joins the value
-pub value_turn : (bytes : List ℕ) (at : ℕ) (behind before after : List ℕ) (taken : ℕ) → at < length bytes → behind ≡ drop (at + 1) bytes →
+pub value_turn : (bytes : List ℕ) (at : ℕ) (behind before after : List ℕ) (taken : ℕ) → at < length bytes
+    → behind ≡ drop (at + 1) bytes →
     after ≡ before ++ (piece (get_or bytes at 0) behind).0 → taken ≡ (piece (get_or bytes at 0) behind).1 →
     before ++ value_of (drop at bytes) ≡ value_of bytes →
     after ++ value_of (drop (at + (1 + taken)) bytes) ≡ value_of bytes

@@ -1,14 +1,17 @@
 -- Times in picoseconds, rounded up.
-use Rattle.std.proofs.Common.{◌≡◌, ℕ, ◌+◌, ◌*◌, ◌/◌, ◌%◌, ◌^◌, ◌<◌, ◌≤◌, suc, Bool, true, false, Option, Some, None, refl, sym, ap, subst, arith, cond, add-one}
+use Rattle.std.proofs.Common.{◌≡◌, ℕ, ◌+◌, ◌*◌, ◌/◌, ◌%◌, ◌^◌, ◌<◌, ◌≤◌, suc, Bool, true, false, Option, Some, None, refl, sym}
+use Rattle.std.proofs.Common.{ap, subst, arith, cond, add-one}
 use Rattle.std.specs.Prelude.{nat_le, ℤ, pos, negsuc, neg_ℤ, nat_abs, ◌*ℤ◌, ◌≤ℤ◌, ◌<ℤ◌, MatchOption, IfSome}
 use Rattle.std.specs.Int.{div_ceil}
 use Rattle.std.proofs.lemmas.Bool.Decides.{nat_tests}
 use Rattle.std.proofs.lemmas.Int.{ints}
 use Rattle.std.proofs.lemmas.Grind.{div_ceil_times}
-use Rattle.std.proofs.Math.Nat.{pow-suc, pow-le-pow_right, one-le-pow, mul-le-mul_right, lt_of_mul-lt-mul_right, lt-div-mul-add, div-add-mod}
+use Rattle.std.proofs.Math.Nat.{pow-suc, pow-le-pow_right, one-le-pow, mul-le-mul_right, lt_of_mul-lt-mul_right, lt-div-mul-add}
+use Rattle.std.proofs.Math.Nat.{div-add-mod}
 use Rattle.liberty_text.specs.declared.decimal.Fixed.{Fixed}
 use Rattle.liberty_text.specs.declared.time.Unit.{Unit}
-use Rattle.liberty_text.specs.Time.{time_exponent, times_ten, over_ten, IsRoundedUp, IsTooLong, bounded, scaled, rounded_up, picoseconds_of}
+use Rattle.liberty_text.specs.Time.{time_exponent, times_ten, over_ten, IsRoundedUp, IsTooLong, bounded, scaled, rounded_up}
+use Rattle.liberty_text.specs.Time.{picoseconds_of}
 
 -- one more power of ten is below 2 to the 64 up to the nineteenth
 pub power_step : (i n : ℕ) → i < n → n ≤ 18 → (10 ^ i * 10 < 2 ^ 64) × (10 ^ (i + 1) ≡ 10 ^ i * 10)
@@ -130,12 +133,15 @@ is_rounded_up value unit = record {
 }
 
 abbrev pub SaysTime : Fixed → Unit → Option ℕ → Type 0
-SaysTime value unit found = MatchOption found (IsTooLong value unit) (IsRoundedUp value unit) × IfSome found (λ time. time ≤ 999999999999999)
+SaysTime value unit found = MatchOption found (IsTooLong value unit) (IsRoundedUp value unit)
+    × IfSome found (λ time. time ≤ 999999999999999)
 
 pub time_says : (value : Fixed) (unit : Unit) → SaysTime value unit (picoseconds_of value unit)
-time_says value unit = by_test (rounded_up value.mantissa (time_exponent value unit)) (is_rounded_up value unit) (nat_le (rounded_up value.mantissa (time_exponent value unit)) 999999999999999) refl
+time_says value unit = by_test (rounded_up value.mantissa (time_exponent value unit)) (is_rounded_up value unit)
+    (nat_le (rounded_up value.mantissa (time_exponent value unit)) 999999999999999) refl
   where
-    by_test : (n : ℕ) → IsRoundedUp value unit n → (q : Bool) → nat_le n 999999999999999 ≡ q → SaysTime value unit (cond q (Some n) None)
+    by_test : (n : ℕ) → IsRoundedUp value unit n → (q : Bool) → nat_le n 999999999999999 ≡ q
+        → SaysTime value unit (cond q (Some n) None)
     by_test n k true e = (k, grind (arith, nat_tests, e))
     by_test n k false e =
         let long : 999999999999999 < n = grind (arith, nat_tests, e) in

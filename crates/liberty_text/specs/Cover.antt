@@ -14,10 +14,12 @@ use Rattle.liberty_text.specs.Tokens.{AreBlanks, CommentBytes, TextBytes, WordBy
 pub data Separates : Bool → List ℕ → Type 0 where
   nothing_between : Separates false []
   blank_between : {line : Bool} {b : ℕ} {rest : List ℕ} → class_of b ≡ Blank → Separates line rest → Separates line (b ∷ rest)
-  line_end_between : {b : ℕ} {rest : List ℕ} (line : Bool) → class_of b ≡ LineEnd → Separates line rest → Separates true (b ∷ rest)
+  line_end_between : {b : ℕ} {rest : List ℕ} (line : Bool) → class_of b ≡ LineEnd → Separates line rest
+      → Separates true (b ∷ rest)
   continuation_between : {line : Bool} {bs : List ℕ} (blanks rest : List ℕ) → AreBlanks blanks → bs ≡ 92 ∷ blanks ++ (10 ∷ rest) →
       Separates line rest → Separates line bs
-  comment_between : {bs : List ℕ} (line : Bool) (body rest : List ℕ) → CommentBytes false true body → bs ≡ 47 ∷ 42 ∷ body ++ (47 ∷ rest) →
+  comment_between : {bs : List ℕ} (line : Bool) (body rest : List ℕ) → CommentBytes false true body
+      → bs ≡ 47 ∷ 42 ∷ body ++ (47 ∷ rest) →
       Separates line rest → Separates (list_any (λ b. b == 10) body || line) bs
 
 -- The first bytes are a token of this kind where the second follow. A Word cannot be extended by them.

@@ -19,7 +19,13 @@ abbrev pub size_by : ℕ → ℕ → ℕ
 size_by code amount = if code == 0 || code == 1 then amount else 1
 
 abbrev pub token_by : ℕ → ℕ → ℕ → ℕ → Token
-token_by at code amount line = record { kind = kind_by code amount; at = at; end = at + size_by code amount; line_before = line == 1 }
+token_by at code amount line = record {
+  kind = kind_by code amount;
+  at = at;
+  end = at + size_by code amount;
+  line_before =
+      line == 1;
+}
 
 abbrev pub unpacked : ℕ → ℕ → Token
 unpacked at rest = token_by at (rest / 2 % 8) (rest / 2 / 8) (rest % 2)

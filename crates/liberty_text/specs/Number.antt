@@ -1,6 +1,8 @@
 -- The numbers of a Liberty text: an optional sign, digits with an optional point, and an optional
 -- exponent (Liberty Reference Manual, floating-point values). The bounds are this project's rule.
-use Rattle.std.specs.Prelude.{◌≡◌, ◌⊎◌, ◌↔◌, ℕ, ◌+◌, ◌-◌, ◌*◌, ◌^◌, ◌<◌, ◌++◌, Bool, true, false, List, [], ◌∷◌, length, take, drop, Option, Some, None, Result, Ok, Err, if◌then◌else◌, ◌==◌, nat_lt, ◌&&◌, ◌||◌, ℤ, pos, neg_ℤ, ◌+ℤ◌, ◌-ℤ◌, ◌*ℤ◌}
+use Rattle.std.specs.Prelude.{◌≡◌, ◌⊎◌, ◌↔◌, ℕ, ◌+◌, ◌-◌, ◌*◌, ◌^◌, ◌<◌, ◌++◌, Bool, true, false, List, [], ◌∷◌, length, take}
+use Rattle.std.specs.Prelude.{drop, Option, Some, None, Result, Ok, Err, if◌then◌else◌, ◌==◌, nat_lt, ◌&&◌, ◌||◌, ℤ, pos, neg_ℤ}
+use Rattle.std.specs.Prelude.{◌+ℤ◌, ◌-ℤ◌, ◌*ℤ◌}
 use Rattle.std.specs.Char.{is_ascii_digit}
 use Rattle.std.specs.List.{prefix_len}
 pub use Rattle.lexer.specs.Numbers.{AreDigits}
@@ -127,7 +129,8 @@ IsTooLarge n = (30 < digits_value 0 n.exponent) ⊎ (30 < length n.fraction)
 abbrev pub IsValueOf : Written → Fixed → Type 0
 IsValueOf n f =
     (a b : ℕ) → (f.exponent +ℤ pos b) ≡ ((exponent_written n -ℤ pos (length n.fraction)) +ℤ pos a) →
-    (f.mantissa *ℤ pos (10 ^ a)) ≡ (signed n.negative (digits_value 0 n.whole * 10 ^ length n.fraction + digits_value 0 n.fraction) *ℤ pos (10 ^ b))
+    (f.mantissa *ℤ pos (10 ^ a)) ≡ (signed n.negative
+    (digits_value 0 n.whole * 10 ^ length n.fraction + digits_value 0 n.fraction) *ℤ pos (10 ^ b))
 
 -- a text is a number within the bounds, and its value is this
 abbrev pub IsFixedOf : List ℕ → Fixed → Type 0
@@ -163,4 +166,11 @@ fixed_of text = fixed_found (written_of text)
 -- what the spelling of a number shows of it
 abbrev pub IsSpelled : Bool → List ℕ → List ℕ → Bool → List ℕ → Option Written → Type 0
 IsSpelled negative whole fraction exponent_negative exponent found =
-    found ≡ Some (record { negative = negative; whole = whole; fraction = fraction; exponent_negative = exponent_negative; exponent = exponent })
+    found ≡ Some (record {
+      negative = negative;
+      whole = whole;
+      fraction = fraction;
+      exponent_negative =
+          exponent_negative;
+      exponent = exponent;
+    })

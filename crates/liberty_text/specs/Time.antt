@@ -1,5 +1,6 @@
 -- Times in whole picoseconds, rounded up (this project's rule; Liberty Reference Manual, time_unit).
-use Rattle.std.specs.Prelude.{ℕ, ◌+◌, ◌*◌, ◌^◌, ◌<◌, ◌≤◌, Option, Some, None, if◌then◌else◌, nat_le, ℤ, pos, negsuc, ◌+ℤ◌, ◌*ℤ◌, ◌≤ℤ◌}
+use Rattle.std.specs.Prelude.{ℕ, ◌+◌, ◌*◌, ◌^◌, ◌<◌, ◌≤◌, Option, Some, None, if◌then◌else◌, nat_le, ℤ, pos, negsuc, ◌+ℤ◌, ◌*ℤ◌}
+use Rattle.std.specs.Prelude.{◌≤ℤ◌}
 use Rattle.std.specs.Int.{div_ceil}
 use Rattle.liberty_text.specs.declared.decimal.Fixed.{Fixed}
 use Rattle.liberty_text.specs.declared.time.Unit.{Unit}

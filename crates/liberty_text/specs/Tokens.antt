@@ -38,13 +38,15 @@ pub data WordBytes : List ℕ → List ℕ → Type 0 where
 -- The two flags say whether the byte before the first, and the last byte, is a backslash.
 pub data TextBytes : Bool → Bool → List ℕ → Type 0 where
   text_ends : {escaped : Bool} → TextBytes escaped escaped []
-  text_byte : {escaped last : Bool} {b : ℕ} {bs : List ℕ} → (b == 34 && not escaped) ≡ false → TextBytes (b == 92) last bs → TextBytes escaped last (b ∷ bs)
+  text_byte : {escaped last : Bool} {b : ℕ} {bs : List ℕ} → (b == 34 && not escaped) ≡ false → TextBytes (b == 92) last bs
+      → TextBytes escaped last (b ∷ bs)
 
 -- The bytes may stand in a comment, where no slash stands right behind a star.
 -- The two flags say whether the byte before the first, and the last byte, is a star of the comment.
 pub data CommentBytes : Bool → Bool → List ℕ → Type 0 where
   comment_ends : {star : Bool} → CommentBytes star star []
-  comment_byte : {star last : Bool} {b : ℕ} {bs : List ℕ} → (b == 47 && star) ≡ false → CommentBytes (b == 42) last bs → CommentBytes star last (b ∷ bs)
+  comment_byte : {star last : Bool} {b : ℕ} {bs : List ℕ} → (b == 47 && star) ≡ false → CommentBytes (b == 42) last bs
+      → CommentBytes star last (b ∷ bs)
 
 -- each byte is a space, a tab or a carriage return
 abbrev pub AreBlanks : List ℕ → Type 0

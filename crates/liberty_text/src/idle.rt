@@ -5,8 +5,8 @@ ghost use Rattle.liberty_text.specs.Idle.{is_blank, is_plain_in_word, is_plain_i
 
 use crate::class::{Class, class_of};
 use crate::scanner::Mode;
-use memchr::memchr2;
 use lexer::{ByteClass, byte_table, run_length};
+use memchr::memchr2;
 
 /// Spaces, tabs and carriage returns.
 struct Blank;

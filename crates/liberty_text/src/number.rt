@@ -1,7 +1,10 @@
 //! The numbers of a Liberty text.
 
-ghost use Rattle.std.specs.Prelude.{◌≡◌, ◌+◌, ◌≤◌, ◌<◌, ◌^◌, length, take, drop, Some, None, MatchOption, ◌++◌, nat_lt, IfSome, IfOk, IfErr, pos, ◌-ℤ◌};
-ghost use Rattle.liberty_text.specs.Number.{digit_run, sign_of, fraction_of, exponent_of, is_run, written_of, IsSpelled, significant, digits_value, signed, AreDigits, Written, fixed_with, fixed_of, IsFixedOf, IsNumberFaultOf};
+ghost use Rattle.std.specs.Prelude.{◌≡◌, ◌+◌, ◌≤◌, ◌<◌, ◌^◌, length, take, drop, Some, None, MatchOption, ◌++◌, nat_lt, IfSome};
+ghost use Rattle.std.specs.Prelude.{IfOk, IfErr, pos, ◌-ℤ◌};
+ghost use Rattle.liberty_text.specs.Number.{digit_run, sign_of, fraction_of, exponent_of, is_run, written_of, IsSpelled};
+ghost use Rattle.liberty_text.specs.Number.{significant, digits_value, signed, AreDigits, Written, fixed_with, fixed_of};
+ghost use Rattle.liberty_text.specs.Number.{IsFixedOf, IsNumberFaultOf};
 
 use crate::decimal::{Fixed, NumberFault};
 use lexer::{Digit, number_after, run_length};
@@ -66,7 +69,9 @@ fn exponent(text: &[u8]) -> Option<(bool, &[u8])>
 
 /// The number that a text is.
 fn spelled(text: &[u8]) -> Option<Spelling<'_>>
-    ensures { MatchOption result (written_of text.now ≡ None) (λ found. IsSpelled found.negative found.whole.now found.fraction.now found.exponent_negative found.exponent.now (written_of text.now)) }
+    ensures { MatchOption result (written_of text.now ≡ None)
+        (λ found. IsSpelled found.negative found.whole.now found.fraction.now found.exponent_negative found.exponent.now
+        (written_of text.now)) }
 {
     let (negative, body) = sign(text);
     let (whole, rest) = body.split_at(run_length::<Digit>(body));
@@ -149,7 +154,14 @@ impl Spelling<'_> {
         requires whole { AreDigits self.now.whole.now }
         requires fraction { AreDigits self.now.fraction.now }
         requires exponent { AreDigits self.now.exponent.now }
-        ensures { result ≡ fixed_with (record { negative = self.now.negative; whole = self.now.whole.now; fraction = self.now.fraction.now; exponent_negative = self.now.exponent_negative; exponent = self.now.exponent.now }) }
+        ensures { result ≡ fixed_with (record {
+          negative = self.now.negative;
+          whole = self.now.whole.now;
+          fraction =
+              self.now.fraction.now;
+          exponent_negative = self.now.exponent_negative;
+          exponent = self.now.exponent.now;
+        }) }
     {
         if has_too_many(self.whole, self.fraction) {
             return Err(NumberFault::TooManyDigits);

@@ -135,7 +135,8 @@ impl Scanner {
     fn go_on(&mut self, begun: usize, line: bool, at: usize, byte: u8) -> Result<(), AllocError>
         requires { at + 1 < 2 ^ 64 }
         ensures mode { OnOk result (self.new.mode ≡ (in_word_by begun line at byte (class_of byte)).0) }
-        ensures tokens { OnOk result (self.new.tokens.items ≡ self.old.tokens.items ++ (in_word_by begun line at byte (class_of byte)).1) }
+        ensures tokens { OnOk result (self.new.tokens.items ≡ self.old.tokens.items
+            ++ (in_word_by begun line at byte (class_of byte)).1) }
     {
         if class_of(byte) == Class::WordByte {
             self.mode = Mode::InWord {
@@ -157,7 +158,8 @@ impl Scanner {
         slash: usize,
     ) -> Result<(), AllocError>
         ensures mode { OnOk result (self.new.mode ≡ (comment_in_word begun line_before slash).0) }
-        ensures tokens { OnOk result (self.new.tokens.items ≡ self.old.tokens.items ++ (comment_in_word begun line_before slash).1) }
+        ensures tokens { OnOk result (self.new.tokens.items ≡ self.old.tokens.items
+            ++ (comment_in_word begun line_before slash).1) }
     {
         let is_word = begun != slash;
         if is_word {
@@ -182,7 +184,8 @@ impl Scanner {
     ) -> Result<(), AllocError>
         requires { at + 1 < 2 ^ 64 }
         ensures mode { OnOk result (self.new.mode ≡ (in_text begun line_before escaped at byte).0) }
-        ensures tokens { OnOk result (self.new.tokens.items ≡ self.old.tokens.items ++ (in_text begun line_before escaped at byte).1) }
+        ensures tokens { OnOk result (self.new.tokens.items ≡ self.old.tokens.items
+            ++ (in_text begun line_before escaped at byte).1) }
     {
         if byte == b'"' && !escaped {
             self.push(TokenKind::Text, begun, at + 1, line_before)?;
@@ -241,9 +244,11 @@ impl Scanner {
         requires { at + length bytes.now < 2 ^ 64 }
         ensures count { IfOk result (λ count. count ≤ length bytes.now) }
         ensures mode { IfOk result (λ count. self.new.mode ≡ mode_behind self.old.mode at (take count bytes.now)) }
-        ensures tokens { IfOk result (λ count. self.new.tokens.items ≡ self.old.tokens.items ++ tokens_ended self.old.mode at (take count bytes.now)) }
+        ensures tokens { IfOk result (λ count. self.new.tokens.items ≡ self.old.tokens.items
+            ++ tokens_ended self.old.mode at (take count bytes.now)) }
         ensures none_before { IfOk result (λ count. (n : ℕ) → n < count → tokens_ended self.old.mode at (take n bytes.now) ≡ []) }
-        ensures all { IfOk result (λ count. tokens_ended self.old.mode at (take count bytes.now) ≡ [] → count ≡ length bytes.now) }
+        ensures all { IfOk result (λ count. tokens_ended self.old.mode at (take count bytes.now) ≡ []
+            → count ≡ length bytes.now) }
     {
         let ended = self.tokens().len();
         let mut done = 0;

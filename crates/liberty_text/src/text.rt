@@ -3,7 +3,8 @@
 ghost use Rattle.std.specs.Prelude.{◌≡◌, ◌<◌, ◌≤◌, ◌+◌, length, IfOk, IfSome, [], ◌∷◌, OnOk, ◌++◌};
 ghost use Rattle.std.specs.List.{list_all};
 ghost use Rattle.liberty_text.specs.Idle.{stands_for_itself};
-ghost use Rattle.liberty_text.specs.TextValue.{blank_line, piece, behind_backslash, begins_with_quote, value_of, HaveOneValue, QuotesReadBack};
+ghost use Rattle.liberty_text.specs.TextValue.{blank_line, piece, behind_backslash, begins_with_quote, value_of, HaveOneValue};
+ghost use Rattle.liberty_text.specs.TextValue.{QuotesReadBack};
 
 use crate::class::{Class, class_of};
 use memchr::memchr2;
@@ -46,7 +47,8 @@ fn push_piece(value: &mut Items<u8>, byte: u8, behind: &[u8]) -> Result<usize, A
 
 /// The same for a backslash.
 fn push_escape(value: &mut Items<u8>, behind: &[u8]) -> Result<usize, AllocError>
-    ensures value { OnOk result (value.new ≡ value.old ++ (behind_backslash (blank_line behind.now) (begins_with_quote behind.now)).0) }
+    ensures value { OnOk result (value.new ≡ value.old
+        ++ (behind_backslash (blank_line behind.now) (begins_with_quote behind.now)).0) }
     ensures taken { IfOk result (λ taken. taken ≡ (behind_backslash (blank_line behind.now) (begins_with_quote behind.now)).1) }
     ensures within { IfOk result (λ taken. taken ≤ length behind.now) }
 {

@@ -1,5 +1,6 @@
 -- When the line of a cell says that a module is the same, and when all lines do.
-use Rattle.std.proofs.Common.{◌≡◌, ℕ, Bool, true, false, ◌||◌, List, [], ◌∷◌, ◌++◌, length, nat_lt, codes, decimal, Option, Some, None, Result, Ok, Err, if◌then◌else◌, refl, sym, ap, ◌∙◌}
+use Rattle.std.proofs.Common.{◌≡◌, ℕ, Bool, true, false, ◌||◌, List, [], ◌∷◌, ◌++◌, length, nat_lt, codes, decimal, Option, Some}
+use Rattle.std.proofs.Common.{None, Result, Ok, Err, if◌then◌else◌, refl, sym, ap, ◌∙◌}
 use Rattle.std.specs.Prelude.{All}
 use Rattle.std.specs.Option.{option_map}
 use Rattle.std.proofs.lemmas.List.{append_cancel_left}
@@ -41,15 +42,23 @@ IsSame found = found ≡ Some verdict.Same
 same_of : (v : Verdict) → Some v ≡ Some verdict.Same → v ≡ verdict.Same
 same_of v e = cc
 
-match_of : SameIsMatching → (models : List (FileModel VModule)) (cell : CellData) → IsSame (verdict_in models cell) → HasMatch models cell
+match_of : SameIsMatching → (models : List (FileModel VModule)) (cell : CellData) → IsSame (verdict_in models cell)
+    → HasMatch models cell
 unfolding verdict_in
 match_of law models cell e = by (module_for models cell) refl e
   where
-    by : (found : Option VModule) → module_for models cell ≡ found → IsSame (option_map (verdict_of cell) found) → HasMatch models cell
+    by : (found : Option VModule) → module_for models cell ≡ found → IsSame (option_map (verdict_of cell) found)
+        → HasMatch models cell
     by None f same = absurd cc
-    by (Some model) f same = record { model = model; found = f; matches = (law cell model).0 (same_of (verdict_of cell model) same) }
+    by (Some model) f same = record {
+      model = model;
+      found = f;
+      matches =
+          (law cell model).0 (same_of (verdict_of cell model) same);
+    }
 
-same_for : SameIsMatching → (models : List (FileModel VModule)) (cell : CellData) → HasMatch models cell → IsSame (verdict_in models cell)
+same_for : SameIsMatching → (models : List (FileModel VModule)) (cell : CellData) → HasMatch models cell
+    → IsSame (verdict_in models cell)
 unfolding verdict_in
 same_for law models cell h = ap (option_map (verdict_of cell)) h.found ∙ ap Some ((law cell h.model).1 h.matches)
 
@@ -62,12 +71,15 @@ same_text (Some verdict.Same) e = refl
 same_text (Some (verdict.Shape part number)) e = absurd cc
 same_text (Some (verdict.Differs difference)) e = absurd cc
 
-same_line_of : (number : ℕ) (name : List ℕ) (found : Option Verdict) → audit_line number name found ≡ audit_line number name (Some verdict.Same) → IsSame found
+same_line_of : (number : ℕ) (name : List ℕ) (found : Option Verdict)
+    → audit_line number name found ≡ audit_line number name (Some verdict.Same) → IsSame found
 unfolding audit_line
 same_line_of number name found e =
     let text = verdict_text (Some verdict.Same) in
-    let behind-word = append_cancel_left (codes "audit ") (decimal number ++ (codes " " ++ (name ++ verdict_text found))) (decimal number ++ (codes " " ++ (name ++ text))) e in
-    let behind-number = append_cancel_left (decimal number) (codes " " ++ (name ++ verdict_text found)) (codes " " ++ (name ++ text)) behind-word in
+    let behind-word = append_cancel_left (codes "audit ") (decimal number ++ (codes " " ++ (name ++ verdict_text found)))
+    (decimal number ++ (codes " " ++ (name ++ text))) e in
+    let behind-number = append_cancel_left (decimal number) (codes " " ++ (name ++ verdict_text found))
+    (codes " " ++ (name ++ text)) behind-word in
     let behind-space = append_cancel_left (codes " ") (name ++ verdict_text found) (name ++ text) behind-number in
     same_text found (append_cancel_left name (verdict_text found) text behind-space)
 
@@ -77,14 +89,17 @@ unfolding left_out_line audit_line
 left_out_line_of number name e =
     let left_out = codes " left-out\n" in
     let text = verdict_text (Some verdict.Same) in
-    let behind-word = append_cancel_left (codes "audit ") (decimal number ++ (codes " " ++ (name ++ left_out))) (decimal number ++ (codes " " ++ (name ++ text))) e in
-    let behind-number = append_cancel_left (decimal number) (codes " " ++ (name ++ left_out)) (codes " " ++ (name ++ text)) behind-word in
+    let behind-word = append_cancel_left (codes "audit ") (decimal number ++ (codes " " ++ (name ++ left_out)))
+    (decimal number ++ (codes " " ++ (name ++ text))) e in
+    let behind-number = append_cancel_left (decimal number) (codes " " ++ (name ++ left_out)) (codes " " ++ (name ++ text))
+    behind-word in
     let behind-space = append_cancel_left (codes " ") (name ++ left_out) (name ++ text) behind-number in
     let same : left_out ≡ text = append_cancel_left name left_out text behind-space in
     absurd cc
 
 line_of : (floats : Bool) (number : ℕ) (name : List ℕ) (found : Option Verdict)
-    → (if floats then left_out_line number name else audit_line number name found) ≡ audit_line number name (Some verdict.Same) → (floats ≡ false) × IsSame found
+    → (if floats then left_out_line number name else audit_line number name found) ≡ audit_line number name (Some verdict.Same)
+    → (floats ≡ false) × IsSame found
 line_of true number name found e = absurd (left_out_line_of number name e)
 line_of false number name found e = (refl, same_line_of number name found e)
 
@@ -92,7 +107,8 @@ pub same_line_is_match : SameIsMatching → SameLineIsMatch
 same_line_is_match law models cell entity =
     let number = cell.core.number in
     let found = verdict_in models cell.core in (
-      λ e. let same = line_of (may_float cell) number cell.name found e in record { plain = same.0; has_match = match_of law models cell.core same.1 },
+      λ e. let same = line_of (may_float cell) number cell.name found e
+          in record { plain = same.0; has_match = match_of law models cell.core same.1 },
       λ h. ap (λ floats. if floats then left_out_line number cell.name else audit_line number cell.name found) h.plain
           ∙ ap (audit_line number cell.name) (same_for law models cell.core h.has_match),
     )
@@ -105,53 +121,66 @@ not_other (Some verdict.Same) e = refl
 not_other (Some (verdict.Shape part number)) e = absurd cc
 not_other (Some (verdict.Differs difference)) e = absurd cc
 
-match_entry : SameIsMatching → (models : List (FileModel VModule)) (cell : CellEntry) → differs models cell ≡ false → HasMatchOrIsLeftOut models cell
+match_entry : SameIsMatching → (models : List (FileModel VModule)) (cell : CellEntry) → differs models cell ≡ false
+    → HasMatchOrIsLeftOut models cell
 match_entry law models (Accepted cell entity) e =
     let found = verdict_in models cell.core in
-    λ plain. match_of law models cell.core (not_other found (sym (ap (λ floats. if floats then false else is_other found) plain) ∙ e))
+    λ plain. match_of law models cell.core
+    (not_other found (sym (ap (λ floats. if floats then false else is_other found) plain) ∙ e))
 match_entry law models (Refused name refusal) e = tt
 
-none_other : (floats : Bool) (found : Option Verdict) → (floats ≡ false → IsSame found) → (if floats then false else is_other found) ≡ false
+none_other : (floats : Bool) (found : Option Verdict) → (floats ≡ false → IsSame found)
+    → (if floats then false else is_other found) ≡ false
 none_other true found h = refl
 none_other false found h = ap is_other (h refl)
 
-no_other : SameIsMatching → (models : List (FileModel VModule)) (cell : CellEntry) → HasMatchOrIsLeftOut models cell → differs models cell ≡ false
-no_other law models (Accepted cell entity) h = none_other (may_float cell) (verdict_in models cell.core) (λ plain. same_for law models cell.core (h plain))
+no_other : SameIsMatching → (models : List (FileModel VModule)) (cell : CellEntry) → HasMatchOrIsLeftOut models cell
+    → differs models cell ≡ false
+no_other law models (Accepted cell entity) h =
+    none_other (may_float cell) (verdict_in models cell.core) (λ plain. same_for law models cell.core (h plain))
 no_other law models (Refused name refusal) h = refl
 
 neither : (a b : Bool) → (a || b) ≡ false → (a ≡ false) × (b ≡ false)
 neither true b e = absurd cc
 neither false b e = (refl, e)
 
-match_entries : SameIsMatching → (models : List (FileModel VModule)) (cells : List CellEntry) → any_differs models cells ≡ false → All (HasMatchOrIsLeftOut models) cells
+match_entries : SameIsMatching → (models : List (FileModel VModule)) (cells : List CellEntry) → any_differs models cells ≡ false
+    → All (HasMatchOrIsLeftOut models) cells
 match_entries law models [] e = All-nil (HasMatchOrIsLeftOut models)
 match_entries law models (cell ∷ cells) e =
     let each = neither (differs models cell) (any_differs models cells) e in
     All-cons (HasMatchOrIsLeftOut models) cell cells (match_entry law models cell each.0) (match_entries law models cells each.1)
 
-none_differs : SameIsMatching → (models : List (FileModel VModule)) (cells : List CellEntry) → All (HasMatchOrIsLeftOut models) cells → any_differs models cells ≡ false
+none_differs : SameIsMatching → (models : List (FileModel VModule)) (cells : List CellEntry)
+    → All (HasMatchOrIsLeftOut models) cells → any_differs models cells ≡ false
 none_differs law models cells h = list_any_none (differs models) cells (λ k d below. no_other law models _ (h k d below))
 
 -- A run that is done has read both files.
 
-cells_or_stop : (read : Result (List CellEntry) NotWhole) (more : List CellEntry → Outcome) → (outcome_by 1 (answer_by read) more).status ≡ status.Done
+cells_or_stop : (read : Result (List CellEntry) NotWhole) (more : List CellEntry → Outcome)
+    → (outcome_by 1 (answer_by read) more).status ≡ status.Done
     → (cells : List CellEntry) × (answer_by read ≡ Ok cells) × ((more cells).status ≡ status.Done)
 cells_or_stop (Ok cells) more h = (cells, refl, h)
 cells_or_stop (Err (not_whole.Fault fault)) more h = absurd cc
 cells_or_stop (Err not_whole.TooLong) more h = absurd cc
 
-read_or_stop : (read : Result (List (FileModel VModule)) ModelFault) (more : List (FileModel VModule) → Outcome) → (outcome_by 2 (models_or_stop verilog.format read) more).status ≡ status.Done
-    → (models : List (FileModel VModule)) × (models_or_stop verilog.format read ≡ Ok models) × ((more models).status ≡ status.Done)
+read_or_stop : (read : Result (List (FileModel VModule)) ModelFault) (more : List (FileModel VModule) → Outcome)
+    → (outcome_by 2 (models_or_stop verilog.format read) more).status ≡ status.Done
+    → (models : List (FileModel VModule)) × (models_or_stop verilog.format read ≡ Ok models)
+    × ((more models).status ≡ status.Done)
 read_or_stop (Ok models) more h = (models, refl, h)
 read_or_stop (Err fault) more h = absurd cc
 
 models_within : (over : Bool) (text : List ℕ) (more : List (FileModel VModule) → Outcome)
     → (outcome_by 2 (answer_where (long_model_stop verilog.format) (models_in_text verilog) over text) more).status ≡ status.Done
-    → (models : List (FileModel VModule)) × (answer_where (long_model_stop verilog.format) (models_in_text verilog) over text ≡ Ok models) × ((more models).status ≡ status.Done)
+    → (models : List (FileModel VModule))
+    × (answer_where (long_model_stop verilog.format) (models_in_text verilog) over text ≡ Ok models)
+    × ((more models).status ≡ status.Done)
 models_within true text more h = absurd cc
 models_within false text more h = read_or_stop (verilog_models text) more h
 
-models_read : (text : List ℕ) (more : List (FileModel VModule) → Outcome) → (outcome_by 2 (model_answer verilog text) more).status ≡ status.Done
+models_read : (text : List ℕ) (more : List (FileModel VModule) → Outcome)
+    → (outcome_by 2 (model_answer verilog text) more).status ≡ status.Done
     → (models : List (FileModel VModule)) × (model_answer verilog text ≡ Ok models) × ((more models).status ≡ status.Done)
 unfolding model_answer
 models_read text more h = models_within (nat_lt model_limit (length text)) text more h
@@ -162,7 +191,8 @@ none_where_done false e = refl
 
 all_match : SameIsMatching → (library text : List ℕ) → (audit_outcome library text).status ≡ status.Done → AllMatch library text
 all_match law library text done =
-    let (cells, are_cells, behind) = cells_or_stop (library_cells_within library_limit library) (λ cells. behind_cells cells text) done in
+    let (cells, are_cells, behind) =
+    cells_or_stop (library_cells_within library_limit library) (λ cells. behind_cells cells text) done in
     let (models, are_models, ended) = models_read text (λ models. audits_outcome cells models) behind in
     record {
       cells = cells;

@@ -1,5 +1,6 @@
 -- The two files of a comparison, one after the other.
-use Rattle.std.proofs.Common.{◌≡◌, ℕ, Bool, true, false, List, [], ◌∷◌, Result, Ok, Err, IfOk, Contains, refl, sym, ap, subst, ◌∙◌, arith}
+use Rattle.std.proofs.Common.{◌≡◌, ℕ, Bool, true, false, List, [], ◌∷◌, Result, Ok, Err, IfOk, Contains, refl, sym, ap, subst}
+use Rattle.std.proofs.Common.{◌∙◌, arith}
 use Rattle.std.specs.Prelude.{All}
 use Rattle.std.proofs.lemmas.List.{append-nil}
 use Rattle.text_io.specs.declared.slots.InSlot.TheVariants.{Library, Verilog}
@@ -46,14 +47,16 @@ abbrev pub HasModels : DeskState → DeskState → List CellEntry → List (File
 HasModels old now cells models = HasRead audit_files audit_files (audit_of old.words) (λ _. audits_outcome cells models) old now
 
 -- the Verilog file is still among those that the words name
-pub verilog_planned : (old now : DeskState) (cells : List CellEntry) → HasCells old now cells → plan old.words ≡ audit_files → Contains (plan now.words) (Input Verilog, 2)
+pub verilog_planned : (old now : DeskState) (cells : List CellEntry) → HasCells old now cells → plan old.words ≡ audit_files
+    → Contains (plan now.words) (Input Verilog, 2)
 verilog_planned old now cells r planned =
     subst (λ words. Contains (plan words) (Input Verilog, 2)) (sym (words_before old now one_file r.bytes r.taken r.state))
     (subst (λ files. Contains files (Input Verilog, 2)) (sym planned) (1, omega arith, refl))
 
 -- The files that are read.
 
-pub cells_read : (old now : DeskState) (cells : List CellEntry) → FileIsTaken library_answer old now Library 1 cells → HasCells old now cells
+pub cells_read : (old now : DeskState) (cells : List CellEntry) → FileIsTaken library_answer old now Library 1 cells
+    → HasCells old now cells
 cells_read old now cells t =
     one_more audit_files [] (audit_of old.words) library_answer (after_cells old.words) old old now Library 1 1 cells
     (nothing_read audit_files (audit_of old.words) old) refl ((Input Verilog, 2) ∷ [], refl) t
@@ -61,15 +64,18 @@ cells_read old now cells t =
 pub models_read : (old now new : DeskState) (cells : List CellEntry) (models : List (FileModel VModule)) → HasCells old now cells
     → FileIsTaken (model_answer verilog) now new Verilog 2 models → HasModels old new cells models
 models_read old now new cells models r t =
-    one_more audit_files one_file (audit_of old.words) (model_answer verilog) (λ found _. audits_outcome cells found) old now new Verilog 2 2 models
+    one_more audit_files one_file (audit_of old.words) (model_answer verilog) (λ found _. audits_outcome cells found) old now new
+    Verilog 2 2 models
     r refl ([], refl) t
 
-pub modules_sound : (models : List (FileModel VModule)) → All verilog.is_well_formed models → All (λ (model : FileModel VModule). IsSound model.core) models
+pub modules_sound : (models : List (FileModel VModule)) → All verilog.is_well_formed models
+    → All (λ (model : FileModel VModule). IsSound model.core) models
 modules_sound models h = λ k d below. (h k d below).core
 
 -- The file that ends the run.
 
-pub library_ends : (old new : DeskState) (result : Status) → FileEndsRun library_answer old new Library 1 result → RunsAs audit_files (audit_of old.words) old new result
+pub library_ends : (old new : DeskState) (result : Status) → FileEndsRun library_answer old new Library 1 result
+    → RunsAs audit_files (audit_of old.words) old new result
 library_ends old new result f =
     ends_there audit_files [] (audit_of old.words) library_answer (after_cells old.words) old old new Library 1 1 result
     (nothing_read audit_files (audit_of old.words) old) refl ((Input Verilog, 2) ∷ [], refl) refl refl f
@@ -77,28 +83,36 @@ library_ends old new result f =
 pub verilog_ends : (old now new : DeskState) (cells : List CellEntry) (result : Status) → HasCells old now cells
     → FileEndsRun (model_answer verilog) now new Verilog 2 result → RunsAs audit_files (audit_of old.words) old new result
 verilog_ends old now new cells result r f =
-    ends_there audit_files one_file (audit_of old.words) (model_answer verilog) (λ found _. audits_outcome cells found) old now new Verilog 2 2 result
+    ends_there audit_files one_file (audit_of old.words) (model_answer verilog) (λ found _. audits_outcome cells found) old now
+    new Verilog 2 2 result
     r refl ([], refl) refl refl f
 
 -- want of memory behind the models
-pub no_memory : (old now : DeskState) (cells : List CellEntry) (models : List (FileModel VModule)) (result : Status) → HasModels old now cells models → result ≡ status.Memory
+pub no_memory : (old now : DeskState) (cells : List CellEntry) (models : List (FileModel VModule)) (result : Status)
+    → HasModels old now cells models → result ≡ status.Memory
     → RunsAs audit_files (audit_of old.words) old now result
 no_memory old now cells models result r is =
-    stops_between audit_files audit_files (audit_of old.words) (λ _. audits_outcome cells models) old now result r (ap is_decided is)
+    stops_between audit_files audit_files (audit_of old.words) (λ _. audits_outcome cells models) old now result r
+    (ap is_decided is)
 
 -- The lines are printed.
 
-pub printed_runs : (old now new : DeskState) (cells : List CellEntry) (models : List (FileModel VModule)) (printed : Result Bool Stop) (result : Status) → HasModels old now cells models
-    → WritesTrace now new (audits_text models cells) printed → IfOk printed (λ differ. differ ≡ any_differs models cells) → result ≡ compared_status printed
+pub printed_runs : (old now new : DeskState) (cells : List CellEntry) (models : List (FileModel VModule))
+    (printed : Result Bool Stop) (result : Status) → HasModels old now cells models
+    → WritesTrace now new (audits_text models cells) printed → IfOk printed (λ differ. differ ≡ any_differs models cells)
+    → result ≡ compared_status printed
     → RunsAs audit_files (audit_of old.words) old new result
 printed_runs old now new cells models (Ok differ) result r w d is =
     let text = audits_text models cells in
     let ends = status_where (any_differs models cells) in
     let same : result ≡ ends = is ∙ ap status_where d in
-    reports_all audit_files (audit_of old.words) old now new ends result text text r refl w.whole ([], append-nil text) (λ _. (same, refl))
+    reports_all audit_files (audit_of old.words) old now new ends result text text r refl w.whole ([], append-nil text)
+    (λ _. (same, refl))
 printed_runs old now new cells models (Err stops.Failed) result r w d is =
     let ends = status_where (any_differs models cells) in
-    reports_all audit_files (audit_of old.words) old now new ends result w.part.part (audits_text models cells) r refl w.part.state w.part.front (λ k. absurd (let h = rw is at k in cc))
+    reports_all audit_files (audit_of old.words) old now new ends result w.part.part (audits_text models cells) r refl
+    w.part.state w.part.front (λ k. absurd (let h = rw is at k in cc))
 printed_runs old now new cells models (Err stops.Memory) result r w d is =
     let ends = status_where (any_differs models cells) in
-    reports_all audit_files (audit_of old.words) old now new ends result w.part.part (audits_text models cells) r refl w.part.state w.part.front (λ k. absurd (let h = rw is at k in cc))
+    reports_all audit_files (audit_of old.words) old now new ends result w.part.part (audits_text models cells) r refl
+    w.part.state w.part.front (λ k. absurd (let h = rw is at k in cc))

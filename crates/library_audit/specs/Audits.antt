@@ -1,5 +1,6 @@
 -- The cells of a library compared with the modules of a Verilog file. This project's rules.
-use Rattle.std.specs.Prelude.{ℕ, Bool, true, false, List, [], length, nat_lt, flat_map, slice_get, Option, Some, None, if◌then◌else◌}
+use Rattle.std.specs.Prelude.{ℕ, Bool, true, false, List, [], length, nat_lt, flat_map, slice_get, Option, Some, None}
+use Rattle.std.specs.Prelude.{if◌then◌else◌}
 use Rattle.std.specs.Option.{option_map, option_and_then}
 use Rattle.std.specs.List.{list_any}
 use Rattle.bool_functions.specs.NameList.{number_of}
@@ -24,9 +25,11 @@ module_in model = if nat_lt 0 (length model.driver.drives) then None else Some m
 unfoldable pub module_at : List (FileModel VModule) → ℕ → Option VModule
 module_at models number = option_and_then module_in (slice_get models number)
 
--- The module of a cell: the one with the name that is written for the cell in Verilog text, whatever its ports are. A driver is none.
+-- The module of a cell: the one with the name that is written for the cell in Verilog text, whatever its ports are. A driver is
+-- none.
 unfoldable pub module_for : List (FileModel VModule) → CellData → Option VModule
-module_for models cell = option_and_then (module_at models) (number_of (model_names verilog models) (module_name cell.number cell.name))
+module_for models cell = option_and_then (module_at models)
+    (number_of (model_names verilog models) (module_name cell.number cell.name))
 
 -- what comparing a cell with the module with this number comes to, where it is there
 unfoldable pub verdict_beside : List (FileModel VModule) → CellData → ℕ → Option Verdict

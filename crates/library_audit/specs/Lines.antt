@@ -62,17 +62,21 @@ shape_text part number = codes " shape " ++ (shape_word part ++ (codes " " ++ (d
 unfoldable pub values_text : Trit → Trit → List ℕ
 values_text of_cell of_model = codes " cell " ++ (value_text of_cell ++ (codes " model " ++ (value_text of_model ++ codes "\n")))
 
--- where they have these values: the place that changed, its old value, the values of all places, the state and the register of the
--- checks
+-- where they have these values: the place that changed, its old value, the values of all places, the state and the register of
+-- the checks
 unfoldable pub arguments_text : Difference → List ℕ
 arguments_text d =
     codes " place "
-    ++ (place_text d.changed ++ (codes " old " ++ (known_text d.old ++ (codes " new" ++ (listed_text d.places ++ (codes " state " ++ (known_text d.state ++ (codes " notifier " ++ known_text d.notifier))))))))
+    ++ (place_text d.changed ++ (codes " old "
+    ++ (known_text d.old ++ (codes " new"
+    ++ (listed_text d.places ++ (codes " state "
+    ++ (known_text d.state ++ (codes " notifier " ++ known_text d.notifier))))))))
 
 -- a table with another value: what it is for, its number, its arguments and both values
 unfoldable pub difference_text : Difference → List ℕ
 difference_text d =
-    codes " differs " ++ (table_word d.part ++ (codes " " ++ (decimal d.number ++ (arguments_text d ++ values_text d.of_cell d.of_model))))
+    codes " differs " ++ (table_word d.part
+    ++ (codes " " ++ (decimal d.number ++ (arguments_text d ++ values_text d.of_cell d.of_model))))
 
 -- what is said of a cell, where a module has its name
 abbrev pub verdict_text : Option Verdict → List ℕ

@@ -1,5 +1,5 @@
--- What comparing a library with a Verilog file comes to: both files are read one after another, the first of them that ends the run
--- decides, and behind them the line of each accepted cell is printed. This project's rule.
+-- What comparing a library with a Verilog file comes to: both files are read one after another, the first of them that ends the
+-- run decides, and behind them the line of each accepted cell is printed. This project's rule.
 use Rattle.std.specs.Prelude.{ℕ, List, [], ◌∷◌}
 use Rattle.text_io.specs.declared.slots.InSlot.TheVariants.{Library, Verilog}
 use Rattle.text_io.specs.declared.slots.Slot.TheVariants.{Input}
@@ -24,7 +24,13 @@ audit_files = (Input Library, 1) ∷ (Input Verilog, 2) ∷ []
 -- what the cells come to beside these models; both files are bound then
 abbrev pub audits_outcome : List CellEntry → List (FileModel VModule) → Outcome
 audits_outcome cells models =
-    record { status = status_where (any_differs models cells); binds = 2; text = in_report (audits_text models cells); faults = [] }
+    record {
+      status = status_where (any_differs models cells);
+      binds = 2;
+      text = in_report (audits_text models cells);
+      faults =
+          [];
+    }
 
 -- behind the cells, by the Verilog file
 abbrev pub behind_cells : List CellEntry → List ℕ → Outcome

@@ -17,9 +17,10 @@ pub record AreReady (named : NamedModules) : Type 0 where
   pub names : named.names ≡ model_names verilog named.models
   pub sound : All (λ (model : FileModel VModule). IsSound model.core) named.models
 
--- The library and the Verilog file were read. Nothing was appended, and where the desk tells the files the run comes to these cells
--- beside these models.
+-- The library and the Verilog file were read. Nothing was appended, and where the desk tells the files the run comes to these
+-- cells beside these models.
 pub record ReadsFiles (old new : DeskState) (read : AuditFiles) : Type 0 where
   pub files :
-      HasRead audit_files audit_files (audit_of old.words) (λ _. audits_outcome (all_described read.cells) read.named.models) old new
+      HasRead audit_files audit_files (audit_of old.words) (λ _. audits_outcome (all_described read.cells) read.named.models) old
+      new
   pub ready : AreReady read.named

@@ -6,7 +6,8 @@ ghost use Rattle.cell_machine.specs.CellData.{data_of};
 ghost use Rattle.three_state_cells.specs.DrivenCells.{driven_data_of};
 ghost use Rattle.library_reader.specs.LibraryCells.{described, all_described};
 ghost use Rattle.library_audit.specs.Lines.{audit_line};
-ghost use Rattle.library_audit.specs.Audits.{verdict_in, accepted_text, audit_text, audits_text, is_other as is_other_of, accepted_differs, differs, any_differs};
+ghost use Rattle.library_audit.specs.Audits.{verdict_in, accepted_text, audit_text, audits_text, is_other as is_other_of};
+ghost use Rattle.library_audit.specs.Audits.{accepted_differs, differs, any_differs};
 ghost use Rattle.library_audit.specs.Reads.{AreReady};
 
 use crate::files::AuditFiles;
@@ -25,8 +26,8 @@ fn is_other(found: &Option<Verdict>) -> bool
     !matches!(found, Some(Verdict::Same))
 }
 
-/// Appends to the report the line of a cell that is compared with its module, and answers whether it has none that is the same. After a
-/// fault a prefix of the line was appended.
+/// Appends to the report the line of a cell that is compared with its module, and answers whether it has none that is the same.
+/// After a fault a prefix of the line was appended.
 fn write_compared<D: Desk>(
     alloc: Global,
     desk: &mut D,
@@ -34,7 +35,8 @@ fn write_compared<D: Desk>(
     cell: &DrivenCell,
 ) -> Result<bool, Stop>
     requires { AreReady named.now }
-    ensures text { WritesTrace (D.state desk.old) (D.state desk.new) (audit_line cell.now.core.number cell.now.name (verdict_in named.now.models (data_of cell.now.core))) result }
+    ensures text { WritesTrace (D.state desk.old) (D.state desk.new)
+        (audit_line cell.now.core.number cell.now.name (verdict_in named.now.models (data_of cell.now.core))) result }
     ensures other { IfOk result (λ other. other ≡ is_other_of (verdict_in named.now.models (data_of cell.now.core))) }
     ensures cause { StopsWithCause (D.faults desk.old) (D.faults desk.new) result }
 {
@@ -43,8 +45,8 @@ fn write_compared<D: Desk>(
     Ok(is_other(&found))
 }
 
-/// Appends to the report the line of an accepted cell, and answers whether it is compared and has no module that is the same. After a
-/// fault a prefix of the line was appended.
+/// Appends to the report the line of an accepted cell, and answers whether it is compared and has no module that is the same.
+/// After a fault a prefix of the line was appended.
 fn write_accepted<D: Desk>(
     alloc: Global,
     desk: &mut D,
@@ -52,7 +54,8 @@ fn write_accepted<D: Desk>(
     cell: &DrivenCell,
 ) -> Result<bool, Stop>
     requires { AreReady named.now }
-    ensures text { WritesTrace (D.state desk.old) (D.state desk.new) (accepted_text named.now.models (driven_data_of cell.now)) result }
+    ensures text { WritesTrace (D.state desk.old) (D.state desk.new) (accepted_text named.now.models (driven_data_of cell.now))
+        result }
     ensures differs { IfOk result (λ other. other ≡ accepted_differs named.now.models (driven_data_of cell.now)) }
     ensures cause { StopsWithCause (D.faults desk.old) (D.faults desk.new) result }
 {
@@ -63,8 +66,8 @@ fn write_accepted<D: Desk>(
     write_compared(alloc, desk, named, cell)
 }
 
-/// Appends to the report the line of a cell, where it is accepted, and answers whether it then has no module that is the same. After a
-/// fault a prefix of the line was appended.
+/// Appends to the report the line of a cell, where it is accepted, and answers whether it then has no module that is the same.
+/// After a fault a prefix of the line was appended.
 fn write_cell<D: Desk>(
     alloc: Global,
     desk: &mut D,
@@ -82,16 +85,18 @@ fn write_cell<D: Desk>(
     }
 }
 
-/// Appends to the report the lines of the accepted cells, in order, and answers whether some of them has no module that is the same.
-/// After a fault a prefix of the lines was appended. `Failed` comes only where a write failed.
+/// Appends to the report the lines of the accepted cells, in order, and answers whether some of them has no module that is the
+/// same. After a fault a prefix of the lines was appended. `Failed` comes only where a write failed.
 pub(crate) fn write_cells<D: Desk>(
     alloc: Global,
     desk: &mut D,
     files: &AuditFiles,
 ) -> Result<bool, Stop>
     requires { AreReady files.now.named }
-    ensures text { WritesTrace (D.state desk.old) (D.state desk.new) (audits_text files.now.named.models (all_described files.now.cells)) result }
-    ensures differs { IfOk result (λ some_differ. some_differ ≡ any_differs files.now.named.models (all_described files.now.cells)) }
+    ensures text { WritesTrace (D.state desk.old) (D.state desk.new)
+        (audits_text files.now.named.models (all_described files.now.cells)) result }
+    ensures differs { IfOk result (λ some_differ. some_differ ≡ any_differs files.now.named.models
+        (all_described files.now.cells)) }
     ensures cause { StopsWithCause (D.faults desk.old) (D.faults desk.new) result }
 {
     let mut some_differ = false;

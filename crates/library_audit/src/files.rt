@@ -6,11 +6,11 @@ ghost use Rattle.library_audit.specs.Outcome.{audit_files, audit_of};
 ghost use Rattle.library_audit.specs.Reads.{ReadsFiles};
 
 use crate::modules::{NamedModules, names_of};
-use run_outcome::Status;
-use library_report::read_library;
 use library_reader::LibraryCell;
+use library_report::read_library;
 use model_files::read_model_file;
 use model_replay::Verilog;
+use run_outcome::Status;
 use sqlite_items::Items;
 use std::alloc::Global;
 use text_io::Desk;
@@ -26,9 +26,9 @@ pub(crate) struct AuditFiles {
 
 /// Binds and reads the library and the Verilog file that the words name, in this order.
 ///
-/// The Verilog file is bound only behind a library that is read, and nothing is appended but the line that tells of a file that ends
-/// the run. The run ends with `Outside` only where a call failed in this call, and with `Memory` where there was none; with every other
-/// status it is over, and all that it comes to is there.
+/// The Verilog file is bound only behind a library that is read, and nothing is appended but the line that tells of a file that
+/// ends the run. The run ends with `Outside` only where a call failed in this call, and with `Memory` where there was none; with
+/// every other status it is over, and all that it comes to is there.
 pub(crate) fn read_files<D: Desk>(alloc: Global, desk: &mut D) -> Result<AuditFiles, Status>
     requires { plan (D.state desk.old).words ≡ audit_files }
     ensures read { IfOk result (ReadsFiles (D.state desk.old) (D.state desk.new)) }

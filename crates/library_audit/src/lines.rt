@@ -1,7 +1,8 @@
 //! The line of a cell that is compared with its module.
 ghost use Rattle.text_io.specs.declared.slots.OutSlot.TheVariants.{Report};
 ghost use Rattle.text_io.specs.Desk.{HasCause, WritesText};
-ghost use Rattle.library_audit.specs.Lines.{shape_text, values_text, arguments_text, difference_text, verdict_text, audit_line, left_out_line};
+ghost use Rattle.library_audit.specs.Lines.{shape_text, values_text, arguments_text, difference_text, verdict_text, audit_line};
+ghost use Rattle.library_audit.specs.Lines.{left_out_line};
 
 use crate::words::{Known, Place, ShapeWord, TableWord, Value, Values};
 use table_audit::{Difference, ShapePart, Verdict};
@@ -96,8 +97,9 @@ impl Part for Found<'_> {
     }
 }
 
-/// Reports what comparing a cell with its module came to: the cell's number, from 1 among all cells of the library, its name, and the
-/// verdict, or that no module has its name. After `Failed`, which comes only where a write failed, a prefix of the line was appended.
+/// Reports what comparing a cell with its module came to: the cell's number, from 1 among all cells of the library, its name, and
+/// the verdict, or that no module has its name. After `Failed`, which comes only where a write failed, a prefix of the line was
+/// appended.
 #[tactic(auto, unfolding(crate::specs::Lines::audit_line))]
 pub(crate) fn write_audit<D: Desk>(
     desk: &mut D,
@@ -113,8 +115,8 @@ pub(crate) fn write_audit<D: Desk>(
     write_part(desk, OutSlot::Report, &line)
 }
 
-/// Reports a cell that is not compared, since some of its outputs may float: its number, from 1 among all cells of the library, and its
-/// name. After `Failed`, which comes only where a write failed, a prefix of the line was appended.
+/// Reports a cell that is not compared, since some of its outputs may float: its number, from 1 among all cells of the library,
+/// and its name. After `Failed`, which comes only where a write failed, a prefix of the line was appended.
 #[tactic(auto, unfolding(crate::specs::Lines::left_out_line))]
 pub(crate) fn write_left_out<D: Desk>(
     desk: &mut D,

@@ -10,10 +10,10 @@ use run_outcome::{Status, compared_status};
 use std::alloc::Global;
 use text_io::Desk;
 
-/// Compares the accepted cells of a library with the modules of a Verilog file, both of the files that the words name: of each cell it
-/// prints whether the module with the name that is written for the cell is there, has the cell's shape, and has the cell's value
-/// at all arguments of its tables. A cell whose outputs may float is left out. Nothing is printed before both files are read, and nothing
-/// of a cell that is refused.
+/// Compares the accepted cells of a library with the modules of a Verilog file, both of the files that the words name: of each
+/// cell it prints whether the module with the name that is written for the cell is there, has the cell's shape, and has the
+/// cell's value at all arguments of its tables. A cell whose outputs may float is left out. Nothing is printed before both files
+/// are read, and nothing of a cell that is refused.
 ///
 /// It ends with the status of the outcome, and all that the outcome appends was appended, or with `Outside`, only where a call
 /// on the desk failed in this call, or with `Memory`, where there was none.

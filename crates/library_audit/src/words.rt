@@ -1,6 +1,8 @@
 //! The words and values of a line on a cell that is compared with its module.
 ghost use Rattle.std.specs.Prelude.{◌≡◌, flat_map};
-ghost use Rattle.library_audit.specs.Lines.{shape_word as shape_word_of, table_word as table_word_of, value_text as value_text_of, known_text as known_text_of, place_text, listed_value, listed_text};
+ghost use Rattle.library_audit.specs.Lines.{shape_word as shape_word_of, table_word as table_word_of};
+ghost use Rattle.library_audit.specs.Lines.{value_text as value_text_of, known_text as known_text_of, place_text, listed_value};
+ghost use Rattle.library_audit.specs.Lines.{listed_text};
 
 use table_audit::{AuditPart, ShapePart};
 use text_io::{Bytes, Decimal, Desk, Line, OutSlot, Part, Put, parts};

@@ -1,5 +1,6 @@
 -- The next cell of a library.
-use Rattle.std.proofs.Common.{◌≡◌, ℕ, Bool, true, false, List, [], ◌∷◌, Option, Some, None, Result, Err, IfOk, IfErr, refl, sym, ◌∙◌, ap, subst, if◌then◌else◌}
+use Rattle.std.proofs.Common.{◌≡◌, ℕ, Bool, true, false, List, [], ◌∷◌, Option, Some, None, Result, Err, IfOk, IfErr, refl, sym}
+use Rattle.std.proofs.Common.{◌∙◌, ap, subst, if◌then◌else◌}
 use Rattle.liberty_text.specs.declared.time.Unit.{Unit}
 use Rattle.liberty_groups.specs.declared.tree.Group.{Group}
 use Rattle.cell_attributes.specs.Groups.{cell_name}
@@ -25,12 +26,14 @@ use Rattle.library_reader.specs.NextCells.{IsAcceptedNext}
 
 -- The cell has the name of its group as it stands.
 
-core_name : (unit : Option Unit) (number : ℕ) (group : Group) (outputs : List ThreeStateOutput) → (data_by unit number group outputs).name ≡ cell_name group
+core_name : (unit : Option Unit) (number : ℕ) (group : Group) (outputs : List ThreeStateOutput)
+    → (data_by unit number group outputs).name ≡ cell_name group
 unfolding floating_of core_group
 core_name unit number group [] = refl
 core_name unit number group (output ∷ outputs) = refl
 
-expanded_by : (types : List BusType) (group : Group) (many : Bool) → cell_name (if many then expanded_cell types group else group) ≡ cell_name group
+expanded_by : (types : List BusType) (group : Group) (many : Bool)
+    → cell_name (if many then expanded_cell types group else group) ≡ cell_name group
 expanded_by types group true = refl
 expanded_by types group false = refl
 
@@ -46,21 +49,27 @@ next_name p group =
 
 -- The cell of the expanded group is the next one.
 
-pub bits_read : (p : Progress) (group bits : Group) (number : ℕ) (r : Result DrivenCell CellFault) → number ≡ next_number p → bits ≡ next_bits p group
-    → IfOk r (λ (cell : DrivenCell). driven_data_of cell ≡ driven_data p.unit number bits) → IfOk r (λ (cell : DrivenCell). driven_data_of cell ≡ next_data p group)
+pub bits_read : (p : Progress) (group bits : Group) (number : ℕ) (r : Result DrivenCell CellFault) → number ≡ next_number p
+    → bits ≡ next_bits p group
+    → IfOk r (λ (cell : DrivenCell). driven_data_of cell ≡ driven_data p.unit number bits)
+    → IfOk r (λ (cell : DrivenCell). driven_data_of cell ≡ next_data p group)
 unfolding next_data
 bits_read p group bits number r n e h =
     let P : ℕ → Group → Type 0 = λ k g. IfOk r (λ (cell : DrivenCell). driven_data_of cell ≡ driven_data p.unit k g) in
     subst (λ g. P (next_number p) g) e (subst (λ k. P k bits) n h)
 
-pub bits_accepted : (p : Progress) (group bits : Group) (r : Result DrivenCell CellFault) → bank_refusal p.types group ≡ None → bits ≡ next_bits p group
-    → IfOk r (λ (cell : DrivenCell). driven_refusal p.unit p.names bits ≡ None) → IfOk r (λ (cell : DrivenCell). next_refusal p group ≡ None)
+pub bits_accepted : (p : Progress) (group bits : Group) (r : Result DrivenCell CellFault) → bank_refusal p.types group ≡ None
+    → bits ≡ next_bits p group
+    → IfOk r (λ (cell : DrivenCell). driven_refusal p.unit p.names bits ≡ None)
+    → IfOk r (λ (cell : DrivenCell). next_refusal p group ≡ None)
 unfolding next_refusal
 bits_accepted p group bits r n e h =
-    let P : Option BankRefusal → Group → Type 0 = λ b g. IfOk r (λ (cell : DrivenCell). refusal_by b (driven_refusal p.unit p.names g) ≡ None) in
+    let P : Option BankRefusal → Group
+    → Type 0 = λ b g. IfOk r (λ (cell : DrivenCell). refusal_by b (driven_refusal p.unit p.names g) ≡ None) in
     subst (λ b. P b (next_bits p group)) (sym n) (subst (P None) e h)
 
-pub bits_refused : (p : Progress) (group bits : Group) (r : Result DrivenCell CellFault) → bank_refusal p.types group ≡ None → bits ≡ next_bits p group
+pub bits_refused : (p : Progress) (group bits : Group) (r : Result DrivenCell CellFault) → bank_refusal p.types group ≡ None
+    → bits ≡ next_bits p group
     → IfErr r (Tells (driven_refusal p.unit p.names bits)) → IfErr r (Tells (next_refusal p group))
 unfolding next_refusal
 bits_refused p group bits r n e h =
@@ -68,7 +77,8 @@ bits_refused p group bits r n e h =
     subst (λ b. P b (next_bits p group)) (sym n) (subst (P None) e h)
 
 -- where nothing refuses the next cell, nothing refuses that of its expanded group
-pub bits_unrefused : (p : Progress) (group : Group) → next_refusal p group ≡ None → driven_refusal p.unit p.names (next_bits p group) ≡ None
+pub bits_unrefused : (p : Progress) (group : Group) → next_refusal p group ≡ None
+    → driven_refusal p.unit p.names (next_bits p group) ≡ None
 unfolding next_refusal
 bits_unrefused p group e = by (bank_refusal p.types group) e
   where
@@ -87,14 +97,16 @@ unfolding bank_refusal
 plain_unrefused types group e = ap (λ (many : Bool). if many then first_refusal types group else None) e
 
 -- without an expanded group it is refused for that
-pub unexpanded : (p : Progress) (group : Group) (fault : BankFault) → Gathers p.types group (Err fault) → Tells (next_refusal p group) (cell_fault fault)
+pub unexpanded : (p : Progress) (group : Group) (fault : BankFault) → Gathers p.types group (Err fault)
+    → Tells (next_refusal p group) (cell_fault fault)
 unfolding next_refusal
 unexpanded p group (bank_fault.Refused refusal) h = ap (λ b. refusal_by b (driven_refusal p.unit p.names (next_bits p group))) h
 unexpanded p group bank_fault.Memory h = tt
 
 -- nothing refuses the next cell
 pub accepted_next : (p : Progress) (group : Group) (cell : DrivenCell) (entity : List ℕ)
-    → driven_data_of cell ≡ next_data p group → next_refusal p group ≡ None → entity ≡ vital_name p.entities (driven_data_of cell) → IsAcceptedNext p group cell entity
+    → driven_data_of cell ≡ next_data p group → next_refusal p group ≡ None → entity ≡ vital_name p.entities (driven_data_of cell)
+    → IsAcceptedNext p group cell entity
 unfolding next_entity
 accepted_next p group cell entity h e m =
     record { unrefused = e; same_cell = h; same_entity = m ∙ ap (λ (cell : DrivenData). vital_name p.entities cell) h }

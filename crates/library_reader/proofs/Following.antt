@@ -1,5 +1,7 @@
 -- Going over the items of a library one after another.
-use Rattle.std.proofs.Common.{◌≡◌, ℕ, ◌+◌, ◌≤◌, Bool, true, false, List, [], ◌∷◌, ◌++◌, reverse, take, drop, length, length-append, Option, Some, None, Err, ◌⊎◌, inl, inr, refl, sym, ap, subst, ◌∙◌, append_assoc, arith}
+use Rattle.std.proofs.Common.{◌≡◌, ℕ, ◌+◌, ◌≤◌, Bool, true, false, List, [], ◌∷◌, ◌++◌, reverse, take, drop, length}
+use Rattle.std.proofs.Common.{length-append, Option, Some, None, Err, ◌⊎◌, inl, inr, refl, sym, ap, subst, ◌∙◌, append_assoc}
+use Rattle.std.proofs.Common.{arith}
 use Rattle.std.proofs.lemmas.List.{append-nil, length-take}
 use Rattle.std.specs.Option.{option_map}
 use Rattle.text_io.specs.declared.slots.InSlot.TheVariants.{Library}
@@ -29,25 +31,30 @@ use Rattle.library_reader.proofs.Fronts.{front-nil, front_moved, left-zero, left
 -- What counts.
 
 -- how many cells are counted
-cell_counted : (p : Progress) (name : List ℕ) (entity : Option (List ℕ)) → (after_cell p name entity).accepted + (after_cell p name entity).refused ≤ p.accepted + p.refused + 1
+cell_counted : (p : Progress) (name : List ℕ) (entity : Option (List ℕ))
+    → (after_cell p name entity).accepted + (after_cell p name entity).refused ≤ p.accepted + p.refused + 1
 cell_counted p name (Some entity) = omega arith
 cell_counted p name None = omega arith
 
-item_counted : (p : Progress) (x : LibraryItem) → (after_item p x).accepted + (after_item p x).refused ≤ p.accepted + p.refused + 1
+item_counted : (p : Progress) (x : LibraryItem)
+    → (after_item p x).accepted + (after_item p x).refused ≤ p.accepted + p.refused + 1
 item_counted p (item.Cell group) = cell_counted p (cell_name group) (entity_by p group (next_refusal p group))
 item_counted p (item.Unit line) = omega arith
 item_counted p (item.LeftOut at) = omega arith
 item_counted p (item.BusType group) = omega arith
 
-pub room_kept : (p q : Progress) (x : LibraryItem) (turn : ℕ) → q ≡ after_item p x → p.accepted + p.refused ≤ turn → q.accepted + q.refused ≤ turn + 1
+pub room_kept : (p q : Progress) (x : LibraryItem) (turn : ℕ) → q ≡ after_item p x → p.accepted + p.refused ≤ turn
+    → q.accepted + q.refused ≤ turn + 1
 room_kept p q x turn e h = rw e (omega (arith, item_counted p x))
 
-progress_after-append : (p : Progress) (xs ys : List LibraryItem) → progress_after p (xs ++ ys) ≡ progress_after (progress_after p xs) ys
+progress_after-append : (p : Progress) (xs ys : List LibraryItem)
+    → progress_after p (xs ++ ys) ≡ progress_after (progress_after p xs) ys
 progress_after-append p [] ys = refl
 progress_after-append p (x ∷ xs) ys = progress_after-append (after_item p x) xs ys
 
 -- one item more
-pub progress_after-more : (p q r : Progress) (xs : List LibraryItem) (x : LibraryItem) → q ≡ progress_after p xs → r ≡ after_item q x
+pub progress_after-more : (p q r : Progress) (xs : List LibraryItem) (x : LibraryItem) → q ≡ progress_after p xs
+    → r ≡ after_item q x
     → r ≡ progress_after p (xs ++ x ∷ [])
 progress_after-more p q r xs x e f = f ∙ ap (λ s. after_item s x) e ∙ sym (progress_after-append p xs (x ∷ []))
 
@@ -63,7 +70,8 @@ pub ends_on : (c d : CellCursor) (before after : DeskState) (given : List Librar
 ends_on c d before after given m kept h =
     elim (going_or c.answer) [
       | inl going ↦ (λ ended. m.ended going ended)
-      | inr not_going ↦ (λ ended. still_ended before after (length m.taken) m.takes.state (h (ap is_ended (sym (kept not_going)) ∙ ended)))
+      | inr not_going ↦ (λ ended. still_ended before after (length m.taken) m.takes.state
+          (h (ap is_ended (sym (kept not_going)) ∙ ended)))
     ]
 
 -- what is known of all the bytes of a library that begins with those that were taken
@@ -82,12 +90,14 @@ first_known (Some (answer.Fault fault.Failed)) c bytes more items k ended = k mo
 first_known (Some (answer.Fault fault.Memory)) c bytes more items k ended = k more
 
 -- these items are the first ones of the library
-first_items : (limit : ℕ) (left : Option (List ℕ)) (now : DeskState) (taken : List ℕ) (items : List LibraryItem) (c : CellCursor) (all : List ℕ)
+first_items : (limit : ℕ) (left : Option (List ℕ)) (now : DeskState) (taken : List ℕ) (items : List LibraryItem) (c : CellCursor)
+    (all : List ℕ)
     → Stands c taken items → c.limit ≡ limit → IsAtEnd c now → now.left Library ≡ option_map (drop (length taken)) left
     → IsFront left taken → left ≡ Some all → (others : List LibraryItem) × (items ++ others ≡ items_within limit all)
 first_items limit left now taken items c all stands at_limit at_end rest told e =
     let front = rw e at told in
-    let ended : is_ended c.answer ≡ true → drop (length taken) all ≡ [] = λ is. nothing_more left taken all e (rw rest at (at_end is)) in
+    let ended : is_ended c.answer ≡ true
+    → drop (length taken) all ≡ [] = λ is. nothing_more left taken all e (rw rest at (at_end is)) in
     let known = first_known c.answer c taken (drop (length taken) all) (items ++ reverse c.waiting.items) stands.known ended in (
       reverse c.waiting.items ++ known.0,
       sym (append_assoc items (reverse c.waiting.items) known.0) ∙ known.1
@@ -95,7 +105,8 @@ first_items limit left now taken items c all stands at_limit at_end rest told e 
     )
 
 -- what an answer tells of the whole library
-end_known : (a : Answer) (c : CellCursor) (bytes more : List ℕ) (items : List LibraryItem) (e : Ending) → Knows (Some a) c bytes items
+end_known : (a : Answer) (c : CellCursor) (bytes more : List ℕ) (items : List LibraryItem) (e : Ending)
+    → Knows (Some a) c bytes items
     → (is_ended (Some a) ≡ true → more ≡ []) → end_told a ≡ Some e
     → (items ≡ items_within c.limit (bytes ++ more)) × (e ≡ ending_by (end_within c.limit (bytes ++ more)))
 end_known answer.Over c bytes more items e k ended t =
@@ -106,30 +117,37 @@ end_known answer.End c bytes more items e k ended t =
 end_known (answer.Refused f) c bytes more items e k ended t =
     let known = k more in (known.items_are, rw known.end_is (let s : Some e ≡ Some (ending.Fault f) = sym t in cc))
 end_known (answer.Fault (fault.Library f)) c bytes more items e k ended t =
-    let same : bytes ≡ bytes ++ more = sym (ap (λ u. bytes ++ u) (ended refl) ∙ append-nil bytes) in
-    (k.items_are ∙ ap (items_within c.limit) same, rw (← same) (rw k.end_is (let s : Some e ≡ Some (ending.Fault f) = sym t in cc)))
+    let same : bytes ≡ bytes ++ more = sym (ap (λ u. bytes ++ u) (ended refl) ∙ append-nil bytes) in (
+      k.items_are ∙ ap (items_within c.limit) same,
+      rw (← same)
+          (rw k.end_is (let s : Some e ≡ Some (ending.Fault f) = sym t in cc)),
+    )
 end_known (answer.Fault fault.Failed) c bytes more items e k ended t = absurd (let s : None ≡ Some e = t in cc)
 end_known (answer.Fault fault.Memory) c bytes more items e k ended t = absurd (let s : None ≡ Some e = t in cc)
 
-end_stands : (d : CellCursor) (bytes more : List ℕ) (items : List LibraryItem) (e : Ending) → Stands d bytes (items ++ []) → TellsEnd d e
+end_stands : (d : CellCursor) (bytes more : List ℕ) (items : List LibraryItem) (e : Ending) → Stands d bytes (items ++ [])
+    → TellsEnd d e
     → (is_ended d.answer ≡ true → more ≡ [])
     → (items ≡ items_within d.limit (bytes ++ more)) × (e ≡ ending_by (end_within d.limit (bytes ++ more)))
 end_stands d bytes more items e h t ended =
     let settled : Knows (Some t.answer) d bytes ((items ++ []) ++ reverse d.waiting.items) =
     subst (λ o. Knows o d bytes ((items ++ []) ++ reverse d.waiting.items)) t.settled.settled h.known in
     let none_waits : Knows (Some t.answer) d bytes ((items ++ []) ++ []) =
-    subst (λ (waiting : List LibraryItem). Knows (Some t.answer) d bytes ((items ++ []) ++ reverse waiting)) t.settled.none_waits settled in
+    subst (λ (waiting : List LibraryItem). Knows (Some t.answer) d bytes ((items ++ []) ++ reverse waiting)) t.settled.none_waits
+    settled in
     let known : Knows (Some t.answer) d bytes items =
     subst (λ all. Knows (Some t.answer) d bytes all) (append-nil (items ++ []) ∙ append-nil items) none_waits in
     end_known t.answer d bytes more items e known (λ is. ended (ap is_ended t.settled.settled ∙ is)) t.told
 
 -- at the end these are all of them
-all_items : (limit : ℕ) (left : Option (List ℕ)) (next : DeskState) (taken : List ℕ) (items : List LibraryItem) (d : CellCursor) (e : Ending) (all : List ℕ)
+all_items : (limit : ℕ) (left : Option (List ℕ)) (next : DeskState) (taken : List ℕ) (items : List LibraryItem) (d : CellCursor)
+    (e : Ending) (all : List ℕ)
     → Stands d taken (items ++ []) → d.limit ≡ limit → IsAtEnd d next → next.left Library ≡ option_map (drop (length taken)) left
     → IsFront left taken → TellsEnd d e → left ≡ Some all → (items ≡ items_within limit all) × (e ≡ ending_of limit all)
 all_items limit left next taken items d e all stands at_limit at_end rest told t is =
     let front = rw is at told in
-    let after_all : is_ended d.answer ≡ true → drop (length taken) all ≡ [] = λ ended. nothing_more left taken all is (rw rest at (at_end ended)) in
+    let after_all : is_ended d.answer ≡ true
+    → drop (length taken) all ≡ [] = λ ended. nothing_more left taken all is (rw rest at (at_end ended)) in
     let known = end_stands d taken (drop (length taken) all) items e stands t after_all in
     let whole = rest_of taken all front.0 in (
       known.0 ∙ ap (items_within d.limit) whole ∙ ap (λ n. items_within n all) at_limit,
@@ -139,7 +157,8 @@ all_items limit left next taken items d e all stands at_limit at_end rest told t
 -- The steps.
 
 -- before the first item
-unfoldable pub follows_start : (limit : ℕ) (base : DeskState) (p : Progress) (c : CellCursor) → c.limit ≡ limit → Stands c [] [] → c.answer ≡ None
+unfoldable pub follows_start : (limit : ℕ) (base : DeskState) (p : Progress) (c : CellCursor) → c.limit ≡ limit → Stands c [] []
+    → c.answer ≡ None
     → Follows limit (base.left Library) base p p c
 follows_start limit base p c l h e = record {
   taken = [];
@@ -153,8 +172,10 @@ follows_start limit base p c l h e = record {
 }
 
 -- after one more item, with which nothing more was read
-unfoldable pub follows_next : (limit : ℕ) (left : Option (List ℕ)) (now next new : DeskState) (p q r : Progress) (c d : CellCursor) (x : LibraryItem)
-    → Follows limit left now p q c → Moves c d now next (x ∷ []) → (IsAtEnd c now → IsAtEnd d next) → new.left Library ≡ next.left Library → r ≡ after_item q x
+unfoldable pub follows_next : (limit : ℕ) (left : Option (List ℕ)) (now next new : DeskState) (p q r : Progress)
+    (c d : CellCursor) (x : LibraryItem)
+    → Follows limit left now p q c → Moves c d now next (x ∷ []) → (IsAtEnd c now → IsAtEnd d next)
+    → new.left Library ≡ next.left Library → r ≡ after_item q x
     → Follows limit left new p r d
 follows_next limit left now next new p q r c d x h m a same e = record {
   taken = h.taken ++ m.taken;
@@ -168,28 +189,35 @@ follows_next limit left now next new p q r c d x h m a same e = record {
 }
 
 -- the items that were given are the first ones of the library
-pub first_given : (limit : ℕ) (left : Option (List ℕ)) (now : DeskState) (p q : Progress) (c : CellCursor) (all : List ℕ) (h : Follows limit left now p q c)
+pub first_given : (limit : ℕ) (left : Option (List ℕ)) (now : DeskState) (p q : Progress) (c : CellCursor) (all : List ℕ)
+    (h : Follows limit left now p q c)
     → left ≡ Some all → (others : List LibraryItem) × (h.items ++ others ≡ items_within limit all)
-first_given limit left now p q c all h e = first_items limit left now h.taken h.items c all h.stands h.limit_is h.at_end h.rest h.told e
+first_given limit left now p q c all h e =
+    first_items limit left now h.taken h.items c all h.stands h.limit_is h.at_end h.rest h.told e
 
 -- the item that comes next is the next one of the library
-pub next_given : (limit : ℕ) (left : Option (List ℕ)) (now next : DeskState) (p q : Progress) (c d : CellCursor) (x : LibraryItem) (all : List ℕ)
+pub next_given : (limit : ℕ) (left : Option (List ℕ)) (now next : DeskState) (p q : Progress) (c d : CellCursor) (x : LibraryItem)
+    (all : List ℕ)
     (h : Follows limit left now p q c) → Moves c d now next (x ∷ []) → (IsAtEnd c now → IsAtEnd d next) → left ≡ Some all
     → (others : List LibraryItem) × ((h.items ++ x ∷ []) ++ others ≡ items_within limit all)
 next_given limit left now next p q c d x all h m a e =
     first_items limit left next (h.taken ++ m.taken) (h.items ++ x ∷ []) d all (m.stands h.taken h.items h.stands)
-    (m.limit ∙ h.limit_is) (a h.at_end) (left_moved left now next h.taken m.taken h.rest m.takes) (front_moved left now next h.taken m.taken h.rest h.told m.takes) e
+    (m.limit ∙ h.limit_is) (a h.at_end) (left_moved left now next h.taken m.taken h.rest m.takes)
+    (front_moved left now next h.taken m.taken h.rest h.told m.takes) e
 
 -- at the end these are all the items, and the end is that of the library
-pub all_given : (limit : ℕ) (left : Option (List ℕ)) (now next : DeskState) (p q : Progress) (c d : CellCursor) (e : Ending) (all : List ℕ)
+pub all_given : (limit : ℕ) (left : Option (List ℕ)) (now next : DeskState) (p q : Progress) (c d : CellCursor) (e : Ending)
+    (all : List ℕ)
     (h : Follows limit left now p q c) → Moves c d now next [] → (IsAtEnd c now → IsAtEnd d next) → TellsEnd d e → left ≡ Some all
     → (h.items ≡ items_within limit all) × (e ≡ ending_of limit all)
 all_given limit left now next p q c d e all h m a t is =
     all_items limit left next (h.taken ++ m.taken) h.items d e all (m.stands h.taken h.items h.stands)
-    (m.limit ∙ h.limit_is) (a h.at_end) (left_moved left now next h.taken m.taken h.rest m.takes) (front_moved left now next h.taken m.taken h.rest h.told m.takes) t is
+    (m.limit ∙ h.limit_is) (a h.at_end) (left_moved left now next h.taken m.taken h.rest m.takes)
+    (front_moved left now next h.taken m.taken h.rest h.told m.takes) t is
 
 -- No more items were given than the limit has bytes: each has a byte of its own.
-pub few_given : (limit : ℕ) (left : Option (List ℕ)) (now : DeskState) (p q : Progress) (c : CellCursor) (h : Follows limit left now p q c) → length h.items ≤ limit
+pub few_given : (limit : ℕ) (left : Option (List ℕ)) (now : DeskState) (p q : Progress) (c : CellCursor)
+    (h : Follows limit left now p q c) → length h.items ≤ limit
 unfolding items_within
 few_given limit left now p q c h =
     let all = h.items ++ reverse c.waiting.items in
@@ -202,13 +230,15 @@ few_given limit left now p q c h =
     omega (arith, few, short, first, parts, same, h.limit_is)
 
 -- where a read failed in a step, and none before it
-pub failed_now : (first old new : ℕ) (failed : Bool) → old ≡ first → failed ≡ false → (failed ≡ true) ⊎ Rose old new → Rose first new
+pub failed_now : (first old new : ℕ) (failed : Bool) → old ≡ first → failed ≡ false → (failed ≡ true) ⊎ Rose old new
+    → Rose first new
 failed_now first old new failed same not w =
     elim w [ inl was ↦ absurd (let h : false ≡ true = sym not ∙ was in cc) | inr rose ↦ omega (arith, same, rose) ]
 
 -- a command that stops at a step, before which no fault was counted
 pub stops_at_step : (first old new : ℕ) (failed : Bool) (stop : Stop) → old ≡ first → failed ≡ false → old ≤ new →
-    (stop ≡ stops.Memory → failed ≡ false → new ≡ old) → (stop ≡ stops.Failed → (failed ≡ true) ⊎ Rose old new) → StopsWithCause {T = Ending} first new (Err stop)
+    (stop ≡ stops.Memory → failed ≡ false → new ≡ old) → (stop ≡ stops.Failed → (failed ≡ true) ⊎ Rose old new)
+    → StopsWithCause {T = Ending} first new (Err stop)
 stops_at_step first old new failed stop same not later memory rises = record {
   later = omega arith;
   kept = λ e. memory e not ∙ same;

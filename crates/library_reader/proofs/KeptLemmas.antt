@@ -1,5 +1,6 @@
 -- The cells that are kept of the items of a library.
-use Rattle.std.proofs.Common.{◌≡◌, ℕ, Bool, true, false, List, [], ◌∷◌, ◌++◌, Option, Some, None, is_some, refl, sym, ap, subst, ◌∙◌, append_assoc, if◌then◌else◌}
+use Rattle.std.proofs.Common.{◌≡◌, ℕ, Bool, true, false, List, [], ◌∷◌, ◌++◌, Option, Some, None, is_some, refl, sym, ap, subst}
+use Rattle.std.proofs.Common.{◌∙◌, append_assoc, if◌then◌else◌}
 use Rattle.std.proofs.lemmas.List.{append-nil, map-append}
 use Rattle.std.specs.List.{list_any}
 use Rattle.std.proofs.lemmas.Cmp.{nat_list_eq_equiv}
@@ -19,7 +20,8 @@ use Rattle.library_reader.specs.KeptCells.{kept_by, next_entry, item_kept, kept_
 use Rattle.library_reader.proofs.CellLemmas.{next_name}
 
 -- what is kept of some items, and then of others
-kept_cells-append : (p : Progress) (xs ys : List LibraryItem) → kept_cells p (xs ++ ys) ≡ kept_cells p xs ++ kept_cells (progress_after p xs) ys
+kept_cells-append : (p : Progress) (xs ys : List LibraryItem)
+    → kept_cells p (xs ++ ys) ≡ kept_cells p xs ++ kept_cells (progress_after p xs) ys
 kept_cells-append p [] ys = refl
 kept_cells-append p (x ∷ xs) ys =
     ap (λ cells. item_kept p x ++ cells) (kept_cells-append (after_item p x) xs ys) ∙ sym (append_assoc (item_kept p x) _ _)
@@ -34,7 +36,8 @@ kept_cells-more p q xs x e =
 
 -- The names of the cells that are kept are those of all cells so far, each once.
 
-names_after : (p : Progress) (name : List ℕ) (entity : Option (List ℕ)) → (after_cell p name entity).names ≡ names_with p.names name
+names_after : (p : Progress) (name : List ℕ) (entity : Option (List ℕ))
+    → (after_cell p name entity).names ≡ names_with p.names name
 names_after p name (Some entity) = refl
 names_after p name None = refl
 
@@ -49,7 +52,8 @@ cell_named p group cells false e =
     map-append name_of cells (next_entry p group ∷ []) ∙ ap (λ names. names ++ name_of (next_entry p group) ∷ []) e
     ∙ ap (λ name. p.names ++ name ∷ []) (its_name p group (next_refusal p group))
 
-pub item_named : (p : Progress) (x : LibraryItem) (cells : List CellEntry) → cell_names cells ≡ p.names → cell_names (cells ++ item_kept p x) ≡ (after_item p x).names
+pub item_named : (p : Progress) (x : LibraryItem) (cells : List CellEntry) → cell_names cells ≡ p.names
+    → cell_names (cells ++ item_kept p x) ≡ (after_item p x).names
 item_named p (item.Cell group) cells e =
     cell_named p group cells (is_some (number_of p.names (cell_name group))) e
     ∙ sym (names_after p (cell_name group) (entity_by p group (next_refusal p group)))
@@ -63,20 +67,24 @@ some_there : (o : Option ℕ) → (o ≡ None → ⊥) → is_some o ≡ true
 some_there None h = absurd (h refl)
 some_there (Some n) h = refl
 
-names_apart_by : (names : List (List ℕ)) (name : List ℕ) → AreDistinct names → (b : Bool) → list_any (bytes_eq name) names ≡ b → AreDistinct (names_with names name)
+names_apart_by : (names : List (List ℕ)) (name : List ℕ) → AreDistinct names → (b : Bool) → list_any (bytes_eq name) names ≡ b
+    → AreDistinct (names_with names name)
 names_apart_by names name h true e =
-    let there : is_some (number_of names name) ≡ true = some_there (number_of names name) (position-some (bytes_eq name) names e) in
+    let there : is_some (number_of names name) ≡ true = some_there (number_of names name) (position-some (bytes_eq name) names e)
+    in
     subst (λ b. AreDistinct (if b then names else names ++ name ∷ [])) (sym there) h
 names_apart_by names name h false e =
     let absent : is_some (number_of names name) ≡ false = ap is_some (position-none (bytes_eq name) names e) in
-    subst (λ b. AreDistinct (if b then names else names ++ name ∷ [])) (sym absent) (IsDistinct-push nat_list_eq_equiv names name h e)
+    subst (λ b. AreDistinct (if b then names else names ++ name ∷ [])) (sym absent)
+    (IsDistinct-push nat_list_eq_equiv names name h e)
 
 names_apart : (names : List (List ℕ)) (name : List ℕ) → AreDistinct names → AreDistinct (names_with names name)
 names_apart names name h = names_apart_by names name h (list_any (bytes_eq name) names) refl
 
 pub item_apart : (p : Progress) (x : LibraryItem) → AreDistinct p.names → AreDistinct (after_item p x).names
 item_apart p (item.Cell group) h =
-    subst AreDistinct (sym (names_after p (cell_name group) (entity_by p group (next_refusal p group)))) (names_apart p.names (cell_name group) h)
+    subst AreDistinct (sym (names_after p (cell_name group) (entity_by p group (next_refusal p group))))
+    (names_apart p.names (cell_name group) h)
 item_apart p (item.Unit line) h = h
 item_apart p (item.LeftOut at) h = h
 item_apart p (item.BusType group) h = h

@@ -35,9 +35,11 @@ pub record IsNumberedNext (p : Progress) (group : Group) (next : NextCell) : Typ
   pub numbered : IsNumbered p
   pub is : IsNext p group next
 
--- All is written that is written for these items, and this is made of the cells that are kept of them, which have names of their own.
--- Where the bytes of the library are told, the items are all of its items, and it ends so.
-pub record IsWholeFold (each : Progress → LibraryItem → Written) (Made : List CellEntry → Type 0) (limit : ℕ) (left : Option (List ℕ)) (after : Progress) (items : List LibraryItem) (text : Written) (ending : Ending) : Type 0 where
+-- All is written that is written for these items, and this is made of the cells that are kept of them, which have names of their
+-- own. Where the bytes of the library are told, the items are all of its items, and it ends so.
+pub record IsWholeFold (each : Progress → LibraryItem → Written) (Made : List CellEntry
+    → Type 0) (limit : ℕ) (left : Option (List ℕ)) (after : Progress) (items : List LibraryItem) (text : Written)
+    (ending : Ending) : Type 0 where
   pub same_text : text ≡ written_for_all each no_progress items
   pub same_progress : after ≡ progress_after no_progress items
   pub made : Made (kept_cells no_progress items)
@@ -45,9 +47,10 @@ pub record IsWholeFold (each : Progress → LibraryItem → Written) (Made : Lis
   pub told : IfSome left (λ bytes. (items ≡ items_within limit bytes) × (ending ≡ ending_of limit bytes))
 
 -- After a call that goes over the items of the library that is bound: some bytes of it were taken, a part was written of what is
--- written for these items, which are the first ones of the library where its bytes are told, and nothing else changed. However the
--- call ended, all is written for the cells that ended well before the last byte taken. The answer is how the library ends.
-pub record FoldsItems (each : Progress → LibraryItem → Written) (Made : List CellEntry → Type 0) (limit : ℕ) (old new : DeskState) (after : Progress) (result : Result Ending Stop) : Type 0 where
+-- written for these items, which are the first ones of the library where its bytes are told, and nothing else changed. However
+-- the call ended, all is written for the cells that ended well before the last byte taken. The answer is how the library ends.
+pub record FoldsItems (each : Progress → LibraryItem → Written) (Made : List CellEntry → Type 0) (limit : ℕ) (old new : DeskState)
+    (after : Progress) (result : Result Ending Stop) : Type 0 where
   pub taken : ℕ
   pub items : List LibraryItem
   pub text : Written
@@ -57,8 +60,8 @@ pub record FoldsItems (each : Progress → LibraryItem → Written) (Made : List
   pub cells : IfSome (old.left Library) (λ bytes. HoldsCells each no_progress bytes taken text)
   pub whole : IfOk result (IsWholeFold each Made limit (old.left Library) after items text)
 
--- A library ends so, and this is made of cells of it with names of their own. Where its bytes are told, they are those that are kept
--- of them, and they end so.
+-- A library ends so, and this is made of cells of it with names of their own. Where its bytes are told, they are those that are
+-- kept of them, and they end so.
 pub record IsMadeOf (Made : List CellEntry → Type 0) (limit : ℕ) (left : Option (List ℕ)) (ending : Ending) : Type 0 where
   pub cells : List CellEntry
   pub made : Made cells
@@ -67,7 +70,8 @@ pub record IsMadeOf (Made : List CellEntry → Type 0) (limit : ℕ) (left : Opt
 
 -- After a call that goes over the cells of the library that is bound: some bytes of it were taken, and nothing else changed. The
 -- answer is how it ends.
-pub record FoldsCells (Made : List CellEntry → Type 0) (limit : ℕ) (old new : DeskState) (result : Result Ending Stop) : Type 0 where
+pub record FoldsCells (Made : List CellEntry → Type 0) (limit : ℕ) (old new : DeskState) (result : Result Ending Stop) :
+    Type 0 where
   pub taken : ℕ
   pub state : new ≡ took old Library taken
   pub cells : IfOk result (IsMadeOf Made limit (old.left Library))

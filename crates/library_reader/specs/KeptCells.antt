@@ -1,5 +1,6 @@
 -- The cells that are kept of a library. This project's rules.
-use Rattle.std.specs.Prelude.{◌≡◌, ℕ, List, [], ◌∷◌, ◌++◌, Option, Some, None, is_some, Result, Ok, Err, IfOk, IfSome, Vec, if◌then◌else◌}
+use Rattle.std.specs.Prelude.{◌≡◌, ℕ, List, [], ◌∷◌, ◌++◌, Option, Some, None, is_some, Result, Ok, Err, IfOk, IfSome, Vec}
+use Rattle.std.specs.Prelude.{if◌then◌else◌}
 use Rattle.bool_functions.specs.NameList.{number_of}
 use Rattle.liberty_groups.specs.declared.tree.Group.{Group}
 use Rattle.text_io.specs.declared.slots.InSlot.TheVariants.{Library}
@@ -59,7 +60,8 @@ entries_of (Err why) = Err why
 
 -- After a call that reads the cells of the library that is bound: some bytes of it were taken, and nothing else changed. Where
 -- the desk tells what is left of it, the answer is what these bytes come to.
-pub record ReadsCells {A : Type 0} (limit : ℕ) (old new : DeskState) (result : Result (Result (Vec LibraryCell A) NotWhole) Stop) : Type 0 where
+pub record ReadsCells {A : Type 0} (limit : ℕ) (old new : DeskState) (result : Result (Result (Vec LibraryCell A) NotWhole) Stop)
+    : Type 0 where
   pub taken : ℕ
   pub state : new ≡ took old Library taken
   pub cells : IfOk result (λ answer. IfSome (old.left Library) (λ bytes. entries_of answer ≡ library_cells_within limit bytes))

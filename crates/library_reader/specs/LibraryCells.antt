@@ -29,8 +29,8 @@ name_of (Refused name refusal) = name
 abbrev pub cell_names : List CellEntry → List (List ℕ)
 cell_names cells = map name_of cells
 
--- The name of the VITAL model of a cell, behind models with these names in lower case: that of its entity, or of the entity of its
--- drivers where some outputs may float.
+-- The name of the VITAL model of a cell, behind models with these names in lower case: that of its entity, or of the entity of
+-- its drivers where some outputs may float.
 abbrev pub vital_name : List (List ℕ) → DrivenData → List ℕ
 vital_name given cell =
     if may_float cell then driver_name cell.core.number given cell.name else entity_name cell.core.number given cell.core.name

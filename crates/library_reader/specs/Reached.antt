@@ -21,7 +21,8 @@ IsFront left taken = IfSome left (λ all. (taken ≡ take (length taken) all) ×
 
 -- Of a library these items were given, and what counts then is this: the cursor has taken the first of the bytes that were left
 -- of the library, and the others are left of it now.
-pub record Follows (limit : ℕ) (left : Option (List ℕ)) (now : DeskState) (before after : Progress) (cursor : CellCursor) : Type 0 where
+pub record Follows (limit : ℕ) (left : Option (List ℕ)) (now : DeskState) (before after : Progress) (cursor : CellCursor) :
+    Type 0 where
   pub taken : List ℕ
   pub items : List LibraryItem
   pub stands : Stands cursor taken items
@@ -31,9 +32,10 @@ pub record Follows (limit : ℕ) (left : Option (List ℕ)) (now : DeskState) (b
   pub rest : now.left Library ≡ option_map (drop (length taken)) left
   pub progress : after ≡ progress_after before items
 
--- So many items of the library were given: the desk is as after reading the bytes that the cursor has taken and writing all that is
--- written for the items, and this is made of the cells that are kept of them.
-pub record HasFolded (each : Progress → LibraryItem → Written) (Made : List CellEntry → Type 0) (limit : ℕ) (base now : DeskState) (progress : Progress) (count : ℕ) (cursor : CellCursor) : Type 0 where
+-- So many items of the library were given: the desk is as after reading the bytes that the cursor has taken and writing all that
+-- is written for the items, and this is made of the cells that are kept of them.
+pub record HasFolded (each : Progress → LibraryItem → Written) (Made : List CellEntry → Type 0) (limit : ℕ) (base now : DeskState)
+    (progress : Progress) (count : ℕ) (cursor : CellCursor) : Type 0 where
   pub follows : Follows limit (base.left Library) now no_progress progress cursor
   pub counted : length follows.items ≡ count
   pub state : now ≡ wrote_all (took base Library (length follows.taken)) (written_for_all each no_progress follows.items)

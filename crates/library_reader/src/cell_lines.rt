@@ -20,7 +20,8 @@ impl Part for PrintedName<'_> {
     }
 }
 
-/// The end of a line on a cell that is refused for this: the reason, with the offset, from 0, of the statement or group that meets it.
+/// The end of a line on a cell that is refused for this: the reason, with the offset, from 0, of the statement or group that
+/// meets it.
 #[derive(Drop)]
 pub struct RefusalLine<'a>(pub &'a Refusal);
 

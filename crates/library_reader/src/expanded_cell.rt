@@ -37,8 +37,8 @@ fn cell_fault(fault: BankFault) -> CellFault
     }
 }
 
-/// The next cell, which has buses, bundles or banks. Where they are not expanded it is refused for that, and else as the cell of the
-/// expanded group. `Memory` comes only where memory is wanting.
+/// The next cell, which has buses, bundles or banks. Where they are not expanded it is refused for that, and else as the cell of
+/// the expanded group. `Memory` comes only where memory is wanting.
 fn read_bits(alloc: Global, progress: &Progress, group: &Group) -> Result<DrivenCell, CellFault>
     requires { progress.now.accepted + progress.now.refused + 1 < 2 ^ 64 }
     ensures cell { IfOk result (λ cell. driven_data_of cell ≡ next_data progress.now group.now) }
@@ -60,8 +60,8 @@ fn read_bits(alloc: Global, progress: &Progress, group: &Group) -> Result<Driven
     }
 }
 
-/// The next cell, which has no buses, bundles and banks, so that its group stays as it is and need not be copied. `Memory` comes only
-/// where memory is wanting.
+/// The next cell, which has no buses, bundles and banks, so that its group stays as it is and need not be copied. `Memory` comes
+/// only where memory is wanting.
 fn read_plain(alloc: Global, progress: &Progress, group: &Group) -> Result<DrivenCell, CellFault>
     requires few { progress.now.accepted + progress.now.refused + 1 < 2 ^ 64 }
     requires plain { has_many group.now ≡ false }
@@ -73,8 +73,8 @@ fn read_plain(alloc: Global, progress: &Progress, group: &Group) -> Result<Drive
     read_driven(alloc, group, number, progress.unit, &progress.names)
 }
 
-/// The next cell, whose buses, bundles and banks are expanded to single bits with the types of buses before it. Where they are not
-/// expanded it is refused for that, and else as the cell of the expanded group. `Memory` comes only where memory is wanting.
+/// The next cell, whose buses, bundles and banks are expanded to single bits with the types of buses before it. Where they are
+/// not expanded it is refused for that, and else as the cell of the expanded group. `Memory` comes only where memory is wanting.
 pub(crate) fn read_expanded(
     alloc: Global,
     progress: &Progress,

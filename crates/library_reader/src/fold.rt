@@ -27,7 +27,8 @@ pub trait CellFold {
     /// Takes the next cell as it was read of its group, or why it is refused. It stops only where memory is wanting.
     fn take(&mut self, alloc: Global, group: &Group, next: NextCell) -> Result<(), Stop>
         requires next { (p : ProgressOf) × IsNumberedNext p group.now next }
-        ensures made { OnOk result ((p : ProgressOf) → IsNext p group.now next → (cells : List CellEntry) → made self.old cells → made self.new (cells ++ next_entry p group.now ∷ [])) }
+        ensures made { OnOk result ((p : ProgressOf) → IsNext p group.now next → (cells : List CellEntry) → made self.old cells
+            → made self.new (cells ++ next_entry p group.now ∷ [])) }
         ensures memory { IfErr result (λ stop. stop ≡ Stop.Memory) };
 }
 

@@ -19,8 +19,8 @@ use crate::next::{NextCell, count_cell, next_cell};
 use crate::progress::{Progress, unit_of};
 use crate::step::{Step, next_step};
 use crate::writer::ItemWriter;
-use cell_cursor::{CellCursor, LibraryItem};
 use cell_attributes::groups::cell_name;
+use cell_cursor::{CellCursor, LibraryItem};
 use liberty_groups::Group;
 use std::alloc::Global;
 use text_io::{Desk, Stop};
@@ -58,7 +58,8 @@ fn handle_cell<D: Desk, W: ItemWriter, F: CellFold>(
     requires bound { AreBound (D.state desk.old) W.outputs }
     requires few { IsNumbered progress.old }
     ensures text { Writes (D.state desk.old) (D.state desk.new) (W.for_cell progress.old group.now) result }
-    ensures made { OnOk result ((cells : List CellEntry) → F.made fold.old cells → F.made fold.new (cells ++ item_kept progress.old (item.Cell group.now))) }
+    ensures made { OnOk result ((cells : List CellEntry) → F.made fold.old cells
+        → F.made fold.new (cells ++ item_kept progress.old (item.Cell group.now))) }
     ensures progress { OnOk result (progress.new ≡ after_item progress.old (item.Cell group.now)) }
     ensures cause { StopsWithCause (D.faults desk.old) (D.faults desk.new) result }
 {
@@ -81,8 +82,10 @@ fn handle_item<D: Desk, W: ItemWriter, F: CellFold>(
 ) -> Result<(), Stop>
     requires bound { AreBound (D.state desk.old) W.outputs }
     requires few { IsNumbered progress.old }
-    ensures text { Writes (D.state desk.old) (D.state desk.new) (written_for W.for_cell W.for_left_out progress.old item.now) result }
-    ensures made { OnOk result ((cells : List CellEntry) → F.made fold.old cells → F.made fold.new (cells ++ item_kept progress.old item.now)) }
+    ensures text { Writes (D.state desk.old) (D.state desk.new) (written_for W.for_cell W.for_left_out progress.old item.now)
+        result }
+    ensures made { OnOk result ((cells : List CellEntry) → F.made fold.old cells
+        → F.made fold.new (cells ++ item_kept progress.old item.now)) }
     ensures progress { OnOk result (progress.new ≡ after_item progress.old item.now) }
     ensures cause { StopsWithCause (D.faults desk.old) (D.faults desk.new) result }
 {
@@ -100,9 +103,9 @@ fn handle_item<D: Desk, W: ItemWriter, F: CellFold>(
     }
 }
 
-/// Goes over the items of the library that is bound, in the order of the file, up to its end or its limit, and answers how it ends.
-/// What becomes of an item is written before anything further is read, and of cells of one name the first is taken. Of the library's
-/// text only the statement that has not ended is held, beside the names and the types of buses that it has told so far.
+/// Goes over the items of the library that is bound, in the order of the file, up to its end or its limit, and answers how it
+/// ends. What becomes of an item is written before anything further is read, and of cells of one name the first is taken. Of the
+/// library's text only the statement that has not ended is held, beside the names and the types of buses that it has told so far.
 ///
 /// Faults: `Failed` where a read or a write failed, `Memory`.
 pub fn fold_items<D: Desk, W: ItemWriter, F: CellFold>(
@@ -116,7 +119,8 @@ pub fn fold_items<D: Desk, W: ItemWriter, F: CellFold>(
     requires bound { AreBound (D.state desk.old) W.outputs }
     requires fresh { progress.old ≡ no_progress }
     requires start { F.made fold.old [] }
-    ensures items { FoldsItems (written_for W.for_cell W.for_left_out) (F.made fold.new) library_limit (D.state desk.old) (D.state desk.new) progress.new result }
+    ensures items { FoldsItems (written_for W.for_cell W.for_left_out) (F.made fold.new) library_limit (D.state desk.old)
+        (D.state desk.new) progress.new result }
     ensures cause { StopsWithCause (D.faults desk.old) (D.faults desk.new) result }
 {
     let mut cursor = CellCursor::new(alloc, LIBRARY_LIMIT)?;

@@ -1,5 +1,5 @@
-//! The items of a library in order: what counts for the next one, what is written for each, what is made of the cells, the cells that
-//! are kept, how the library ends, and how a line tells a cell.
+//! The items of a library in order: what counts for the next one, what is written for each, what is made of the cells, the cells
+//! that are kept, how the library ends, and how a line tells a cell.
 #![tactic(auto)]
 
 mod cell_lines;

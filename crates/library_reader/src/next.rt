@@ -32,8 +32,8 @@ pub enum NextCell {
     Refused(Refusal),
 }
 
-/// The name of the VITAL model of a cell, where `given` are the names of the models before it in lower case: that of its entity, or of
-/// the entity of its drivers where some outputs may float. `AllocError` comes only where memory is wanting.
+/// The name of the VITAL model of a cell, where `given` are the names of the models before it in lower case: that of its entity,
+/// or of the entity of its drivers where some outputs may float. `AllocError` comes only where memory is wanting.
 fn vital_name(alloc: Global, cell: &DrivenCell, given: &Names) -> Result<Items<u8>, AllocError>
     ensures { IfOk result (λ name. name ≡ vital_name given.now (driven_data_of cell.now)) }
 {

@@ -27,10 +27,12 @@ pub(crate) fn next_step<D: Desk>(cursor: &mut CellCursor, desk: &mut D) -> Resul
     ensures steps { Steps cursor.old cursor.new (D.state desk.old) (D.state desk.new) result }
     ensures kept { is_going cursor.old.answer ≡ false → cursor.new.answer ≡ cursor.old.answer }
     ensures later { D.faults desk.old ≤ D.faults desk.new }
-    ensures failed { IfErr result (λ stop. stop ≡ Stop.Failed → (is_failed cursor.old.answer ≡ true) ⊎ Rose (D.faults desk.old) (D.faults desk.new)) }
+    ensures failed { IfErr result (λ stop. stop ≡ Stop.Failed → (is_failed cursor.old.answer ≡ true)
+        ⊎ Rose (D.faults desk.old) (D.faults desk.new)) }
     ensures unfailed { OnOk result (is_failed cursor.old.answer ≡ false → is_failed cursor.new.answer ≡ false) }
     ensures clean { OnOk result (is_failed cursor.old.answer ≡ false → D.faults desk.new ≡ D.faults desk.old) }
-    ensures memory { IfErr result (λ stop. stop ≡ Stop.Memory → is_failed cursor.old.answer ≡ false → D.faults desk.new ≡ D.faults desk.old) }
+    ensures memory { IfErr result (λ stop. stop ≡ Stop.Memory → is_failed cursor.old.answer ≡ false
+        → D.faults desk.new ≡ D.faults desk.old) }
 {
     match cursor.next_cell(desk) {
         Ok(Next::Cell(group)) => Ok(Step::Item(LibraryItem::Cell(group))),

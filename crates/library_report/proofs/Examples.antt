@@ -23,7 +23,8 @@ unfolding digits totals_line
 totals = refl
 
 -- a cell with `three_state` at an input
-input-line : refused_line 2 (codes "TB") (record { reason = reason.ThreeState; at = 182 }) ≡ codes "cell 2 TB refused 2 three_state at 182\n"
+input-line : refused_line 2 (codes "TB") (record { reason = reason.ThreeState; at = 182 }) ≡ codes
+    "cell 2 TB refused 2 three_state at 182\n"
 unfolding digits cell_text printed_name refusal_text refused_line
 input-line = refl
 
@@ -33,7 +34,8 @@ unfolding digits cell_text printed_name refusal_text refused_line
 nameless-line = refl
 
 -- a cell in which the name of a bus stands where it has no bit
-register-line : refused_line 1 (codes "REG2") (record { reason = reason.Width; at = 240 }) ≡ codes "cell 1 REG2 refused 15 width at 240\n"
+register-line : refused_line 1 (codes "REG2") (record { reason = reason.Width; at = 240 }) ≡ codes
+    "cell 1 REG2 refused 15 width at 240\n"
 unfolding digits cell_text printed_name refusal_text refused_line
 register-line = refl
 

@@ -6,7 +6,8 @@ use Rattle.cell_reader.specs.declared.left_out.LeftOut.{LeftOut}
 
 -- a timing group that makes nothing: the number of its cell from 1, the name of its pin, and its type
 unfoldable pub left_out_line : ℕ → List ℕ → List ℕ → List ℕ
-left_out_line number pin kind = codes "left-out " ++ (decimal number ++ (codes " " ++ (pin ++ (codes " " ++ (kind ++ codes "\n")))))
+left_out_line number pin kind = codes "left-out "
+    ++ (decimal number ++ (codes " " ++ (pin ++ (codes " " ++ (kind ++ codes "\n")))))
 
 -- the name of the pin with this number, empty where there is none
 abbrev pub pin_name : List Pin → ℕ → List ℕ

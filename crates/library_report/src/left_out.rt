@@ -2,11 +2,15 @@
 ghost use Rattle.std.specs.Prelude.{◌≡◌};
 ghost use Rattle.text_io.specs.declared.slots.OutSlot.TheVariants.{Report};
 ghost use Rattle.text_io.specs.Desk.{HasCause, WritesText};
-ghost use Rattle.library_report.specs.LeftOutLines.{left_out_group_line, left_out_lines, left_out_file_line, pin_name as pin_name_of};
+ghost use Rattle.library_report.specs.LeftOutLines.{left_out_group_line, left_out_lines, left_out_file_line};
+ghost use Rattle.library_report.specs.LeftOutLines.{pin_name as pin_name_of};
 
 use cell_machine::Pin;
 use cell_reader::LeftOut;
-use text_io::{Bytes, Decimal, Desk, Each, Failed, ItemText, Line, OutSlot, Part, Put, parts, write_part, write_whole};
+use text_io::{
+    Bytes, Decimal, Desk, Each, Failed, ItemText, Line, OutSlot, Part, Put, parts, write_part,
+    write_whole,
+};
 
 /// Lines on the timing groups that make nothing, of the cell with this number and these pins: the number, the name of the group's
 /// pin, and its type.

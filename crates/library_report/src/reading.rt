@@ -8,9 +8,9 @@ ghost use Rattle.library_reader.specs.LibraryCells.{all_described, cell_names};
 ghost use Rattle.run_outcome.specs.FileSteps.{FileIsTaken, FileEndsRun, TellsStop, StopsWithStatus};
 ghost use Rattle.library_report.specs.LibraryAnswer.{library_answer, library_stop};
 
-use run_outcome::{Status, ended};
-use library_reader::{LibraryCell, NotWhole, read_cells};
 use crate::{write_library_fault, write_library_too_long};
+use library_reader::{LibraryCell, NotWhole, read_cells};
+use run_outcome::{Status, ended};
 use std::alloc::Global;
 use text_io::{Desk, InSlot};
 
@@ -33,7 +33,8 @@ pub fn read_library<D: Desk>(
     place: usize,
 ) -> Result<Vec<LibraryCell>, Status>
     requires { Contains (plan (D.state desk.old).words) (Input Library, place) }
-    ensures ok { IfOk result (λ cells. FileIsTaken library_answer (D.state desk.old) (D.state desk.new) Library place (all_described cells.items)) }
+    ensures ok { IfOk result (λ cells. FileIsTaken library_answer (D.state desk.old) (D.state desk.new) Library place
+        (all_described cells.items)) }
     ensures own { IfOk result (λ cells. AreDistinct (cell_names (all_described cells.items))) }
     ensures err { IfErr result (FileEndsRun library_answer (D.state desk.old) (D.state desk.new) Library place) }
     ensures kept { OnOk result (D.faults desk.new ≡ D.faults desk.old) }

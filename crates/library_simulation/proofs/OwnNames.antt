@@ -34,6 +34,8 @@ no_names = tt
 pub modules_apart : (modules : List (FileModel VModule)) → HaveOwnNames verilog modules → AreDistinct (module_names modules)
 modules_apart modules own = new_apart [] (module_names modules) no_names own.names
 
-pub entities_apart : (entities : List (FileModel VEntity)) → AreApart (model_names vital entities) → AreDistinct (lowered_names entities)
+pub entities_apart : (entities : List (FileModel VEntity)) → AreApart (model_names vital entities)
+    → AreDistinct (lowered_names entities)
 entities_apart entities apart =
-    subst AreDistinct (map-map lowered (λ (f : FileModel VEntity). f.name) entities) (IsDistinct-map lowered bytes_eq (model_names vital entities) apart)
+    subst AreDistinct (map-map lowered (λ (f : FileModel VEntity). f.name) entities)
+    (IsDistinct-map lowered bytes_eq (model_names vital entities) apart)

@@ -21,21 +21,27 @@ use Rattle.simulation_catalog.specs.Catalog.{HaveOwnNames}
 use Rattle.simulation_catalog.specs.Sections.{RunsByPorts}
 use Rattle.library_simulation.proofs.OwnNames.{modules_apart, entities_apart}
 
-pub modules_run : (modules : List (FileModel VModule)) → All (IsRunnable modules_of.IsSound module_machine) modules → in_files.HaveOwnNames verilog modules
+pub modules_run : (modules : List (FileModel VModule)) → All (IsRunnable modules_of.IsSound module_machine) modules
+    → in_files.HaveOwnNames verilog modules
     → All (RunsByPorts modules_of.IsSound module_machine) modules
-modules_run modules runs own = λ k d below. let ports = own.ports k d below in record { runs = runs k d below; inputs = ports.inputs; outputs = ports.outputs }
+modules_run modules runs own = λ k d below. let ports = own.ports k d below
+    in record { runs = runs k d below; inputs = ports.inputs; outputs = ports.outputs }
 
-pub entities_run : (entities : List (FileModel VEntity)) → All (IsRunnable entities_of.IsSound entity_machine) entities → in_files.HaveOwnNames vital entities
+pub entities_run : (entities : List (FileModel VEntity)) → All (IsRunnable entities_of.IsSound entity_machine) entities
+    → in_files.HaveOwnNames vital entities
     → All (RunsByPorts entities_of.IsSound entity_machine) entities
-entities_run entities runs own = λ k d below. let ports = own.ports k d below in record { runs = runs k d below; inputs = ports.inputs; outputs = ports.outputs }
+entities_run entities runs own = λ k d below. let ports = own.ports k d below
+    in record { runs = runs k d below; inputs = ports.inputs; outputs = ports.outputs }
 
 -- memory holds a text within its limit
 held : (n : ℕ) → n ≤ model_limit → IsCount n
 held n h = grind (arith, h)
 
 -- cells of different names beside the models of two files
-pub own_names : (cells : List CellEntry) (modules : List (FileModel VModule)) (entities : List (FileModel VEntity)) (vhdl : List ℕ) → EntitiesHaveOwnNames
-    → AreDistinct (cell_names cells) → in_files.HaveOwnNames verilog modules → length vhdl ≤ model_limit → vital_models vhdl ≡ Ok entities → HaveOwnNames cells modules entities
+pub own_names : (cells : List CellEntry) (modules : List (FileModel VModule)) (entities : List (FileModel VEntity))
+    (vhdl : List ℕ) → EntitiesHaveOwnNames
+    → AreDistinct (cell_names cells) → in_files.HaveOwnNames verilog modules → length vhdl ≤ model_limit
+    → vital_models vhdl ≡ Ok entities → HaveOwnNames cells modules entities
 own_names cells modules entities vhdl texts own named short found = record {
   of_cells = own;
   of_modules = modules_apart modules named;

@@ -17,7 +17,8 @@ use Rattle.model_files.specs.ModelAnswer.{model_answer}
 use Rattle.library_simulation.specs.Simulate.{simulate_outcome, behind_cells, behind_modules, behind_entities}
 
 -- four files that are read
-pub simulated_whole : (library text vhdl stimulus : List ℕ) (cells : List CellEntry) (modules : List (FileModel VModule)) (entities : List (FileModel VEntity)) (sections : List Section)
+pub simulated_whole : (library text vhdl stimulus : List ℕ) (cells : List CellEntry) (modules : List (FileModel VModule))
+    (entities : List (FileModel VEntity)) (sections : List Section)
     → library_answer library ≡ Ok cells → model_answer verilog text ≡ Ok modules → model_answer vital vhdl ≡ Ok entities
     → stimulus_answer (cause_stop cells) (cells_named cells modules entities) stimulus ≡ Ok sections
     → simulate_outcome library text vhdl stimulus ≡ sections_outcome cells modules entities sections

@@ -21,7 +21,8 @@ use Rattle.library_simulation.specs.declared.comparisons.Beside.{Beside}
 
 -- what a section is run on, with these machines
 abbrev pub compared_with : List ℕ → Ports → DriveMachine → DriveMachine → DriveMachine → Compared
-compared_with name ports liberty verilog vital = record { name = name; ports = ports; liberty = liberty; verilog = verilog; vital = vital }
+compared_with name ports liberty verilog vital =
+    record { name = name; ports = ports; liberty = liberty; verilog = verilog; vital = vital }
 
 -- what runs of a cell that was read
 abbrev pub machine_in : DrivenCell → DriveMachine
@@ -33,8 +34,8 @@ compared_of beside =
     compared_with beside.cell.now.name beside.ports.now (machine_in beside.cell.now) (machine_by module_machine beside.module.now)
     (machine_by entity_machine beside.entity.now)
 
--- Changes can be given to all three: both models can be run, all have as many inputs and outputs as there are names, and the changes are
--- of these inputs, at times that rise strictly.
+-- Changes can be given to all three: both models can be run, all have as many inputs and outputs as there are names, and the
+-- changes are of these inputs, at times that rise strictly.
 pub record CanBeGiven (beside : Beside) (section : Section) : Type 0 where
   pub runs_module : IsRunnable modules_of.IsSound module_machine beside.module.now
   pub runs_entity : IsRunnable entities_of.IsSound entity_machine beside.entity.now

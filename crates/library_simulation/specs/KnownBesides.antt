@@ -25,7 +25,8 @@ StandsFor cells modules entities k beside =
 
 -- the same of what is known of them
 abbrev pub StandsAt : Simulation → ℕ → KnownBeside → Type 0
-StandsAt simulation k known = StandsFor (all_described simulation.read.cells) simulation.read.modules simulation.read.entities k known.beside
+StandsAt simulation k known = StandsFor (all_described simulation.read.cells) simulation.read.modules simulation.read.entities k
+    known.beside
 
 -- what stands at a number is that of the cell with this number
 abbrev pub AreBesides : Simulation → List (Option KnownBeside) → Type 0

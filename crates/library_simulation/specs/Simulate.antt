@@ -1,5 +1,5 @@
--- What a simulation comes to: its four files are read one after another, the first of them that ends the run decides, and behind them
--- the traces of each section are printed and compared. This project's rule.
+-- What a simulation comes to: its four files are read one after another, the first of them that ends the run decides, and behind
+-- them the traces of each section are printed and compared. This project's rule.
 use Rattle.std.specs.Prelude.{ℕ, List, [], ◌∷◌}
 use Rattle.text_io.specs.declared.slots.InSlot.TheVariants.{Library, Verilog, Vital, Stimulus}
 use Rattle.text_io.specs.declared.slots.Slot.TheVariants.{Input}
@@ -31,20 +31,24 @@ model_files = (Input Library, 1) ∷ (Input Verilog, 2) ∷ (Input Vital, 3) ∷
 -- behind the entities, by the stimulus
 abbrev pub behind_entities : List CellEntry → List (FileModel VModule) → List (FileModel VEntity) → List ℕ → Outcome
 behind_entities cells modules entities stimulus =
-    outcome_by 4 (stimulus_answer (cause_stop cells) (cells_named cells modules entities) stimulus) (λ sections. sections_outcome cells modules entities sections)
+    outcome_by 4 (stimulus_answer (cause_stop cells) (cells_named cells modules entities) stimulus)
+    (λ sections. sections_outcome cells modules entities sections)
 
 -- behind the modules, by the VHDL file
 abbrev pub behind_modules : List CellEntry → List (FileModel VModule) → List ℕ → List ℕ → Outcome
-behind_modules cells modules vhdl stimulus = outcome_by 3 (model_answer vital vhdl) (λ entities. behind_entities cells modules entities stimulus)
+behind_modules cells modules vhdl stimulus =
+    outcome_by 3 (model_answer vital vhdl) (λ entities. behind_entities cells modules entities stimulus)
 
 -- behind the cells, by the Verilog file
 abbrev pub behind_cells : List CellEntry → List ℕ → List ℕ → List ℕ → Outcome
-behind_cells cells text vhdl stimulus = outcome_by 2 (model_answer verilog text) (λ modules. behind_modules cells modules vhdl stimulus)
+behind_cells cells text vhdl stimulus =
+    outcome_by 2 (model_answer verilog text) (λ modules. behind_modules cells modules vhdl stimulus)
 
--- What these bytes of a library, of a Verilog file, of a VHDL file and of a stimulus come to. Each file is bound only behind files that
--- are read.
+-- What these bytes of a library, of a Verilog file, of a VHDL file and of a stimulus come to. Each file is bound only behind
+-- files that are read.
 abbrev pub simulate_outcome : List ℕ → List ℕ → List ℕ → List ℕ → Outcome
-simulate_outcome library text vhdl stimulus = outcome_by 1 (library_answer library) (λ cells. behind_cells cells text vhdl stimulus)
+simulate_outcome library text vhdl stimulus =
+    outcome_by 1 (library_answer library) (λ cells. behind_cells cells text vhdl stimulus)
 
 -- what the words of the command come to, with these files
 abbrev pub simulate_of : List (List ℕ) → Folder → Outcome

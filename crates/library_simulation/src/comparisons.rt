@@ -6,7 +6,8 @@ ghost use Rattle.stimulus.specs.Comparison.{HavePorts, three_lines, first_unlike
 ghost use Rattle.stimulus.specs.Writes.{WritesTrace};
 ghost use Rattle.text_io.specs.Desk.{StopsWithCause};
 ghost use Rattle.simulation_catalog.specs.Catalog.{simulated_of};
-ghost use Rattle.simulation_catalog.specs.Comparisons.{lines_of, compared_section, section_text, sections_text, differs, any_differs};
+ghost use Rattle.simulation_catalog.specs.Comparisons.{lines_of, compared_section, section_text, sections_text, differs};
+ghost use Rattle.simulation_catalog.specs.Comparisons.{any_differs};
 ghost use Rattle.simulation_catalog.specs.Sections.{CanBeCompared};
 ghost use Rattle.cell_machine.specs.CellData.{data_of};
 ghost use Rattle.cell_machine.specs.CellStarts.{IsCellStart};
@@ -23,10 +24,10 @@ use file_models::FileModel;
 use library_reader::LibraryCell;
 use model_files::nothing_known;
 use model_replay::{start_entity, start_module};
-use stimulus::{Ports, Section, Three, TraceSim, write_comparison, write_heading, write_verdict};
 use simulation_catalog::described_are_cells;
 use specify_blocks::VModule;
 use std::alloc::{AllocError, Global};
+use stimulus::{Ports, Section, Three, TraceSim, write_comparison, write_heading, write_verdict};
 use text_io::{Desk, Stop};
 use three_state_cells::DrivenCell;
 use vital_models::VEntity;
@@ -46,9 +47,12 @@ pub(crate) struct Beside<'a> {
 
 /// The cell that a section names, with the models that stand for it.
 pub(crate) fn stands_beside<'a>(simulation: &'a Simulation, section: &Section) -> Beside<'a>
-    requires simulated { simulation.now.simulated ≡ simulated_of (all_described simulation.now.read.cells) simulation.now.read.modules simulation.now.read.entities }
-    requires run { CanBeCompared (all_described simulation.now.read.cells) simulation.now.read.modules simulation.now.read.entities section.now }
-    ensures { StandsFor (all_described simulation.now.read.cells) simulation.now.read.modules simulation.now.read.entities section.now.cell result }
+    requires simulated { simulation.now.simulated ≡ simulated_of (all_described simulation.now.read.cells)
+        simulation.now.read.modules simulation.now.read.entities }
+    requires run { CanBeCompared (all_described simulation.now.read.cells) simulation.now.read.modules
+        simulation.now.read.entities section.now }
+    ensures { StandsFor (all_described simulation.now.read.cells) simulation.now.read.modules simulation.now.read.entities
+        section.now.cell result }
 {
     described_are_cells();
     let LibraryCell::Accepted { cell, .. } = &simulation.read.cells.as_slice()[section.cell] else {
@@ -110,8 +114,11 @@ fn write_started<D: Desk, L: TraceSim + Drop, V: TraceSim + Drop, H: TraceSim + 
     requires verilog { V.stands three.verilog [] }
     requires vital { H.stands three.vital [] }
     requires proper { IsProperFrom (length ports.now.inputs) [] changes.now }
-    ensures text { WritesTrace (D.state desk.old) (D.state desk.new) (compared_section (compared_with name.now ports.now (L.machine three.liberty) (V.machine three.verilog) (H.machine three.vital)) changes.now) result }
-    ensures differs { IfOk result (λ some_differ. some_differ ≡ is_some (first_unlike changes.now (three_lines (L.machine three.liberty) (V.machine three.verilog) (H.machine three.vital)))) }
+    ensures text { WritesTrace (D.state desk.old) (D.state desk.new)
+        (compared_section (compared_with name.now ports.now (L.machine three.liberty) (V.machine three.verilog)
+        (H.machine three.vital)) changes.now) result }
+    ensures differs { IfOk result (λ some_differ. some_differ ≡ is_some
+        (first_unlike changes.now (three_lines (L.machine three.liberty) (V.machine three.verilog) (H.machine three.vital)))) }
     ensures cause { StopsWithCause (D.faults desk.old) (D.faults desk.new) result }
 {
     write_heading(desk, name)?;
@@ -129,8 +136,10 @@ fn write_compared<D: Desk>(
     section: &Section,
 ) -> Result<bool, Stop>
     requires { CanBeGiven known.now.beside section.now }
-    ensures text { WritesTrace (D.state desk.old) (D.state desk.new) (compared_section (compared_of known.now.beside) section.now.changes) result }
-    ensures differs { IfOk result (λ some_differ. some_differ ≡ is_some (first_unlike section.now.changes (lines_of (compared_of known.now.beside)))) }
+    ensures text { WritesTrace (D.state desk.old) (D.state desk.new)
+        (compared_section (compared_of known.now.beside) section.now.changes) result }
+    ensures differs { IfOk result (λ some_differ. some_differ ≡ is_some
+        (first_unlike section.now.changes (lines_of (compared_of known.now.beside)))) }
     ensures cause { StopsWithCause (D.faults desk.old) (D.faults desk.new) result }
 {
     let beside = known.beside;
@@ -154,12 +163,17 @@ fn write_compared_section<'a, D: Desk>(
     known: &mut Vec<Option<KnownBeside<'a>>>,
     section: &Section,
 ) -> Result<bool, Stop>
-    requires simulated { simulation.now.simulated ≡ simulated_of (all_described simulation.now.read.cells) simulation.now.read.modules simulation.now.read.entities }
-    requires run { CanBeCompared (all_described simulation.now.read.cells) simulation.now.read.modules simulation.now.read.entities section.now }
+    requires simulated { simulation.now.simulated ≡ simulated_of (all_described simulation.now.read.cells)
+        simulation.now.read.modules simulation.now.read.entities }
+    requires run { CanBeCompared (all_described simulation.now.read.cells) simulation.now.read.modules
+        simulation.now.read.entities section.now }
     requires known { AreBesides simulation.now known.old.items }
     requires each { length known.old.items ≡ length simulation.now.simulated.models }
-    ensures text { WritesTrace (D.state desk.old) (D.state desk.new) (section_text (all_described simulation.now.read.cells) simulation.now.read.modules simulation.now.read.entities section.now) result }
-    ensures differs { IfOk result (λ some_differ. some_differ ≡ differs (all_described simulation.now.read.cells) simulation.now.read.modules simulation.now.read.entities section.now) }
+    ensures text { WritesTrace (D.state desk.old) (D.state desk.new)
+        (section_text (all_described simulation.now.read.cells) simulation.now.read.modules simulation.now.read.entities
+        section.now) result }
+    ensures differs { IfOk result (λ some_differ. some_differ ≡ differs (all_described simulation.now.read.cells)
+        simulation.now.read.modules simulation.now.read.entities section.now) }
     ensures known { OnOk result (AreBesides simulation.now known.new.items) }
     ensures each { OnOk result (length known.new.items ≡ length known.old.items) }
     ensures cause { StopsWithCause (D.faults desk.old) (D.faults desk.new) result }
@@ -179,8 +193,11 @@ pub(crate) fn write_compared_sections<D: Desk>(
     simulation: &Simulation,
 ) -> Result<bool, Stop>
     requires { CanBePrinted simulation.now }
-    ensures text { WritesTrace (D.state desk.old) (D.state desk.new) (sections_text (all_described simulation.now.read.cells) simulation.now.read.modules simulation.now.read.entities simulation.now.sections) result }
-    ensures differs { IfOk result (λ some_differ. some_differ ≡ any_differs (all_described simulation.now.read.cells) simulation.now.read.modules simulation.now.read.entities simulation.now.sections) }
+    ensures text { WritesTrace (D.state desk.old) (D.state desk.new)
+        (sections_text (all_described simulation.now.read.cells) simulation.now.read.modules simulation.now.read.entities
+        simulation.now.sections) result }
+    ensures differs { IfOk result (λ some_differ. some_differ ≡ any_differs (all_described simulation.now.read.cells)
+        simulation.now.read.modules simulation.now.read.entities simulation.now.sections) }
     ensures cause { StopsWithCause (D.faults desk.old) (D.faults desk.new) result }
 {
     let mut known = nothing_known(alloc, simulation.simulated.models.len())?;

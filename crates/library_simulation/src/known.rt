@@ -1,5 +1,5 @@
-//! Cells and the models that stand for them, with what is known of them before any change, of those that were run, so that another
-//! section of one begins with it.
+//! Cells and the models that stand for them, with what is known of them before any change, of those that were run, so that
+//! another section of one begins with it.
 ghost use Rattle.std.specs.Prelude.{◌≡◌, ◌<◌, None, Some, length, slice_index_or, OnOk};
 ghost use Rattle.library_reader.specs.LibraryCells.{all_described};
 ghost use Rattle.simulation_catalog.specs.Catalog.{simulated_of};
@@ -20,8 +20,10 @@ pub(crate) fn learn<'a>(
     known: &mut Vec<Option<KnownBeside<'a>>>,
     section: &Section,
 ) -> Result<(), AllocError>
-    requires simulated { simulation.now.simulated ≡ simulated_of (all_described simulation.now.read.cells) simulation.now.read.modules simulation.now.read.entities }
-    requires run { CanBeCompared (all_described simulation.now.read.cells) simulation.now.read.modules simulation.now.read.entities section.now }
+    requires simulated { simulation.now.simulated ≡ simulated_of (all_described simulation.now.read.cells)
+        simulation.now.read.modules simulation.now.read.entities }
+    requires run { CanBeCompared (all_described simulation.now.read.cells) simulation.now.read.modules
+        simulation.now.read.entities section.now }
     requires inside { section.now.cell < length known.old.items }
     ensures known { OnOk result (AreBesides simulation.now known.old.items → AreBesides simulation.now known.new.items) }
     ensures found { OnOk result ((beside : KnownOf) × (slice_index_or known.new.items section.now.cell None ≡ Some beside)) }

@@ -7,12 +7,12 @@ ghost use Rattle.simulation_catalog.specs.Catalog.{simulated_of, HaveOwnNames};
 ghost use Rattle.library_simulation.specs.Simulate.{simulate_files, simulate_of};
 ghost use Rattle.library_simulation.specs.Simulations.{ReadsModels, ReadsSimulation};
 
-use run_outcome::Status;
 use file_models::FileModel;
-use library_report::read_library;
 use library_reader::LibraryCell;
+use library_report::read_library;
 use model_files::{read_model_file, read_stimulus_file};
 use model_replay::{Verilog, Vital, entities_have_own_names};
+use run_outcome::Status;
 use simulation_catalog::{Simulated, SimulationStop, sections_can_be_compared, simulation_catalog};
 use specify_blocks::VModule;
 use sqlite_items::Items;
@@ -48,7 +48,8 @@ pub(crate) struct Simulation {
 fn read_cells_and_models<D: Desk>(alloc: Global, desk: &mut D) -> Result<ModelsRead, Status>
     requires { plan (D.state desk.old).words ≡ simulate_files }
     ensures read { IfOk result (ReadsModels (D.state desk.old) (D.state desk.new)) }
-    ensures ended { IfErr result (RunsAs simulate_files (simulate_of (D.state desk.old).words) (D.state desk.old) (D.state desk.new)) }
+    ensures ended { IfErr result (RunsAs simulate_files (simulate_of (D.state desk.old).words) (D.state desk.old)
+        (D.state desk.new)) }
     ensures kept { OnOk result (D.faults desk.new ≡ D.faults desk.old) }
     ensures cause { IfErr result (StopsWithStatus (D.faults desk.old) (D.faults desk.new)) }
 {
@@ -65,7 +66,8 @@ fn read_cells_and_models<D: Desk>(alloc: Global, desk: &mut D) -> Result<ModelsR
 
 /// The cells by their names, with their models among those that were read; else `Memory`.
 fn catalog_of(alloc: Global, read: &ModelsRead) -> Result<Simulated, Status>
-    ensures catalog { IfOk result (λ simulated. HaveOwnNames (all_described read.now.cells) read.now.modules read.now.entities → simulated ≡ simulated_of (all_described read.now.cells) read.now.modules read.now.entities) }
+    ensures catalog { IfOk result (λ simulated. HaveOwnNames (all_described read.now.cells) read.now.modules read.now.entities
+        → simulated ≡ simulated_of (all_described read.now.cells) read.now.modules read.now.entities) }
     ensures memory { IfErr result (λ status. status ≡ Status.Memory) }
 {
     let cells = read.cells.as_slice();
@@ -89,7 +91,8 @@ fn catalog_of(alloc: Global, read: &ModelsRead) -> Result<Simulated, Status>
 pub(crate) fn read_simulation<D: Desk>(alloc: Global, desk: &mut D) -> Result<Simulation, Status>
     requires { plan (D.state desk.old).words ≡ simulate_files }
     ensures read { IfOk result (ReadsSimulation (D.state desk.old) (D.state desk.new)) }
-    ensures ended { IfErr result (RunsAs simulate_files (simulate_of (D.state desk.old).words) (D.state desk.old) (D.state desk.new)) }
+    ensures ended { IfErr result (RunsAs simulate_files (simulate_of (D.state desk.old).words) (D.state desk.old)
+        (D.state desk.new)) }
     ensures kept { OnOk result (D.faults desk.new ≡ D.faults desk.old) }
     ensures cause { IfErr result (StopsWithStatus (D.faults desk.old) (D.faults desk.new)) }
 {

@@ -15,16 +15,19 @@ use Rattle.run_outcome.specs.Written.{in_report}
 use Rattle.library_translation.specs.Cells.{accepted_written, written_by}
 
 -- the next cell, or why it is refused
-pub accepted_of : (p : Progress) (group : Group) (found : NextCell) (cell : DrivenCell) (entity : List ℕ) → found ≡ next.Accepted cell entity
+pub accepted_of : (p : Progress) (group : Group) (found : NextCell) (cell : DrivenCell) (entity : List ℕ)
+    → found ≡ next.Accepted cell entity
     → IsNext p group found → IsAcceptedNext p group cell entity
 accepted_of p group found cell entity e h = subst (IsNext p group) e h
 
-pub refused_of : (p : Progress) (group : Group) (found : NextCell) (refusal : Refusal) → found ≡ next.Refused refusal → IsNext p group found
+pub refused_of : (p : Progress) (group : Group) (found : NextCell) (refusal : Refusal) → found ≡ next.Refused refusal
+    → IsNext p group found
     → next_refusal p group ≡ Some refusal
 refused_of p group found refusal e h = subst (IsNext p group) e h
 
 -- nothing refuses the next cell
-pub accepted_written_as : (p : Progress) (group : Group) (cell : DrivenCell) (entity : List ℕ) → IsAcceptedNext p group cell entity
+pub accepted_written_as : (p : Progress) (group : Group) (cell : DrivenCell) (entity : List ℕ)
+    → IsAcceptedNext p group cell entity
     → accepted_written entity (driven_data_of cell) group ≡ written_by p group (next_refusal p group)
 accepted_written_as p group cell entity h =
     rw h.unrefused (ap (λ name. accepted_written name (driven_data_of cell) group) h.same_entity

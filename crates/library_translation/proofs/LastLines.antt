@@ -28,7 +28,8 @@ last_stops old new p end y r w e = record {
 
 -- all of it, where nothing is to be told of the library
 pub last_told : (old new : DeskState) (p : Progress) (end : Ending) (status : Status)
-    → new ≡ wrote old Report (last_line end p) → [] ≡ fault_line end → status ≡ status_at end p → Finishes old new p end (Ok status)
+    → new ≡ wrote old Report (last_line end p) → [] ≡ fault_line end → status ≡ status_at end p
+    → Finishes old new p end (Ok status)
 last_told old new p end status w none s = record {
   report = last_line end p;
   faults = [];
@@ -55,7 +56,8 @@ fault_stops old new p end y r w e = record {
 
 -- all of it, where nothing is to be told of the cells
 pub fault_told : (old new : DeskState) (p : Progress) (end : Ending) (status : Status)
-    → new ≡ wrote old Faults (fault_line end) → [] ≡ last_line end p → status ≡ status_at end p → Finishes old new p end (Ok status)
+    → new ≡ wrote old Faults (fault_line end) → [] ≡ last_line end p → status ≡ status_at end p
+    → Finishes old new p end (Ok status)
 fault_told old new p end status w none s = record {
   report = [];
   faults = fault_line end;

@@ -18,5 +18,6 @@ pub behind_prelude : (bytes : List ℕ) (taken : ℕ) (text : Written) → Holds
 behind_prelude bytes taken text held = λ e h. IsPart-after (in_verilog prelude_text) _ text (held e h)
 
 -- with more behind them
-pub with_more : (bytes : List ℕ) (taken : ℕ) (text more : Written) → HoldsModels bytes taken text → HoldsModels bytes taken (joined text more)
+pub with_more : (bytes : List ℕ) (taken : ℕ) (text more : Written) → HoldsModels bytes taken text
+    → HoldsModels bytes taken (joined text more)
 with_more bytes taken text more held = λ e h. IsPart-front _ text more (held e h)

@@ -1,5 +1,6 @@
 -- Translating a library: its three files bound one after another, and what stands on the desk whether they were or not.
-use Rattle.std.proofs.Common.{◌≡◌, ℕ, List, [], ◌∷◌, ◌++◌, take, Result, Ok, Err, IsTrue, IsErr, IfSome, OnOk, OnErr, refl, ap, ◌∙◌}
+use Rattle.std.proofs.Common.{◌≡◌, ℕ, List, [], ◌∷◌, ◌++◌, take, Result, Ok, Err, IsTrue, IsErr, IfSome, OnOk, OnErr, refl, ap}
+use Rattle.std.proofs.Common.{◌∙◌}
 use Rattle.text_io.specs.declared.outside.Failed.{Failed}
 use Rattle.text_io.specs.declared.slots.InSlot.{InSlot}
 use Rattle.text_io.specs.declared.slots.InSlot.TheVariants.{Library}
@@ -23,12 +24,15 @@ use Rattle.library_reader.proofs.Claims.{OnOk-err}
 
 -- a call that fails after the first of the files were bound
 pub binds_stopped : {T : Type 0} (old new : DeskState) (bound others : Files) (bytes : InSlot → List ℕ) (r : Result T Failed)
-    → IsErr r → bound ++ others ≡ translate_files → new ≡ bound_state old bound bytes → AreNamed old bound bytes → Binds translate_files old new r
-binds_stopped old new bound others bytes r e p h f = record { bound = bound; bytes = bytes; state = h; planned = (others, p); named = f; whole = OnOk-err r _ e }
+    → IsErr r → bound ++ others ≡ translate_files → new ≡ bound_state old bound bytes → AreNamed old bound bytes
+    → Binds translate_files old new r
+binds_stopped old new bound others bytes r e p h f =
+    record { bound = bound; bytes = bytes; state = h; planned = (others, p); named = f; whole = OnOk-err r _ e }
 
 -- a call that binds the last file
 pub binds_last : {T : Type 0} (old now new : DeskState) (bytes : List ℕ) (r : Result T Failed)
-    → now ≡ created (opened old Library bytes) VerilogText → IsFileAt old 1 bytes → OnOk r (new ≡ created now VitalText) → OnErr r (new ≡ now) → Binds translate_files old new r
+    → now ≡ created (opened old Library bytes) VerilogText → IsFileAt old 1 bytes → OnOk r (new ≡ created now VitalText)
+    → OnErr r (new ≡ now) → Binds translate_files old new r
 binds_last old now new bytes (Ok x) h f ok err = record {
   bound = translate_files;
   bytes = λ _. bytes;
@@ -47,16 +51,19 @@ binds_last old now new bytes (Err y) h f ok err = record {
 }
 
 -- the library is bound then, and the file for Verilog text
-pub library_bound : (old now : DeskState) (bytes : InSlot → List ℕ) → now ≡ bound_state old translate_files bytes → IsTrue (is_bound now (Input Library))
+pub library_bound : (old now : DeskState) (bytes : InSlot → List ℕ) → now ≡ bound_state old translate_files bytes
+    → IsTrue (is_bound now (Input Library))
 unfolding opened created
 library_bound old now bytes e = rw e refl
 
-pub verilog_bound : (old now : DeskState) (bytes : InSlot → List ℕ) → now ≡ bound_state old translate_files bytes → IsTrue (is_bound now (Output VerilogText))
+pub verilog_bound : (old now : DeskState) (bytes : InSlot → List ℕ) → now ≡ bound_state old translate_files bytes
+    → IsTrue (is_bound now (Output VerilogText))
 unfolding opened created
 verilog_bound old now bytes e = rw e refl
 
 -- and the file for VHDL text
-pub vital_bound : (old now : DeskState) (bytes : InSlot → List ℕ) → now ≡ bound_state old translate_files bytes → IsTrue (is_bound now (Output VitalText))
+pub vital_bound : (old now : DeskState) (bytes : InSlot → List ℕ) → now ≡ bound_state old translate_files bytes
+    → IsTrue (is_bound now (Output VitalText))
 unfolding opened created
 vital_bound old now bytes e = rw e refl
 
@@ -73,13 +80,19 @@ binds_all all = refl
 -- Exits of the whole.
 
 -- a file could not be bound
-pub unbound : (old new : DeskState) {T : Type 0} (r : Result T Failed) → Binds translate_files old new r → RunsTranslation old new Outside
+pub unbound : (old new : DeskState) {T : Type 0} (r : Result T Failed) → Binds translate_files old new r
+    → RunsTranslation old new Outside
 unfolding unbound_runs
 unbound old new r b =
-    record { run = unbound_runs translate_files (translate_of old.words) old new r b; models = λ folder _. no_model_owed _ nothing_written }
+    record {
+      run = unbound_runs translate_files (translate_of old.words) old new r b;
+      models =
+          λ folder _. no_model_owed _ nothing_written;
+    }
 
 -- all were bound, and the library was translated or not
-pub translated_runs : (old now new : DeskState) (bytes : InSlot → List ℕ) (result : Status) (taken : ℕ) (text : Written) (faults : List ℕ)
+pub translated_runs : (old now new : DeskState) (bytes : InSlot → List ℕ) (result : Status) (taken : ℕ) (text : Written)
+    (faults : List ℕ)
     → now ≡ bound_state old translate_files bytes → AreNamed old translate_files bytes
     → new ≡ wrote (wrote_all (took now Library taken) text) Faults faults
     → IfSome (now.left Library) (λ all. IsPartOf text faults (translate_outcome all))
@@ -88,5 +101,10 @@ pub translated_runs : (old now new : DeskState) (bytes : InSlot → List ℕ) (r
     → RunsTranslation old new result
 unfolding library_runs
 translated_runs old now new bytes result taken text faults h f state part models whole =
-    let run = library_runs translate_files _ translate_outcome old now new bytes result taken text faults reads_library binds_all h f state part whole in
-    record { run = run; models = λ folder tells. told translate_files _ (λ all. HoldsModels all taken text) old now folder bytes reads_library h f tells models }
+    let run = library_runs translate_files _ translate_outcome old now new bytes result taken text faults reads_library binds_all
+    h f state part whole in
+    record {
+      run = run;
+      models = λ folder tells. told translate_files _ (λ all. HoldsModels all taken text) old now folder bytes
+          reads_library h f tells models;
+    }

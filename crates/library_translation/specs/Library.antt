@@ -47,7 +47,8 @@ unfoldable pub outcome_at : List LibraryItem → Ending → Outcome
 outcome_at items ending = record {
   status = status_at ending (progress_after no_progress items);
   binds = 3;
-  text = joined (joined (in_verilog prelude_text) (items_written no_progress items)) (in_report (last_line ending (progress_after no_progress items)));
+  text = joined (joined (in_verilog prelude_text) (items_written no_progress items))
+      (in_report (last_line ending (progress_after no_progress items)));
   faults = fault_line ending;
 }
 

@@ -19,8 +19,9 @@ translate_files = (Input Library, 1) ∷ (Output VerilogText, 2) ∷ (Output Vit
 abbrev pub translate_of : List (List ℕ) → Folder → Outcome
 translate_of words folder = translate_outcome (bytes_at words folder 1)
 
--- The desk is as a run of the command leaves it. Whatever the status, both whole models are there of the accepted cells whose closing
--- braces lie more than 65,536 bytes before the end of the bytes that were read of the library.
+-- The desk is as a run of the command leaves it. Whatever the status, both whole models are there of the accepted cells whose
+-- closing braces lie more than 65,536 bytes before the end of the bytes that were read of the library.
 pub record RunsTranslation (old new : DeskState) (result : Status) : Type 0 where
   pub run : RunsAs translate_files (translate_of old.words) old new result
-  pub models : (folder : Folder) → Tells translate_files old folder → HoldsModels (bytes_at old.words folder 1) (run.taken Library) run.text
+  pub models : (folder : Folder) → Tells translate_files old folder
+      → HoldsModels (bytes_at old.words folder 1) (run.taken Library) run.text

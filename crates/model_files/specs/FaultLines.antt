@@ -23,7 +23,8 @@ word_of_fault fault.Memory = []
 -- a text of models that is refused: the word of its format, the offset of its fault, and the fault's word
 unfoldable pub model_fault_line : ModelFormat → ModelFault → List ℕ
 model_fault_line format fault =
-    word_of_format format ++ (codes " refused at " ++ (decimal (fault_place fault) ++ (codes ": " ++ (word_of_fault fault ++ codes "\n"))))
+    word_of_format format ++ (codes " refused at "
+    ++ (decimal (fault_place fault) ++ (codes ": " ++ (word_of_fault fault ++ codes "\n"))))
 
 -- a stimulus with a bad line: the first one's number, from 1, and its cause
 unfoldable pub stimulus_fault_line : ℕ → Cause → List ℕ

@@ -21,7 +21,8 @@ pub record Language (M : Type 0) : Type 1 where
   pub is_well_formed : M → Type 0
 
 -- the language of these
-abbrev pub language_of : {M : Type 0} → ModelFormat → (List ℕ → Result (List M) ModelFault) → (M → List ℕ) → (M → List VPort) → (M → DriveMachine) → (M → Type 0) → Language M
+abbrev pub language_of : {M : Type 0} → ModelFormat → (List ℕ → Result (List M) ModelFault) → (M → List ℕ) → (M → List VPort)
+    → (M → DriveMachine) → (M → Type 0) → Language M
 language_of format text name ports machine is_well_formed =
     record { format = format; text = text; name = name; ports = ports; machine = machine; is_well_formed = is_well_formed }
 
@@ -32,4 +33,5 @@ IsFaultIn answer e = answer ≡ Err e
 
 -- the section of a model: its name, and the lines of its trace on these changes, with these names of its ports
 abbrev pub model_trace_text : {M : Type 0} → Language M → M → Ports → List Change → List ℕ
-model_trace_text l m ports changes = heading_text (l.name m) ++ trace_text (tag_of l.format) ports changes (lines_along (l.machine m).line changes)
+model_trace_text l m ports changes =
+    heading_text (l.name m) ++ trace_text (tag_of l.format) ports changes (lines_along (l.machine m).line changes)

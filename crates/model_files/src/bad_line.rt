@@ -10,8 +10,8 @@ use text_io::Desk;
 pub trait BadLineStop {
     ghost stop: { Self → LineStop };
 
-    /// Tells the first bad line, which has this number, from 1, and this cause, and answers how the run ends: `Outside` where a write
-    /// failed, after a prefix of what is told.
+    /// Tells the first bad line, which has this number, from 1, and this cause, and answers how the run ends: `Outside` where a
+    /// write failed, after a prefix of what is told.
     fn tell<D: Desk>(&self, desk: &mut D, line: usize, cause: Cause) -> Status
         ensures told { TellsStop (stop self.now line cause) (D.state desk.old) (D.state desk.new) result }
         ensures cause { StopsWithStatus (D.faults desk.old) (D.faults desk.new) result };

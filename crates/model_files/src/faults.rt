@@ -3,11 +3,14 @@ ghost use Rattle.std.specs.Prelude.{◌≡◌};
 ghost use Rattle.text_io.specs.declared.slots.OutSlot.TheVariants.{Faults};
 ghost use Rattle.text_io.specs.Desk.{HasCause, WritesText};
 ghost use Rattle.udp_tables.specs.ModelFaults.{fault_place};
-ghost use Rattle.model_files.specs.FaultLines.{word_of_fault, model_fault_line, stimulus_fault_line, model_too_long_line, stimulus_too_long_line};
+ghost use Rattle.model_files.specs.FaultLines.{word_of_fault, model_fault_line, stimulus_fault_line, model_too_long_line};
+ghost use Rattle.model_files.specs.FaultLines.{stimulus_too_long_line};
 
 use crate::format::ModelFormat;
 use stimulus::Cause;
-use text_io::{Bytes, Decimal, Desk, Failed, OutSlot, parts, write_part, write_pieces, write_whole};
+use text_io::{
+    Bytes, Decimal, Desk, Failed, OutSlot, parts, write_part, write_pieces, write_whole,
+};
 use udp_tables::ModelFault;
 
 /// The word of a fault.

@@ -69,6 +69,7 @@ pub trait ModelLanguage {
         requires inputs { length ports.now.inputs ≡ (language.machine model.now).inputs }
         requires outputs { length ports.now.outputs ≡ (language.machine model.now).outputs }
         requires proper { IsProperFrom (language.machine model.now).inputs [] changes.now }
-        ensures text { WritesTrace (D.state desk.old) (D.state desk.new) (model_trace_text language model.now ports.now changes.now) result }
+        ensures text { WritesTrace (D.state desk.old) (D.state desk.new)
+            (model_trace_text language model.now ports.now changes.now) result }
         ensures cause { StopsWithCause (D.faults desk.old) (D.faults desk.new) result };
 }

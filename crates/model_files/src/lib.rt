@@ -1,5 +1,5 @@
-//! The files of models and the stimulus of a run: their formats and limits, what each is read as, and the lines that tell of one that
-//! ends the run. All of it holds of each language of models, and of each catalog of cells.
+//! The files of models and the stimulus of a run: their formats and limits, what each is read as, and the lines that tell of one
+//! that ends the run. All of it holds of each language of models, and of each catalog of cells.
 #![tactic(auto)]
 
 mod bad_line;

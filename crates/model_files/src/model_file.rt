@@ -17,7 +17,8 @@ use std::alloc::Global;
 use text_io::{Desk, Taken, read_all};
 use udp_tables::ModelFault;
 
-/// Tells a file of models with too many bytes, and answers how the run ends: `Outside` where a write failed, after a prefix of the line.
+/// Tells a file of models with too many bytes, and answers how the run ends: `Outside` where a write failed, after a prefix of
+/// the line.
 fn tell_too_long<D: Desk>(desk: &mut D, format: ModelFormat) -> Status
     ensures told { TellsStop (long_model_stop format) (D.state desk.old) (D.state desk.new) result }
     ensures cause { StopsWithStatus (D.faults desk.old) (D.faults desk.new) result }
@@ -25,7 +26,8 @@ fn tell_too_long<D: Desk>(desk: &mut D, format: ModelFormat) -> Status
     ended(write_model_too_long(desk, format), Status::TooLong)
 }
 
-/// Tells a text of models that is refused, and answers how the run ends: `Outside` where a write failed, after a prefix of the line.
+/// Tells a text of models that is refused, and answers how the run ends: `Outside` where a write failed, after a prefix of the
+/// line.
 fn tell_fault<D: Desk>(desk: &mut D, format: ModelFormat, fault: &ModelFault) -> Status
     ensures told { TellsStop (model_fault_stop format fault.now) (D.state desk.old) (D.state desk.new) result }
     ensures cause { StopsWithStatus (D.faults desk.old) (D.faults desk.new) result }
@@ -40,8 +42,12 @@ fn models_taken<D: Desk, L: ModelLanguage>(
     taken: &Taken,
 ) -> Result<Vec<L::Model>, Status>
     requires { length taken.now.bytes.items ≤ model_limit }
-    ensures ok { IfOk result (λ models. (answer_where (long_model_stop L.language.format) (models_in_text L.language) taken.now.more taken.now.bytes.items ≡ Ok models.items) × (D.state desk.new ≡ D.state desk.old)) }
-    ensures err { IfErr result (EndsBy (answer_where (long_model_stop L.language.format) (models_in_text L.language) taken.now.more taken.now.bytes.items) (D.state desk.old) (D.state desk.new)) }
+    ensures ok { IfOk result (λ models.
+        (answer_where (long_model_stop L.language.format) (models_in_text L.language) taken.now.more taken.now.bytes.items ≡ Ok
+        models.items) × (D.state desk.new ≡ D.state desk.old)) }
+    ensures err { IfErr result (EndsBy
+        (answer_where (long_model_stop L.language.format) (models_in_text L.language) taken.now.more taken.now.bytes.items)
+        (D.state desk.old) (D.state desk.new)) }
     ensures text { IfOk result (λ models. L.language.text taken.now.bytes.items ≡ Ok models.items) }
     ensures well_formed { IfOk result (λ models. All L.language.is_well_formed models.items) }
     ensures own { IfOk result (λ models. HaveOwnNames L.language models.items) }
@@ -59,17 +65,20 @@ fn models_taken<D: Desk, L: ModelLanguage>(
 }
 
 /// Binds the file of models that the word at this place names, and reads its models. They are well formed and have names of their
-/// own. A file that is refused, or has more than `MODEL_LIMIT` bytes, is told by a line of the faults, and ends the run with `Model`
-/// or `TooLong`; the run ends with `Memory` where there was none, and with `Outside` only where a call failed.
+/// own. A file that is refused, or has more than `MODEL_LIMIT` bytes, is told by a line of the faults, and ends the run with
+/// `Model` or `TooLong`; the run ends with `Memory` where there was none, and with `Outside` only where a call failed.
 pub fn read_model_file<D: Desk, L: ModelLanguage>(
     alloc: Global,
     desk: &mut D,
     place: usize,
 ) -> Result<Vec<L::Model>, Status>
     requires { Contains (plan (D.state desk.old).words) (Input (slot_of L.language.format), place) }
-    ensures ok { IfOk result (λ models. FileIsTaken (model_answer L.language) (D.state desk.old) (D.state desk.new) (slot_of L.language.format) place models.items) }
-    ensures err { IfErr result (FileEndsRun (model_answer L.language) (D.state desk.old) (D.state desk.new) (slot_of L.language.format) place) }
-    ensures text { IfOk result (λ models. (text : List ℕ) × (length text ≤ model_limit) × (L.language.text text ≡ Ok models.items)) }
+    ensures ok { IfOk result (λ models. FileIsTaken (model_answer L.language) (D.state desk.old) (D.state desk.new)
+        (slot_of L.language.format) place models.items) }
+    ensures err { IfErr result (FileEndsRun (model_answer L.language) (D.state desk.old) (D.state desk.new)
+        (slot_of L.language.format) place) }
+    ensures text { IfOk result (λ models. (text : List ℕ) × (length text ≤ model_limit)
+        × (L.language.text text ≡ Ok models.items)) }
     ensures well_formed { IfOk result (λ models. All L.language.is_well_formed models.items) }
     ensures own { IfOk result (λ models. HaveOwnNames L.language models.items) }
     ensures kept { OnOk result (D.faults desk.new ≡ D.faults desk.old) }

@@ -16,7 +16,8 @@ use std::alloc::Global;
 use stimulus::{PortCatalog, Section, StimulusFault, read_stimulus};
 use text_io::{Desk, InSlot, Taken, read_all};
 
-/// Tells a stimulus with too many bytes, and answers how the run ends: `Outside` where a write failed, after a prefix of the line.
+/// Tells a stimulus with too many bytes, and answers how the run ends: `Outside` where a write failed, after a prefix of the
+/// line.
 fn tell_too_long<D: Desk>(desk: &mut D) -> Status
     ensures told { TellsStop long_stimulus_stop (D.state desk.old) (D.state desk.new) result }
     ensures cause { StopsWithStatus (D.faults desk.old) (D.faults desk.new) result }
@@ -32,8 +33,12 @@ fn sections_taken<D: Desk, B: BadLineStop>(
     catalog: &PortCatalog,
     taken: &Taken,
 ) -> Result<Vec<Section>, Status>
-    ensures ok { IfOk result (λ sections. (answer_where long_stimulus_stop (sections_in_text (B.stop bad_line.now) catalog.now) taken.now.more taken.now.bytes.items ≡ Ok sections.items) × (D.state desk.new ≡ D.state desk.old)) }
-    ensures err { IfErr result (EndsBy (answer_where long_stimulus_stop (sections_in_text (B.stop bad_line.now) catalog.now) taken.now.more taken.now.bytes.items) (D.state desk.old) (D.state desk.new)) }
+    ensures ok { IfOk result (λ sections.
+        (answer_where long_stimulus_stop (sections_in_text (B.stop bad_line.now) catalog.now) taken.now.more
+        taken.now.bytes.items ≡ Ok sections.items) × (D.state desk.new ≡ D.state desk.old)) }
+    ensures err { IfErr result (EndsBy
+        (answer_where long_stimulus_stop (sections_in_text (B.stop bad_line.now) catalog.now) taken.now.more
+        taken.now.bytes.items) (D.state desk.old) (D.state desk.new)) }
     ensures read { IfOk result (λ sections. stimulus_of (listed catalog.now) taken.now.bytes.items ≡ Ok sections.items) }
     ensures kept { OnOk result (D.faults desk.new ≡ D.faults desk.old) }
     ensures cause { IfErr result (StopsWithStatus (D.faults desk.old) (D.faults desk.new)) }
@@ -49,8 +54,8 @@ fn sections_taken<D: Desk, B: BadLineStop>(
 }
 
 /// Binds the stimulus, which the word at this place names, and reads its sections over a catalog of cells. It ends the run with
-/// `TooLong` where the file has more than `STIMULUS_LIMIT` bytes, and at its first bad line as `bad_line` says, in both cases after
-/// the line that tells it; with `Memory` where there was none, and with `Outside` only where a call failed.
+/// `TooLong` where the file has more than `STIMULUS_LIMIT` bytes, and at its first bad line as `bad_line` says, in both cases
+/// after the line that tells it; with `Memory` where there was none, and with `Outside` only where a call failed.
 pub fn read_stimulus_file<D: Desk, B: BadLineStop>(
     alloc: Global,
     desk: &mut D,
@@ -59,8 +64,10 @@ pub fn read_stimulus_file<D: Desk, B: BadLineStop>(
     catalog: &PortCatalog,
 ) -> Result<Vec<Section>, Status>
     requires { Contains (plan (D.state desk.old).words) (Input Stimulus, place) }
-    ensures ok { IfOk result (λ sections. FileIsTaken (stimulus_answer (B.stop bad_line.now) catalog.now) (D.state desk.old) (D.state desk.new) Stimulus place sections.items) }
-    ensures err { IfErr result (FileEndsRun (stimulus_answer (B.stop bad_line.now) catalog.now) (D.state desk.old) (D.state desk.new) Stimulus place) }
+    ensures ok { IfOk result (λ sections. FileIsTaken (stimulus_answer (B.stop bad_line.now) catalog.now) (D.state desk.old)
+        (D.state desk.new) Stimulus place sections.items) }
+    ensures err { IfErr result (FileEndsRun (stimulus_answer (B.stop bad_line.now) catalog.now) (D.state desk.old)
+        (D.state desk.new) Stimulus place) }
     ensures read { IfOk result (λ sections. (bytes : List ℕ) × (stimulus_of (listed catalog.now) bytes ≡ Ok sections.items)) }
     ensures kept { OnOk result (D.faults desk.new ≡ D.faults desk.old) }
     ensures cause { IfErr result (StopsWithStatus (D.faults desk.old) (D.faults desk.new)) }

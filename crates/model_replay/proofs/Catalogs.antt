@@ -1,5 +1,6 @@
 -- Lists of names, and of models, that are filled one after another.
-use Rattle.std.proofs.Common.{◌≡◌, ◌<◌, ℕ, ◌+◌, List, [], ◌∷◌, ◌++◌, drop, get_or, length, Option, Some, None, sym, ap, subst, ◌∙◌, append_assoc}
+use Rattle.std.proofs.Common.{◌≡◌, ◌<◌, ℕ, ◌+◌, List, [], ◌∷◌, ◌++◌, drop, get_or, length, Option, Some, None, sym, ap, subst}
+use Rattle.std.proofs.Common.{◌∙◌, append_assoc}
 use Rattle.std.proofs.lemmas.List.{drop_more}
 use Rattle.udp_tables.specs.declared.models.VPort.{VPort}
 use Rattle.stimulus.specs.declared.ports.Ports.{Ports}
@@ -19,7 +20,8 @@ pub record Lists {M : Type 0} (l : Language M) (catalog : NamedCells) (rest all 
   pub cells : catalog.cells ++ model_ports l rest ≡ model_ports l all
 
 -- a model is added
-added_as : {M : Type 0} (l : Language M) (old new : NamedCells) (m : M) (name : List ℕ) (ports : Ports) (rest all : List M) (found : Option ℕ) → Lists l old (m ∷ rest) all
+added_as : {M : Type 0} (l : Language M) (old new : NamedCells) (m : M) (name : List ℕ) (ports : Ports) (rest all : List M)
+    (found : Option ℕ) → Lists l old (m ∷ rest) all
     → name ≡ l.name m → ports ≡ ports_of (l.ports m) → AddsCell old name ports found new → Lists l new rest all
 added_as l old new m name ports rest all None k n e a = absurd (a.0 (rw n k.new.0))
 added_as l old new m name ports rest all (Some number) k n e a = rw a.2 (record {
@@ -29,8 +31,10 @@ added_as l old new m name ports rest all (Some number) k n e a = rw a.2 (record 
 })
 
 -- the next model is added
-pub lists_more : {M : Type 0} (l : Language M) (old new : NamedCells) (models : List M) (i : ℕ) (m : M) (name : List ℕ) (ports : List VPort) (named : Ports) (found : Option ℕ)
-    → i < length models → m ≡ get_or models i m → (HaveOwnNames l models → Lists l old (drop i models) models) → name ≡ l.name m → ports ≡ l.ports m
+pub lists_more : {M : Type 0} (l : Language M) (old new : NamedCells) (models : List M) (i : ℕ) (m : M) (name : List ℕ)
+    (ports : List VPort) (named : Ports) (found : Option ℕ)
+    → i < length models → m ≡ get_or models i m → (HaveOwnNames l models → Lists l old (drop i models) models) → name ≡ l.name m
+    → ports ≡ l.ports m
     → (HasOwnNames ports → named ≡ ports_of ports) → AddsCell old name named found new
     → HaveOwnNames l models → Lists l new (drop (i + 1) models) models
 lists_more l old new models i m name ports named found h e before n p same added own =

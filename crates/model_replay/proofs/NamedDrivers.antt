@@ -26,8 +26,10 @@ module _ (is_name : List ℕ → Bool) (is_same : List ℕ → List ℕ → Bool
       subst (λ (y : List ℕ). is_name y ≡ true) f.1 n.0)
 
   -- so is that of a core
-  pub core_names : (cores : List Core) (ports : List VPort) (driven : ℕ) → Promises AnyToken (known is_name (core_name is_same cores ports driven)) (λ core. is_name core ≡ true)
+  pub core_names : (cores : List Core) (ports : List VPort) (driven : ℕ)
+      → Promises AnyToken (known is_name (core_name is_same cores ports driven)) (λ core. is_name core ≡ true)
   core_names cores ports driven = token (λ x a p e.
       let n = fits_if (is_name x) (allowed_by Undefined (core_name is_same cores ports driven x)) Syntax a e in
-      let s = some_if (fits ports driven (core_ports is_same cores x)) x a (fits_allowed Undefined (core_name is_same cores ports driven x) a n.1) in
+      let s = some_if (fits ports driven (core_ports is_same cores x)) x a
+      (fits_allowed Undefined (core_name is_same cores ports driven x) a n.1) in
       subst (λ (y : List ℕ). is_name y ≡ true) s.1 n.0)

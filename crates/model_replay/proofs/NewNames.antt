@@ -18,7 +18,8 @@ IsNone x names = AllByRecursion (λ y. bytes_eq x y ≡ false) names
 abbrev AreOthers : List (List ℕ) → List (List ℕ) → Type 0
 AreOthers before names = AllByRecursion (λ y. list_any (bytes_eq y) before ≡ false) names
 
-one_more : (before : List (List ℕ)) (x : List ℕ) (names : List (List ℕ)) → IsNone x names → AreOthers before names → AreOthers (before ++ x ∷ []) names
+one_more : (before : List (List ℕ)) (x : List ℕ) (names : List (List ℕ)) → IsNone x names → AreOthers before names
+    → AreOthers (before ++ x ∷ []) names
 one_more before x [] h k = tt
 one_more before x (y ∷ names) h k =
     let other : bytes_eq y x ≡ false = bytes_equivalence.symm y x ∙ h.0 in
@@ -30,7 +31,11 @@ one_more before x (y ∷ names) h k =
 are_new : (before names : List (List ℕ)) → AreOthers before names → AreApart names → AreNew before names
 unfolding IsDistinct
 are_new before [] h d = tt
-are_new before (x ∷ names) h d = (position-none (bytes_eq x) before h.0, are_new (before ++ x ∷ []) names (one_more before x names d.0 h.1) d.1)
+are_new before (x ∷ names) h d = (
+  position-none (bytes_eq x) before h.0,
+  are_new (before ++ x ∷ []) names
+      (one_more before x names d.0 h.1) d.1,
+)
 
 others_of_none : (names : List (List ℕ)) → AreOthers [] names
 others_of_none [] = tt
@@ -62,7 +67,8 @@ apart_back (x ∷ xs) ys h = apart_back xs ys h.1
 
 -- The ports of one direction.
 
-all_inputs : (P : List ℕ → Type 0) (ports : List VPort) → AllByRecursion P (map (λ (port : VPort). port.name) ports) → AllByRecursion P (input_names ports)
+all_inputs : (P : List ℕ → Type 0) (ports : List VPort) → AllByRecursion P (map (λ (port : VPort). port.name) ports)
+    → AllByRecursion P (input_names ports)
 all_inputs P [] h = tt
 all_inputs P (port ∷ ports) h =
     elim port.input as (λ b. AllByRecursion P (if b then port.name ∷ input_names ports else input_names ports)) [
@@ -70,7 +76,8 @@ all_inputs P (port ∷ ports) h =
       | false ↦ all_inputs P ports h.1
     ]
 
-all_outputs : (P : List ℕ → Type 0) (ports : List VPort) → AllByRecursion P (map (λ (port : VPort). port.name) ports) → AllByRecursion P (output_names ports)
+all_outputs : (P : List ℕ → Type 0) (ports : List VPort) → AllByRecursion P (map (λ (port : VPort). port.name) ports)
+    → AllByRecursion P (output_names ports)
 all_outputs P [] h = tt
 all_outputs P (port ∷ ports) h =
     elim port.input as (λ b. AllByRecursion P (if b then output_names ports else port.name ∷ output_names ports)) [
@@ -97,7 +104,11 @@ outputs_apart (port ∷ ports) h =
     ]
 
 pub own_ports : (ports : List VPort) → AreApart (map (λ (port : VPort). port.name) ports) → HasOwnNames ports
-own_ports ports h = record { inputs = apart_new (input_names ports) (inputs_apart ports h); outputs = apart_new (output_names ports) (outputs_apart ports h) }
+own_ports ports h = record {
+  inputs = apart_new (input_names ports) (inputs_apart ports h);
+  outputs =
+      apart_new (output_names ports) (outputs_apart ports h);
+}
 
 -- Names that differ in more than the case of their letters are different.
 
@@ -111,7 +122,8 @@ unlike x y e = by_bytes (bytes_eq x y) refl
         let own : str_eq_ignore_ascii_case x x ≡ true = bytes_equivalence.refl (str_to_ascii_lowercase x) in
         sym own ∙ ap (str_eq_ignore_ascii_case x) is ∙ e
 
-none_unlike : (x : List ℕ) (names : List (List ℕ)) → AllByRecursion (λ y. str_eq_ignore_ascii_case x y ≡ false) names → IsNone x names
+none_unlike : (x : List ℕ) (names : List (List ℕ)) → AllByRecursion (λ y. str_eq_ignore_ascii_case x y ≡ false) names
+    → IsNone x names
 none_unlike x [] h = tt
 none_unlike x (y ∷ names) h = (unlike x y h.0, none_unlike x names h.1)
 

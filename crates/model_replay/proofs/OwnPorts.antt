@@ -32,9 +32,15 @@ pub record StandsWithPorts {M : Type 0} (l : SectionLanguage M) (models : List M
 
 module _ {M : Type 0} (l : SectionLanguage M) where
   own_has : (m : M) → ArePortsApart (l.core m).ports → HasPorts (own_model l m)
-  own_has m h = record { names = own_ports (l.core m).ports h; inputs = length-input_names (l.core m).ports; outputs = length-output_names (l.core m).ports }
+  own_has m h = record {
+    names = own_ports (l.core m).ports h;
+    inputs = length-input_names (l.core m).ports;
+    outputs =
+        length-output_names (l.core m).ports;
+  }
 
-  over_has : (models : List M) (driver : DriverModel) → StandsWithPorts l models driver → All HasPorts (over_its_core l models driver)
+  over_has : (models : List M) (driver : DriverModel) → StandsWithPorts l models driver
+      → All HasPorts (over_its_core l models driver)
   over_has models driver h =
       subst (λ (o : Option M). All HasPorts (over_core driver o)) (sym h.stands.core.found)
       (All-cons HasPorts (driver_over h.stands.model driver) []
@@ -44,11 +50,13 @@ module _ {M : Type 0} (l : SectionLanguage M) where
         outputs = length-output_names driver.ports ∙ sym h.stands.sound.outputs;
       }) (All-nil HasPorts))
 
-  pub all_have : (found : DrivenModels M) → All (λ m. ArePortsApart (l.core m).ports) found.models → AllMayStand l found.models found.drivers
+  pub all_have : (found : DrivenModels M) → All (λ m. ArePortsApart (l.core m).ports) found.models
+      → AllMayStand l found.models found.drivers
       → All (λ (d : DriverModel). ArePortsApart d.ports) found.drivers → All HasPorts (file_models l found)
   all_have found h stand ports =
       let over = all_stand_over l found.models found.drivers stand in
       All-append HasPorts (map (own_model l) found.models) (flat_map (over_its_core l found.models) found.drivers)
-      (All-map HasPorts (own_model l) found.models (All-weaker (λ m. ArePortsApart (l.core m).ports) (λ m. HasPorts (own_model l m)) own_has found.models h))
+      (All-map HasPorts (own_model l) found.models
+      (All-weaker (λ m. ArePortsApart (l.core m).ports) (λ m. HasPorts (own_model l m)) own_has found.models h))
       (all_parts (StandsWithPorts l found.models) HasPorts (over_its_core l found.models) (over_has found.models) found.drivers
       (λ k d below. record { stands = over k d below; ports = ports k d below }))

@@ -31,7 +31,8 @@ use Rattle.model_files.specs.ModelNames.{HaveOwnNames}
 use Rattle.model_files.specs.ModelAnswer.{model_answer}
 use Rattle.model_files.specs.StimulusAnswer.{stimulus_answer}
 use Rattle.model_replay.specs.ModelPorts.{models_named}
-use Rattle.model_replay.specs.Outcome.{replay_files, replayed_sections_text, replay_line_stop, replayed_outcome, behind_models, replay_of}
+use Rattle.model_replay.specs.Outcome.{replay_files, replayed_sections_text, replay_line_stop, replayed_outcome, behind_models}
+use Rattle.model_replay.specs.Outcome.{replay_of}
 use Rattle.model_replay.specs.Replays.{ReadsReplay}
 use Rattle.model_replay.proofs.Sections.{all_can_be_run}
 
@@ -50,38 +51,52 @@ other_slot format.Vital = refl
 
 -- The files are still among those that the words name.
 
-pub models_planned : (words : List (List ℕ)) (f : ModelFormat) → plan words ≡ replay_files f → Contains (plan words) (Input (slot_of f), 1)
+pub models_planned : (words : List (List ℕ)) (f : ModelFormat) → plan words ≡ replay_files f
+    → Contains (plan words) (Input (slot_of f), 1)
 models_planned words f h = subst (λ files. Contains files (Input (slot_of f), 1)) (sym h) (0, omega arith, refl)
 
-pub stimulus_planned : {M : Type 0} (l : Language M) (old now : DeskState) (models : List M) → HasRead (replay_files l.format) (one_file l.format) (replay_of l old.words) (after_models l old.words models) old now
+pub stimulus_planned : {M : Type 0} (l : Language M) (old now : DeskState) (models : List M)
+    → HasRead (replay_files l.format) (one_file l.format) (replay_of l old.words) (after_models l old.words models) old now
     → plan old.words ≡ replay_files l.format → Contains (plan now.words) (Input Stimulus, 2)
 stimulus_planned l old now models r h =
-    subst (λ words. Contains (plan words) (Input Stimulus, 2)) (sym (words_before old now (one_file l.format) r.bytes r.taken r.state))
+    subst (λ words. Contains (plan words) (Input Stimulus, 2))
+    (sym (words_before old now (one_file l.format) r.bytes r.taken r.state))
     (subst (λ files. Contains files (Input Stimulus, 2)) (sym h) (1, omega arith, refl))
 
 -- The files that are read.
 
-pub models_read : {M : Type 0} (l : Language M) (old now : DeskState) (models : List M) → FileIsTaken (model_answer l) old now (slot_of l.format) 1 models
+pub models_read : {M : Type 0} (l : Language M) (old now : DeskState) (models : List M)
+    → FileIsTaken (model_answer l) old now (slot_of l.format) 1 models
     → HasRead (replay_files l.format) (one_file l.format) (replay_of l old.words) (after_models l old.words models) old now
 models_read l old now models t =
-    one_more (replay_files l.format) [] (replay_of l old.words) (model_answer l) (after_models l old.words) old old now (slot_of l.format) 1 1 models
+    one_more (replay_files l.format) [] (replay_of l old.words) (model_answer l) (after_models l old.words) old old now
+    (slot_of l.format) 1 1 models
     (nothing_read (replay_files l.format) (replay_of l old.words) old) refl ((Input Stimulus, 2) ∷ [], refl) t
 
-pub sections_read : {M : Type 0} (l : Language M) (old now new : DeskState) (models : List M) (catalog : NamedCells) (sections : List Section)
+pub sections_read : {M : Type 0} (l : Language M) (old now new : DeskState) (models : List M) (catalog : NamedCells)
+    (sections : List Section)
     → HasRead (replay_files l.format) (one_file l.format) (replay_of l old.words) (after_models l old.words models) old now
     → catalog ≡ models_named l models → FileIsTaken (stimulus_answer replay_line_stop catalog) now new Stimulus 2 sections
-    → HasRead (replay_files l.format) (replay_files l.format) (replay_of l old.words) (λ _. replayed_outcome l models sections) old new
+    → HasRead (replay_files l.format) (replay_files l.format) (replay_of l old.words) (λ _. replayed_outcome l models sections)
+    old new
 sections_read l old now new models catalog sections r named t =
-    one_more (replay_files l.format) (one_file l.format) (replay_of l old.words) (stimulus_answer replay_line_stop (models_named l models)) (λ found _. replayed_outcome l models found) old now new Stimulus 2 2 sections
-    r (other_slot l.format) ([], refl) (subst (λ c. FileIsTaken (stimulus_answer replay_line_stop c) now new Stimulus 2 sections) named t)
+    one_more (replay_files l.format) (one_file l.format) (replay_of l old.words)
+    (stimulus_answer replay_line_stop (models_named l models)) (λ found _. replayed_outcome l models found) old now new
+    Stimulus 2 2 sections
+    r (other_slot l.format) ([], refl)
+    (subst (λ c. FileIsTaken (stimulus_answer replay_line_stop c) now new Stimulus 2 sections) named t)
 
 -- both files, whose sections can be run
-pub replay_read : {M : Type 0} (l : Language M) (old now new : DeskState) (models : List M) (catalog : NamedCells) (sections : List Section) → FileIsTaken (model_answer l) old now (slot_of l.format) 1 models
-    → (bytes : List ℕ) × (length bytes ≤ model_limit) × (l.text bytes ≡ Ok models) → All l.is_well_formed models → HaveOwnNames l models → catalog ≡ models_named l models
-    → FileIsTaken (stimulus_answer replay_line_stop catalog) now new Stimulus 2 sections → (bytes : List ℕ) × (stimulus_of (listed catalog) bytes ≡ Ok sections)
+pub replay_read : {M : Type 0} (l : Language M) (old now new : DeskState) (models : List M) (catalog : NamedCells)
+    (sections : List Section) → FileIsTaken (model_answer l) old now (slot_of l.format) 1 models
+    → (bytes : List ℕ) × (length bytes ≤ model_limit) × (l.text bytes ≡ Ok models) → All l.is_well_formed models
+    → HaveOwnNames l models → catalog ≡ models_named l models
+    → FileIsTaken (stimulus_answer replay_line_stop catalog) now new Stimulus 2 sections → (bytes : List ℕ)
+    × (stimulus_of (listed catalog) bytes ≡ Ok sections)
     → ReadsReplay l old new (record { models = models; catalog = catalog; sections = sections })
 replay_read l old now new models catalog sections taken text well own named t read =
-    let bytes : (bytes : List ℕ) × (stimulus_of (listed (models_named l models)) bytes ≡ Ok sections) = subst (λ c. (bytes : List ℕ) × (stimulus_of (listed c) bytes ≡ Ok sections)) named read in
+    let bytes : (bytes : List ℕ) × (stimulus_of (listed (models_named l models)) bytes ≡ Ok sections) =
+    subst (λ c. (bytes : List ℕ) × (stimulus_of (listed c) bytes ≡ Ok sections)) named read in
     record {
       files = sections_read l old now new models catalog sections (models_read l old now models taken) named t;
       text = text;
@@ -93,37 +108,50 @@ replay_read l old now new models catalog sections taken text well own named t re
 
 -- The file that ends the run.
 
-pub models_end : {M : Type 0} (l : Language M) (old new : DeskState) (result : Status) → FileEndsRun (model_answer l) old new (slot_of l.format) 1 result
+pub models_end : {M : Type 0} (l : Language M) (old new : DeskState) (result : Status)
+    → FileEndsRun (model_answer l) old new (slot_of l.format) 1 result
     → RunsAs (replay_files l.format) (replay_of l old.words) old new result
 models_end l old new result f =
-    ends_there (replay_files l.format) [] (replay_of l old.words) (model_answer l) (after_models l old.words) old old new (slot_of l.format) 1 1 result
+    ends_there (replay_files l.format) [] (replay_of l old.words) (model_answer l) (after_models l old.words) old old new
+    (slot_of l.format) 1 1 result
     (nothing_read (replay_files l.format) (replay_of l old.words) old) refl ((Input Stimulus, 2) ∷ [], refl) refl refl f
 
-pub stimulus_ends : {M : Type 0} (l : Language M) (old now new : DeskState) (models : List M) (catalog : NamedCells) (result : Status)
+pub stimulus_ends : {M : Type 0} (l : Language M) (old now new : DeskState) (models : List M) (catalog : NamedCells)
+    (result : Status)
     → HasRead (replay_files l.format) (one_file l.format) (replay_of l old.words) (after_models l old.words models) old now
     → catalog ≡ models_named l models → FileEndsRun (stimulus_answer replay_line_stop catalog) now new Stimulus 2 result
     → RunsAs (replay_files l.format) (replay_of l old.words) old new result
 stimulus_ends l old now new models catalog result r named f =
-    ends_there (replay_files l.format) (one_file l.format) (replay_of l old.words) (stimulus_answer replay_line_stop (models_named l models)) (λ found _. replayed_outcome l models found) old now new Stimulus 2 2 result
-    r (other_slot l.format) ([], refl) refl refl (subst (λ c. FileEndsRun (stimulus_answer replay_line_stop c) now new Stimulus 2 result) named f)
+    ends_there (replay_files l.format) (one_file l.format) (replay_of l old.words)
+    (stimulus_answer replay_line_stop (models_named l models)) (λ found _. replayed_outcome l models found) old now new
+    Stimulus 2 2 result
+    r (other_slot l.format) ([], refl) refl refl
+    (subst (λ c. FileEndsRun (stimulus_answer replay_line_stop c) now new Stimulus 2 result) named f)
 
 -- want of memory behind the models
 pub no_memory : {M : Type 0} (l : Language M) (old now : DeskState) (models : List M) (result : Status)
-    → HasRead (replay_files l.format) (one_file l.format) (replay_of l old.words) (after_models l old.words models) old now → result ≡ status.Memory
+    → HasRead (replay_files l.format) (one_file l.format) (replay_of l old.words) (after_models l old.words models) old now
+    → result ≡ status.Memory
     → RunsAs (replay_files l.format) (replay_of l old.words) old now result
 no_memory l old now models result r is =
-    stops_between (replay_files l.format) (one_file l.format) (replay_of l old.words) (after_models l old.words models) old now result r (ap is_decided is)
+    stops_between (replay_files l.format) (one_file l.format) (replay_of l old.words) (after_models l old.words models) old now
+    result r (ap is_decided is)
 
 -- The sections are printed.
 
-pub printed_runs : {T M : Type 0} (l : Language M) (old now new : DeskState) (models : List M) (sections : List Section) (printed : Result T Stop) (result : Status)
-    → HasRead (replay_files l.format) (replay_files l.format) (replay_of l old.words) (λ _. replayed_outcome l models sections) old now
+pub printed_runs : {T M : Type 0} (l : Language M) (old now new : DeskState) (models : List M) (sections : List Section)
+    (printed : Result T Stop) (result : Status)
+    → HasRead (replay_files l.format) (replay_files l.format) (replay_of l old.words) (λ _. replayed_outcome l models sections)
+    old now
     → WritesTrace now new (replayed_sections_text l models sections) printed → result ≡ status_by (λ _. status.Done) printed
     → RunsAs (replay_files l.format) (replay_of l old.words) old new result
 printed_runs l old now new models sections (Ok x) result r w is =
     let text = replayed_sections_text l models sections in
-    reports_all (replay_files l.format) (replay_of l old.words) old now new status.Done result text text r refl w.whole ([], append-nil text) (λ _. (is, refl))
+    reports_all (replay_files l.format) (replay_of l old.words) old now new status.Done result text text r refl w.whole
+    ([], append-nil text) (λ _. (is, refl))
 printed_runs l old now new models sections (Err stops.Failed) result r w is =
-    reports_all (replay_files l.format) (replay_of l old.words) old now new status.Done result w.part.part (replayed_sections_text l models sections) r refl w.part.state w.part.front (λ d. absurd (let h = rw is at d in cc))
+    reports_all (replay_files l.format) (replay_of l old.words) old now new status.Done result w.part.part
+    (replayed_sections_text l models sections) r refl w.part.state w.part.front (λ d. absurd (let h = rw is at d in cc))
 printed_runs l old now new models sections (Err stops.Memory) result r w is =
-    reports_all (replay_files l.format) (replay_of l old.words) old now new status.Done result w.part.part (replayed_sections_text l models sections) r refl w.part.state w.part.front (λ d. absurd (let h = rw is at d in cc))
+    reports_all (replay_files l.format) (replay_of l old.words) old now new status.Done result w.part.part
+    (replayed_sections_text l models sections) r refl w.part.state w.part.front (λ d. absurd (let h = rw is at d in cc))

@@ -22,10 +22,12 @@ same_equivalence = record {
 pub same_name : (x y : List ℕ) → is_name x ≡ true → is_same x y ≡ str_eq_ignore_ascii_case x y
 same_name x y e = same_lowered x y e
 
-among_same : (names : List (List ℕ)) (x : List ℕ) → is_name x ≡ true → is_among is_same names x ≡ list_any (str_eq_ignore_ascii_case x) names
+among_same : (names : List (List ℕ)) (x : List ℕ) → is_name x ≡ true
+    → is_among is_same names x ≡ list_any (str_eq_ignore_ascii_case x) names
 among_same [] x e = refl
 among_same (y ∷ names) x e = λ i. same_name x y e i || among_same names x e i
 
 -- one more name that is none of those before
-pub push_apart : (names : List (List ℕ)) (x : List ℕ) → AreApart names → is_name x ≡ true → is_among is_same names x ≡ false → AreApart (names ++ x ∷ [])
+pub push_apart : (names : List (List ℕ)) (x : List ℕ) → AreApart names → is_name x ≡ true → is_among is_same names x ≡ false
+    → AreApart (names ++ x ∷ [])
 push_apart names x h e new = IsDistinct-push same_equivalence names x h (sym (among_same names x e) ∙ new)

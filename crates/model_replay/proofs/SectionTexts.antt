@@ -1,5 +1,6 @@
 -- The sections of a replay, appended to the report one behind another.
-use Rattle.std.proofs.Common.{◌≡◌, ℕ, ◌<◌, ◌≤◌, List, [], take, length, get_or, Some, Result, Err, IsErr, slice_get, flat_map, refl, sym, ap, subst, ◌∙◌}
+use Rattle.std.proofs.Common.{◌≡◌, ℕ, ◌<◌, ◌≤◌, List, [], take, length, get_or, Some, Result, Err, IsErr, slice_get, flat_map}
+use Rattle.std.proofs.Common.{refl, sym, ap, subst, ◌∙◌}
 use Rattle.std.specs.Option.{option_map}
 use Rattle.std.proofs.lemmas.Option.{slice_get-map, slice_get-get_or, slice_get_within}
 use Rattle.text_io.specs.declared.slots.OutSlot.TheVariants.{Report}
@@ -19,7 +20,8 @@ use Rattle.model_replay.specs.Outcome.{model_section, section_of, replayed_secti
 use Rattle.model_replay.specs.Replays.{CanBeRun}
 
 -- the model of a section that can be run has the section's number
-pub has_model : {M : Type 0} (l : Language M) (models : List M) (section : Section) → CanBeRun l models section → section.cell < length models
+pub has_model : {M : Type 0} (l : Language M) (models : List M) (section : Section) → CanBeRun l models section
+    → section.cell < length models
 has_model l models section run = slice_get_within models section.cell run.model run.found
 
 some_same : {X : Type 0} (x y : X) → Some x ≡ Some y → x ≡ y
@@ -34,8 +36,10 @@ pub record IsFound {M : Type 0} (l : Language M) (models : List M) (section : Se
   pub outputs : length ports.outputs ≡ (l.machine model).outputs
   pub proper : IsProperFrom (l.machine model).inputs [] section.changes
 
-pub is_found : {M : Type 0} (l : Language M) (models slice : List M) (catalog : NamedCells) (section : Section) (model : M) (ports : Ports) → CanBeRun l models section
-    → catalog ≡ models_named l models → slice ≡ models → model ≡ get_or slice section.cell model → slice_get catalog.cells section.cell ≡ Some ports
+pub is_found : {M : Type 0} (l : Language M) (models slice : List M) (catalog : NamedCells) (section : Section) (model : M)
+    (ports : Ports) → CanBeRun l models section
+    → catalog ≡ models_named l models → slice ≡ models → model ≡ get_or slice section.cell model
+    → slice_get catalog.cells section.cell ≡ Some ports
     → IsFound l models section model ports
 is_found {M = M} l models slice catalog section model ports run cat all is found =
     let at : model ≡ get_or models section.cell model = rw all at is in
@@ -43,14 +47,25 @@ is_found {M = M} l models slice catalog section model ports run cat all is found
     some_same _ _ (ap Some at ∙ sym (slice_get-get_or models section.cell model (has_model l models section run)) ∙ run.found) in
     let there = rw cat at found in
     let named : ports ≡ ports_of (l.ports run.model) =
-    some_same _ _ (sym there ∙ slice_get-map (λ (m : M). ports_of (l.ports m)) models section.cell ∙ ap (option_map (λ (m : M). ports_of (l.ports m))) run.found) in
+    some_same _ _ (sym there ∙ slice_get-map (λ (m : M). ports_of (l.ports m)) models section.cell
+    ∙ ap (option_map (λ (m : M). ports_of (l.ports m))) run.found) in
     subst (λ m. IsFound l models section m ports) (sym same)
     (subst (IsFound l models section run.model) (sym named)
-    (record { found = run.found; named = refl; well_formed = run.well_formed; inputs = run.inputs; outputs = run.outputs; proper = run.proper }))
+    (record {
+      found = run.found;
+      named = refl;
+      well_formed = run.well_formed;
+      inputs = run.inputs;
+      outputs = run.outputs;
+      proper =
+          run.proper;
+    }))
 
 -- what is appended for them is the section's text
-pub section_written : {T M : Type 0} (l : Language M) (s t : DeskState) (models : List M) (section : Section) (model : M) (ports : Ports) (changes : List Change) (r : Result T Stop)
-    → IsFound l models section model ports → changes ≡ section.changes → WritesTrace s t (model_trace_text l model ports changes) r
+pub section_written : {T M : Type 0} (l : Language M) (s t : DeskState) (models : List M) (section : Section) (model : M)
+    (ports : Ports) (changes : List Change) (r : Result T Stop)
+    → IsFound l models section model ports → changes ≡ section.changes
+    → WritesTrace s t (model_trace_text l model ports changes) r
     → WritesTrace s t (replayed_section_text l models section) r
 unfolding model_section
 section_written l s t models section model ports changes r found given w =
@@ -61,17 +76,23 @@ section_written l s t models section model ports changes r found given w =
     subst (λ x. WritesTrace s t x r) text w
 
 -- before the first section, and behind the last
-pub sections_none : {M : Type 0} (l : Language M) (models : List M) (sections : List Section) (s : DeskState) → s ≡ wrote s Report (flat_map (replayed_section_text l models) (take 0 sections))
+pub sections_none : {M : Type 0} (l : Language M) (models : List M) (sections : List Section) (s : DeskState)
+    → s ≡ wrote s Report (flat_map (replayed_section_text l models) (take 0 sections))
 sections_none l models sections s = sym (wrote-nil s Report)
 
 pub sections_whole : {M : Type 0} (l : Language M) (models : List M) (sections : List Section) (i : ℕ) (s now : DeskState)
-    → length sections ≤ i → now ≡ wrote s Report (flat_map (replayed_section_text l models) (take i sections)) → now ≡ wrote s Report (replayed_sections_text l models sections)
+    → length sections ≤ i → now ≡ wrote s Report (flat_map (replayed_section_text l models) (take i sections))
+    → now ≡ wrote s Report (replayed_sections_text l models sections)
 unfolding replayed_sections_text
 sections_whole l models sections i s now h e = wrote_items (replayed_section_text l models) sections i s now Report h e
 
 -- a stop within one of them
-pub sections_part : {S T M : Type 0} (l : Language M) (models : List M) (sections : List Section) (i : ℕ) (x : Section) (s now new : DeskState) (y : Stop) (r : Result T Stop)
-    → i < length sections → x ≡ get_or sections i x → now ≡ wrote s Report (flat_map (replayed_section_text l models) (take i sections))
-    → WritesTrace {T = S} now new (replayed_section_text l models x) (Err y) → IsErr r → WritesTrace s new (replayed_sections_text l models sections) r
+pub sections_part : {S T M : Type 0} (l : Language M) (models : List M) (sections : List Section) (i : ℕ) (x : Section)
+    (s now new : DeskState) (y : Stop) (r : Result T Stop)
+    → i < length sections → x ≡ get_or sections i x
+    → now ≡ wrote s Report (flat_map (replayed_section_text l models) (take i sections))
+    → WritesTrace {T = S} now new (replayed_section_text l models x) (Err y) → IsErr r
+    → WritesTrace s new (replayed_sections_text l models sections) r
 unfolding replayed_sections_text
-sections_part l models sections i x s now new y r h is before item e = part_of_item (replayed_section_text l models) sections i x s now new y r h is before item e
+sections_part l models sections i x s now new y r h is before item e =
+    part_of_item (replayed_section_text l models) sections i x s now new y r h is before item e

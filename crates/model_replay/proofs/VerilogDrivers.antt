@@ -8,7 +8,8 @@ use Rattle.grammar_rules.proofs.Promises.{Promises, gives, in_turn, many, choice
 use Rattle.udp_tables.specs.declared.models.VPort.{VPort}
 use Rattle.driven_files.specs.verilog_tokens.Tokens.{is_name}
 use Rattle.specify_blocks.specs.VerilogText.{text_tokens}
-use Rattle.specify_blocks.specs.VerilogModules.{port_name, port_names, plain_port, next_port, more_ports, some_ports, Inputs, input_at, declared_input, declared_inputs}
+use Rattle.specify_blocks.specs.VerilogModules.{port_name, port_names, plain_port, next_port, more_ports, some_ports, Inputs}
+use Rattle.specify_blocks.specs.VerilogModules.{input_at, declared_input, declared_inputs}
 use Rattle.specify_blocks.specs.WellFormed.{AreApart}
 use Rattle.specify_blocks.proofs.ReadNames.{bytes_equivalence}
 use Rattle.specify_blocks.proofs.ReadHeaders.{HasNames, input_named}
@@ -16,7 +17,8 @@ use Rattle.file_models.specs.driver_models.declared.model.DriverModel.{DriverMod
 use Rattle.file_models.specs.driver_models.Cores.{Core}
 use Rattle.file_models.proofs.driver_texts.SoundCores.{AnyToken, all_tokens, behind, known_values}
 use Rattle.file_models.proofs.driver_texts.StandingCores.{new_names}
-use Rattle.driven_files.specs.verilog_drivers.DriverSections.{driver_header, driver_ports, section_front, core_call, section_body, section_rest, section, section_text}
+use Rattle.driven_files.specs.verilog_drivers.DriverSections.{driver_header, driver_ports, section_front, core_call, section_body}
+use Rattle.driven_files.specs.verilog_drivers.DriverSections.{section_rest, section, section_text}
 use Rattle.driven_files.proofs.verilog_drivers.SoundDrivers.{section_answer}
 use Rattle.model_replay.proofs.NamedDrivers.{IsNamed, declared_names, core_names}
 
@@ -29,7 +31,8 @@ one_port : (ports : List VPort) → AreNamed ports → Promises AnyToken (next_p
 unfolding next_port
 one_port ports h =
     in_turn (new_names is_name bytes_eq (port_names ports)) (λ name new.
-    gives (subst AreApart (sym (map_push port_name ports (plain_port name))) (IsDistinct-push bytes_equivalence (port_names ports) name h new)))
+    gives (subst AreApart (sym (map_push port_name ports (plain_port name)))
+    (IsDistinct-push bytes_equivalence (port_names ports) name h new)))
 
 all_ports : (ports : List VPort) → AreNamed ports → Promises AnyToken (more_ports ports) AreNamed
 unfolding more_ports
@@ -53,7 +56,8 @@ headers = behind (λ a. behind (λ b. in_turn any_ports (λ ports h. behind (λ 
 
 -- Ports that are declared inputs keep their names.
 
-one_input : (ports : List VPort) (found : Inputs) → HasNames ports found → Promises AnyToken (declared_input found) (HasNames ports)
+one_input : (ports : List VPort) (found : Inputs) → HasNames ports found
+    → Promises AnyToken (declared_input found) (HasNames ports)
 unfolding declared_input
 one_input ports found h =
     in_turn (known_values is_name (input_at found)) (λ more f. behind (λ a. gives (input_named found f.0 more f.1 ∙ h)))
@@ -70,29 +74,36 @@ ports_named =
 
 -- Sections.
 
-fronts : (names : List (List ℕ)) → Promises AnyToken (section_front names) (λ front. (is_name front.name ≡ true) × AreNamed front.ports)
+fronts : (names : List (List ℕ)) → Promises AnyToken (section_front names) (λ front. (is_name front.name ≡ true)
+    × AreNamed front.ports)
 unfolding section_front
 fronts names =
-    behind (λ a. behind (λ b. in_turn (declared_names is_name bytes_eq names) (λ name is. in_turn ports_named (λ ports h. gives (is, h)))))
+    behind (λ a. behind (λ b. in_turn (declared_names is_name bytes_eq names)
+    (λ name is. in_turn ports_named (λ ports h. gives (is, h)))))
 
-calls : (cores : List Core) (ports : List VPort) (driven : ℕ) → Promises AnyToken (core_call cores ports driven) (λ call. is_name call.core ≡ true)
+calls : (cores : List Core) (ports : List VPort) (driven : ℕ)
+    → Promises AnyToken (core_call cores ports driven) (λ call. is_name call.core ≡ true)
 unfolding core_call
 calls cores ports driven =
     in_turn (core_names is_name bytes_eq cores ports driven) (λ core is.
     behind (λ a. behind (λ b. behind (λ drives. behind (λ c. behind (λ d. gives is))))))
 
-bodies : (cores : List Core) (ports : List VPort) → Promises AnyToken (section_body cores ports) (λ body. is_name body.call.core ≡ true)
+bodies : (cores : List Core) (ports : List VPort)
+    → Promises AnyToken (section_body cores ports) (λ body. is_name body.call.core ≡ true)
 unfolding section_body
 bodies cores ports = behind (λ driven. in_turn (calls cores ports driven) (λ call is. behind (λ a. behind (λ paths. gives is))))
 
 named_sections : (names : List (List ℕ)) (cores : List Core) → Promises AnyToken (section names cores) (IsNamed is_name bytes_eq)
 unfolding section section_rest
 named_sections names cores =
-    in_turn (fronts names) (λ front h. in_turn (bodies cores front.ports) (λ body is. behind (λ a. gives (record { name = h.0; core = is; ports = h.1 }))))
+    in_turn (fronts names) (λ front h. in_turn (bodies cores front.ports)
+    (λ body is. behind (λ a. gives (record { name = h.0; core = is; ports = h.1 }))))
 
 -- the driver of a section has ports of different names
-pub text_is_named : (names : List (List ℕ)) (cores : List Core) (bytes : List ℕ) (driver : DriverModel) → section_text names cores bytes ≡ Ok driver
+pub text_is_named : (names : List (List ℕ)) (cores : List Core) (bytes : List ℕ) (driver : DriverModel)
+    → section_text names cores bytes ≡ Ok driver
     → IsNamed is_name bytes_eq driver
 unfolding section_text
 text_is_named names cores bytes driver e =
-    ((named_sections names cores).kept (text_tokens bytes) driver [] (all_tokens (text_tokens bytes)) (((section_answer names cores bytes).value driver).1 e).takes).0
+    ((named_sections names cores).kept (text_tokens bytes) driver [] (all_tokens (text_tokens bytes))
+    (((section_answer names cores bytes).value driver).1 e).takes).0

@@ -42,10 +42,12 @@ own_name_last m rest = append_assoc (udp_names m.udps) (m.name ∷ []) rest
 abbrev own_names_of : List VModule → List (List ℕ)
 own_names_of ms = map (λ (m : VModule). m.name) ms
 
-all_modules : (P : List ℕ → Type 0) (ms : List VModule) → AllByRecursion P (flat_map outer_names ms) → AllByRecursion P (own_names_of ms)
+all_modules : (P : List ℕ → Type 0) (ms : List VModule) → AllByRecursion P (flat_map outer_names ms)
+    → AllByRecursion P (own_names_of ms)
 all_modules P [] h = tt
 all_modules P (m ∷ ms) h =
-    let own = all_back P (udp_names m.udps) (m.name ∷ flat_map outer_names ms) (subst (AllByRecursion P) (own_name_last m (flat_map outer_names ms)) h) in
+    let own = all_back P (udp_names m.udps) (m.name ∷ flat_map outer_names ms)
+    (subst (AllByRecursion P) (own_name_last m (flat_map outer_names ms)) h) in
     (own.0, all_modules P ms own.1)
 
 pub modules_apart : (ms : List VModule) → AreApart (flat_map outer_names ms) → AreApart (map (λ (m : VModule). m.name) ms)
@@ -53,18 +55,21 @@ unfolding IsDistinct
 modules_apart [] h = tt
 modules_apart (m ∷ ms) h =
     let own : AreApart (m.name ∷ flat_map outer_names ms) =
-    apart_back (udp_names m.udps) (m.name ∷ flat_map outer_names ms) (subst AreApart (own_name_last m (flat_map outer_names ms)) h) in
+    apart_back (udp_names m.udps) (m.name ∷ flat_map outer_names ms)
+    (subst AreApart (own_name_last m (flat_map outer_names ms)) h) in
     (all_modules (λ y. bytes_eq m.name y ≡ false) ms own.0, modules_apart ms own.1)
 
 takes_own : TakesOwnName verilog_sections
 takes_own p m e =
-    let both = neither (list_any p (udp_names m.udps)) (list_any p (m.name ∷ [])) (sym (list_any-append p (udp_names m.udps) (m.name ∷ [])) ∙ e) in
+    let both = neither (list_any p (udp_names m.udps)) (list_any p (m.name ∷ []))
+    (sym (list_any-append p (udp_names m.udps) (m.name ∷ [])) ∙ e) in
     (neither (p m.name) false both.1).0
 
 -- Their ports.
 
 module_ports : (m : VModule) → IsWellFormedModule m → ArePortsApart m.ports
-module_ports m h = apart_front (port_names m.ports) m.wires (apart_front (port_names m.ports ++ m.wires) (register_names m.notifier) h.apart)
+module_ports m h = apart_front (port_names m.ports) m.wires
+    (apart_front (port_names m.ports ++ m.wires) (register_names m.notifier) h.apart)
 
 module_runs : (m : VModule) → IsSound m → RunsByPorts verilog_sections module_machine m
 module_runs m h = record { inputs = refl; outputs = length-output_ports m.ports }
@@ -93,11 +98,18 @@ own_of f h = record { names = h.names; inputs = h.inputs; outputs = h.outputs }
 pub of_found : (found : DrivenModels VModule) → AreFound found → AreOfText verilog (file_models verilog_sections found)
 of_found found h =
     let models = file_models verilog_sections found in
-    let apart = names_apart verilog_sections takes_own bytes_eq bytes_equivalence found h.stand (λ k d below x. refl) (modules_apart found.models h.models.apart) in
-    let ports = all_have verilog_sections found (λ k d below. module_ports (get_or found.models k d) (h.models.modules k d below)) h.stand (λ k d below. (h.named k d below).ports) in
+    let apart = names_apart verilog_sections takes_own bytes_eq bytes_equivalence found h.stand (λ k d below x. refl)
+    (modules_apart found.models h.models.apart) in
+    let ports = all_have verilog_sections found (λ k d below. module_ports (get_or found.models k d) (h.models.modules k d below))
+    h.stand (λ k d below. (h.named k d below).ports) in
     record {
-      own = record { names = apart_new (model_names verilog models) apart; ports = λ k d below. own_of (get_or models k d) (ports k d below) };
-      well_formed = all_run verilog_sections IsSound module_machine module_runs found (λ k d below. (h.models.modules k d below).sound) h.stand;
+      own = record {
+        names = apart_new (model_names verilog models) apart;
+        ports =
+            λ k d below. own_of (get_or models k d) (ports k d below);
+      };
+      well_formed = all_run verilog_sections IsSound module_machine module_runs found
+          (λ k d below. (h.models.modules k d below).sound) h.stand;
     }
 
 pub own_names : ModulesHaveOwnNames

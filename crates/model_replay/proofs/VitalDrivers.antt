@@ -19,7 +19,8 @@ use Rattle.model_replay.proofs.SameNames.{push_apart}
 use Rattle.file_models.specs.driver_models.declared.model.DriverModel.{DriverModel}
 use Rattle.file_models.specs.driver_models.Cores.{Core}
 use Rattle.file_models.proofs.driver_texts.SoundCores.{AnyToken, all_tokens, behind}
-use Rattle.driven_files.specs.vhdl_drivers.DriverSections.{driver_name, driver_ports, section_front, core_call, section_core, section_process, section_rest, section, section_text}
+use Rattle.driven_files.specs.vhdl_drivers.DriverSections.{driver_name, driver_ports, section_front, core_call, section_core}
+use Rattle.driven_files.specs.vhdl_drivers.DriverSections.{section_process, section_rest, section, section_text}
 use Rattle.driven_files.proofs.vhdl_drivers.SoundDrivers.{section_answer}
 use Rattle.model_replay.proofs.NamedDrivers.{IsNamed, declared_names, core_names}
 
@@ -32,7 +33,8 @@ record IsNewPort (ports : List VPort) (x : List ℕ) : Type 0 where
   token : is_name x ≡ true
   new : is_among is_same (port_names ports) x ≡ false
 
-fits_else : {A : Type 0} (b : Bool) (v : Verdict A Refusal) (k : Refusal) (a : A) → (if b then Misfit k else v) ≡ Fits a → v ≡ Fits a
+fits_else : {A : Type 0} (b : Bool) (v : Verdict A Refusal) (k : Refusal) (a : A) → (if b then Misfit k else v) ≡ Fits a
+    → v ≡ Fits a
 fits_else true v k a e = absurd cc
 fits_else false v k a e = e
 
@@ -40,16 +42,20 @@ other : (a b : Bool) → (a || b) ≡ false → b ≡ false
 other true b e = absurd cc
 other false b e = e
 
-new_port : (ports : List VPort) (x name : List ℕ) → (if is_name x then port_by [] ports x else Misfit Syntax) ≡ Fits name → IsNewPort ports name
+new_port : (ports : List VPort) (x name : List ℕ) → (if is_name x then port_by [] ports x else Misfit Syntax) ≡ Fits name
+    → IsNewPort ports name
 new_port ports x name e =
     let n = fits_if (is_name x) (port_by [] ports x) Syntax name e in
-    let u = fits_else (has_underscore x) (if is_among is_same ([] ∷ port_names ports) x then Foul Twice x else Fits x) Undefined name n.1 in
+    let u = fits_else (has_underscore x) (if is_among is_same ([] ∷ port_names ports) x then Foul Twice x else Fits x) Undefined
+    name n.1 in
     let f = fits_unless (is_among is_same ([] ∷ port_names ports) x) Twice x name u in
     subst (IsNewPort ports) f.1 (record { token = n.0; new = other (is_same x []) (is_among is_same (port_names ports) x) f.0 })
 
-push_port : (ports : List VPort) (name : List ℕ) (input : Bool) → AreNamed ports → IsNewPort ports name → AreNamed (ports ++ record { name = name; input = input } ∷ [])
+push_port : (ports : List VPort) (name : List ℕ) (input : Bool) → AreNamed ports → IsNewPort ports name
+    → AreNamed (ports ++ record { name = name; input = input } ∷ [])
 push_port ports name input h new =
-    subst AreApart (sym (map_push name_of_port ports (record { name = name; input = input }))) (push_apart (port_names ports) name h new.token new.new)
+    subst AreApart (sym (map_push name_of_port ports (record { name = name; input = input })))
+    (push_apart (port_names ports) name h new.token new.new)
 
 one_port : (ports : List VPort) → AreNamed ports → Promises AnyToken (next_port [] ports) AreNamed
 unfolding next_port
@@ -70,26 +76,32 @@ ports_named =
 
 -- Sections.
 
-fronts : (names : List (List ℕ)) → Promises AnyToken (section_front names) (λ front. (is_name front.name ≡ true) × AreNamed front.ports)
+fronts : (names : List (List ℕ)) → Promises AnyToken (section_front names) (λ front. (is_name front.name ≡ true)
+    × AreNamed front.ports)
 unfolding section_front driver_name
 fronts names =
     behind (λ a. behind (λ b. in_turn (behind (λ c. declared_names is_name is_same names)) (λ name is.
     behind (λ d. in_turn ports_named (λ ports h. behind (λ f. gives (is, h)))))))
 
-cores_named : (cores : List Core) (ports : List VPort) → Promises AnyToken (section_core cores ports) (λ call. is_name call.core ≡ true)
+cores_named : (cores : List Core) (ports : List VPort)
+    → Promises AnyToken (section_core cores ports) (λ call. is_name call.core ≡ true)
 unfolding section_core core_call
 cores_named cores ports =
-    behind (λ driven. behind (λ a. in_turn (core_names is_name is_same cores ports driven) (λ core is. behind (λ drives. gives is))))
+    behind (λ driven. behind (λ a. in_turn (core_names is_name is_same cores ports driven)
+    (λ core is. behind (λ drives. gives is))))
 
-named_sections : (names : List (List ℕ)) (cores : List Core) → Promises AnyToken (section names cores) (IsNamed is_name str_eq_ignore_ascii_case)
+named_sections : (names : List (List ℕ)) (cores : List Core)
+    → Promises AnyToken (section names cores) (IsNamed is_name str_eq_ignore_ascii_case)
 unfolding section section_rest section_process
 named_sections names cores =
     in_turn (fronts names) (λ front h. in_turn (cores_named cores front.ports) (λ call is.
     behind (λ paths. behind (λ a. gives (record { name = h.0; core = is; ports = h.1 })))))
 
 -- the driver of a section has ports of different names
-pub text_is_named : (names : List (List ℕ)) (cores : List Core) (bytes : List ℕ) (driver : DriverModel) → section_text names cores bytes ≡ Ok driver
+pub text_is_named : (names : List (List ℕ)) (cores : List Core) (bytes : List ℕ) (driver : DriverModel)
+    → section_text names cores bytes ≡ Ok driver
     → IsNamed is_name str_eq_ignore_ascii_case driver
 unfolding section_text
 text_is_named names cores bytes driver e =
-    ((named_sections names cores).kept (text_tokens bytes) driver [] (all_tokens (text_tokens bytes)) (((section_answer names cores bytes).value driver).1 e).takes).0
+    ((named_sections names cores).kept (text_tokens bytes) driver [] (all_tokens (text_tokens bytes))
+    (((section_answer names cores bytes).value driver).1 e).takes).0

@@ -68,16 +68,19 @@ pub record AreFound (found : DrivenModels VEntity) : Type 0 where
   pub stand : AllMayStand vital_sections found.models found.drivers
   pub named : All (IsNamed is_name str_eq_ignore_ascii_case) found.drivers
 
-pub found_beside : (bytes : List ℕ) (found : DrivenModels VEntity) → driven_models vital_sections bytes ≡ Ok found → AreWellFormed found.models → AreFound found
+pub found_beside : (bytes : List ℕ) (found : DrivenModels VEntity) → driven_models vital_sections bytes ≡ Ok found
+    → AreWellFormed found.models → AreFound found
 found_beside bytes found e h =
     let parts = read_parts vital_sections (IsNamed is_name str_eq_ignore_ascii_case) text_is_named bytes found e in
     record { models = h; stand = drivers_stand vital_sections text_may_stand bytes found e; named = parts.drivers }
 
-pub found_in : TextsAreWellFormed → (bytes : List ℕ) (found : DrivenModels VEntity) → IsCount (length bytes) → driven_models vital_sections bytes ≡ Ok found → AreFound found
+pub found_in : TextsAreWellFormed → (bytes : List ℕ) (found : DrivenModels VEntity) → IsCount (length bytes)
+    → driven_models vital_sections bytes ≡ Ok found → AreFound found
 found_in well bytes found few e =
     let parts = read_parts vital_sections (IsNamed is_name str_eq_ignore_ascii_case) text_is_named bytes found e in
     let rest = rest_of vital_sections bytes in
-    let short : IsCount (length rest) = subst IsCount (sym (rest_length vital_sections.vocabulary vital_sections.marks bytes)) few in
+    let short : IsCount (length rest) = subst IsCount (sym (rest_length vital_sections.vocabulary vital_sections.marks bytes)) few
+    in
     found_beside bytes found e (well rest found.models short (((is_answer rest).entities found.models).1 parts.models))
 
 own_of : (f : FileModel VEntity) → HasPorts f → HasOwnPorts vital f
@@ -88,12 +91,18 @@ of_found found h =
     let models = file_models vital_sections found in
     let apart = names_apart vital_sections takes_own str_eq_ignore_ascii_case same_equivalence found h.stand
     (λ k d below x. same_name (get_or found.drivers k d).name x (h.named k d below).name) h.models.apart in
-    let ports = all_have vital_sections found (λ k d below. entity_ports (get_or found.models k d) (h.models.entities k d below)) h.stand
+    let ports = all_have vital_sections found (λ k d below. entity_ports (get_or found.models k d) (h.models.entities k d below))
+    h.stand
     (λ k d below. apart_spelled (port_names (get_or found.drivers k d).ports) (h.named k d below).ports) in
     record {
       of_text = record {
-        own = record { names = apart_new (model_names vital models) (apart_spelled (model_names vital models) apart); ports = λ k d below. own_of (get_or models k d) (ports k d below) };
-        well_formed = all_run vital_sections IsSound entity_machine entity_runs found (λ k d below. (h.models.entities k d below).sound) h.stand;
+        own = record {
+          names = apart_new (model_names vital models) (apart_spelled (model_names vital models) apart);
+          ports =
+              λ k d below. own_of (get_or models k d) (ports k d below);
+        };
+        well_formed = all_run vital_sections IsSound entity_machine entity_runs found
+            (λ k d below. (h.models.entities k d below).sound) h.stand;
       };
       apart = apart;
     }
@@ -108,4 +117,5 @@ own_names_beside bytes found e h = of_found found (found_beside bytes found e h)
 
 -- what the names of entities are folded to is different too
 pub folded_apart : (es : List VEntity) → AreApart (entity_names es) → AreDistinct (map (λ (e : VEntity). lowered e.name) es)
-folded_apart es h = subst AreDistinct (map-map lowered (λ (e : VEntity). e.name) es) (IsDistinct-map lowered bytes_eq (entity_names es) h)
+folded_apart es h = subst AreDistinct (map-map lowered (λ (e : VEntity). e.name) es)
+    (IsDistinct-map lowered bytes_eq (entity_names es) h)

@@ -25,7 +25,8 @@ pub record AreOfText {M : Type 0} (l : Language M) (models : List M) : Type 0 wh
 
 -- so are the models of each Verilog text, its drivers among them
 abbrev pub ModulesHaveOwnNames : Type 0
-ModulesHaveOwnNames = (bytes : List ℕ) (models : List (FileModel VModule)) → verilog_models bytes ≡ Ok models → AreOfText verilog models
+ModulesHaveOwnNames = (bytes : List ℕ) (models : List (FileModel VModule)) → verilog_models bytes ≡ Ok models
+    → AreOfText verilog models
 
 -- models of a VHDL text are such, and no two of them have one name, whatever the case of its letters
 pub record AreEntities (models : List (FileModel VEntity)) : Type 0 where
@@ -35,7 +36,8 @@ pub record AreEntities (models : List (FileModel VEntity)) : Type 0 where
 -- so are the models of each VHDL text that memory can hold
 abbrev pub EntitiesHaveOwnNames : Type 0
 EntitiesHaveOwnNames =
-    (bytes : List ℕ) (models : List (FileModel VEntity)) → IsCount (length bytes) → vital_models bytes ≡ Ok models → AreEntities models
+    (bytes : List ℕ) (models : List (FileModel VEntity)) → IsCount (length bytes) → vital_models bytes ≡ Ok models
+    → AreEntities models
 
 -- and of each VHDL text whose models of their own are well formed
 abbrev pub WellFormedEntitiesHaveOwnNames : Type 0

@@ -45,13 +45,17 @@ replay_line_stop line cause = record { status = status.Stimulus; line = stimulus
 
 -- what a replay of these sections on these models comes to; both files are bound then
 abbrev pub replayed_outcome : {M : Type 0} → Language M → List M → List Section → Outcome
-replayed_outcome l models sections = record { status = status.Done; binds = 2; text = in_report (replayed_sections_text l models sections); faults = [] }
+replayed_outcome l models sections =
+    record { status = status.Done; binds = 2; text = in_report (replayed_sections_text l models sections); faults = [] }
 
 -- behind the models, by the stimulus
 abbrev pub behind_models : {M : Type 0} → Language M → List M → List ℕ → Outcome
-behind_models l models stimulus = outcome_by 2 (stimulus_answer replay_line_stop (models_named l models) stimulus) (λ sections. replayed_outcome l models sections)
+behind_models l models stimulus =
+    outcome_by 2 (stimulus_answer replay_line_stop (models_named l models) stimulus)
+    (λ sections. replayed_outcome l models sections)
 
--- What these bytes of a file of models and of a stimulus come to. The stimulus is bound only behind a file of models that is read.
+-- What these bytes of a file of models and of a stimulus come to. The stimulus is bound only behind a file of models that is
+-- read.
 abbrev pub replay_outcome : {M : Type 0} → Language M → List ℕ → List ℕ → Outcome
 replay_outcome l text stimulus = outcome_by 1 (model_answer l text) (λ models. behind_models l models stimulus)
 

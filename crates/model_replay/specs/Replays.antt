@@ -13,8 +13,8 @@ use Rattle.model_replay.specs.declared.reading.Replay.{Replay}
 use Rattle.model_replay.specs.ModelPorts.{models_named}
 use Rattle.model_replay.specs.Outcome.{replay_files, replay_of, replayed_outcome}
 
--- A section can be run on the model with its number: the model is well formed, it has as many names of inputs and of outputs as it
--- has inputs and outputs, and the section's changes are of its inputs, at times that rise strictly.
+-- A section can be run on the model with its number: the model is well formed, it has as many names of inputs and of outputs as
+-- it has inputs and outputs, and the section's changes are of its inputs, at times that rise strictly.
 pub record CanBeRun {M : Type 0} (l : Language M) (models : List M) (section : Section) : Type 0 where
   pub model : M
   pub found : slice_get models section.cell ≡ Some model
@@ -27,7 +27,8 @@ pub record CanBeRun {M : Type 0} (l : Language M) (models : List M) (section : S
 -- are those of the bytes that were read, and the sections those of the stimulus over the models. Where the desk tells the files,
 -- the run comes to these sections.
 pub record ReadsReplay {M : Type 0} (l : Language M) (old new : DeskState) (replay : Replay M) : Type 0 where
-  pub files : HasRead (replay_files l.format) (replay_files l.format) (replay_of l old.words) (λ _. replayed_outcome l replay.models replay.sections) old new
+  pub files : HasRead (replay_files l.format) (replay_files l.format) (replay_of l old.words)
+      (λ _. replayed_outcome l replay.models replay.sections) old new
   pub text : (bytes : List ℕ) × (length bytes ≤ model_limit) × (l.text bytes ≡ Ok replay.models)
   pub well_formed : All l.is_well_formed replay.models
   pub catalog : replay.catalog ≡ models_named l replay.models

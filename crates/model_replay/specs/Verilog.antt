@@ -1,5 +1,5 @@
--- Verilog as a language of models; what runs of a module is as in IEEE 1364-2005, clauses 8, 14 and 15. (That sections of a file hold
--- drivers, and that each of these is a model of the file, is this project's rule.)
+-- Verilog as a language of models; what runs of a module is as in IEEE 1364-2005, clauses 8, 14 and 15. (That sections of a file
+-- hold drivers, and that each of these is a model of the file, is this project's rule.)
 use Rattle.std.specs.Prelude.{ℕ, List, Result}
 use Rattle.std.specs.Result.{result_map_both}
 use Rattle.udp_tables.specs.declared.models.ModelFault.{ModelFault}
@@ -18,4 +18,5 @@ abbrev pub verilog_models : List ℕ → Result (List (FileModel VModule)) Model
 verilog_models bytes = result_map_both (file_models verilog_sections) (λ fault. fault) (driven_models verilog_sections bytes)
 
 abbrev pub verilog : Language (FileModel VModule)
-verilog = language_of Verilog verilog_models (λ (f : FileModel VModule). f.name) (λ (f : FileModel VModule). f.ports) (machine_by module_machine) (IsRunnable IsSound module_machine)
+verilog = language_of Verilog verilog_models (λ (f : FileModel VModule). f.name) (λ (f : FileModel VModule). f.ports)
+    (machine_by module_machine) (IsRunnable IsSound module_machine)

@@ -1,5 +1,5 @@
--- VHDL by VITAL as a language of models; what runs of an entity is as in IEEE 1076.4-2000. (That sections of a file hold drivers, and
--- that each of these is a model of the file, is this project's rule.)
+-- VHDL by VITAL as a language of models; what runs of an entity is as in IEEE 1076.4-2000. (That sections of a file hold drivers,
+-- and that each of these is a model of the file, is this project's rule.)
 use Rattle.std.specs.Prelude.{ℕ, List, Result}
 use Rattle.std.specs.Result.{result_map_both}
 use Rattle.udp_tables.specs.declared.models.ModelFault.{ModelFault}
@@ -18,4 +18,5 @@ abbrev pub vital_models : List ℕ → Result (List (FileModel VEntity)) ModelFa
 vital_models bytes = result_map_both (file_models vital_sections) (λ fault. fault) (driven_models vital_sections bytes)
 
 abbrev pub vital : Language (FileModel VEntity)
-vital = language_of Vital vital_models (λ (f : FileModel VEntity). f.name) (λ (f : FileModel VEntity). f.ports) (machine_by entity_machine) (IsRunnable IsSound entity_machine)
+vital = language_of Vital vital_models (λ (f : FileModel VEntity). f.name) (λ (f : FileModel VEntity). f.ports)
+    (machine_by entity_machine) (IsRunnable IsSound entity_machine)

@@ -1,8 +1,8 @@
 //! How a replay ends whose stimulus has a bad line.
 ghost use Rattle.model_replay.specs.Outcome.{replay_line_stop};
 
-use run_outcome::{Status, ended};
 use model_files::{BadLineStop, write_stimulus_fault};
+use run_outcome::{Status, ended};
 use stimulus::Cause;
 use text_io::Desk;
 

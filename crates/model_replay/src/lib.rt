@@ -1,7 +1,7 @@
-//! Verilog and VHDL as a run reads, names and runs their models. (IEEE 1364-2005; IEEE 1076-1993 and IEEE 1076.4-2000.) What their
-//! texts are, what their models are called, and what runs of them stands in `specs/`.
-//! Replaying a file of models under a stimulus: what it comes to, the models as the cells that a stimulus may name, its two files,
-//! and the sections that are printed. All of it holds of each language of models.
+//! Verilog and VHDL as a run reads, names and runs their models. (IEEE 1364-2005; IEEE 1076-1993 and IEEE 1076.4-2000.) What
+//! their texts are, what their models are called, and what runs of them stands in `specs/`. Replaying a file of models under a
+//! stimulus: what it comes to, the models as the cells that a stimulus may name, its two files, and the sections that are
+//! printed. All of it holds of each language of models.
 #![tactic(auto)]
 
 mod bad_line;

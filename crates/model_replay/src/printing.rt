@@ -27,7 +27,8 @@ fn write_replayed_section<D: Desk, L: ModelLanguage>(
     requires run { CanBeRun L.language replay.now.models section.now }
     requires known { AreStarts L.is_start replay.now.models known.old.items }
     requires each { length known.old.items ≡ length replay.now.models }
-    ensures text { WritesTrace (D.state desk.old) (D.state desk.new) (replayed_section_text L.language replay.now.models section.now) result }
+    ensures text { WritesTrace (D.state desk.old) (D.state desk.new)
+        (replayed_section_text L.language replay.now.models section.now) result }
     ensures known { OnOk result (AreStarts L.is_start replay.now.models known.new.items) }
     ensures each { OnOk result (length known.new.items ≡ length known.old.items) }
     ensures cause { StopsWithCause (D.faults desk.old) (D.faults desk.new) result }
@@ -50,7 +51,8 @@ pub(crate) fn write_replayed_sections<D: Desk, L: ModelLanguage>(
 ) -> Result<(), Stop>
     requires catalog { replay.now.catalog ≡ models_named L.language replay.now.models }
     requires runs { All (CanBeRun L.language replay.now.models) replay.now.sections }
-    ensures text { WritesTrace (D.state desk.old) (D.state desk.new) (replayed_sections_text L.language replay.now.models replay.now.sections) result }
+    ensures text { WritesTrace (D.state desk.old) (D.state desk.new)
+        (replayed_sections_text L.language replay.now.models replay.now.sections) result }
     ensures cause { StopsWithCause (D.faults desk.old) (D.faults desk.new) result }
 {
     let mut known = nothing_known(alloc, replay.models.len())?;

@@ -7,8 +7,8 @@ ghost use Rattle.model_replay.specs.Replays.{ReadsReplay};
 
 use crate::bad_line::ReplayStop;
 use crate::catalog::models_named;
-use run_outcome::Status;
 use model_files::{ModelLanguage, read_model_file, read_stimulus_file};
+use run_outcome::Status;
 use sqlite_items::Items;
 use std::alloc::Global;
 use stimulus::{PortCatalog, Section};
@@ -36,7 +36,8 @@ pub(crate) fn read_replay<D: Desk, L: ModelLanguage>(
 ) -> Result<Replay<L::Model>, Status>
     requires { plan (D.state desk.old).words ≡ replay_files L.language.format }
     ensures read { IfOk result (ReadsReplay L.language (D.state desk.old) (D.state desk.new)) }
-    ensures ended { IfErr result (RunsAs (replay_files L.language.format) (replay_of L.language (D.state desk.old).words) (D.state desk.old) (D.state desk.new)) }
+    ensures ended { IfErr result (RunsAs (replay_files L.language.format) (replay_of L.language (D.state desk.old).words)
+        (D.state desk.old) (D.state desk.new)) }
     ensures kept { OnOk result (D.faults desk.new ≡ D.faults desk.old) }
     ensures cause { IfErr result (StopsWithStatus (D.faults desk.old) (D.faults desk.new)) }
 {

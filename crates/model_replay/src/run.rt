@@ -7,8 +7,8 @@ ghost use Rattle.model_replay.specs.Outcome.{replay_files, replay_of};
 
 use crate::printing::write_replayed_sections;
 use crate::reading::read_replay;
-use run_outcome::Status;
 use model_files::ModelLanguage;
+use run_outcome::Status;
 use std::alloc::Global;
 use text_io::{Desk, Stop};
 
@@ -19,7 +19,8 @@ use text_io::{Desk, Stop};
 /// on the desk failed in this call, or with `Memory`, where there was none.
 pub fn replay_models<D: Desk, L: ModelLanguage>(alloc: Global, desk: &mut D) -> Status
     requires { plan (D.state desk.old).words ≡ replay_files L.language.format }
-    ensures writes { RunsAs (replay_files L.language.format) (replay_of L.language (D.state desk.old).words) (D.state desk.old) (D.state desk.new) result }
+    ensures writes { RunsAs (replay_files L.language.format) (replay_of L.language (D.state desk.old).words) (D.state desk.old)
+        (D.state desk.new) result }
     ensures cause { StopsWithStatus (D.faults desk.old) (D.faults desk.new) result }
 {
     match read_replay::<D, L>(alloc, desk) {

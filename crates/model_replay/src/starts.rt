@@ -39,8 +39,8 @@ pub fn known_entity(
     Shared::new(alloc, EntityStart::of(alloc, model.core.get())?)
 }
 
-/// A model of a Verilog file before any change, of which this is known: its core behind what drives its outputs. An `Err` comes only
-/// where memory is wanting.
+/// A model of a Verilog file before any change, of which this is known: its core behind what drives its outputs. An `Err` comes
+/// only where memory is wanting.
 pub fn start_module<'a>(
     alloc: Global,
     model: &'a FileModel<VModule>,
@@ -48,7 +48,8 @@ pub fn start_module<'a>(
 ) -> Result<DrivenSim<'a, VerilogSim<'a>>, AllocError>
     requires runs { IsRunnable modules_of.IsSound module_machine model.now }
     requires known { IsModuleStart model.now.core known.now }
-    ensures machine { IfOk result (λ sim. ⟦<DrivenSim<'a, VerilogSim<'a>> as TraceSim>⟧.machine sim ≡ machine_by module_machine model.now) }
+    ensures machine { IfOk result (λ sim. ⟦<DrivenSim<'a, VerilogSim<'a>> as TraceSim>⟧.machine sim ≡ machine_by module_machine
+        model.now) }
     ensures stands { IfOk result (λ sim. ⟦<DrivenSim<'a, VerilogSim<'a>> as TraceSim>⟧.stands sim []) }
 {
     DrivenSim::over(
@@ -67,7 +68,8 @@ pub fn start_entity<'a>(
 ) -> Result<DrivenSim<'a, VitalSim<'a>>, AllocError>
     requires runs { IsRunnable entities_of.IsSound entity_machine model.now }
     requires known { IsEntityStart model.now.core known.now }
-    ensures machine { IfOk result (λ sim. ⟦<DrivenSim<'a, VitalSim<'a>> as TraceSim>⟧.machine sim ≡ machine_by entity_machine model.now) }
+    ensures machine { IfOk result (λ sim. ⟦<DrivenSim<'a, VitalSim<'a>> as TraceSim>⟧.machine sim ≡ machine_by entity_machine
+        model.now) }
     ensures stands { IfOk result (λ sim. ⟦<DrivenSim<'a, VitalSim<'a>> as TraceSim>⟧.stands sim []) }
 {
     DrivenSim::over(

@@ -1,5 +1,6 @@
 -- The groups of a cell by their numbers: their names, their steps and their supports; and the conditions by theirs.
-use Rattle.std.proofs.Common.{◌≡◌, ℕ, zero, suc, ◌+◌, ◌*◌, ◌<◌, Bool, true, false, List, [], ◌∷◌, length, inl, inr, refl, sym, ap, ◌∙◌, subst, arith, IsTrue, Some, option_map, slice_get, nat_lt, flat_map, if◌then◌else◌}
+use Rattle.std.proofs.Common.{◌≡◌, ℕ, zero, suc, ◌+◌, ◌*◌, ◌<◌, Bool, true, false, List, [], ◌∷◌, length, inl, inr, refl, sym, ap}
+use Rattle.std.proofs.Common.{◌∙◌, subst, arith, IsTrue, Some, option_map, slice_get, nat_lt, flat_map, if◌then◌else◌}
 use Rattle.std.specs.List.{list_all}
 use Rattle.std.specs.Option.{option_map_or}
 use Rattle.std.proofs.lemmas.Bool.{and_parts, lt-ltb}
@@ -15,7 +16,8 @@ use Rattle.cell_machine.specs.declared.outputs.OutputPin.{OutputPin}
 use Rattle.cell_machine.specs.declared.checks.Check.{Check}
 use Rattle.cell_machine.specs.declared.arcs.Arc.{Arc}
 use Rattle.cell_machine.specs.CellData.{CellData}
-use Rattle.cell_machine.specs.CellRules.{is_ascending, is_output, is_input_pin, is_output_pin, output_pins_from, is_source, is_output_of, are_groups_from, HoldsRules}
+use Rattle.cell_machine.specs.CellRules.{is_ascending, is_output, is_input_pin, is_output_pin, output_pins_from, is_source}
+use Rattle.cell_machine.specs.CellRules.{is_output_of, are_groups_from, HoldsRules}
 use Rattle.cell_machine.specs.Names.{state_name}
 use Rattle.cell_machine.specs.Step.{group_step}
 use Rattle.cell_machine.specs.Supports.{Ascending}
@@ -100,7 +102,8 @@ module _ (numbered : ConditionsAreNumbered) (d : CellData) where
   check-place k f m h =
       numbered d f
       (among-contains f (used_conditions d)
-      (append-among_left f (flat_map (λ (k : Check). condition_list k.condition) d.checks) (flat_map (arc_conditions d.arcs) d.arcs)
+      (append-among_left f (flat_map (λ (k : Check). condition_list k.condition) d.checks)
+      (flat_map (arc_conditions d.arcs) d.arcs)
       (flat-among (λ (k : Check). condition_list k.condition) f d.checks k m h)))
 
   pub arc-place :
@@ -109,7 +112,8 @@ module _ (numbered : ConditionsAreNumbered) (d : CellData) where
   arc-place arc f m h =
       numbered d f
       (among-contains f (used_conditions d)
-      (append-among_right f (flat_map (λ (k : Check). condition_list k.condition) d.checks) (flat_map (arc_conditions d.arcs) d.arcs)
+      (append-among_right f (flat_map (λ (k : Check). condition_list k.condition) d.checks)
+      (flat_map (arc_conditions d.arcs) d.arcs)
       (flat-among (arc_conditions d.arcs) f d.arcs arc m h)))
 
 -- an output as its models need it: it is an output pin, and its sources are input pins and states
@@ -126,7 +130,8 @@ output-pins-pass k (pin ∷ pins) i q e = by (is_output pin.direction) refl i e 
     by :
         (b : Bool) → is_output pin.direction ≡ b → (i : ℕ)
         → slice_get (if b then k ∷ output_pins_from (k + 1) pins else output_pins_from (k + 1) pins) i ≡ Some q
-        → ((n : ℕ) → slice_get (output_pins_from (k + 1) pins) n ≡ Some q → (j : ℕ) × (q ≡ (k + 1) + j) × IsTrue (is_output_pin pins j))
+        → ((n : ℕ) → slice_get (output_pins_from (k + 1) pins) n ≡ Some q → (j : ℕ) × (q ≡ (k + 1) + j)
+        × IsTrue (is_output_pin pins j))
         → (j : ℕ) × (q ≡ k + j) × IsTrue (is_output_pin (pin ∷ pins) j)
     by true t zero e again =
         let same : k ≡ q = cc in
@@ -141,7 +146,8 @@ output-pins-pass k (pin ∷ pins) i q e = by (is_output pin.direction) refl i e 
         let at : q ≡ k + suc rest.0 = omega (arith, rest.1) in
         (suc rest.0, at, rest.2)
 
-all-get : {X : Type 0} (p : X → Bool) (xs : List X) (i : ℕ) (x : X) → IsTrue (list_all p xs) → slice_get xs i ≡ Some x → IsTrue (p x)
+all-get : {X : Type 0} (p : X → Bool) (xs : List X) (i : ℕ) (x : X) → IsTrue (list_all p xs) → slice_get xs i ≡ Some x
+    → IsTrue (p x)
 all-get p [] i x h e = absurd cc
 all-get p (y ∷ ys) zero x h e =
     let same : y ≡ x = cc in subst (λ z. IsTrue (p z)) same (and_parts (p y) (list_all p ys) h).0

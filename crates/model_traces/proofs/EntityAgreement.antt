@@ -1,5 +1,6 @@
 -- An entity that fits a cell shows what the cell shows.
-use Rattle.std.proofs.Common.{◌≡◌, ℕ, ◌<◌, Bool, true, false, ◌&&◌, List, [], ◌∷◌, length, map, set, refl, ap, sym, ◌∙◌, Some, None, if◌then◌else◌}
+use Rattle.std.proofs.Common.{◌≡◌, ℕ, ◌<◌, Bool, true, false, ◌&&◌, List, [], ◌∷◌, length, map, set, refl, ap, sym, ◌∙◌, Some}
+use Rattle.std.proofs.Common.{None, if◌then◌else◌}
 use Rattle.std.proofs.lemmas.List.{length-map}
 use Rattle.trit_cubes.specs.declared.trits.Trit.{Trit}
 use Rattle.trit_cubes.specs.Filling.{same}
@@ -11,7 +12,8 @@ use Rattle.cell_machine.specs.Each.{each}
 use Rattle.cell_machine.specs.Delay.{least_delay}
 use Rattle.cell_machine.specs.History.{inputs_after, value_before, is_event, IsProper, IsProperFrom}
 use Rattle.cell_machine.specs.Report.{happens, is_within, report, any_true}
-use Rattle.cell_machine.specs.CellTrace.{inputs_of, input_check, reports_of, NamedGroup, named_groups, state_step, state_after, states_after, cell_trace}
+use Rattle.cell_machine.specs.CellTrace.{inputs_of, input_check, reports_of, NamedGroup, named_groups, state_step, state_after}
+use Rattle.cell_machine.specs.CellTrace.{states_after, cell_trace}
 use Rattle.cell_machine.specs.CellTrace as cell
 use Rattle.udp_tables.specs.CellPrimitives.{has_notifier}
 use Rattle.vital_models.specs.declared.model.VState.{VState}
@@ -28,8 +30,10 @@ use Rattle.model_traces.specs.ProcessLaws.{last_times}
 use Rattle.model_traces.specs.EntityTrace.{output_after, delay_after, reports_after, entity_trace}
 use Rattle.model_traces.specs.EntityFits.{FitsGroup, FitsCheck, FitsOutput, EntityFits}
 use Rattle.model_traces.specs.Agreement.{FittingEntitiesAgree}
-use Rattle.model_traces.proofs.ProcessLemmas.{looked-each, process-inputs, process-times, process-columns, later-second, earlier-first}
-use Rattle.model_traces.proofs.FitLemmas.{fit-length, fit-kept, fit-steps, start-states, opening-same, states-step, reports-fit, traces-fit}
+use Rattle.model_traces.proofs.ProcessLemmas.{looked-each, process-inputs, process-times, process-columns, later-second}
+use Rattle.model_traces.proofs.ProcessLemmas.{earlier-first}
+use Rattle.model_traces.proofs.FitLemmas.{fit-length, fit-kept, fit-steps, start-states, opening-same, states-step, reports-fit}
+use Rattle.model_traces.proofs.FitLemmas.{traces-fit}
 use Rattle.model_traces.proofs.TraceLemmas.{length-inputs, some-checks}
 
 module _ (d : CellData) (e : VEntity) (fits : EntityFits d e) where
@@ -59,14 +63,16 @@ module _ (d : CellData) (e : VEntity) (fits : EntityFits d e) where
   event-reports : (h : List Change) (c : Change) → reports_at e (process_after e h) c ≡ reports_of d (c ∷ h)
   event-reports h c =
       (λ i. each (check_reports e (set (run-is h i) c.pin c.to) (value_before (run-is h i) c) c) e.checks (times-are h i))
-      ∙ fit-kept (FitsCheck d e) (check_reports e (inputs_after n (c ∷ h)) (value_before (inputs_after n h) c) c) (last_times e.ports n h)
+      ∙ fit-kept (FitsCheck d e) (check_reports e (inputs_after n (c ∷ h)) (value_before (inputs_after n h) c) c)
+      (last_times e.ports n h)
       (λ k. report n k (c ∷ h)) (input_check d.pins) (report-same c h) d.checks e.checks fits.checks
 
   -- one group at an event, by whether some check reports
   looked-same :
       (v : List Trit) (c : Change) (violation s : Trit) (g : NamedGroup) (state : VState) (b : Bool)
       → length v ≡ n → c.pin < n → is_event v c ≡ true → (b ≡ true → has_notifier d ≡ true) → FitsGroup d e g state
-      → lookup_state state.table.rows (columns e.ports violation v state) (columns e.ports (violation_by b) (set v c.pin c.to) state) s
+      → lookup_state state.table.rows (columns e.ports violation v state)
+      (columns e.ports (violation_by b) (set v c.pin c.to) state) s
       ≡ state_step b d.pins g (set v c.pin c.to) (value_before v c) c s
   looked-same v c violation s g state true long inside event some f = f.forces v c violation s long inside event (some refl)
   looked-same v c violation s g state false long inside event some f = f.steps v c violation s long inside event
@@ -76,7 +82,8 @@ module _ (d : CellData) (e : VEntity) (fits : EntityFits d e) where
       → c.pin < n → is_event (inputs_after n h) c ≡ true
       → (process_after e h).states ≡ states_after d h
       → (happened e (process_after e h) c).states
-      ≡ map (λ g. state_step (any_true (reports_of d (c ∷ h))) d.pins g (inputs_after n (c ∷ h)) (value_before (inputs_after n h) c) c (state_after d h g)) (named_groups d)
+      ≡ map (λ g. state_step (any_true (reports_of d (c ∷ h))) d.pins g (inputs_after n (c ∷ h))
+      (value_before (inputs_after n h) c) c (state_after d h g)) (named_groups d)
   happened-tied h c inside event tied =
       let was = process-columns e h in
       let v : List Trit = inputs_after n h in
@@ -87,15 +94,18 @@ module _ (d : CellData) (e : VEntity) (fits : EntityFits d e) where
       (all_columns e (violation_by (any_true (event-reports h c i))) (set (run-is h i) c.pin c.to)) (tied i))
       ∙ looked-each (columns e.ports was.0 v) (columns e.ports (violation_by b) (set v c.pin c.to)) e.states (states_after d h)
       ∙ fit-steps (FitsGroup d e)
-      (λ (t : VState) s. lookup_state t.table.rows (columns e.ports was.0 v t) (columns e.ports (violation_by b) (set v c.pin c.to) t) s)
+      (λ (t : VState) s. lookup_state t.table.rows (columns e.ports was.0 v t)
+      (columns e.ports (violation_by b) (set v c.pin c.to) t) s)
       (state_after d h) (λ g. state_step b d.pins g (set v c.pin c.to) (value_before v c) c (state_after d h g))
-      (λ g t f. looked-same v c was.0 (state_after d h g) g t b (length-inputs n h) inside event some f) (named_groups d) e.states fits.groups
+      (λ g t f. looked-same v c was.0 (state_after d h g) g t b (length-inputs n h) inside event some f)
+      (named_groups d) e.states fits.groups
 
   pub states-tied : (h : List Change) → IsProper n h → (process_after e h).states ≡ states_after d h
   states-tied [] proper = start-states d (FitsGroup d e) (named_groups d) e.states fits.groups
   states-tied (c ∷ h) proper =
       let tied = states-tied h proper.2 in
-      states-step d h c (process_after e h).inputs (λ r. r.states) (happened e (process_after e h) c) (process_after e h) (run-is h)
+      states-step d h c (process_after e h).inputs (λ r. r.states) (happened e (process_after e h) c) (process_after e h)
+      (run-is h)
       (λ event. happened-tied h c proper.0 event tied) tied
 
   states-long : (h : List Change) → IsProper n h → length (process_after e h).states ≡ length e.states
@@ -126,8 +136,10 @@ module _ (d : CellData) (e : VEntity) (fits : EntityFits d e) where
 
   pub traces-agree : (cs : List Change) → IsProperFrom n [] cs → entity_trace e cs ≡ cell_trace d cs
   traces-agree =
-      traces-fit d (FitsOutput d e) e.outputs (output_after e) (delay_after e) (reports_after e) fits.outputs output-tied delay-tied
-      (reports-fit d (FitsCheck d e) e.checks (λ h. (process_after e h).inputs) (λ h c. reports_at e (process_after e h) c) (reports_after e)
+      traces-fit d (FitsOutput d e) e.outputs (output_after e) (delay_after e) (reports_after e) fits.outputs output-tied
+      delay-tied
+      (reports-fit d (FitsCheck d e) e.checks (λ h. (process_after e h).inputs) (λ h c. reports_at e (process_after e h) c)
+      (reports_after e)
       fits.checks run-is event-reports refl (λ c h. refl))
 
 pub entities-agree : FittingEntitiesAgree

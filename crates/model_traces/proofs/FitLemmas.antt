@@ -1,5 +1,6 @@
 -- Lists of parts that fit, and what models that fit a cell have in common.
-use Rattle.std.proofs.Common.{◌≡◌, ℕ, suc, Bool, true, false, List, [], ◌∷◌, length, map, replicate, Option, inl, inr, refl, ap, sym, ◌∙◌, if◌then◌else◌}
+use Rattle.std.proofs.Common.{◌≡◌, ℕ, suc, Bool, true, false, List, [], ◌∷◌, length, map, replicate, Option, inl, inr, refl, ap}
+use Rattle.std.proofs.Common.{sym, ◌∙◌, if◌then◌else◌}
 use Rattle.std.proofs.lemmas.Simd.{map-map}
 use Rattle.trit_cubes.specs.declared.trits.Trit.{Trit}
 use Rattle.trit_cubes.specs.declared.trits.Trit.TheVariants.{Unknown}
@@ -15,7 +16,8 @@ use Rattle.cell_machine.specs.Inputs as cell_inputs
 use Rattle.cell_machine.specs.History.{inputs_after, value_before, is_event, IsProper, IsProperFrom}
 use Rattle.cell_machine.specs.Report.{is_period, last_event, opening_by, opening, any_true}
 use Rattle.cell_machine.specs.Lines.{shown_line, trace}
-use Rattle.cell_machine.specs.CellTrace.{inputs_of, input_check, reports_of, NamedGroup, named_groups, state_step, state_after, states_after, output_after, delay_after, cell_line, cell_trace}
+use Rattle.cell_machine.specs.CellTrace.{inputs_of, input_check, reports_of, NamedGroup, named_groups, state_step, state_after}
+use Rattle.cell_machine.specs.CellTrace.{states_after, output_after, delay_after, cell_line, cell_trace}
 use Rattle.cell_machine.proofs.EachLemmas.{each-map}
 use Rattle.udp_tables.specs.declared.models.VPort.{VPort}
 use Rattle.udp_tables.specs.declared.timing_checks.TimingCheck.{TimingCheck}
@@ -97,13 +99,15 @@ measures-made d ports number k tied =
 pub opening-same :
     (d : CellData) (ports : List VPort) (n : ℕ) (h : List Change) (a : Trit) (c : Change) (k : Check) (j : TimingCheck)
     → MeasuresSame d ports k j
-    → last_event n (input_event ports (opening_event (is_period j.kind) j a c)) h ≡ last_event n (opening (input_check d.pins k) a c) h
+    → last_event n (input_event ports (opening_event (is_period j.kind) j a c)) h ≡ last_event n
+    (opening (input_check d.pins k) a c) h
 opening-same d ports n h a c k j f =
     ap (λ kind. last_event n (input_event ports (opening_event (is_period kind) j a c)) h) f.kind ∙ by (is_period k.kind)
   where
     by :
         (period : Bool)
-        → last_event n (input_event ports (opening_event period j a c)) h ≡ last_event n (opening_by period (input_check d.pins k) a c) h
+        → last_event n (input_event ports (opening_event period j a c)) h ≡ last_event n
+        (opening_by period (input_check d.pins k) a c) h
     by true = ap (λ x. last_event n (record { pin = x.pin; edge = edge_of a c.to }) h) f.second
     by false = ap (λ x. last_event n x h) f.first
 
@@ -136,7 +140,8 @@ pub states-step :
     → v ≡ inputs_after (inputs_of d) h
     → (is_event (inputs_after (inputs_of d) h) c ≡ true
     → states happened
-    ≡ map (λ g. state_step (any_true (reports_of d (c ∷ h))) d.pins g (inputs_after (inputs_of d) (c ∷ h)) (value_before (inputs_after (inputs_of d) h) c) c (state_after d h g)) (named_groups d))
+    ≡ map (λ g. state_step (any_true (reports_of d (c ∷ h))) d.pins g (inputs_after (inputs_of d) (c ∷ h))
+    (value_before (inputs_after (inputs_of d) h) c) c (state_after d h g)) (named_groups d))
     → states still ≡ states_after d h
     → states (if is_event v c then happened else still) ≡ states_after d (c ∷ h)
 states-step d h c v states happened still is at_event tied =
@@ -145,7 +150,8 @@ states-step d h c v states happened still is at_event tied =
     by :
         (b : Bool) → is_event (inputs_after (inputs_of d) h) c ≡ b
         → states (if b then happened else still)
-        ≡ map (λ g. if b then state_step (any_true (reports_of d (c ∷ h))) d.pins g (inputs_after (inputs_of d) (c ∷ h)) (value_before (inputs_after (inputs_of d) h) c) c (state_after d h g) else state_after d h g) (named_groups d)
+        ≡ map (λ g. if b then state_step (any_true (reports_of d (c ∷ h))) d.pins g (inputs_after (inputs_of d) (c ∷ h))
+        (value_before (inputs_after (inputs_of d) h) c) c (state_after d h g) else state_after d h g) (named_groups d)
     by true event = at_event event
     by false event = tied
 
@@ -157,7 +163,8 @@ pub reports-fit :
     → ((h : List Change) → v h ≡ inputs_after (inputs_of d) h)
     → ((h : List Change) (c : Change) → told h c ≡ reports_of d (c ∷ h))
     → reports [] ≡ replicate (length checks) false
-    → ((c : Change) (h : List Change) → reports (c ∷ h) ≡ (if is_event (v h) c then told h c else replicate (length checks) false))
+    → ((c : Change) (h : List Change)
+    → reports (c ∷ h) ≡ (if is_event (v h) c then told h c else replicate (length checks) false))
     → (h : List Change) → reports h ≡ reports_of d h
 reports-fit d fits checks v told reports all is same none step =
     let long = fit-length fits d.checks checks all in
@@ -169,8 +176,10 @@ pub traces-fit :
     {O : Type 0} (d : CellData) (fits : OutputPin → O → Type 0) (outputs : List O) (value : List Change → O → Trit)
     (delay : List Change → O → Option ℕ) (reports : List Change → List Bool)
     → FitEach fits d.outputs outputs
-    → ((h : List Change) → IsProper (inputs_of d) h → (output : OutputPin) (o : O) → fits output o → value h o ≡ output_after d h output)
-    → ((h : List Change) → IsProper (inputs_of d) h → (output : OutputPin) (o : O) → fits output o → delay h o ≡ delay_after d h output)
+    → ((h : List Change) → IsProper (inputs_of d) h → (output : OutputPin) (o : O) → fits output o
+    → value h o ≡ output_after d h output)
+    → ((h : List Change) → IsProper (inputs_of d) h → (output : OutputPin) (o : O) → fits output o
+    → delay h o ≡ delay_after d h output)
     → ((h : List Change) → reports h ≡ reports_of d h)
     → (cs : List Change) → IsProperFrom (inputs_of d) [] cs → trace (shown_line outputs value delay reports) cs ≡ cell_trace d cs
 traces-fit d fits outputs value delay reports all valued delayed reported =

@@ -1,5 +1,7 @@
 -- The entity of a cell fits it.
-use Rattle.std.proofs.Common.{◌≡◌, ◌≢◌, ℕ, suc, ◌+◌, ◌<◌, Bool, true, false, not, ◌&&◌, ◌||◌, cond, List, [], ◌∷◌, ◌++◌, length, map, get_or, set, inl, inr, refl, sym, ap, ◌∙◌, subst, arith, IsTrue, Option, Some, None, option_map, slice_get, nat_eq, eqb-true, flat_map, if◌then◌else◌}
+use Rattle.std.proofs.Common.{◌≡◌, ◌≢◌, ℕ, suc, ◌+◌, ◌<◌, Bool, true, false, not, ◌&&◌, ◌||◌, cond, List, [], ◌∷◌, ◌++◌, length}
+use Rattle.std.proofs.Common.{map, get_or, set, inl, inr, refl, sym, ap, ◌∙◌, subst, arith, IsTrue, Option, Some, None}
+use Rattle.std.proofs.Common.{option_map, slice_get, nat_eq, eqb-true, flat_map, if◌then◌else◌}
 use Rattle.std.specs.Prelude.{filter}
 use Rattle.std.specs.List.{list_all}
 use Rattle.std.specs.Option.{option_map_or}
@@ -30,7 +32,8 @@ use Rattle.cell_machine.specs.Machine.{without, machine_step, forced}
 use Rattle.cell_machine.specs.Values.{no_values}
 use Rattle.cell_machine.specs.Outputs.{output_at, condition_at, is_one, is_zero}
 use Rattle.cell_machine.specs.History.{value_before, is_event}
-use Rattle.cell_machine.specs.CellTrace.{inputs_of, condition_value as condition_of_cell, condition_holds, NamedGroup, named_groups, place_in, moved_at, same_pins}
+use Rattle.cell_machine.specs.CellTrace.{inputs_of, condition_value as condition_of_cell, condition_holds, NamedGroup}
+use Rattle.cell_machine.specs.CellTrace.{named_groups, place_in, moved_at, same_pins}
 use Rattle.cell_machine.specs.CellTrace as cell
 use Rattle.udp_tables.specs.Conditions.{condition_list, conditions_by, conditions_beside, conditions_of, condition_place}
 use Rattle.udp_tables.specs.CellPrimitives.{has_sources}
@@ -44,7 +47,8 @@ use Rattle.vital_models.specs.LookUps.{lookup_state}
 use Rattle.vital_models.specs.Rows.{violated}
 use Rattle.vital_models.specs.Ports.{port_number, ports_of}
 use Rattle.vital_models.specs.Sound.{has_events}
-use Rattle.vital_models.specs.Generated.{has_violation, ports_at, state_table, state_of, states_of, condition_of, output_table, source_at, place_of, all_zero, gate_by, path_of, output_of, check_of, entity_of}
+use Rattle.vital_models.specs.Generated.{has_violation, ports_at, state_table, state_of, states_of, condition_of, output_table}
+use Rattle.vital_models.specs.Generated.{source_at, place_of, all_zero, gate_by, path_of, output_of, check_of, entity_of}
 use Rattle.vital_models.specs.Laws.{StatesAreMachines, OutputsResolve, ConditionsResolve}
 use Rattle.vital_models.proofs.PortFacts.{ports-sides}
 use Rattle.model_traces.specs.PortNumbers.{input_number, input_value}
@@ -55,9 +59,11 @@ use Rattle.model_traces.specs.EntityFits.{FitsGroup, FitGroups, FitsCheck, FitsO
 use Rattle.model_traces.proofs.PlaceLemmas.{position-from, placed, get-map, get-within, apart}
 use Rattle.model_traces.proofs.FitLemmas.{fit-made, measures-made}
 use Rattle.model_traces.proofs.PinNumbers.{number-tied, count-tied, still-values, changed-values}
-use Rattle.model_traces.proofs.CellSteps.{IsNamed, named, support-is, step-is, IsSupport, supported, place-is, check-place, arc-place, all-passes, no-sources, length-named}
+use Rattle.model_traces.proofs.CellSteps.{IsNamed, named, support-is, step-is, IsSupport, supported, place-is, check-place}
+use Rattle.model_traces.proofs.CellSteps.{arc-place, all-passes, no-sources, length-named}
 
-module _ (states_step : StatesAreMachines) (outputs_resolve : OutputsResolve) (conditions_resolve : ConditionsResolve) (numbered : ConditionsAreNumbered)
+module _ (states_step : StatesAreMachines) (outputs_resolve : OutputsResolve) (conditions_resolve : ConditionsResolve)
+    (numbered : ConditionsAreNumbered)
     (d : CellData) (rules : HoldsRules d.name d.pins d.groups d.outputs d.checks d.arcs) (name : List ℕ) where
   abbrev e : VEntity
   e = entity_of d name
@@ -74,15 +80,18 @@ module _ (states_step : StatesAreMachines) (outputs_resolve : OutputsResolve) (c
   pin-value : (v : List Trit) (p : ℕ) → input_value (ports_of name d.pins) v (port_number d.pins p) ≡ pin_value d.pins v p
   pin-value v p = ap (λ i. get_or v i Unknown) (number p)
 
-  pins-read : (v : List Trit) (support : List ℕ) → map (input_value (ports_of name d.pins) v) (ports_at d.pins support) ≡ pin_values d.pins v support
+  pins-read : (v : List Trit) (support : List ℕ)
+      → map (input_value (ports_of name d.pins) v) (ports_at d.pins support) ≡ pin_values d.pins v support
   pins-read v [] = refl
   pins-read v (p ∷ support) = λ i. pin-value v p i ∷ pins-read v support i
 
   -- the columns of a group's table
   columns-are : (i : ℕ) (g : NamedGroup) → IsNamed d i g → (violation : Trit) (v : List Trit)
-      → columns (ports_of name d.pins) violation v (state_of d i) ≡ violated (has_violation d) violation (pin_values d.pins v g.group.support)
+      → columns (ports_of name d.pins) violation v (state_of d i) ≡ violated (has_violation d) violation
+      (pin_values d.pins v g.group.support)
   columns-are i g is violation v =
-      ap (λ support. violated (has_violation d) violation (map (input_value (ports_of name d.pins) v) (ports_at d.pins support))) (support-is d i g is)
+      ap (λ support. violated (has_violation d) violation (map (input_value (ports_of name d.pins) v) (ports_at d.pins support)))
+      (support-is d i g is)
       ∙ ap (violated (has_violation d) violation) (pins-read v g.group.support)
 
   -- the next state without a violation
@@ -97,9 +106,11 @@ module _ (states_step : StatesAreMachines) (outputs_resolve : OutputsResolve) (c
       let qs : List ℕ = g.group.support in
       let none = sym (position-from (λ q. nat_eq (inputs.input_number d.pins q) c.pin) qs) ∙ at in
       let ys : List Trit = pin_values d.pins (set v c.pin c.to) qs in
-      ap (λ xs. lookup_state (state_table d i).rows (violated (has_violation d) violation xs) (violated (has_violation d) Zero ys) s)
+      ap (λ xs. lookup_state (state_table d i).rows (violated (has_violation d) violation xs) (violated (has_violation d) Zero ys)
+      s)
       (still-values d.pins v c.pin c.to 0 qs none)
-      ∙ (states_step d i).keeps ys violation s (length-map qs (pin_value d.pins (set v c.pin c.to)) ∙ ap length (sym (support-is d i g is)))
+      ∙ (states_step d i).keeps ys violation s
+      (length-map qs (pin_value d.pins (set v c.pin c.to)) ∙ ap length (sym (support-is d i g is)))
   stepped i g is support v c violation s long inside event (Some p) at =
       let qs : List ℕ = g.group.support in
       let ys : List Trit = pin_values d.pins (set v c.pin c.to) qs in
@@ -114,10 +125,13 @@ module _ (states_step : StatesAreMachines) (outputs_resolve : OutputsResolve) (c
       get-map (pin_value d.pins (set v c.pin c.to)) qs p found.1 Unknown pin-at
       ∙ ap (λ n. get_or (set v c.pin c.to) n Unknown) (eqb-true (inputs.input_number d.pins found.1) c.pin found.4)
       ∙ get_or-set_same v c.pin c.to Unknown (omega (arith, long, inside)) in
-      let other : value_before v c ≢ get_or ys p Unknown = subst (λ t. value_before v c ≢ t) (sym now) (apart (value_before v c) c.to event) in
-      ap (λ xs. lookup_state (state_table d i).rows (violated (has_violation d) violation xs) (violated (has_violation d) Zero ys) s)
+      let other : value_before v c ≢ get_or ys p Unknown =
+      subst (λ t. value_before v c ≢ t) (sym now) (apart (value_before v c) c.to event) in
+      ap (λ xs. lookup_state (state_table d i).rows (violated (has_violation d) violation xs) (violated (has_violation d) Zero ys)
+      s)
       (changed-values d.pins v c.pin c.to 0 p qs support.inputs support.ascends (first ∙ ap Some there))
-      ∙ (states_step d i).steps p (value_before v c) ys violation s (many ∙ ap length (sym (support-is d i g is))) (omega (arith, within, many)) other
+      ∙ (states_step d i).steps p (value_before v c) ys violation s (many ∙ ap length (sym (support-is d i g is)))
+      (omega (arith, within, many)) other
       ∙ (λ n. machine_step (step-is d i g is n) p (value_before v c) (now n) (without p ys) s)
 
   -- a state and its group
@@ -128,7 +142,8 @@ module _ (states_step : StatesAreMachines) (outputs_resolve : OutputsResolve) (c
       record {
         steps =
             λ v c violation s long inside event.
-            (λ n. lookup_state (state_table d i).rows (columns-are i g is violation v n) (columns-are i g is Zero (set v c.pin c.to) n) s)
+            (λ n. lookup_state (state_table d i).rows (columns-are i g is violation v n)
+            (columns-are i g is Zero (set v c.pin c.to) n) s)
             ∙ stepped i g is support v c violation s long inside event (place_in d.pins qs c) refl;
         forces =
             λ v c violation s long inside event some.
@@ -136,14 +151,16 @@ module _ (states_step : StatesAreMachines) (outputs_resolve : OutputsResolve) (c
             let ys : List Trit = pin_values d.pins (set v c.pin c.to) qs in
             let many : length ys ≡ length qs = length-map qs (pin_value d.pins (set v c.pin c.to)) in
             let as_many : length (violation ∷ xs) ≡ suc (length ys) = ap suc (length-map qs (pin_value d.pins v) ∙ sym many) in
-            (λ n. lookup_state (state_table d i).rows (columns-are i g is violation v n) (columns-are i g is Unknown (set v c.pin c.to) n) s)
+            (λ n. lookup_state (state_table d i).rows (columns-are i g is violation v n)
+            (columns-are i g is Unknown (set v c.pin c.to) n) s)
             ∙ (λ n. lookup_state (state_table d i).rows (violated (some n) violation xs) (violated (some n) Unknown ys) s)
             ∙ (states_step d i).forces (violation ∷ xs) ys s some (many ∙ ap length (sym (support-is d i g is))) as_many
             ∙ ap (λ step. forced step ys) (step-is d i g is);
       }
 
   fit-each : (gs : List NamedGroup) (ss : List VState) → length gs ≡ length ss
-      → ((i : ℕ) (g : NamedGroup) (s : VState) → slice_get gs i ≡ Some g → slice_get ss i ≡ Some s → FitsGroup d e g s) → FitGroups d e gs ss
+      → ((i : ℕ) (g : NamedGroup) (s : VState) → slice_get gs i ≡ Some g → slice_get ss i ≡ Some s → FitsGroup d e g s)
+      → FitGroups d e gs ss
   fit-each [] [] long h = tt
   fit-each [] (s ∷ ss) long h = absurd (omega arith)
   fit-each (g ∷ gs) [] long h = absurd (omega arith)
@@ -169,18 +186,21 @@ module _ (states_step : StatesAreMachines) (outputs_resolve : OutputsResolve) (c
       ap (λ o. option_map_or (truth_value (ports_of name d.pins) v) o Unknown)
       (slice_get-map (condition_of d.pins) (conditions_of d) i ∙ ap (option_map (condition_of d.pins)) at)
       ∙ conditions_resolve f (map (input_value (ports_of name d.pins) v) (ports_at d.pins (support_of f)))
-      (length-map (ports_at d.pins (support_of f)) (input_value (ports_of name d.pins) v) ∙ length-map (support_of f) (port_number d.pins))
+      (length-map (ports_at d.pins (support_of f)) (input_value (ports_of name d.pins) v)
+      ∙ length-map (support_of f) (port_number d.pins))
       ∙ ap (res (condition_at (support_of f) f)) (pins-read v (support_of f))
 
   -- the events of a check
-  events-are : (k : Check) (kind : CheckKind) → IsTrue (rules_of_cells.has_events k kind) → IsTrue (has_events (check_of d k) kind)
+  events-are : (k : Check) (kind : CheckKind) → IsTrue (rules_of_cells.has_events k kind)
+      → IsTrue (has_events (check_of d k) kind)
   events-are k check_kind.Setup h = h
   events-are k check_kind.Hold h = h
   events-are k check_kind.Recovery h = h
   events-are k check_kind.Removal h = h
   events-are k check_kind.Width h =
       let parts = and_parts (nat_eq k.first.pin k.second.pin) (are_opposite k.first.edge k.second.edge) h in
-      and_from (nat_eq (port_number d.pins k.first.pin) (port_number d.pins k.second.pin)) (are_opposite k.first.edge k.second.edge)
+      and_from (nat_eq (port_number d.pins k.first.pin) (port_number d.pins k.second.pin))
+      (are_opposite k.first.edge k.second.edge)
       (eq-eqb _ _ (ap (port_number d.pins) (eqb-true k.first.pin k.second.pin parts.0))) parts.1
   events-are k check_kind.Period h =
       let edges : Bool = is_any_edge k.first.edge && is_any_edge k.second.edge in
@@ -196,17 +216,20 @@ module _ (states_step : StatesAreMachines) (outputs_resolve : OutputsResolve) (c
       record {
         events = events-are k k.kind (and_parts (rules_of_cells.has_events k k.kind) _ events).0;
         measures = measures-made d (ports_of name d.pins) (place_of d) k number;
-        enabled = λ v long. enabled v k.condition (λ f at. check-place numbered d k f among (subst (λ o. Among f (condition_list o)) (sym at) (inl refl)));
+        enabled = λ v long. enabled v k.condition
+            (λ f at. check-place numbered d k f among (subst (λ o. Among f (condition_list o)) (sym at) (inl refl)));
       }
     where
-      enabled : (v : List Trit) (o : Option Node) → ((f : Node) → o ≡ Some f → condition_place (conditions_of d) f < length (conditions_of d))
+      enabled : (v : List Trit) (o : Option Node)
+          → ((f : Node) → o ≡ Some f → condition_place (conditions_of d) f < length (conditions_of d))
           → is_enabled e v (option_map (place_of d) o) ≡ condition_holds d.pins v o
       enabled v None h = refl
       enabled v (Some f) h = ap is_one (condition-is v f (h f refl))
 
   -- the value of an output
   sources-read : (v states : List Trit) (sources : List Source)
-      → map (source_value (ports_of name d.pins) v states) (map (source_at d.pins) sources) ≡ map (cell.source_value d.pins v states) sources
+      → map (source_value (ports_of name d.pins) v states) (map (source_at d.pins) sources) ≡ map
+      (cell.source_value d.pins v states) sources
   sources-read v states [] = refl
   sources-read v states (source.Pin p ∷ sources) = λ i. pin-value v p i ∷ sources-read v states sources i
   sources-read v states (source.State g ∷ sources) = ap (λ r. get_or states g Unknown ∷ r) (sources-read v states sources)
@@ -216,36 +239,46 @@ module _ (states_step : StatesAreMachines) (outputs_resolve : OutputsResolve) (c
   output-value v states output = by (has_sources output) refl
     where
       by : (b : Bool) → has_sources output ≡ b
-          → output_value e v states (if b then value.Table (output_table d output) (map (source_at d.pins) output.support) else value.Constant (value_of no_values output.function))
+          → output_value e v states (if b then value.Table (output_table d output) (map (source_at d.pins) output.support)
+          else value.Constant (value_of no_values output.function))
           ≡ cell.output_value d.pins d.groups v states output
       by true some =
           outputs_resolve d output (map (source_value (ports_of name d.pins) v states) (map (source_at d.pins) output.support))
-          (length-map (map (source_at d.pins) output.support) (source_value (ports_of name d.pins) v states) ∙ length-map output.support (source_at d.pins))
+          (length-map (map (source_at d.pins) output.support) (source_value (ports_of name d.pins) v states)
+          ∙ length-map output.support (source_at d.pins))
           ∙ ap (res (output_at (length d.pins) d.groups output)) (sources-read v states output.support)
       by false some =
           let none : output.support ≡ [] = no-sources output.support some in
-          let made : List Source → OutputPin = λ sources. record { pin = output.pin; function = output.function; support = sources } in
-          ap (λ sources. res (output_at (length d.pins) d.groups (made sources)) (map (cell.source_value d.pins v states) sources)) (sym none)
+          let made : List Source → OutputPin =
+          λ sources. record { pin = output.pin; function = output.function; support = sources } in
+          ap (λ sources. res (output_at (length d.pins) d.groups (made sources))
+          (map (cell.source_value d.pins v states) sources)) (sym none)
 
   -- the conditions of the arcs
-  arc-place-of : (arc : Arc) (f : Node) → Among arc d.arcs → arc.condition ≡ Some f → condition_place (conditions_of d) f < length (conditions_of d)
-  arc-place-of arc f among at = arc-place numbered d arc f among (subst (λ o. Among f (conditions_by d.arcs arc o)) (sym at) (inl refl))
+  arc-place-of : (arc : Arc) (f : Node) → Among arc d.arcs → arc.condition ≡ Some f
+      → condition_place (conditions_of d) f < length (conditions_of d)
+  arc-place-of arc f among at = arc-place numbered d arc f among
+      (subst (λ o. Among f (conditions_by d.arcs arc o)) (sym at) (inl refl))
 
   zero-all : (v : List Trit) (is : List ℕ) → gate_holds e v (all_zero is) ≡ list_all (λ i. is_zero (condition_value e v i)) is
   zero-all v [] = refl
   zero-all v (i ∷ is) = refl
 
   beside-quiet : (v : List Trit) (arc : Arc) (arcs : List Arc) → ((other : Arc) → Among other arcs → Among other d.arcs)
-      → list_all (λ i. is_zero (condition_value e v i)) (map (place_of d) (flat_map (λ (other : Arc). condition_list other.condition) (filter (same_pins arc) arcs)))
+      → list_all (λ i. is_zero (condition_value e v i))
+      (map (place_of d) (flat_map (λ (other : Arc). condition_list other.condition) (filter (same_pins arc) arcs)))
       ≡ list_all (cell.is_quiet d.pins v arc) arcs
   beside-quiet v arc [] h = refl
   beside-quiet v arc (other ∷ arcs) h =
       by (same_pins arc other) other.condition refl (beside-quiet v arc arcs (λ x k. h x (inr k)))
     where
       by : (b : Bool) (o : Option Node) → other.condition ≡ o
-          → list_all (λ i. is_zero (condition_value e v i)) (map (place_of d) (flat_map (λ (other : Arc). condition_list other.condition) (filter (same_pins arc) arcs)))
+          → list_all (λ i. is_zero (condition_value e v i))
+          (map (place_of d) (flat_map (λ (other : Arc). condition_list other.condition) (filter (same_pins arc) arcs)))
           ≡ list_all (cell.is_quiet d.pins v arc) arcs
-          → list_all (λ i. is_zero (condition_value e v i)) (map (place_of d) (flat_map (λ (other : Arc). condition_list other.condition) (cond b (other ∷ filter (same_pins arc) arcs) (filter (same_pins arc) arcs))))
+          → list_all (λ i. is_zero (condition_value e v i))
+          (map (place_of d) (flat_map (λ (other : Arc). condition_list other.condition)
+          (cond b (other ∷ filter (same_pins arc) arcs) (filter (same_pins arc) arcs))))
           ≡ ((not b || cell.is_off d.pins v other.condition) && list_all (cell.is_quiet d.pins v arc) arcs)
       by false o at rest = rest
       by true None at rest =
@@ -270,7 +303,8 @@ module _ (states_step : StatesAreMachines) (outputs_resolve : OutputsResolve) (c
 
   -- the paths from an input to an output
   paths-same : (p : ℕ) (v : List Trit) (input : ℕ) (arcs : List Arc) → ((arc : Arc) → Among arc arcs → Among arc d.arcs)
-      → map (path_at e v) (filter (begins_at (ports_of name d.pins) input) (map (path_of d) (filter (λ (arc : Arc). nat_eq arc.to p) arcs)))
+      → map (path_at e v) (filter (begins_at (ports_of name d.pins) input)
+      (map (path_of d) (filter (λ (arc : Arc). nat_eq arc.to p) arcs)))
       ≡ map (cell.path_of d.pins d.arcs v) (filter (cell.is_between d.pins input p) arcs)
   paths-same p v input [] h = refl
   paths-same p v input (arc ∷ arcs) h =
@@ -287,14 +321,16 @@ module _ (states_step : StatesAreMachines) (outputs_resolve : OutputsResolve) (c
         | true ↦
             ap (λ b. map (path_at e v) (cond b (path_of d arc ∷ others) others)) begins
             ∙ elim (nat_eq (inputs.input_number d.pins arc.from) input) as (λ b.
-            map (path_at e v) (cond b (path_of d arc ∷ others) others) ≡ map (cell.path_of d.pins d.arcs v) (cond (b && true) (arc ∷ beyond) beyond)) [
+            map (path_at e v) (cond b (path_of d arc ∷ others) others) ≡ map (cell.path_of d.pins d.arcs v)
+            (cond (b && true) (arc ∷ beyond) beyond)) [
               | true ↦ λ i. record { active = active i; rise = arc.rise; fall = arc.fall } ∷ rest i
               | false ↦ rest
             ]
         | false ↦
             rest
             ∙ elim (nat_eq (inputs.input_number d.pins arc.from) input) as (λ b.
-            map (cell.path_of d.pins d.arcs v) beyond ≡ map (cell.path_of d.pins d.arcs v) (cond (b && false) (arc ∷ beyond) beyond)) [
+            map (cell.path_of d.pins d.arcs v) beyond ≡ map (cell.path_of d.pins d.arcs v)
+            (cond (b && false) (arc ∷ beyond) beyond)) [
               | true ↦ refl
               | false ↦ refl
             ]

@@ -4,9 +4,11 @@ use Rattle.cell_machine.specs.declared.changes.Change.{Change}
 use Rattle.cell_machine.specs.CellData.{CellData}
 use Rattle.cell_machine.specs.History.{inputs_after, value_before, is_event}
 use Rattle.cell_machine.specs.Report.{any_true}
-use Rattle.cell_machine.specs.CellTrace.{inputs_of, input_check, reports_of, named_groups, state_step, state_after, states_after, violated}
+use Rattle.cell_machine.specs.CellTrace.{inputs_of, input_check, reports_of, named_groups, state_step, state_after, states_after}
+use Rattle.cell_machine.specs.CellTrace.{violated}
 use Rattle.cell_machine.proofs.RuleLemmas.{rules_of}
-use Rattle.specify_blocks.proofs.cell_tables.CellLaws.{parts_resolve-lem, groups_are_machines-lem, groups_are_forced-lem, conditions_are_numbered-lem}
+use Rattle.specify_blocks.proofs.cell_tables.CellLaws.{parts_resolve-lem, groups_are_machines-lem, groups_are_forced-lem}
+use Rattle.specify_blocks.proofs.cell_tables.CellLaws.{conditions_are_numbered-lem}
 use Rattle.specify_blocks.specs.Generated.{module_of}
 use Rattle.specify_blocks.proofs.Soundness.{module_is_sound}
 use Rattle.vital_models.specs.Generated.{entity_of}
@@ -26,7 +28,8 @@ violated-forced :
 violated-forced d c h some =
     let v : List _ = inputs_after (inputs_of d) h in
     let event : is_event v c ≡ true = report-event (inputs_of d) (input_check d.pins) h c d.checks some in
-    (λ i. map (λ g. if event i then state_step (some i) d.pins g (inputs_after (inputs_of d) (c ∷ h)) (value_before v c) c (state_after d h g) else state_after d h g) (named_groups d))
+    (λ i. map (λ g. if event i then state_step (some i) d.pins g (inputs_after (inputs_of d) (c ∷ h)) (value_before v c) c
+    (state_after d h g) else state_after d h g) (named_groups d))
 
 pub fitting-agree : FittingModelsAgree
 fitting-agree d m e module-is entity-is =
@@ -41,7 +44,8 @@ fitting-agree d m e module-is entity-is =
 pub generated-modules : GeneratedModulesFit
 generated-modules d is =
     let rules = rules_of d.name d.pins d.groups d.outputs d.checks d.arcs is in
-    module-fits parts_resolve-lem groups_are_machines-lem groups_are_forced-lem conditions_are_numbered-lem d rules (module_is_sound d rules)
+    module-fits parts_resolve-lem groups_are_machines-lem groups_are_forced-lem conditions_are_numbered-lem d rules
+    (module_is_sound d rules)
 
 pub generated-entities : GeneratedEntitiesFit
 generated-entities d name is =

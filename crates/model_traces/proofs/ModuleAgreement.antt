@@ -1,5 +1,6 @@
 -- A module that fits a cell shows what the cell shows.
-use Rattle.std.proofs.Common.{◌≡◌, ℕ, Bool, true, false, ◌&&◌, List, [], ◌∷◌, ◌<◌, length, map, set, refl, ap, ◌∙◌, Some, None, arith, if◌then◌else◌}
+use Rattle.std.proofs.Common.{◌≡◌, ℕ, Bool, true, false, ◌&&◌, List, [], ◌∷◌, ◌<◌, length, map, set, refl, ap, ◌∙◌, Some, None}
+use Rattle.std.proofs.Common.{arith, if◌then◌else◌}
 use Rattle.trit_cubes.specs.declared.trits.Trit.{Trit}
 use Rattle.trit_cubes.specs.declared.trits.Trit.TheVariants.{Unknown}
 use Rattle.trit_cubes.specs.Filling.{same}
@@ -11,7 +12,8 @@ use Rattle.cell_machine.specs.Each.{each}
 use Rattle.cell_machine.specs.Delay.{least_delay}
 use Rattle.cell_machine.specs.History.{inputs_after, value_before, is_event, IsProper, IsProperFrom}
 use Rattle.cell_machine.specs.Report.{happens, is_within, report, any_true}
-use Rattle.cell_machine.specs.CellTrace.{inputs_of, input_check, reports_of, NamedGroup, named_groups, moved, violated, state_step, state_after, states_after, cell_trace}
+use Rattle.cell_machine.specs.CellTrace.{inputs_of, input_check, reports_of, NamedGroup, named_groups, moved, violated}
+use Rattle.cell_machine.specs.CellTrace.{state_step, state_after, states_after, cell_trace}
 use Rattle.cell_machine.specs.CellTrace as cell
 use Rattle.udp_tables.specs.CellPrimitives.{has_notifier}
 use Rattle.specify_blocks.specs.declared.model.Instance.{Instance}
@@ -25,7 +27,8 @@ use Rattle.model_traces.specs.PortNumbers.{output_ports}
 use Rattle.model_traces.specs.NetValues.{net_value}
 use Rattle.model_traces.specs.Primitives.{next_state}
 use Rattle.model_traces.specs.CheckTimes.{check_reports}
-use Rattle.model_traces.specs.ModuleRun.{HasEach, turn_of, toggled, entered, kept, notified, shaken, reports_at, happened, run_after}
+use Rattle.model_traces.specs.ModuleRun.{HasEach, turn_of, toggled, entered, kept, notified, shaken, reports_at, happened}
+use Rattle.model_traces.specs.ModuleRun.{run_after}
 use Rattle.model_traces.specs.PathDelays.{paths_between}
 use Rattle.model_traces.specs.ModuleTrace.{output_after, delay_after, reports_after, module_trace}
 use Rattle.model_traces.specs.ModuleSized.{entered-has-each, kept-has-each, notified-has-each, run-has-each}
@@ -82,7 +85,8 @@ module _ (d : CellData) (m : VModule) (fits : ModuleFits d m) where
       let opens = opened-last m.ports n h a c j ∙ opening-same d m.ports n h a c k j f.measures in
       λ i.
       happens (f.measures.second i) a c
-      && (f.enabled (inputs_after n (c ∷ h)) states (length-inputs n (c ∷ h)) long i && is_within c.at (f.measures.limit i) (opens i))
+      && (f.enabled (inputs_after n (c ∷ h)) states (length-inputs n (c ∷ h)) long i
+      && is_within c.at (f.measures.limit i) (opens i))
 
   -- the reports at an event
   event-reports : (h : List Change) (c : Change) → reports_at m (run_after m h) c ≡ reports_of d (c ∷ h)
@@ -92,7 +96,8 @@ module _ (d : CellData) (m : VModule) (fits : ModuleFits d m) where
       let long : length states ≡ length m.instances = (entered-has-each m r c (run-has-each m h)).states in
       (λ i. each (check_reports m (set (run-is h i) c.pin c.to) states (value_before (run-is h i) c) c) m.checks (stamps-are h i))
       ∙ fit-kept (FitsCheck d m) (check_reports m (inputs_after n (c ∷ h)) states (value_before (inputs_after n h) c) c)
-      (last_stamps m.ports n h) (λ k. report n k (c ∷ h)) (input_check d.pins) (report-same states c h long) d.checks m.checks fits.checks
+      (last_stamps m.ports n h) (λ k. report n k (c ∷ h)) (input_check d.pins) (report-same states c h long) d.checks m.checks
+      fits.checks
 
   -- all groups at a change of the register
   forced-all :
@@ -114,8 +119,10 @@ module _ (d : CellData) (m : VModule) (fits : ModuleFits d m) where
       → (r : ModuleRun) → r.inputs ≡ v → HasEach m r
       → sequential_states m (notified m r) ≡ map (λ g. violated d.pins g v) (named_groups d)
   notified-all v long some r is each_one =
-      picked-each (has_state m.udps) (next_state m r.inputs (toggled r.notifier) (record { what = turned.Notifier; from = r.notifier })) m.instances r.states each_one.states
-      ∙ ap (λ w. each (next_state m w (toggled r.notifier) (record { what = turned.Notifier; from = r.notifier })) (sequential_instances m) (states_among m r.states)) is
+      picked-each (has_state m.udps) (next_state m r.inputs (toggled r.notifier)
+      (record { what = turned.Notifier; from = r.notifier })) m.instances r.states each_one.states
+      ∙ ap (λ w. each (next_state m w (toggled r.notifier) (record { what = turned.Notifier; from = r.notifier }))
+      (sequential_instances m) (states_among m r.states)) is
       ∙ forced-all v r.notifier long some (named_groups d) (sequential_instances m) (states_among m r.states) fits.groups
       (length-picked (has_state m.udps) m.instances r.states each_one.states)
 
@@ -125,12 +132,15 @@ module _ (d : CellData) (m : VModule) (fits : ModuleFits d m) where
       → c.pin < n → is_event (inputs_after n h) c ≡ true
       → sequential_states m (run_after m h) ≡ states_after d h
       → sequential_states m (entered m (run_after m h) c)
-      ≡ map (λ g. moved d.pins g (inputs_after n (c ∷ h)) (value_before (inputs_after n h) c) c (state_after d h g)) (named_groups d)
+      ≡ map (λ g. moved d.pins g (inputs_after n (c ∷ h)) (value_before (inputs_after n h) c) c (state_after d h g))
+      (named_groups d)
   entered-tied h c inside event tied =
       let r : ModuleRun = run_after m h in
       let v : List Trit = inputs_after n h in
-      picked-each (has_state m.udps) (next_state m (set r.inputs c.pin c.to) r.notifier (turn_of r.inputs c)) m.instances r.states (run-has-each m h).states
-      ∙ (λ i. each (next_state m (set (run-is h i) c.pin c.to) r.notifier (turn_of (run-is h i) c)) (sequential_instances m) (tied i))
+      picked-each (has_state m.udps) (next_state m (set r.inputs c.pin c.to) r.notifier (turn_of r.inputs c)) m.instances r.states
+      (run-has-each m h).states
+      ∙ (λ i. each (next_state m (set (run-is h i) c.pin c.to) r.notifier (turn_of (run-is h i) c)) (sequential_instances m)
+      (tied i))
       ∙ fit-steps (FitsGroup d m) (next_state m (set v c.pin c.to) r.notifier (turn_of v c)) (state_after d h)
       (λ g. moved d.pins g (set v c.pin c.to) (value_before v c) c (state_after d h g))
       (λ g i f. f.steps v c r.notifier (state_after d h g) (length-inputs n h) inside event) (named_groups d)
@@ -141,21 +151,25 @@ module _ (d : CellData) (m : VModule) (fits : ModuleFits d m) where
       → c.pin < n → is_event (inputs_after n h) c ≡ true
       → sequential_states m (run_after m h) ≡ states_after d h
       → sequential_states m (happened m (run_after m h) c)
-      ≡ map (λ g. state_step (any_true (reports_of d (c ∷ h))) d.pins g (inputs_after n (c ∷ h)) (value_before (inputs_after n h) c) c (state_after d h g)) (named_groups d)
+      ≡ map (λ g. state_step (any_true (reports_of d (c ∷ h))) d.pins g (inputs_after n (c ∷ h))
+      (value_before (inputs_after n h) c) c (state_after d h g)) (named_groups d)
   happened-tied h c inside event tied =
       let r : ModuleRun = run_after m h in
       let base : ModuleRun = kept m (entered m r c) (value_before r.inputs c) c in
-      let has : HasEach m base = kept-has-each m (entered m r c) (value_before r.inputs c) c (entered-has-each m r c (run-has-each m h)) in
+      let has : HasEach m base = kept-has-each m (entered m r c) (value_before r.inputs c) c
+      (entered-has-each m r c (run-has-each m h)) in
       ap (λ bs. sequential_states m (shaken m bs base)) (event-reports h c)
       ∙ by base has (λ i. set (run-is h i) c.pin c.to) (entered-tied h c inside event tied) (any_true (reports_of d (c ∷ h))) refl
     where
       by :
           (base : ModuleRun) → HasEach m base → base.inputs ≡ inputs_after n (c ∷ h)
           → sequential_states m base
-          ≡ map (λ g. moved d.pins g (inputs_after n (c ∷ h)) (value_before (inputs_after n h) c) c (state_after d h g)) (named_groups d)
+          ≡ map (λ g. moved d.pins g (inputs_after n (c ∷ h)) (value_before (inputs_after n h) c) c (state_after d h g))
+          (named_groups d)
           → (b : Bool) → any_true (reports_of d (c ∷ h)) ≡ b
           → sequential_states m (shaken m (reports_of d (c ∷ h)) base)
-          ≡ map (λ g. state_step b d.pins g (inputs_after n (c ∷ h)) (value_before (inputs_after n h) c) c (state_after d h g)) (named_groups d)
+          ≡ map (λ g. state_step b d.pins g (inputs_after n (c ∷ h)) (value_before (inputs_after n h) c) c (state_after d h g))
+          (named_groups d)
       by base has is stepped true e =
           shaken-some m (inputs_after n (c ∷ h)) (map (λ g. violated d.pins g (inputs_after n (c ∷ h))) (named_groups d))
           (notified-all (inputs_after n (c ∷ h)) (length-inputs n (c ∷ h))
@@ -196,8 +210,10 @@ module _ (d : CellData) (m : VModule) (fits : ModuleFits d m) where
 
   pub traces-agree : (cs : List Change) → IsProperFrom n [] cs → module_trace m cs ≡ cell_trace d cs
   traces-agree =
-      traces-fit d (FitsOutput d m) (output_ports m.ports) (output_after m) (delay_after m) (reports_after m) fits.outputs output-tied delay-tied
-      (reports-fit d (FitsCheck d m) m.checks (λ h. (run_after m h).inputs) (λ h c. reports_at m (run_after m h) c) (reports_after m)
+      traces-fit d (FitsOutput d m) (output_ports m.ports) (output_after m) (delay_after m) (reports_after m) fits.outputs
+      output-tied delay-tied
+      (reports-fit d (FitsCheck d m) m.checks (λ h. (run_after m h).inputs) (λ h c. reports_at m (run_after m h) c)
+      (reports_after m)
       fits.checks run-is event-reports refl (λ c h. refl))
 
 pub modules-agree : FittingModulesAgree

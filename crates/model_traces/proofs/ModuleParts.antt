@@ -1,5 +1,6 @@
 -- The instances of a generated module: their places, what drives each net, and which have states.
-use Rattle.std.proofs.Common.{◌≡◌, ℕ, zero, suc, ◌+◌, ◌<◌, Bool, true, false, List, [], ◌∷◌, ◌++◌, length, map, get_or, refl, sym, ap, ◌∙◌, arith, IsTrue, Some, slice_get, length-append, codes, if◌then◌else◌}
+use Rattle.std.proofs.Common.{◌≡◌, ℕ, zero, suc, ◌+◌, ◌<◌, Bool, true, false, List, [], ◌∷◌, ◌++◌, length, map, get_or, refl, sym}
+use Rattle.std.proofs.Common.{ap, ◌∙◌, arith, IsTrue, Some, slice_get, length-append, codes, if◌then◌else◌}
 use Rattle.std.specs.Prelude.{filter}
 use Rattle.std.specs.Option.{option_map_or}
 use Rattle.std.proofs.lemmas.Bool.{eq-eqb, lt-ltb}
@@ -24,8 +25,11 @@ use Rattle.specify_blocks.specs.declared.model.Instance.TheVariants as instance
 use Rattle.specify_blocks.specs.Nets.{same_net, net_driven, has_state, is_driven}
 use Rattle.specify_blocks.specs.Sound.{IsSound}
 use Rattle.specify_blocks.specs.Names.{state_wires, condition_wires}
-use Rattle.specify_blocks.specs.Generated.{condition_count, wires_of, condition_wire, pin_net, source_net, each_from, group_instance, condition_instance, output_instance, after_output, output_instances, instances_of, output_primitives, primitives_of, module_of}
-use Rattle.specify_blocks.proofs.PrimitiveLemmas.{get-left, get-right, numbered-length, group_primitive-at, condition_primitive-at, output_primitive-at}
+use Rattle.specify_blocks.specs.Generated.{condition_count, wires_of, condition_wire, pin_net, source_net, each_from}
+use Rattle.specify_blocks.specs.Generated.{group_instance, condition_instance, output_instance, after_output, output_instances}
+use Rattle.specify_blocks.specs.Generated.{instances_of, output_primitives, primitives_of, module_of}
+use Rattle.specify_blocks.proofs.PrimitiveLemmas.{get-left, get-right, numbered-length, group_primitive-at}
+use Rattle.specify_blocks.proofs.PrimitiveLemmas.{condition_primitive-at, output_primitive-at}
 use Rattle.specify_blocks.specs.Ports.{port_number}
 use Rattle.specify_blocks.proofs.PortLemmas.{output_port}
 use Rattle.specify_blocks.proofs.InstanceLemmas.{output_net}
@@ -85,7 +89,8 @@ output-placed d udps i j (o ∷ outputs) zero output at e =
           let number : i ≡ i + 0 = omega arith in
           sym (ap (slice_get udps) here)
           ∙ at 0
-          ∙ ap (λ b. slice_get (if b then output_primitive d i ∷ output_primitives d (i + 1) outputs else output_primitives d (i + 1) outputs) 0)
+          ∙ ap (λ b. slice_get (if b then output_primitive d i ∷ output_primitives d (i + 1) outputs
+          else output_primitives d (i + 1) outputs) 0)
           (ap has_sources same ∙ some)
           ∙ ap (λ n. Some (output_primitive d n)) number;
     }
@@ -100,7 +105,8 @@ output-placed d udps i j (o ∷ outputs) (suc k) output at e =
   where
     later :
         (b : Bool)
-        → ((n : ℕ) → slice_get udps (j + n) ≡ slice_get (if b then output_primitive d i ∷ output_primitives d (i + 1) outputs else output_primitives d (i + 1) outputs) n)
+        → ((n : ℕ) → slice_get udps (j + n) ≡ slice_get (if b then output_primitive d i ∷ output_primitives d (i + 1) outputs
+        else output_primitives d (i + 1) outputs) n)
         → (n : ℕ) → slice_get udps ((if b then j + 1 else j) + n) ≡ slice_get (output_primitives d (i + 1) outputs) n
     later true at n = let moved : (j + 1) + n ≡ j + suc n = omega arith in ap (slice_get udps) moved ∙ at (suc n)
     later false at n = at n
@@ -115,8 +121,10 @@ outputs-stateless d udps i j outputs at =
   where
     one :
         (i j : ℕ) (o : OutputPin) (outputs : List OutputPin) (b : Bool)
-        → ((n : ℕ) → slice_get udps (j + n) ≡ slice_get (if b then output_primitive d i ∷ output_primitives d (i + 1) outputs else output_primitives d (i + 1) outputs) n)
-        → has_state udps (if b then instance.Primitive j (pin_net d.pins o.pin) (map (source_net d.pins) o.support) else instance.Constant (pin_net d.pins o.pin) (value_of no_values o.function)) ≡ false
+        → ((n : ℕ) → slice_get udps (j + n) ≡ slice_get (if b then output_primitive d i ∷ output_primitives d (i + 1) outputs
+        else output_primitives d (i + 1) outputs) n)
+        → has_state udps (if b then instance.Primitive j (pin_net d.pins o.pin) (map (source_net d.pins) o.support)
+        else instance.Constant (pin_net d.pins o.pin) (value_of no_values o.function)) ≡ false
     one i j o outputs true at =
         let here : j + 0 ≡ j = omega arith in
         ap (λ x. option_map_or (λ (udp : Udp). udp.sequential) x false) (sym (ap (slice_get udps) here) ∙ at 0)
@@ -124,7 +132,8 @@ outputs-stateless d udps i j outputs at =
 
     later :
         (i j : ℕ) (outputs : List OutputPin) (b : Bool)
-        → ((n : ℕ) → slice_get udps (j + n) ≡ slice_get (if b then output_primitive d i ∷ output_primitives d (i + 1) outputs else output_primitives d (i + 1) outputs) n)
+        → ((n : ℕ) → slice_get udps (j + n) ≡ slice_get (if b then output_primitive d i ∷ output_primitives d (i + 1) outputs
+        else output_primitives d (i + 1) outputs) n)
         → (n : ℕ) → slice_get udps ((if b then j + 1 else j) + n) ≡ slice_get (output_primitives d (i + 1) outputs) n
     later i j outputs true at n = let moved : (j + 1) + n ≡ j + suc n = omega arith in ap (slice_get udps) moved ∙ at (suc n)
     later i j outputs false at n = at n
@@ -158,13 +167,15 @@ module _ (d : CellData) (sound : IsSound (module_of d)) where
       omega (arith, whole, numbered-length (codes "lib_s") (length d.groups), numbered-length (codes "lib_c") (condition_count d))
 
   pub group-instance-at :
-      (g : ℕ) (group : StateGroup) → slice_get d.groups g ≡ Some group → slice_get (instances_of d) g ≡ Some (group_instance d g group)
+      (g : ℕ) (group : StateGroup) → slice_get d.groups g ≡ Some group
+      → slice_get (instances_of d) g ≡ Some (group_instance d g group)
   group-instance-at g group e =
       let within = get-within d.groups g group e in
       let long = length-each (group_instance d) 0 d.groups in
       let here : 0 + g ≡ g = omega arith in
       get-left (each_from (group_instance d) 0 d.groups)
-      (each_from (condition_instance d) 0 (conditions_of d) ++ output_instances d (length d.groups + condition_count d) d.outputs) g
+      (each_from (condition_instance d) 0 (conditions_of d) ++ output_instances d (length d.groups + condition_count d) d.outputs)
+      g
       (omega (arith, within, long))
       ∙ each-get (group_instance d) 0 d.groups g group e
       ∙ ap (λ n. Some (group_instance d n group)) here
@@ -179,7 +190,8 @@ module _ (d : CellData) (sound : IsSound (module_of d)) where
       get-right (each_from (group_instance d) 0 d.groups)
       (each_from (condition_instance d) 0 (conditions_of d) ++ output_instances d (length d.groups + condition_count d) d.outputs)
       (length d.groups) i (length-each (group_instance d) 0 d.groups)
-      ∙ get-left (each_from (condition_instance d) 0 (conditions_of d)) (output_instances d (length d.groups + condition_count d) d.outputs) i
+      ∙ get-left (each_from (condition_instance d) 0 (conditions_of d))
+      (output_instances d (length d.groups + condition_count d) d.outputs) i
       (omega (arith, within, long))
       ∙ each-get (condition_instance d) 0 (conditions_of d) i f e
       ∙ ap (λ n. Some (condition_instance d n f)) here
@@ -190,13 +202,16 @@ module _ (d : CellData) (sound : IsSound (module_of d)) where
       × (slice_get (instances_of d) (length d.groups + (condition_count d + k)) ≡ Some (output_instance d number output))
       × (has_sources output ≡ true → slice_get (primitives_of d) number ≡ Some (output_primitive d k))
   output-instance-at k output e =
-      let placed = output-placed d (primitives_of d) 0 (length d.groups + condition_count d) d.outputs k output (output_primitive-at d) e in
+      let placed = output-placed d (primitives_of d) 0 (length d.groups + condition_count d) d.outputs k output
+      (output_primitive-at d) e in
       let here : 0 + k ≡ k = omega arith in (
         placed.number,
         get-right (each_from (group_instance d) 0 d.groups)
-            (each_from (condition_instance d) 0 (conditions_of d) ++ output_instances d (length d.groups + condition_count d) d.outputs)
+            (each_from (condition_instance d) 0 (conditions_of d)
+            ++ output_instances d (length d.groups + condition_count d) d.outputs)
             (length d.groups) (condition_count d + k) (length-each (group_instance d) 0 d.groups)
-            ∙ get-right (each_from (condition_instance d) 0 (conditions_of d)) (output_instances d (length d.groups + condition_count d) d.outputs)
+            ∙ get-right (each_from (condition_instance d) 0 (conditions_of d))
+            (output_instances d (length d.groups + condition_count d) d.outputs)
             (condition_count d) k (length-each (condition_instance d) 0 (conditions_of d))
             ∙ placed.at,
         λ some. placed.primitive some ∙ ap (λ n. Some (output_primitive d n)) here,
@@ -226,13 +241,15 @@ module _ (d : CellData) (sound : IsSound (module_of d)) where
 
   -- the instances of the groups have states
   group-passes :
-      (i : ℕ) (x : Instance) → slice_get (each_from (group_instance d) 0 d.groups) i ≡ Some x → has_state (primitives_of d) x ≡ true
+      (i : ℕ) (x : Instance) → slice_get (each_from (group_instance d) 0 d.groups) i ≡ Some x
+      → has_state (primitives_of d) x ≡ true
   group-passes i x e =
       let made = each-made (group_instance d) 0 d.groups i x e in
       let here : 0 + i ≡ i = omega arith in
       ap (has_state (primitives_of d)) made.2
       ∙ ap (λ n. option_map_or (λ (udp : Udp). udp.sequential) (slice_get (primitives_of d) n) false) here
-      ∙ ap (λ o. option_map_or (λ (udp : Udp). udp.sequential) o false) (group_primitive-at d i (get-within d.groups i made.0 made.1))
+      ∙ ap (λ o. option_map_or (λ (udp : Udp). udp.sequential) o false)
+      (group_primitive-at d i (get-within d.groups i made.0 made.1))
 
   -- the instances with states are those of the groups
   pub sequential-are : filter (has_state (primitives_of d)) (instances_of d) ≡ each_from (group_instance d) 0 d.groups
@@ -243,10 +260,12 @@ module _ (d : CellData) (sound : IsSound (module_of d)) where
       filter-append (has_state (primitives_of d)) first (second ++ third)
       ∙ (λ i. group-states i ++ filter (has_state (primitives_of d)) (second ++ third))
       ∙ ap (λ r. first ++ r) (filter-append (has_state (primitives_of d)) second third)
-      ∙ (λ i. first ++ (condition-states i ++ outputs-stateless d (primitives_of d) 0 (length d.groups + condition_count d) d.outputs (output_primitive-at d) i))
+      ∙ (λ i. first ++ (condition-states i
+      ++ outputs-stateless d (primitives_of d) 0 (length d.groups + condition_count d) d.outputs (output_primitive-at d) i))
       ∙ append-nil first
     where
-      group-states : filter (has_state (primitives_of d)) (each_from (group_instance d) 0 d.groups) ≡ each_from (group_instance d) 0 d.groups
+      group-states : filter (has_state (primitives_of d)) (each_from (group_instance d) 0 d.groups) ≡ each_from
+          (group_instance d) 0 d.groups
       group-states = filter-all (has_state (primitives_of d)) (each_from (group_instance d) 0 d.groups) group-passes
 
       condition-states : filter (has_state (primitives_of d)) (each_from (condition_instance d) 0 (conditions_of d)) ≡ []
@@ -272,7 +291,8 @@ module _ (d : CellData) (sound : IsSound (module_of d)) where
       ∙ eq-eqb (port_number d.pins output.pin) (port_number d.pins output.pin) refl)
 
   -- the states of the groups are the first ones
-  pub first-states : (states : List Trit) (g : ℕ) → g < length d.groups → get_or (states_among (module_of d) states) g Unknown ≡ get_or states g Unknown
+  pub first-states : (states : List Trit) (g : ℕ) → g < length d.groups
+      → get_or (states_among (module_of d) states) g Unknown ≡ get_or states g Unknown
   first-states states g within =
       let long = length-each (group_instance d) 0 d.groups in
       picked-front (has_state (primitives_of d)) (each_from (group_instance d) 0 d.groups)

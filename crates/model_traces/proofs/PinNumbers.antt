@@ -1,5 +1,7 @@
 -- The numbers of a cell's pins among its inputs, among its ports, and of those ports among the inputs.
-use Rattle.std.proofs.Common.{◌≡◌, ℕ, zero, suc, ◌+◌, ◌<◌, ◌≤◌, Bool, true, false, ◌||◌, cond, List, [], ◌∷◌, ◌++◌, map, get_or, set, take, refl, sym, ap, ◌∙◌, arith, IsTrue, Option, Some, None, slice_get, nat_eq, nat_lt, eqb-true, if◌then◌else◌}
+use Rattle.std.proofs.Common.{◌≡◌, ℕ, zero, suc, ◌+◌, ◌<◌, ◌≤◌, Bool, true, false, ◌||◌, cond, List, [], ◌∷◌, ◌++◌, map, get_or}
+use Rattle.std.proofs.Common.{set, take, refl, sym, ap, ◌∙◌, arith, IsTrue, Option, Some, None, slice_get, nat_eq, nat_lt}
+use Rattle.std.proofs.Common.{eqb-true, if◌then◌else◌}
 use Rattle.std.specs.Prelude.{count_by}
 use Rattle.std.specs.List.{list_all, position_from}
 use Rattle.std.specs.Option.{option_map_or}
@@ -58,7 +60,8 @@ pin-ones (pin ∷ pins) (suc p) =
     by :
         (d : Direction) (a n : ℕ) → a ≡ ones (take n (sides pins))
         → cond (is_input d) 1 0 + a
-        ≡ ones (take (cond (is_input d || is_output d) 1 0 + n) (if is_input d || is_output d then is_input d ∷ sides pins else sides pins))
+        ≡ ones (take (cond (is_input d || is_output d) 1 0 + n)
+        (if is_input d || is_output d then is_input d ∷ sides pins else sides pins))
     by direction.Input a n e =
         let next : suc n ≡ 1 + n = omega arith in
         let one : 1 + a ≡ suc a = omega arith in
@@ -126,7 +129,13 @@ count-below test (pin ∷ pins) zero (suc q) h t =
     omega (arith, sum_by-cons (λ x. cond (test x) 1 0) pin (take q pins), one, first)
 count-below test (pin ∷ pins) (suc p) (suc q) h t =
     let rest : count_by test (take p pins) < count_by test (take q pins) = count-below test pins p q (omega arith) t in
-    omega (arith, rest, sum_by-cons (λ x. cond (test x) 1 0) pin (take p pins), sum_by-cons (λ x. cond (test x) 1 0) pin (take q pins))
+    omega (
+      arith,
+      rest,
+      sum_by-cons (λ x. cond (test x) 1 0) pin (take p pins),
+      sum_by-cons (λ x. cond (test x) 1 0) pin
+          (take q pins),
+    )
 
 -- whether this is the number of a pin that is a port
 abbrev pub is_port_pin : List Pin → ℕ → Bool
@@ -150,10 +159,12 @@ pin-implied test other implied None h = absurd cc
 pin-implied test other implied (Some pin) h = implied pin h
 
 pub input-pin-port : (pins : List Pin) (p : ℕ) → IsTrue (is_input_pin pins p) → IsTrue (is_port_pin pins p)
-input-pin-port pins p h = pin-implied (λ pin. is_input pin.direction) is_port (λ pin k. input-is-port pin.direction k) (slice_get pins p) h
+input-pin-port pins p h = pin-implied (λ pin. is_input pin.direction) is_port (λ pin k. input-is-port pin.direction k)
+    (slice_get pins p) h
 
 pub output-pin-port : (pins : List Pin) (p : ℕ) → IsTrue (is_output_pin pins p) → IsTrue (is_port_pin pins p)
-output-pin-port pins p h = pin-implied (λ pin. is_output pin.direction) is_port (λ pin k. output-is-port pin.direction k) (slice_get pins p) h
+output-pin-port pins p h = pin-implied (λ pin. is_output pin.direction) is_port (λ pin k. output-is-port pin.direction k)
+    (slice_get pins p) h
 
 swapped : (a b : ℕ) → nat_eq a b ≡ nat_eq b a
 swapped a b = by (nat_eq a b) refl
@@ -192,7 +203,8 @@ unchanged :
     (pins : List Pin) (v : List Trit) (i : ℕ) (b : Trit) (q : ℕ)
     → nat_eq (cell.input_number pins q) i ≡ false → pin_value pins v q ≡ pin_value pins (set v i b) q
 unchanged pins v i b q e =
-    sym (get_or-set_other v i (cell.input_number pins q) b Unknown (λ same. let other : nat_eq (cell.input_number pins q) i ≡ true = eq-eqb (cell.input_number pins q) i same in absurd cc))
+    sym (get_or-set_other v i (cell.input_number pins q) b Unknown
+    (λ same. let other : nat_eq (cell.input_number pins q) i ≡ true = eq-eqb (cell.input_number pins q) i same in absurd cc))
 
 all-unchanged :
     (pins : List Pin) (v : List Trit) (i : ℕ) (b : Trit) (p : ℕ) (support : List ℕ)
@@ -217,7 +229,8 @@ still-values pins v i b k (q ∷ support) e =
     by :
         (c : Bool) → nat_eq (cell.input_number pins q) i ≡ c
         → cond c (Some k) (position_from (λ p. nat_eq (cell.input_number pins p) i) (k + 1) support) ≡ None
-        → (position_from (λ p. nat_eq (cell.input_number pins p) i) (k + 1) support ≡ None → map (pin_value pins v) support ≡ map (pin_value pins (set v i b)) support)
+        → (position_from (λ p. nat_eq (cell.input_number pins p) i) (k + 1) support ≡ None
+        → map (pin_value pins v) support ≡ map (pin_value pins (set v i b)) support)
         → map (pin_value pins v) (q ∷ support) ≡ map (pin_value pins (set v i b)) (q ∷ support)
     by true t none again = absurd cc
     by false f none again = λ j. unchanged pins v i b q f j ∷ again none j
@@ -249,7 +262,8 @@ changed-values pins v i b k j (q ∷ support) inputs up e =
     by :
         (c : Bool) → nat_eq (cell.input_number pins q) i ≡ c → (j : ℕ)
         → cond c (Some k) (position_from (λ p. nat_eq (cell.input_number pins p) i) (k + 1) support) ≡ Some (k + j)
-        → ((n : ℕ) → position_from (λ p. nat_eq (cell.input_number pins p) i) (k + 1) support ≡ Some ((k + 1) + n) → Values pins v i b n support)
+        → ((n : ℕ) → position_from (λ p. nat_eq (cell.input_number pins p) i) (k + 1) support ≡ Some ((k + 1) + n)
+        → Values pins v i b n support)
         → Values pins v i b j (q ∷ support)
     by true t zero found again =
         let number : cell.input_number pins q ≡ i = eqb-true (cell.input_number pins q) i t in

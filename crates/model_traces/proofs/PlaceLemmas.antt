@@ -1,5 +1,6 @@
 -- Places of lists: the first entry that passes a test, and the only one.
-use Rattle.std.proofs.Common.{◌≡◌, ◌≢◌, ℕ, zero, suc, ◌+◌, ◌<◌, Bool, true, false, not, cond, List, [], ◌∷◌, ◌++◌, length, map, get_or, set, inl, inr, refl, ap, ◌∙◌, arith, Some, None, slice_get, nat_eq, eqb-true}
+use Rattle.std.proofs.Common.{◌≡◌, ◌≢◌, ℕ, zero, suc, ◌+◌, ◌<◌, Bool, true, false, not, cond, List, [], ◌∷◌, ◌++◌, length, map}
+use Rattle.std.proofs.Common.{get_or, set, inl, inr, refl, ap, ◌∙◌, arith, Some, None, slice_get, nat_eq, eqb-true}
 use Rattle.std.specs.Prelude.{count_by, filter, position}
 use Rattle.std.specs.List.{position_from}
 use Rattle.std.proofs.lemmas.Iterator.Adapters.{position_from-zero}
@@ -93,7 +94,8 @@ placed {X} p k (x ∷ xs) i e = by (p x) refl e (λ found. placed p (k + 1) xs i
         (suc rest.0, rest.1, at, rest.3, rest.4)
 
 -- entries of made lists
-pub get-map : {X Y : Type 0} (f : X → Y) (xs : List X) (i : ℕ) (x : X) (d : Y) → slice_get xs i ≡ Some x → get_or (map f xs) i d ≡ f x
+pub get-map : {X Y : Type 0} (f : X → Y) (xs : List X) (i : ℕ) (x : X) (d : Y) → slice_get xs i ≡ Some x
+    → get_or (map f xs) i d ≡ f x
 get-map f [] i x d e = absurd cc
 get-map f (y ∷ ys) zero x d e = let same_one : y ≡ x = cc in ap f same_one
 get-map f (y ∷ ys) (suc i) x d e = get-map f ys i x d e

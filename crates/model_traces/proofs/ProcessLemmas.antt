@@ -1,5 +1,6 @@
 -- What the run of a process keeps: its inputs, the times of each check's last events, and the columns of its last event.
-use Rattle.std.proofs.Common.{◌≡◌, ℕ, Bool, true, false, ◌&&◌, Option, List, [], ◌∷◌, map, set, refl, ap, sym, ◌∙◌, IsTrue, nat_eq, eqb-true, if◌then◌else◌}
+use Rattle.std.proofs.Common.{◌≡◌, ℕ, Bool, true, false, ◌&&◌, Option, List, [], ◌∷◌, map, set, refl, ap, sym, ◌∙◌, IsTrue}
+use Rattle.std.proofs.Common.{nat_eq, eqb-true, if◌then◌else◌}
 use Rattle.std.proofs.lemmas.Bool.{and_parts}
 use Rattle.trit_cubes.specs.declared.trits.Trit.{Trit}
 use Rattle.trit_cubes.specs.declared.trits.Trit.TheVariants.{Unknown}
@@ -23,10 +24,12 @@ use Rattle.vital_models.specs.LookUps.{lookup_state}
 use Rattle.vital_models.specs.Sound.{has_events}
 use Rattle.model_traces.specs.PortNumbers.{input_count, input_event}
 use Rattle.model_traces.specs.CheckEvents.{second_of, opening_event}
-use Rattle.model_traces.specs.SignalTimes.{SignalTimes, has_reference, test_event, reference_event, is_high, pulse_end, edge_time, no_times_by, no_times, timed, later_event, earlier_time}
+use Rattle.model_traces.specs.SignalTimes.{SignalTimes, has_reference, test_event, reference_event, is_high, pulse_end, edge_time}
+use Rattle.model_traces.specs.SignalTimes.{no_times_by, no_times, timed, later_event, earlier_time}
 use Rattle.model_traces.specs.SignalTimes as signal_times
 use Rattle.model_traces.specs.ProcessRun.{ProcessRun, all_columns, looked_up, reports_at, violation_by, happened, process_after}
-use Rattle.model_traces.specs.ProcessLaws.{last_times_by, last_times, ProcessHoldsInputs, ProcessKeepsLastEvents, ProcessKeepsColumns, LaterEventIsSecond, EarlierTimeIsFirst}
+use Rattle.model_traces.specs.ProcessLaws.{last_times_by, last_times, ProcessHoldsInputs, ProcessKeepsLastEvents}
+use Rattle.model_traces.specs.ProcessLaws.{ProcessKeepsColumns, LaterEventIsSecond, EarlierTimeIsFirst}
 use Rattle.model_traces.proofs.RunLemmas.{still-inputs, still-event, kept-step}
 
 -- the tables are looked up one by one
@@ -80,7 +83,8 @@ process-times e [] = λ i. map (λ k. start-times e.ports (input_count e.ports) 
 process-times e (c ∷ h) =
     let n : ℕ = input_count e.ports in
     let r : ProcessRun = process_after e h in
-    kept-step (λ (run : ProcessRun). run.times) (happened e r c) r r.inputs c (map (last_times e.ports n (c ∷ h)) e.checks) (is_event r.inputs c) refl
+    kept-step (λ (run : ProcessRun). run.times) (happened e r c) r r.inputs c (map (last_times e.ports n (c ∷ h)) e.checks)
+    (is_event r.inputs c) refl
     ((λ i. each (timed e.ports (value_before (process-inputs e h i) c) c) e.checks (process-times e h i))
     ∙ each-map (timed e.ports (value_before (inputs_after n h) c) c) (last_times e.ports n h) e.checks
     ∙ (λ i. map (λ k. timed-after e.ports n h c k i) e.checks))
@@ -90,7 +94,8 @@ process-times e (c ∷ h) =
 columns-step :
     (e : VEntity) (r : ProcessRun) (c : Change) (b : Bool)
     → ((violation : Trit) × (r.previous ≡ all_columns e violation r.inputs))
-    → (violation : Trit) × ((if b then happened e r c else r).previous ≡ all_columns e violation (if b then happened e r c else r).inputs)
+    → (violation : Trit) × ((if b then happened e r c else r).previous ≡ all_columns e violation
+    (if b then happened e r c else r).inputs)
 columns-step e r c true was = (violation_by (any_true (reports_at e r c)), refl)
 columns-step e r c false was = was
 
@@ -155,7 +160,8 @@ pulse-begun :
     ≡ last_event n (input_event ports first) h
 pulse-begun ports n h first second same opposite =
     opposite-edges
-    (λ a b. edge_time (is_high a) (last_edges ports n h second) ≡ last_event n (input_event ports (record { pin = second.pin; edge = a })) h)
+    (λ a b. edge_time (is_high a) (last_edges ports n h second) ≡ last_event n
+    (input_event ports (record { pin = second.pin; edge = a })) h)
     refl refl first.edge second.edge opposite
     ∙ ap (λ p. last_event n (input_event ports (record { pin = p; edge = first.edge })) h) (sym same)
 
@@ -170,7 +176,8 @@ earlier-by :
     (ports : List VPort) (n : ℕ) (h : List Change) (a : Trit) (c : Change)
     (kind : CheckKind) (first second : Event) (limit : ℕ) (condition : Option ℕ)
     → IsTrue (has_events (check_of kind first second limit condition) kind)
-    → earlier_time kind (check_of kind first second limit condition) a c (last_times ports n h (check_of kind first second limit condition))
+    → earlier_time kind (check_of kind first second limit condition) a c
+    (last_times ports n h (check_of kind first second limit condition))
     ≡ last_event n (input_event ports (opening_event (is_period kind) (check_of kind first second limit condition) a c)) h
 earlier-by ports n h a c check_kind.Setup first second limit condition e = refl
 earlier-by ports n h a c check_kind.Hold first second limit condition e = refl

@@ -1,5 +1,6 @@
 -- What a run keeps is what the whole history says.
-use Rattle.std.proofs.Common.{◌≡◌, ℕ, Bool, true, false, List, [], ◌∷◌, length, map, replicate, set, refl, ap, sym, ◌∙◌, Some, if◌then◌else◌}
+use Rattle.std.proofs.Common.{◌≡◌, ℕ, Bool, true, false, List, [], ◌∷◌, length, map, replicate, set, refl, ap, sym, ◌∙◌, Some}
+use Rattle.std.proofs.Common.{if◌then◌else◌}
 use Rattle.std.proofs.lemmas.List.{set-get_or}
 use Rattle.trit_cubes.specs.declared.trits.Trit.{Trit}
 use Rattle.trit_cubes.specs.declared.trits.Trit.TheVariants.{Unknown}
@@ -61,7 +62,8 @@ still-event n e h c none =
     (no-event e (inputs_after n h) c (same-equal (value_before (inputs_after n h) c) c.to none)))
 
 pub start-stamps :
-    (ports : List VPort) (n : ℕ) (checks : List TimingCheck) → replicate (length checks) no_times ≡ map (last_stamps ports n []) checks
+    (ports : List VPort) (n : ℕ) (checks : List TimingCheck)
+    → replicate (length checks) no_times ≡ map (last_stamps ports n []) checks
 start-stamps ports n [] = refl
 start-stamps ports n (k ∷ ks) = ap (λ r. no_times ∷ r) (start-stamps ports n ks)
 
@@ -88,7 +90,8 @@ opened-last ports n h a c k = by (is_period k.kind)
     edges true = refl
     edges false = refl
 
-    by : (period : Bool) → opened_by period a c (last_stamps ports n h k) ≡ last_event n (input_event ports (opening_event period k a c)) h
+    by : (period : Bool) → opened_by period a c (last_stamps ports n h k) ≡ last_event n
+        (input_event ports (opening_event period k a c)) h
     by true = edges (is_rise a c.to)
     by false = refl
 
@@ -105,7 +108,8 @@ run-stamps m [] = start-stamps m.ports (input_count m.ports) m.checks
 run-stamps m (c ∷ h) =
     let r : ModuleRun = run_after m h in
     let n : ℕ = input_count m.ports in
-    kept-step (λ (run : ModuleRun). run.stamps) (happened m r c) r r.inputs c (map (last_stamps m.ports n (c ∷ h)) m.checks) (is_event r.inputs c) refl
+    kept-step (λ (run : ModuleRun). run.stamps) (happened m r c) r r.inputs c (map (last_stamps m.ports n (c ∷ h)) m.checks)
+    (is_event r.inputs c) refl
     (shaken-stamps m (reports_at m r c) (kept m (entered m r c) (value_before r.inputs c) c)
     ∙ (λ i. each (stamped m.ports (value_before (run-inputs m h i) c) c) m.checks (run-stamps m h i))
     ∙ each-map (stamped m.ports (value_before (inputs_after n h) c) c) (last_stamps m.ports n h) m.checks)

@@ -1,5 +1,6 @@
 -- Traces, histories and lists of which some entries are picked.
-use Rattle.std.proofs.Common.{◌≡◌, ℕ, zero, suc, Bool, true, false, ◌&&◌, List, [], ◌∷◌, length, map, replicate, refl, ap, sym, ◌∙◌, arith, nat_lt, if◌then◌else◌}
+use Rattle.std.proofs.Common.{◌≡◌, ℕ, zero, suc, Bool, true, false, ◌&&◌, List, [], ◌∷◌, length, map, replicate, refl, ap, sym}
+use Rattle.std.proofs.Common.{◌∙◌, arith, nat_lt, if◌then◌else◌}
 use Rattle.std.specs.Prelude.{filter}
 use Rattle.std.proofs.lemmas.Bool.{lt-ltb}
 use Rattle.std.proofs.lemmas.List.{length-set, length-replicate}
@@ -38,7 +39,8 @@ pub still-report :
     (n : ℕ) (k : InputCheck) (h : List Change) (c : Change)
     → is_event (inputs_after n h) c ≡ false → report n k (c ∷ h) ≡ false
 still-report n k h c none =
-    ap (λ b. b && (k.holds (inputs_after n (c ∷ h)) && is_within c.at k.limit (last_event n (opening k (value_before (inputs_after n h) c) c) h)))
+    ap (λ b. b && (k.holds (inputs_after n (c ∷ h))
+    && is_within c.at k.limit (last_event n (opening k (value_before (inputs_after n h) c) c) h)))
     (no-event k.second (inputs_after n h) c (same-equal (value_before (inputs_after n h) c) c.to none))
 
 pub still-reports :
@@ -74,7 +76,8 @@ start-reports n f [] = refl
 start-reports n f (k ∷ ks) = ap (λ r. false ∷ r) (start-reports n f ks)
 
 -- where some check reports there are checks
-pub some-checks : {X Y : Type 0} (f : X → Y) (g : Y → Bool) (xs : List X) → any_true (map g (map f xs)) ≡ true → nat_lt 0 (length xs) ≡ true
+pub some-checks : {X Y : Type 0} (f : X → Y) (g : Y → Bool) (xs : List X) → any_true (map g (map f xs)) ≡ true
+    → nat_lt 0 (length xs) ≡ true
 some-checks f g [] e = absurd cc
 some-checks f g (x ∷ xs) e = lt-ltb 0 (length (x ∷ xs)) (omega arith)
 

@@ -57,7 +57,8 @@ FittingModelsAgree = (d : CellData) (m : VModule) (e : VEntity) → ModuleFits d
 
 -- The module and the entity of data that keep the rules of cells fit them.
 abbrev pub GeneratedModulesFit : Type 0
-GeneratedModulesFit = (d : CellData) → IsTrue (is_cell d.name d.pins d.groups d.outputs d.checks d.arcs) → ModuleFits d (module_of d)
+GeneratedModulesFit = (d : CellData) → IsTrue (is_cell d.name d.pins d.groups d.outputs d.checks d.arcs)
+    → ModuleFits d (module_of d)
 
 abbrev pub GeneratedEntitiesFit : Type 0
 GeneratedEntitiesFit =

@@ -45,8 +45,9 @@ abbrev pub is_enabled : VModule → List Trit → List Trit → Option ℕ → B
 is_enabled m inputs states None = true
 is_enabled m inputs states (Some w) = is_one (net_value m inputs states (net.Wire w))
 
--- Whether a check reports at a change of an input that had the value a, by which conditions let their checks count and by the times
--- kept before: the change is its second event, its condition lets it count, and the kept time lies less than the limit before.
+-- Whether a check reports at a change of an input that had the value a, by which conditions let their checks count and by the
+-- times kept before: the change is its second event, its condition lets it count, and the kept time lies less than the limit
+-- before.
 abbrev pub reports_where : List VPort → (Option ℕ → Bool) → Trit → Change → TimingCheck → Times → Bool
 reports_where ports counts a c k s =
     happens (input_event ports k.second) a c && (counts k.condition && is_within c.at k.limit (opened k a c s))

@@ -27,7 +27,8 @@ abbrev pub HoldInputs : {M : Type 0} → (M → List VPort) → (M → List Chan
 HoldInputs {M} ports inputs = (m : M) (h : List Change) → inputs m h ≡ inputs_after (input_count (ports m)) h
 
 -- for each check of a model with these ports is kept what the last events in the whole history say
-abbrev pub KeepLastEvents : {M T : Type 0} → (M → List VPort) → (M → List TimingCheck) → (List VPort → ℕ → List Change → TimingCheck → T) → (M → List Change → List T) → Type 0
+abbrev pub KeepLastEvents : {M T : Type 0} → (M → List VPort) → (M → List TimingCheck)
+    → (List VPort → ℕ → List Change → TimingCheck → T) → (M → List Change → List T) → Type 0
 KeepLastEvents {M} ports checks last kept =
     (m : M) (h : List Change) → kept m h ≡ map (last (ports m) (input_count (ports m)) h) (checks m)
 

@@ -15,7 +15,8 @@ use Rattle.model_traces.specs.PortNumbers.{output_ports}
 use Rattle.model_traces.specs.Primitives.{next_state}
 use Rattle.model_traces.specs.CheckTimes.{stamped, check_reports}
 use Rattle.cell_machine.specs.Times.{no_times}
-use Rattle.model_traces.specs.ModuleRun.{HasEach, start_run, turn_of, entered, kept, toggled, notified, shaken, reports_at, happened, run_after}
+use Rattle.model_traces.specs.ModuleRun.{HasEach, start_run, turn_of, entered, kept, toggled, notified, shaken, reports_at}
+use Rattle.model_traces.specs.ModuleRun.{happened, run_after}
 use Rattle.model_traces.specs.ModuleTrace.{output_after, delay_after, reports_after, module_machine}
 
 pub length-each :
@@ -44,7 +45,8 @@ pub notified-has-each : (m : VModule) (r : ModuleRun) → HasEach m r → HasEac
 notified-has-each m r h =
     record {
       states =
-          length-each (next_state m r.inputs (toggled r.notifier) (record { what = turned.Notifier; from = r.notifier })) m.instances
+          length-each (next_state m r.inputs (toggled r.notifier) (record { what = turned.Notifier; from = r.notifier }))
+          m.instances
           r.states h.states;
       stamps = h.stamps;
     }
@@ -73,7 +75,8 @@ run-has-each m (c ∷ h) =
 pub length-reports_at :
     (m : VModule) (r : ModuleRun) (c : Change) → HasEach m r → length (reports_at m r c) ≡ length m.checks
 length-reports_at m r c h =
-    length-each (check_reports m (entered m r c).inputs (entered m r c).states (value_before r.inputs c) c) m.checks r.stamps h.stamps
+    length-each (check_reports m (entered m r c).inputs (entered m r c).states (value_before r.inputs c) c) m.checks r.stamps
+    h.stamps
 
 pub either-length :
     (b : Bool) (n : ℕ) (xs ys : List Bool) → length xs ≡ n → length ys ≡ n → length (if b then xs else ys) ≡ n

@@ -11,15 +11,18 @@ use Rattle.vital_models.specs.Sound.{has_events}
 use Rattle.model_traces.specs.PortNumbers.{input_event}
 use Rattle.model_traces.specs.Laws.{HoldInputs, KeepLastEvents}
 use Rattle.model_traces.specs.CheckEvents.{second_of, opening_event}
-use Rattle.model_traces.specs.SignalTimes.{SignalTimes, Pair, Edges, has_reference, test_event, reference_event, later_event, earlier_time}
+use Rattle.model_traces.specs.SignalTimes.{SignalTimes, Pair, Edges, has_reference, test_event, reference_event, later_event}
+use Rattle.model_traces.specs.SignalTimes.{earlier_time}
 use Rattle.model_traces.specs.ProcessRun.{all_columns, process_after}
 
 -- the times of a check's last events in a history of n inputs
 abbrev pub last_times_by : Bool → List VPort → ℕ → List Change → TimingCheck → SignalTimes
 last_times_by true ports n h k =
-    Pair (last_event n (input_event ports (test_event k.kind k)) h) (last_event n (input_event ports (reference_event k.kind k)) h)
+    Pair (last_event n (input_event ports (test_event k.kind k)) h)
+    (last_event n (input_event ports (reference_event k.kind k)) h)
 last_times_by false ports n h k =
-    Edges (last_event n (input_event ports (second_of k edge.Rise)) h) (last_event n (input_event ports (second_of k edge.Fall)) h)
+    Edges (last_event n (input_event ports (second_of k edge.Rise)) h)
+    (last_event n (input_event ports (second_of k edge.Fall)) h)
 
 abbrev pub last_times : List VPort → ℕ → List Change → TimingCheck → SignalTimes
 last_times ports n h k = last_times_by (has_reference k.kind) ports n h k

@@ -1,7 +1,9 @@
 //! Theorems on the definitions, for the proofs of other crates. The functions do nothing.
 ghost use Rattle.model_traces.specs.Laws.{RunHoldsInputs, RunKeepsLastEvents};
-ghost use Rattle.model_traces.specs.ProcessLaws.{ProcessHoldsInputs, ProcessKeepsLastEvents, ProcessKeepsColumns, LaterEventIsSecond, EarlierTimeIsFirst};
-ghost use Rattle.model_traces.specs.Agreement.{FittingModulesAgree, FittingEntitiesAgree, FittingModelsAgree, GeneratedModulesFit, GeneratedEntitiesFit, ModelsAgree};
+ghost use Rattle.model_traces.specs.ProcessLaws.{ProcessHoldsInputs, ProcessKeepsLastEvents, ProcessKeepsColumns};
+ghost use Rattle.model_traces.specs.ProcessLaws.{LaterEventIsSecond, EarlierTimeIsFirst};
+ghost use Rattle.model_traces.specs.Agreement.{FittingModulesAgree, FittingEntitiesAgree, FittingModelsAgree};
+ghost use Rattle.model_traces.specs.Agreement.{GeneratedModulesFit, GeneratedEntitiesFit, ModelsAgree};
 
 /// The run of a module holds the values that the changes gave to its inputs.
 pub fn run_holds_inputs()

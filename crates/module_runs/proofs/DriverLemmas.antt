@@ -1,5 +1,6 @@
 -- The drivers of nets, found from the last instance to the first.
-use Rattle.std.proofs.Common.{◌≡◌, ℕ, suc, ◌+◌, ◌-◌, ◌<◌, ◌≤◌, cond, List, length, get_or, drop, replicate, ap, sym, subst, ◌∙◌, Option, Some, None, slice_get, zero, arith}
+use Rattle.std.proofs.Common.{◌≡◌, ℕ, suc, ◌+◌, ◌-◌, ◌<◌, ◌≤◌, cond, List, length, get_or, drop, replicate, ap, sym, subst, ◌∙◌}
+use Rattle.std.proofs.Common.{Option, Some, None, slice_get, zero, arith}
 use Rattle.std.proofs.lemmas.List.{drop_all}
 use Rattle.std.proofs.lemmas.Option.{slice_get-get_or}
 use Rattle.cell_machine.proofs.ArcDelays.{drop-at}
@@ -35,7 +36,8 @@ none-known d a b k instances n ports wires past =
 pub driver-first :
     (instances : List Instance) (i : ℕ) (x : Instance) (n : VNet)
     → slice_get instances i ≡ Some x
-    → cond (same_net (net_driven x) n) (Some i) (driver_from (i + 1) (drop (i + 1) instances) n) ≡ driver_from i (drop i instances) n
+    → cond (same_net (net_driven x) n) (Some i) (driver_from (i + 1) (drop (i + 1) instances) n) ≡ driver_from i
+    (drop i instances) n
 driver-first instances i x n e =
     let next : i + 1 ≡ suc i = omega arith in
     ap (λ m. cond (same_net (net_driven x) n) (Some i) (driver_from (i + 1) (drop m instances) n)) next
@@ -45,13 +47,16 @@ driver-first instances i x n e =
 pub driver-before :
     (instances xs : List Instance) (i : ℕ) (d : Instance) (driven n : VNet)
     → xs ≡ instances → 0 < i → i ≤ length xs → driven ≡ net_driven (get_or xs (i - 1) d)
-    → cond (same_net driven n) (Some (i - 1)) (driver_from i (drop i instances) n) ≡ driver_from (i - 1) (drop (i - 1) instances) n
+    → cond (same_net driven n) (Some (i - 1)) (driver_from i (drop i instances) n) ≡ driver_from (i - 1)
+    (drop (i - 1) instances) n
 driver-before instances xs i d driven n same some few is =
     let next : (i - 1) + 1 ≡ i = omega (arith, some) in
     let found = slice_get-get_or xs (i - 1) d (omega (arith, some, few)) in
     ap (λ e. cond (same_net e n) (Some (i - 1)) (driver_from i (drop i instances) n)) is
-    ∙ ap (λ j. cond (same_net (net_driven (get_or xs (i - 1) d)) n) (Some (i - 1)) (driver_from j (drop j instances) n)) (sym next)
-    ∙ driver-first instances (i - 1) (get_or xs (i - 1) d) n (ap (λ (ys : List Instance). slice_get ys (i - 1)) (sym same) ∙ found)
+    ∙ ap (λ j. cond (same_net (net_driven (get_or xs (i - 1) d)) n) (Some (i - 1)) (driver_from j (drop j instances) n))
+    (sym next)
+    ∙ driver-first instances (i - 1) (get_or xs (i - 1) d) n (ap (λ (ys : List Instance). slice_get ys (i - 1)) (sym same)
+    ∙ found)
 
 -- all instances are seen
 pub all-seen : (instances : List Instance) (n : VNet) → driver_from 0 instances n ≡ driver instances n

@@ -1,5 +1,7 @@
 -- The places of the instances that a change feeds, and that it steps those alone.
-use Rattle.std.proofs.Common.{◌≡◌, ℕ, zero, suc, ◌+◌, ◌<◌, ◌≤◌, Bool, true, false, ◌&&◌, ◌||◌, cond, List, [], ◌∷◌, ◌++◌, length, get_or, set, take, drop, map, refl, ap, sym, ◌∙◌, Option, Some, None, slice_get, nat_eq, position, arith, add-one, length-take-le, length-drop, if◌then◌else◌, inl, inr, ◌⊎◌}
+use Rattle.std.proofs.Common.{◌≡◌, ℕ, zero, suc, ◌+◌, ◌<◌, ◌≤◌, Bool, true, false, ◌&&◌, ◌||◌, cond, List, [], ◌∷◌, ◌++◌, length}
+use Rattle.std.proofs.Common.{get_or, set, take, drop, map, refl, ap, sym, ◌∙◌, Option, Some, None, slice_get, nat_eq, position}
+use Rattle.std.proofs.Common.{arith, add-one, length-take-le, length-drop, if◌then◌else◌, inl, inr, ◌⊎◌}
 use Rattle.std.specs.List.{list_any, position_from}
 use Rattle.std.specs.Option.{option_map_or}
 use Rattle.std.proofs.lemmas.Bool.{or_parts, and_parts, ne_eqb, eqb-true}
@@ -26,7 +28,8 @@ use Rattle.model_traces.specs.PortNumbers.{is_input, input_count, input_number}
 use Rattle.model_traces.specs.Primitives.{is_turned, entry_value, next_at, primitive_next, next_state, next_states}
 use Rattle.model_traces.proofs.PlaceLemmas.{position-from}
 use Rattle.run_parts.specs.Places.{places_from}
-use Rattle.run_parts.proofs.PlaceLemmas.{places-more, places-within, stepped, stepped-from, none-any, none-placed, once-added, stays}
+use Rattle.run_parts.proofs.PlaceLemmas.{places-more, places-within, stepped, stepped-from, none-any, none-placed, once-added}
+use Rattle.run_parts.proofs.PlaceLemmas.{stays}
 use Rattle.module_runs.specs.FedInstances.{nets_of, is_fed, fed_places}
 
 -- one instance more
@@ -57,7 +60,8 @@ kept m inputs notifier turn (instance.Primitive number output nets) s e = by (sl
     by None = refl
     by (Some udp) =
         elim (udp.sequential) as (λ b.
-        (if b then next_at (position (is_turned m.ports turn.what) nets) udp (map (entry_value m.ports inputs notifier) nets) turn.from s else s) ≡ s) [
+        (if b then next_at (position (is_turned m.ports turn.what) nets) udp (map (entry_value m.ports inputs notifier) nets)
+        turn.from s else s) ≡ s) [
           | true ↦ ap (λ p. next_at p udp (map (entry_value m.ports inputs notifier) nets) turn.from s) gone
           | false ↦ refl
         ]
@@ -80,19 +84,27 @@ number-below (port ∷ ports) zero h =
     omega (arith, sum_by-cons (λ z. cond (is_input z) 1 0) port ports, one, none)
 number-below (port ∷ ports) (suc p) h =
     let rest : input_number ports p < input_count ports = number-below ports p h in
-    omega (arith, rest, sum_by-cons (λ z. cond (is_input z) 1 0) port ports, sum_by-cons (λ z. cond (is_input z) 1 0) port (take p ports))
+    omega (
+      arith,
+      rest,
+      sum_by-cons (λ z. cond (is_input z) 1 0) port ports,
+      sum_by-cons (λ z. cond (is_input z) 1 0) port
+          (take p ports),
+    )
 
 not-turned : (ports : List VPort) (i : ℕ) → input_count ports ≤ i → (n : VNet) → is_turned ports (turned.Input i) n ≡ false
 not-turned ports i past (net.Port p) = by (is_input_port ports p) refl
   where
     by : (b : Bool) → is_input_port ports p ≡ b → (b && nat_eq (input_number ports p) i) ≡ false
-    by true h = let below = number-below ports p h in ne_eqb (input_number ports p) i (λ e. absurd (omega (arith, below, e, past)))
+    by true h = let below = number-below ports p h
+        in ne_eqb (input_number ports p) i (λ e. absurd (omega (arith, below, e, past)))
     by false h = refl
 not-turned ports i past (net.Wire w) = refl
 not-turned ports i past net.Notifier = refl
 
 pub unfed :
-    (ports : List VPort) (i : ℕ) (instances : List Instance) → input_count ports ≤ i → fed_places ports (turned.Input i) instances ≡ []
+    (ports : List VPort) (i : ℕ) (instances : List Instance) → input_count ports ≤ i
+    → fed_places ports (turned.Input i) instances ≡ []
 unfed ports i instances past =
     none-placed (is_fed ports (turned.Input i)) 0 instances
     (λ x. none-any (is_turned ports (turned.Input i)) (nets_of x) (not-turned ports i past))
@@ -101,8 +113,10 @@ pub port-added :
     (ports : List VPort) (earlier : List VNet) (port input place n : ℕ) (list : List ℕ)
     → input ≡ input_number ports port → is_input_port ports port ≡ true
     → list_any (is_turned ports (turned.Input input)) earlier ≡ false
-    → (list ++ cond (list_any (is_turned ports (turned.Input n)) earlier) (place ∷ []) []) ++ cond (nat_eq input n) (place ∷ []) []
-    ≡ list ++ cond (list_any (is_turned ports (turned.Input n)) earlier || is_turned ports (turned.Input n) (net.Port port)) (place ∷ []) []
+    → (list ++ cond (list_any (is_turned ports (turned.Input n)) earlier) (place ∷ []) [])
+    ++ cond (nat_eq input n) (place ∷ []) []
+    ≡ list ++ cond (list_any (is_turned ports (turned.Input n)) earlier || is_turned ports (turned.Input n) (net.Port port))
+    (place ∷ []) []
 port-added ports earlier port input place n list same is new =
     let b : Bool = list_any (is_turned ports (turned.Input n)) earlier in
     once-added list place b (nat_eq input n)
@@ -113,14 +127,16 @@ pub port-kept :
     (ports : List VPort) (earlier : List VNet) (port place n : ℕ) (list : List ℕ)
     → (is_input_port ports port ≡ false) ⊎ (list_any (is_turned ports (turned.Input (input_number ports port))) earlier ≡ true)
     → list ++ cond (list_any (is_turned ports (turned.Input n)) earlier) (place ∷ []) []
-    ≡ list ++ cond (list_any (is_turned ports (turned.Input n)) earlier || is_turned ports (turned.Input n) (net.Port port)) (place ∷ []) []
+    ≡ list ++ cond (list_any (is_turned ports (turned.Input n)) earlier || is_turned ports (turned.Input n) (net.Port port))
+    (place ∷ []) []
 port-kept ports earlier port place n list either =
     ap (λ c. list ++ cond c (place ∷ []) [])
     (stays (list_any (is_turned ports (turned.Input n)) earlier) (is_turned ports (turned.Input n) (net.Port port)) whole)
   where
     by :
         (is_input_port ports port ≡ false) ⊎ (list_any (is_turned ports (turned.Input (input_number ports port))) earlier ≡ true)
-        → is_input_port ports port ≡ true → input_number ports port ≡ n → list_any (is_turned ports (turned.Input n)) earlier ≡ true
+        → is_input_port ports port ≡ true → input_number ports port ≡ n
+        → list_any (is_turned ports (turned.Input n)) earlier ≡ true
     by (inl out) inside same = let no : ◌≡◌ {A = Bool} false true = sym out ∙ inside in absurd cc
     by (inr found) inside same = ap (λ k. list_any (is_turned ports (turned.Input k)) earlier) (sym same) ∙ found
 

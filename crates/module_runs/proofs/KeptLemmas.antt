@@ -1,5 +1,7 @@
 -- The kept values of the instances, found anew where a change feeds them.
-use Rattle.std.proofs.Common.{◌≡◌, ℕ, zero, suc, ◌+◌, ◌<◌, Bool, true, false, ◌&&◌, ◌||◌, cond, List, [], ◌∷◌, ◌++◌, append_assoc, length, get_or, set, take, drop, map, refl, ap, sym, ◌∙◌, Option, None, Some, slice_get, slice_index_or, nat_eq, add-one, if◌then◌else◌, IsTrue, arith}
+use Rattle.std.proofs.Common.{◌≡◌, ℕ, zero, suc, ◌+◌, ◌<◌, Bool, true, false, ◌&&◌, ◌||◌, cond, List, [], ◌∷◌, ◌++◌, append_assoc}
+use Rattle.std.proofs.Common.{length, get_or, set, take, drop, map, refl, ap, sym, ◌∙◌, Option, None, Some, slice_get}
+use Rattle.std.proofs.Common.{slice_index_or, nat_eq, add-one, if◌then◌else◌, IsTrue, arith}
 use Rattle.std.specs.List.{list_any, list_all}
 use Rattle.std.specs.Option.{option_map_or}
 use Rattle.std.proofs.lemmas.Bool.{or_parts, and_parts, eqb-false}
@@ -24,7 +26,8 @@ use Rattle.run_parts.specs.Places.{FindsAnew}
 use Rattle.module_runs.proofs.WiringLemmas.{wired-reads}
 
 -- Each instance has a kept value.
-pub one-kept : (m : VModule) (inputs states kept : List Trit) → kept ≡ kept_values m inputs states → length kept ≡ length m.instances
+pub one-kept : (m : VModule) (inputs states kept : List Trit) → kept ≡ kept_values m inputs states
+    → length kept ≡ length m.instances
 one-kept m inputs states kept is = ap length is ∙ length-map m.instances (kept_value m inputs states)
 
 -- An instance that an input does not feed drives the same after a change of it.
@@ -54,7 +57,8 @@ pub unread-input :
     → kept_value m inputs states x ≡ kept_value m (set inputs pin to) states x
 unread-input m inputs states pin to (instance.Constant output one) r f = refl
 unread-input m inputs states pin to (instance.Primitive number output nets) r f =
-    ap (λ vs. option_map_or (λ (udp : Udp). if udp.sequential then Unknown else level_output udp.rows vs) (slice_get m.udps number) Unknown)
+    ap (λ vs. option_map_or (λ (udp : Udp). if udp.sequential then Unknown else level_output udp.rows vs)
+    (slice_get m.udps number) Unknown)
     (unread-nets m inputs states pin to nets r f)
 
 -- An instance that no wire feeds drives the same whatever the states are.
@@ -78,14 +82,16 @@ pub unread-states :
     → reads_state x ≡ false → kept_value m inputs before x ≡ kept_value m inputs states x
 unread-states m inputs before states (instance.Constant output one) f = refl
 unread-states m inputs before states (instance.Primitive number output nets) f =
-    ap (λ vs. option_map_or (λ (udp : Udp). if udp.sequential then Unknown else level_output udp.rows vs) (slice_get m.udps number) Unknown)
+    ap (λ vs. option_map_or (λ (udp : Udp). if udp.sequential then Unknown else level_output udp.rows vs)
+    (slice_get m.udps number) Unknown)
     (stateless-nets m inputs before states nets f)
 
 -- After a change of an input, and after one of the states.
 pub input-found :
     (m : VModule) (room : ℕ) (inputs states kept now : List Trit) (pin : ℕ) (to : Trit) (places : List ℕ)
     → IsTrue (is_wired room m) → places ≡ fed_places m.ports (turned.Input pin) m.instances → kept ≡ kept_values m inputs states
-    → FindsAnew (kept_value m (set inputs pin to) states) m.instances places kept now → now ≡ kept_values m (set inputs pin to) states
+    → FindsAnew (kept_value m (set inputs pin to) states) m.instances places kept now
+    → now ≡ kept_values m (set inputs pin to) states
 input-found m room inputs states kept now pin to places wired are was finds =
     finds (kept_value m inputs states) (is_fed m.ports (turned.Input pin)) are was
     (λ i x is f. unread-input m inputs states pin to x (wired-reads room m i x wired is) f)

@@ -1,5 +1,6 @@
 -- The fields of a module's simulator at the start and after a change.
-use Rattle.std.proofs.Common.{◌≡◌, ℕ, suc, ◌+◌, Bool, true, false, List, [], ◌∷◌, ◌++◌, append_assoc, length, map, replicate, drop, refl, sym, ap, ◌∙◌, add-one, Some, slice_get, if◌then◌else◌}
+use Rattle.std.proofs.Common.{◌≡◌, ℕ, suc, ◌+◌, Bool, true, false, List, [], ◌∷◌, ◌++◌, append_assoc, length, map, replicate}
+use Rattle.std.proofs.Common.{drop, refl, sym, ap, ◌∙◌, add-one, Some, slice_get, if◌then◌else◌}
 use Rattle.cell_machine.specs.declared.changes.Change.{Change}
 use Rattle.cell_machine.specs.History.{is_event}
 use Rattle.std.proofs.lemmas.List.{map-append}

@@ -1,5 +1,6 @@
 -- The paths of a module by the outputs to which they lead.
-use Rattle.std.proofs.Common.{◌≡◌, ℕ, ◌+◌, ◌<◌, ◌&&◌, ◌||◌, not, Bool, true, false, cond, List, [], ◌∷◌, ◌++◌, length, get_or, filter, take, refl, ap, sym, ◌∙◌, Some, slice_get, nat_eq, arith}
+use Rattle.std.proofs.Common.{◌≡◌, ℕ, ◌+◌, ◌<◌, ◌&&◌, ◌||◌, not, Bool, true, false, cond, List, [], ◌∷◌, ◌++◌, length, get_or}
+use Rattle.std.proofs.Common.{filter, take, refl, ap, sym, ◌∙◌, Some, slice_get, nat_eq, arith}
 use Rattle.std.specs.List.{list_all}
 use Rattle.std.proofs.lemmas.Bool.{and_parts, and_right}
 use Rattle.std.proofs.lemmas.Bool.Decides.{nat_tests}
@@ -79,7 +80,8 @@ same-quiet m inputs states path xs ys same =
     others : (other : VPath) → leads_to path.to other ≡ false → is_quiet m inputs states path other ≡ true
     others other f =
         let apart : nat_eq path.to other.to ≡ false = same-numbers path.to other.to ∙ f in
-        ap (λ b. not b || is_off m inputs states other.gate) (and_right (nat_eq path.from other.from) (nat_eq path.to other.to) apart)
+        ap (λ b. not b || is_off m inputs states other.gate)
+        (and_right (nat_eq path.from other.from) (nat_eq path.to other.to) apart)
 
 -- the paths that lead to a port, found among those of all ports
 pub paths-found :

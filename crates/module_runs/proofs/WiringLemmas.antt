@@ -1,5 +1,6 @@
 -- What a module that can be run gives for its parts, and that every sound module can be run.
-use Rattle.std.proofs.Common.{◌≡◌, ℕ, suc, zero, ◌≤◌, ◌<◌, Bool, true, false, ◌||◌, List, [], ◌∷◌, ◌++◌, length, get_or, refl, sym, subst, arith, IsTrue, Some, slice_get, nat_eq, nat_le, ◌&&◌, if◌then◌else◌}
+use Rattle.std.proofs.Common.{◌≡◌, ℕ, suc, zero, ◌≤◌, ◌<◌, Bool, true, false, ◌||◌, List, [], ◌∷◌, ◌++◌, length, get_or, refl}
+use Rattle.std.proofs.Common.{sym, subst, arith, IsTrue, Some, slice_get, nat_eq, nat_le, ◌&&◌, if◌then◌else◌}
 use Rattle.std.specs.List.{list_all}
 use Rattle.std.specs.Option.{option_map_or}
 use Rattle.std.proofs.lemmas.Bool.{and_parts, and_from, le-leb, eq-eqb}
@@ -13,7 +14,8 @@ use Rattle.specify_blocks.specs.declared.model.Instance.{Instance}
 use Rattle.specify_blocks.specs.declared.model.Instance.TheVariants as instance
 use Rattle.specify_blocks.specs.declared.model.VModule.{VModule}
 use Rattle.specify_blocks.specs.Sound.{IsTable, IsInstance, AreInstances, IsSound}
-use Rattle.module_runs.specs.Wiring.{has_entries, has_levels, is_table, net_count, has_nets, is_joined, is_readable, reads_inputs, is_wired}
+use Rattle.module_runs.specs.Wiring.{has_entries, has_levels, is_table, net_count, has_nets, is_joined, is_readable, reads_inputs}
+use Rattle.module_runs.specs.Wiring.{is_wired}
 
 -- what a test gives of an entry of a list of which it holds
 pub list_all-get :
@@ -24,7 +26,8 @@ list_all-get p (y ∷ ys) zero x h e =
 list_all-get p (y ∷ ys) (suc i) x h e = list_all-get p ys i x (and_parts (p y) (list_all p ys) h).1 e
 
 pub list_all-from-All :
-    {X : Type 0} (p : X → Bool) (xs : List X) → ((k : ℕ) (d : X) → k < length xs → IsTrue (p (get_or xs k d))) → IsTrue (list_all p xs)
+    {X : Type 0} (p : X → Bool) (xs : List X) → ((k : ℕ) (d : X) → k < length xs → IsTrue (p (get_or xs k d)))
+    → IsTrue (list_all p xs)
 list_all-from-All p [] h = refl
 list_all-from-All p (x ∷ xs) h =
     and_from (p x) (list_all p xs) (h zero x (omega arith)) (list_all-from-All p xs (λ k d inside. h (suc k) d (omega arith)))
@@ -33,7 +36,8 @@ abbrev are_joined : ℕ → VModule → Bool
 are_joined room m = list_all (is_joined m.udps room) m.instances && list_all (reads_inputs m.ports) m.instances
 
 pub wired-table :
-    (room : ℕ) (m : VModule) (i : ℕ) (udp : Udp) → IsTrue (is_wired room m) → slice_get m.udps i ≡ Some udp → IsTrue (is_table udp)
+    (room : ℕ) (m : VModule) (i : ℕ) (udp : Udp) → IsTrue (is_wired room m) → slice_get m.udps i ≡ Some udp
+    → IsTrue (is_table udp)
 wired-table room m i udp h e =
     list_all-get is_table m.udps i udp (and_parts (list_all is_table m.udps) (are_joined room m) h).0 e
 

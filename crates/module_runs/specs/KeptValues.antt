@@ -1,5 +1,5 @@
--- What the instances without a state drive, kept from one change to the next: an instance drives another value only after an input
--- or a state that feeds it changed.
+-- What the instances without a state drive, kept from one change to the next: an instance drives another value only after an
+-- input or a state that feeds it changed.
 use Rattle.std.specs.Prelude.{ℕ, Bool, true, false, List, map}
 use Rattle.std.specs.List.{list_any}
 use Rattle.trit_cubes.specs.declared.trits.Trit.{Trit}

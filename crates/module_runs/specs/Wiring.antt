@@ -1,6 +1,6 @@
 -- What the tables and instances of a module keep so that they can be run, as a test: each row of a table has an entry for each
--- input, a primitive without a state has no change entries, each instance has a net for each input of its primitive, and the ports
--- that feed it are inputs. Every sound module keeps it. (IEEE 1364-2005, clause 8.)
+-- input, a primitive without a state has no change entries, each instance has a net for each input of its primitive, and the
+-- ports that feed it are inputs. Every sound module keeps it. (IEEE 1364-2005, clause 8.)
 use Rattle.std.specs.Prelude.{ℕ, Bool, true, ◌&&◌, ◌||◌, length, List, nat_eq, nat_le, slice_get}
 use Rattle.std.specs.List.{list_all}
 use Rattle.std.specs.Option.{option_map_or}

@@ -47,7 +47,8 @@ fn is_quiet(values: &ModuleValues, path: VPath, other: VPath) -> bool
 
 /// Whether all other paths leave an `ifnone` path active.
 fn all_are_quiet(values: &ModuleValues, path: VPath) -> bool
-    ensures { result ≡ list_all (is_quiet values.now.tables.model.now values.now.inputs.now values.now.states.now path) values.now.tables.model.now.paths }
+    ensures { result ≡ list_all (is_quiet values.now.tables.model.now values.now.inputs.now values.now.states.now path)
+        values.now.tables.model.now.paths }
 {
     let paths = values.tables.paths_to(path.to);
     for i in 0..paths.len() {
@@ -61,7 +62,8 @@ fn all_are_quiet(values: &ModuleValues, path: VPath) -> bool
 /// Whether an `ifnone` path is active. `quiet` holds the answer of the two ports for which it was found last.
 fn is_left(values: &ModuleValues, path: VPath, quiet: &mut Option<Quiet>) -> bool
     requires known { IsKnown values.now.tables.model.now values.now.inputs.now values.now.states.now quiet.old }
-    ensures left { result ≡ list_all (is_quiet values.now.tables.model.now values.now.inputs.now values.now.states.now path) values.now.tables.model.now.paths }
+    ensures left { result ≡ list_all (is_quiet values.now.tables.model.now values.now.inputs.now values.now.states.now path)
+        values.now.tables.model.now.paths }
     ensures known { IsKnown values.now.tables.model.now values.now.inputs.now values.now.states.now quiet.new }
 {
     if let Some(known) = *quiet {
@@ -99,7 +101,8 @@ fn path_delay(
     quiet: &mut Option<Quiet>,
 ) -> Option<u64>
     requires known { IsKnown values.now.tables.model.now values.now.inputs.now values.now.states.now quiet.old }
-    ensures delay { result ≡ path_delay_of (is_between values.now.tables.model.now.ports change.input change.port) (path_at values.now.tables.model.now values.now.inputs.now values.now.states.now) change.from change.to path }
+    ensures delay { result ≡ path_delay_of (is_between values.now.tables.model.now.ports change.input change.port)
+        (path_at values.now.tables.model.now values.now.inputs.now values.now.states.now) change.from change.to path }
     ensures known { IsKnown values.now.tables.model.now values.now.inputs.now values.now.states.now quiet.new }
 {
     let leads = input_number(&values.tables.ports(), path.from) == change.input
@@ -115,7 +118,8 @@ fn path_delay(
 
 /// The delay of a change of an output: the least over the active paths from the input to it, 0 where none is active.
 fn least_delay(values: &ModuleValues, change: OutputChange) -> u64
-    ensures { result ≡ least_delay change.from change.to (paths_between values.now.tables.model.now values.now.inputs.now values.now.states.now change.input change.port) }
+    ensures { result ≡ least_delay change.from change.to
+        (paths_between values.now.tables.model.now values.now.inputs.now values.now.states.now change.input change.port) }
 {
     let paths = values.tables.paths_to(change.port);
     let mut best = None;
@@ -128,7 +132,8 @@ fn least_delay(values: &ModuleValues, change: OutputChange) -> u64
 
 /// The delay of an output, there where it changes.
 pub(crate) fn delay_at(values: &ModuleValues, change: OutputChange) -> Option<u64>
-    ensures { result ≡ delay_at values.now.tables.model.now values.now.inputs.now values.now.states.now change.input change.port change.from change.to }
+    ensures { result ≡ delay_at values.now.tables.model.now values.now.inputs.now values.now.states.now change.input change.port
+        change.from change.to }
 {
     if change.from == change.to {
         None

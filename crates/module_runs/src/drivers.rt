@@ -45,7 +45,8 @@ impl Drivers {
 
     /// Notes that the instance at this place drives a net, before any that was noted.
     fn note(&mut self, net: VNet, place: usize)
-        ensures { (n : VNet) (later : Option ℕ) → IsKnown self.old n later → IsKnown self.new n (cond (same_net net n) (Some place) later) }
+        ensures { (n : VNet) (later : Option ℕ) → IsKnown self.old n later
+            → IsKnown self.new n (cond (same_net net n) (Some place) later) }
     {
         match net {
             VNet::Port(port) => put(&mut self.ports, port, place),

@@ -18,8 +18,8 @@ use sqlite_items::Items;
 use std::alloc::{AllocError, Global};
 use udp_tables::is_input_port;
 
-/// The places of the instances that each input of a module feeds, of those that the register of its checks feeds, and of those that
-/// states may feed, in order.
+/// The places of the instances that each input of a module feeds, of those that the register of its checks feeds, and of those
+/// that states may feed, in order.
 #[derive(Drop)]
 pub struct FedInstances {
     /// For each input those that it feeds.
@@ -133,7 +133,8 @@ fn add_nets(
     nets: &[VNet],
     place: usize,
 ) -> Result<(), AllocError>
-    ensures lists { OnOk result ((lists : ℕ → List ℕ) → AreLists lists all.old.items → AreLists (λ n. lists n ++ cond (is_among ports.now.list.now nets.now n) (place ∷ []) []) all.new.items) }
+    ensures lists { OnOk result ((lists : ℕ → List ℕ) → AreLists lists all.old.items
+        → AreLists (λ n. lists n ++ cond (is_among ports.now.list.now nets.now n) (place ∷ []) []) all.new.items) }
     ensures len { OnOk result (length all.new.items ≡ length all.old.items) }
 {
     for j in 0..nets.len() {
@@ -151,7 +152,9 @@ fn add_net(
     net: VNet,
     place: usize,
 ) -> Result<(), AllocError>
-    ensures lists { OnOk result (AddsPlace (is_among ports.now.list.now earlier.now) (λ n. is_among ports.now.list.now earlier.now n || is_turned ports.now.list.now (turned.Input n) net) place all.old.items all.new.items) }
+    ensures lists { OnOk result (AddsPlace (is_among ports.now.list.now earlier.now)
+        (λ n. is_among ports.now.list.now earlier.now n || is_turned ports.now.list.now (turned.Input n) net) place all.old.items
+        all.new.items) }
     ensures len { OnOk result (length all.new.items ≡ length all.old.items) }
 {
     match net {
@@ -169,7 +172,9 @@ fn add_port(
     port: usize,
     place: usize,
 ) -> Result<(), AllocError>
-    ensures lists { OnOk result (AddsPlace (is_among ports.now.list.now earlier.now) (λ n. is_among ports.now.list.now earlier.now n || is_turned ports.now.list.now (turned.Input n) (net.Port port)) place all.old.items all.new.items) }
+    ensures lists { OnOk result (AddsPlace (is_among ports.now.list.now earlier.now)
+        (λ n. is_among ports.now.list.now earlier.now n || is_turned ports.now.list.now (turned.Input n) (net.Port port)) place
+        all.old.items all.new.items) }
     ensures len { OnOk result (length all.new.items ≡ length all.old.items) }
 {
     if !is_input_port(ports.list, port) {

@@ -1,5 +1,5 @@
-//! What the instances without a state drive, kept from one change to the next and found anew where a change feeds them. `room` has place
-//! for the values of the nets that feed one instance.
+//! What the instances without a state drive, kept from one change to the next and found anew where a change feeds them. `room`
+//! has place for the values of the nets that feed one instance.
 ghost use Rattle.std.specs.Prelude.{◌≡◌, ◌<◌, All, length, map, take, IsTrue, IfOk};
 ghost use Rattle.module_runs.specs.Wiring.{is_wired};
 ghost use Rattle.module_runs.specs.KeptValues.{kept_value, kept_values};
@@ -20,7 +20,8 @@ fn find_all(
     room: &mut Items<Trit>,
 ) -> Result<Items<Trit>, AllocError>
     requires { IsTrue (is_wired (length room.old) values.now.tables.model.now) }
-    ensures kept { IfOk result (λ kept. kept ≡ kept_values values.now.tables.model.now values.now.inputs.now values.now.states.now) }
+    ensures kept { IfOk result (λ kept. kept ≡ kept_values values.now.tables.model.now values.now.inputs.now
+        values.now.states.now) }
     ensures len { length room.new ≡ length room.old }
 {
     let mut kept = Items::new(alloc);
@@ -60,7 +61,8 @@ pub(crate) fn find_anew(
     requires wired { IsTrue (is_wired (length room.old) values.now.tables.model.now) }
     requires inside { All (λ place. place < length values.now.tables.model.now.instances) places.now }
     requires one_each { length kept.old ≡ length values.now.tables.model.now.instances }
-    ensures anew { FindsAnew (kept_value values.now.tables.model.now values.now.inputs.now values.now.states.now) values.now.tables.model.now.instances places.now kept.old kept.new }
+    ensures anew { FindsAnew (kept_value values.now.tables.model.now values.now.inputs.now values.now.states.now)
+        values.now.tables.model.now.instances places.now kept.old kept.new }
     ensures room { length room.new ≡ length room.old }
 {
     for j in 0..places.len() {

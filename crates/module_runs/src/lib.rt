@@ -1,5 +1,5 @@
-//! The simulator of a Verilog module, and its run, event by event: the values of its nets, the next states of its primitives, the delays
-//! of its outputs. (IEEE 1364-2005, clauses 8, 14 and 15.)
+//! The simulator of a Verilog module, and its run, event by event: the values of its nets, the next states of its primitives, the
+//! delays of its outputs. (IEEE 1364-2005, clauses 8, 14 and 15.)
 #![tactic(auto)]
 
 mod conditions;

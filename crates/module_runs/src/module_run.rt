@@ -7,7 +7,8 @@ ghost use Rattle.module_runs.specs.ModuleStands.{IsReady};
 ghost use Rattle.cell_machine.specs.History.{value_before};
 ghost use Rattle.model_traces.specs.Primitives.{next_states};
 ghost use Rattle.model_traces.specs.PortNumbers.{input_count};
-ghost use Rattle.model_traces.specs.ModuleRun.{start_run, toggled, entered, kept as times_kept, notified, shaken, reports_by, reports_at, happened, step_reports, run_step, HasEach};
+ghost use Rattle.model_traces.specs.ModuleRun.{start_run, toggled, entered, kept as times_kept, notified, shaken, reports_by};
+ghost use Rattle.model_traces.specs.ModuleRun.{reports_at, happened, step_reports, run_step, HasEach};
 
 use crate::kept_values::find_anew;
 use crate::module_states::ModuleStates;
@@ -57,7 +58,14 @@ fn toggled(notifier: Trit) -> Trit
 fn turn_states(run: &mut ModuleRun, tables: &ModuleTables, turn: Turn, room: &mut Items<Trit>)
     requires wired { IsTrue (is_wired (length room.old) tables.now.model.now) }
     requires one_each { HasEach tables.now.model.now run.old }
-    ensures stepped { run.new ≡ record { inputs = run.old.inputs; states = next_states tables.now.model.now run.old.inputs run.old.notifier turn run.old.states; notifier = run.old.notifier; stamps = run.old.stamps } }
+    ensures stepped { run.new ≡ record {
+      inputs = run.old.inputs;
+      states =
+          next_states tables.now.model.now run.old.inputs run.old.notifier turn run.old.states;
+      notifier =
+          run.old.notifier;
+      stamps = run.old.stamps;
+    } }
     ensures one_each { HasEach tables.now.model.now run.new }
     ensures len { length room.new ≡ length room.old }
 {
@@ -80,7 +88,8 @@ fn find_fed_by_states(
 )
     requires wired { IsTrue (is_wired (length room.old) tables.now.model.now) }
     requires one_each { length kept.old ≡ length tables.now.model.now.instances }
-    ensures current { (before : List Trit) → kept.old ≡ kept_values tables.now.model.now run.now.inputs before → kept.new ≡ kept_values tables.now.model.now run.now.inputs run.now.states }
+    ensures current { (before : List Trit) → kept.old ≡ kept_values tables.now.model.now run.now.inputs before
+        → kept.new ≡ kept_values tables.now.model.now run.now.inputs run.now.states }
     ensures len { length room.new ≡ length room.old }
 {
     let values = ModuleStates {

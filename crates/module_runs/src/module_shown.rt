@@ -31,7 +31,8 @@ fn shown_step(values: &ModuleValues, input: usize, was: ShownPort) -> ShownPort
 
 /// Takes what the outputs show over a change of an input. The values are those after it.
 pub(crate) fn show_all(values: &ModuleValues, input: usize, shown: &mut Items<ShownPort>)
-    ensures stepped { shown.new ≡ map (shown_step values.now.tables.model.now values.now.inputs.now values.now.states.now input) shown.old }
+    ensures stepped { shown.new ≡ map (shown_step values.now.tables.model.now values.now.inputs.now values.now.states.now input)
+        shown.old }
     ensures len { length shown.new ≡ length shown.old }
 {
     for i in 0..shown.len() {
@@ -48,7 +49,8 @@ fn add_first(
     is_input: bool,
     shown: &mut Items<ShownPort>,
 ) -> Result<(), AllocError>
-    ensures { OnOk result (shown.new ≡ shown.old ++ map (shown_first values.now.tables.model.now values.now.inputs.now values.now.states.now) (output_by port is_input)) }
+    ensures { OnOk result (shown.new ≡ shown.old
+        ++ map (shown_first values.now.tables.model.now values.now.inputs.now values.now.states.now) (output_by port is_input)) }
 {
     if is_input {
         return Ok(());
@@ -64,7 +66,9 @@ fn add_first(
 
 /// What the outputs show at the start, where the inputs and the states have these values: no delays.
 fn show_start(alloc: Global, values: &ModuleValues) -> Result<Items<ShownPort>, AllocError>
-    ensures { IfOk result (λ shown. shown ≡ map (shown_first values.now.tables.model.now values.now.inputs.now values.now.states.now) (output_ports values.now.tables.model.now.ports)) }
+    ensures { IfOk result (λ shown. shown ≡ map
+        (shown_first values.now.tables.model.now values.now.inputs.now values.now.states.now)
+        (output_ports values.now.tables.model.now.ports)) }
 {
     let mut shown = Items::new(alloc);
     let ports = values.tables.model.ports.as_slice();
@@ -84,7 +88,8 @@ pub(crate) fn first_shown(
     kept: &[Trit],
 ) -> Result<Items<ShownPort>, AllocError>
     requires { kept.now ≡ kept_values tables.now.model.now inputs.now states.now }
-    ensures { IfOk result (λ shown. shown ≡ map (shown_first tables.now.model.now inputs.now states.now) (output_ports tables.now.model.now.ports)) }
+    ensures { IfOk result (λ shown. shown ≡ map (shown_first tables.now.model.now inputs.now states.now)
+        (output_ports tables.now.model.now.ports)) }
 {
     let values = ModuleValues {
         tables: *tables,

@@ -1,5 +1,5 @@
-//! What the instances of a module drive, found by their tables of the values of its inputs and the states of its instances. `room`
-//! has place for the values of the nets that feed one instance.
+//! What the instances of a module drive, found by their tables of the values of its inputs and the states of its instances.
+//! `room` has place for the values of the nets that feed one instance.
 ghost use Rattle.std.specs.Prelude.{◌≡◌, ◌≤◌, ◌<◌, length, map, take, false, IsTrue, slice_index_or};
 ghost use Rattle.trit_cubes.specs.declared.trits.Trit.TheVariants.{Unknown};
 ghost use Rattle.trit_cubes.specs.Filling.{trit_of};
@@ -41,7 +41,8 @@ fn source_value(values: &ModuleStates, net: VNet) -> Trit
 /// Writes the values of the nets that feed a primitive without a state to the front of the room.
 fn feed(values: &ModuleStates, nets: &[VNet], room: &mut Items<Trit>)
     requires { length nets.now ≤ length room.old }
-    ensures front { take (length nets.now) room.new ≡ map (source_value values.now.tables.model.now values.now.inputs.now values.now.states.now) nets.now }
+    ensures front { take (length nets.now) room.new ≡ map
+        (source_value values.now.tables.model.now values.now.inputs.now values.now.states.now) nets.now }
     ensures len { length room.new ≡ length room.old }
 {
     for i in 0..nets.len() {
@@ -61,7 +62,8 @@ fn table_value(
     requires entries { length nets.now ≡ length udp.now.inputs }
     requires keys { AreKept row_key keys.now udp.now.rows }
     requires room { length nets.now ≤ length room.old }
-    ensures value { result ≡ table_value values.now.tables.model.now values.now.inputs.now values.now.states.now nets.now udp.now }
+    ensures value { result ≡ table_value values.now.tables.model.now values.now.inputs.now values.now.states.now nets.now
+        udp.now }
     ensures len { length room.new ≡ length room.old }
 {
     feed(values, nets, room);
@@ -81,7 +83,8 @@ fn primitive_value(
     requires entries { length nets.now ≡ length udp.now.inputs }
     requires keys { AreKept row_key keys.now udp.now.rows }
     requires room { length nets.now ≤ length room.old }
-    ensures value { result ≡ primitive_value values.now.tables.model.now values.now.inputs.now values.now.states.now state nets.now udp.now }
+    ensures value { result ≡ primitive_value values.now.tables.model.now values.now.inputs.now values.now.states.now state
+        nets.now udp.now }
     ensures len { length room.new ≡ length room.old }
 {
     if udp.sequential {
@@ -100,7 +103,8 @@ pub(crate) fn instance_value(
 ) -> Trit
     requires wired { IsTrue (is_wired (length room.old) values.now.tables.model.now) }
     requires joined { IsTrue (is_joined values.now.tables.model.now.udps (length room.old) instance.now) }
-    ensures value { result ≡ instance_value values.now.tables.model.now values.now.inputs.now values.now.states.now state instance.now }
+    ensures value { result ≡ instance_value values.now.tables.model.now values.now.inputs.now values.now.states.now state
+        instance.now }
     ensures len { length room.new ≡ length room.old }
 {
     match instance {

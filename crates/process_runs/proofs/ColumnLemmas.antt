@@ -1,5 +1,6 @@
 -- The columns of a table, as they are written.
-use Rattle.std.proofs.Common.{◌≡◌, ◌+◌, ◌≤◌, true, List, [], ◌∷◌, ◌++◌, length, map, set, take, refl, ap, sym, ◌∙◌, arith, if◌then◌else◌}
+use Rattle.std.proofs.Common.{◌≡◌, ◌+◌, ◌≤◌, true, List, [], ◌∷◌, ◌++◌, length, map, set, take, refl, ap, sym, ◌∙◌, arith}
+use Rattle.std.proofs.Common.{if◌then◌else◌}
 use Rattle.trit_cubes.specs.declared.trits.Trit.{Trit}
 use Rattle.udp_tables.specs.declared.models.VPort.{VPort}
 use Rattle.vital_models.specs.declared.model.VState.{VState}
@@ -19,7 +20,8 @@ pub violated-front :
     → take (1 + length state.inputs) room ≡ take 1 (set old 0 violation) ++ map (input_value ports inputs) state.inputs
     → take (columns_of state) room ≡ columns ports violation inputs state
 violated-front state ports violation inputs old room e many front =
-    let count : columns_of state ≡ length state.inputs + 1 = ap (λ b. if b then length state.inputs + 1 else length state.inputs) e in
+    let count : columns_of state ≡ length state.inputs + 1 =
+    ap (λ b. if b then length state.inputs + 1 else length state.inputs) e in
     let all : columns_of state ≡ 1 + length state.inputs = omega (arith, count) in
     let some : 1 ≤ length old = omega (arith, count, many) in
     ap (λ n. take n room) all

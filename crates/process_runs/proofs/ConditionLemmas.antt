@@ -1,5 +1,6 @@
 -- The conditions that an input feeds, and that the others keep their values at a change of it.
-use Rattle.std.proofs.Common.{◌≡◌, ℕ, zero, suc, Bool, true, false, ◌||◌, cond, List, [], ◌∷◌, ◌++◌, length, set, map, refl, ap, sym, ◌∙◌, nat_eq, slice_get}
+use Rattle.std.proofs.Common.{◌≡◌, ℕ, zero, suc, Bool, true, false, ◌||◌, cond, List, [], ◌∷◌, ◌++◌, length, set, map, refl, ap}
+use Rattle.std.proofs.Common.{sym, ◌∙◌, nat_eq, slice_get}
 use Rattle.std.specs.Option.{option_map_or}
 use Rattle.cell_machine.specs.Inputs.{numbered_value}
 use Rattle.std.proofs.lemmas.Bool.{or_parts, eqb-true, eqb-false}
@@ -38,14 +39,16 @@ port-added ports earlier port input place n list same new =
 pub port-kept :
     (ports : List VPort) (earlier : List ℕ) (port place n : ℕ) (list : List ℕ)
     → is_among ports earlier (input_number ports port) ≡ true
-    → list ++ cond (is_among ports earlier n) (place ∷ []) [] ≡ list ++ cond (is_among ports earlier n || is_read ports n port) (place ∷ []) []
+    → list ++ cond (is_among ports earlier n) (place ∷ []) [] ≡ list
+    ++ cond (is_among ports earlier n || is_read ports n port) (place ∷ []) []
 port-kept ports earlier port place n list found =
     ap (λ c. list ++ cond c (place ∷ []) [])
     (stays (is_among ports earlier n) (is_read ports n port)
     (λ e. ap (is_among ports earlier) (sym (eqb-true (input_number ports port) n e)) ∙ found))
 
 -- each condition has a value
-pub one-kept : (e : VEntity) (inputs values : List Trit) → values ≡ condition_values e inputs → length values ≡ length e.conditions
+pub one-kept : (e : VEntity) (inputs values : List Trit) → values ≡ condition_values e inputs
+    → length values ≡ length e.conditions
 one-kept e inputs values are = ap length are ∙ length-map e.conditions (truth_value e.ports inputs)
 
 -- A condition that an input does not feed has the same value after a change of it.
@@ -62,12 +65,14 @@ unread-ports ports inputs pin to (p ∷ list) f =
 pub unread-condition :
     (ports : List VPort) (inputs : List Trit) (pin : ℕ) (to : Trit) (truth : VTruth)
     → is_fed ports pin truth ≡ false → truth_value ports inputs truth ≡ truth_value ports (set inputs pin to) truth
-unread-condition ports inputs pin to truth f = ap (lookup_truth truth.table.rows) (unread-ports ports inputs pin to truth.inputs f)
+unread-condition ports inputs pin to truth f =
+    ap (lookup_truth truth.table.rows) (unread-ports ports inputs pin to truth.inputs f)
 
 pub conditions-found :
     (e : VEntity) (inputs values now : List Trit) (pin : ℕ) (to : Trit) (places : List ℕ)
     → places ≡ fed_places e.ports e.conditions pin → values ≡ condition_values e inputs
-    → FindsAnew (truth_value e.ports (set inputs pin to)) e.conditions places values now → now ≡ condition_values e (set inputs pin to)
+    → FindsAnew (truth_value e.ports (set inputs pin to)) e.conditions places values now
+    → now ≡ condition_values e (set inputs pin to)
 conditions-found e inputs values now pin to places are was finds =
     finds (truth_value e.ports inputs) (is_fed e.ports pin) are was
     (λ i truth is f. unread-condition e.ports inputs pin to truth f)

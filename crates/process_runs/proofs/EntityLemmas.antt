@@ -1,5 +1,6 @@
 -- The fields of an entity's simulator at the start and after a change.
-use Rattle.std.proofs.Common.{◌≡◌, ℕ, suc, ◌<◌, Bool, true, false, ◌&&◌, List, [], ◌∷◌, length, map, replicate, get_or, set, refl, ap, sym, ◌∙◌, subst, arith, if◌then◌else◌}
+use Rattle.std.proofs.Common.{◌≡◌, ℕ, suc, ◌<◌, Bool, true, false, ◌&&◌, List, [], ◌∷◌, length, map, replicate, get_or, set, refl}
+use Rattle.std.proofs.Common.{ap, sym, ◌∙◌, subst, arith, if◌then◌else◌}
 use Rattle.trit_cubes.specs.declared.trits.Trit.{Trit}
 use Rattle.cell_machine.specs.declared.changes.Change.{Change}
 use Rattle.cell_machine.specs.Each.{each}
@@ -15,12 +16,14 @@ use Rattle.model_traces.specs.Laws.{last_stamps}
 use Rattle.model_traces.specs.SignalTimes.{check_reports}
 use Rattle.model_traces.specs.ProcessLaws.{last_times}
 use Rattle.model_traces.specs.ProcessValues.{is_enabled}
-use Rattle.model_traces.specs.ProcessRun.{columns, all_columns, violation_by, looked_up, reports_at, happened, process_after, step_reports}
+use Rattle.model_traces.specs.ProcessRun.{columns, all_columns, violation_by, looked_up, reports_at, happened, process_after}
+use Rattle.model_traces.specs.ProcessRun.{step_reports}
 use Rattle.model_traces.proofs.RunLemmas.{start-stamps, still-stamps, opened-last}
 use Rattle.model_traces.proofs.ProcessLemmas.{looked-each, process-inputs, process-times, later-second, earlier-first}
 use Rattle.run_parts.specs.declared.shown.ShownPort.{ShownPort}
 use Rattle.process_runs.specs.declared.process_run.ProcessState.{ProcessState}
-use Rattle.process_runs.specs.EntitySteps.{start_state, next_by, event_reports, event_step, state_step, change_reports, output_step, output_first, output_shown, IsTied, EntityStands}
+use Rattle.process_runs.specs.EntitySteps.{start_state, next_by, event_reports, event_step, state_step, change_reports}
+use Rattle.process_runs.specs.EntitySteps.{output_step, output_first, output_shown, IsTied, EntityStands}
 
 -- a check with the events of its kind reports as the process says
 report-same :
@@ -82,9 +85,12 @@ module _ (e : VEntity) (sound : IsSound e) (run : ProcessState) (reports : List 
   -- the reports at an event
   reports-are : event_reports e run c ≡ reports_at e (process_after e h) c
   reports-are =
-      (λ i. each (reports_where e.ports (is_enabled e (set (st.tied.inputs_are i) c.pin c.to)) (value_before (st.tied.inputs_are i) c) c) e.checks (st.stamps_are i))
-      ∙ reports-same e n h (set (process_after e h).inputs c.pin c.to) (value_before (process_after e h).inputs c) c e.checks sound.checks
-      ∙ ap (each (check_reports e (set (process_after e h).inputs c.pin c.to) (value_before (process_after e h).inputs c) c) e.checks)
+      (λ i. each (reports_where e.ports (is_enabled e (set (st.tied.inputs_are i) c.pin c.to))
+      (value_before (st.tied.inputs_are i) c) c) e.checks (st.stamps_are i))
+      ∙ reports-same e n h (set (process_after e h).inputs c.pin c.to) (value_before (process_after e h).inputs c) c e.checks
+      sound.checks
+      ∙ ap (each (check_reports e (set (process_after e h).inputs c.pin c.to) (value_before (process_after e h).inputs c) c)
+      e.checks)
       (sym (process-times e h))
 
   changed-reports : change_reports e run c ≡ step_reports e (process_after e h) c
@@ -92,7 +98,8 @@ module _ (e : VEntity) (sound : IsSound e) (run : ProcessState) (reports : List 
       λ i. if is_event (st.tied.inputs_are i) c then reports-are i else replicate (length e.checks) false
 
   -- the fields of the run after a change, by whether it is an event
-  event-fields : IsTied e (event_step e run c (violation_by (any_true (event_reports e run c)))) (happened e (process_after e h) c)
+  event-fields : IsTied e (event_step e run c (violation_by (any_true (event_reports e run c))))
+      (happened e (process_after e h) c)
   event-fields =
       let p = process_after e h in
       record {
@@ -100,10 +107,15 @@ module _ (e : VEntity) (sound : IsSound e) (run : ProcessState) (reports : List 
         before_are = λ i. set (st.tied.before_are i) c.pin c.to;
         states_are =
             (λ i.
-            each (next_by e run.violation run.before (violation_by (any_true (reports-are i))) (set (st.tied.inputs_are i) c.pin c.to)) e.states (st.tied.states_are i))
-            ∙ sym (looked-each (columns e.ports run.violation run.before) (columns e.ports (violation_by (any_true (reports_at e p c))) (set p.inputs c.pin c.to)) e.states p.states)
-            ∙ ap (λ previous. looked_up e.states previous (all_columns e (violation_by (any_true (reports_at e p c))) (set p.inputs c.pin c.to)) p.states) (sym st.tied.columns_are);
-        columns_are = λ i. all_columns e (violation_by (any_true (sym reports-are i))) (set (sym st.tied.before_are i) c.pin c.to);
+            each (next_by e run.violation run.before (violation_by (any_true (reports-are i)))
+            (set (st.tied.inputs_are i) c.pin c.to)) e.states (st.tied.states_are i))
+            ∙ sym (looked-each (columns e.ports run.violation run.before)
+            (columns e.ports (violation_by (any_true (reports_at e p c))) (set p.inputs c.pin c.to)) e.states p.states)
+            ∙ ap (λ previous. looked_up e.states previous
+            (all_columns e (violation_by (any_true (reports_at e p c))) (set p.inputs c.pin c.to)) p.states)
+            (sym st.tied.columns_are);
+        columns_are = λ i. all_columns e (violation_by (any_true (sym reports-are i)))
+            (set (sym st.tied.before_are i) c.pin c.to);
       }
 
   fields :
@@ -131,7 +143,8 @@ module _ (e : VEntity) (sound : IsSound e) (run : ProcessState) (reports : List 
       → shown' ≡ each (output_step e run'.inputs run'.states c.pin) e.outputs shown
       → EntityStands e run' reports' shown' (c ∷ h)
   entity-changes run' reports' shown' stepped reported shows =
-      let path = stepped ∙ ap (λ v. if is_event v c then event_step e run c (violation_by (any_true (event_reports e run c))) else run) st.tied.inputs_are in
+      let path = stepped ∙ ap (λ v. if is_event v c then event_step e run c (violation_by (any_true (event_reports e run c)))
+      else run) st.tied.inputs_are in
       let tied : IsTied e run' (process_after e (c ∷ h)) =
       subst (λ r. IsTied e r (process_after e (c ∷ h))) (sym path) (fields (is_event (process_after e h).inputs c)) in
       record {
@@ -141,5 +154,6 @@ module _ (e : VEntity) (sound : IsSound e) (run : ProcessState) (reports : List 
         shown_are =
             shows
             ∙ (λ i. each (output_step e (tied.inputs_are i) (tied.states_are i) c.pin) e.outputs (st.shown_are i))
-            ∙ each-map (output_step e (process_after e (c ∷ h)).inputs (process_after e (c ∷ h)).states c.pin) (output_shown e h) e.outputs;
+            ∙ each-map (output_step e (process_after e (c ∷ h)).inputs (process_after e (c ∷ h)).states c.pin)
+            (output_shown e h) e.outputs;
       }

@@ -16,4 +16,5 @@ pub kept-at :
     {T R : Type 0} (word : R → RowWords) (rows : T → List R) (parts : List T) (i : ℕ) (part : T) (words : List RowWords)
     → words ≡ words_at (map (λ p. map word (rows p)) parts) i → slice_get parts i ≡ Some part → AreKept word words (rows part)
 kept-at word rows parts i part words are is =
-    subst (λ ws. AreKept word ws (rows part)) (sym (are ∙ mapped-at (λ p. map word (rows p)) parts i part is)) (all_kept word (rows part))
+    subst (λ ws. AreKept word ws (rows part)) (sym (are ∙ mapped-at (λ p. map word (rows p)) parts i part is))
+    (all_kept word (rows part))

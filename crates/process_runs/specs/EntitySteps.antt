@@ -1,5 +1,5 @@
--- How the simulator of an entity takes its run on. A check keeps the times of a Verilog module's, of which those of the process are
--- a part, and in place of the columns of the last event their inputs and the violation are kept.
+-- How the simulator of an entity takes its run on. A check keeps the times of a Verilog module's, of which those of the process
+-- are a part, and in place of the columns of the last event their inputs and the violation are kept.
 use Rattle.std.specs.Prelude.{◌≡◌, ◌<◌, ℕ, Bool, false, List, length, map, replicate, slice_set, None, if◌then◌else◌}
 use Rattle.trit_cubes.specs.declared.trits.Trit.{Trit}
 use Rattle.trit_cubes.specs.declared.trits.Trit.TheVariants.{Unknown}
@@ -91,9 +91,10 @@ pub record HasParts (e : VEntity) (r : ProcessState) : Type 0 where
   pub stamps : length r.stamps ≡ length e.checks
   pub before : length r.before ≡ length r.inputs
 
--- A run of an entity, with the values of its conditions, with the reports of its checks and with room for the columns of any table,
--- before a change and after it.
-pub record IsReady (e : VEntity) (run : ProcessState) (conditions : List Trit) (reports : List Bool) (before after : ℕ) : Type 0 where
+-- A run of an entity, with the values of its conditions, with the reports of its checks and with room for the columns of any
+-- table, before a change and after it.
+pub record IsReady (e : VEntity) (run : ProcessState) (conditions : List Trit) (reports : List Bool) (before after : ℕ) :
+    Type 0 where
   pub sound : IsSound e
   pub current : conditions ≡ condition_values e run.inputs
   pub earlier : HasRoom before e
@@ -103,7 +104,8 @@ pub record IsReady (e : VEntity) (run : ProcessState) (conditions : List Trit) (
   pub one_report : length reports ≡ length e.checks
 
 -- The same, where this input changes.
-pub record CanTake (e : VEntity) (run : ProcessState) (conditions : List Trit) (reports : List Bool) (before after pin : ℕ) : Type 0 where
+pub record CanTake (e : VEntity) (run : ProcessState) (conditions : List Trit) (reports : List Bool) (before after pin : ℕ) :
+    Type 0 where
   pub ready : IsReady e run conditions reports before after
   pub inside : pin < length run.inputs
 
@@ -115,7 +117,8 @@ pub record IsTied (e : VEntity) (run : ProcessState) (process : ProcessRun) : Ty
   pub columns_are : process.previous ≡ all_columns e run.violation run.before
 
 -- The simulator of an entity stands after a history: its fields are what the run of the process gives there.
-pub record EntityStands (e : VEntity) (run : ProcessState) (reports : List Bool) (shown : List ShownPort) (h : List Change) : Type 0 where
+pub record EntityStands (e : VEntity) (run : ProcessState) (reports : List Bool) (shown : List ShownPort) (h : List Change) :
+    Type 0 where
   pub tied : IsTied e run (process_after e h)
   pub stamps_are : run.stamps ≡ map (last_stamps e.ports (input_count e.ports) h) e.checks
   pub reports_are : reports ≡ reports_after e h

@@ -1,5 +1,5 @@
--- The values of an entity's conditions, kept from one change to the next: a condition has another value only after an input of its table
--- changed.
+-- The values of an entity's conditions, kept from one change to the next: a condition has another value only after an input of
+-- its table changed.
 use Rattle.std.specs.Prelude.{◌≡◌, ℕ, Bool, List, length, map, nat_eq}
 use Rattle.std.specs.List.{list_any}
 use Rattle.trit_cubes.specs.declared.trits.Trit.{Trit}

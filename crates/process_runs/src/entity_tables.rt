@@ -50,21 +50,24 @@ impl<'a> EntityTables<'a> {
 
     /// The words of the rows of the table of the state with this number.
     pub(crate) fn state_words(&self, i: usize) -> &[RowWords]
-        ensures { (state : VState) → slice_get self.now.model.now.states i ≡ Some state → AreKept state_words result.now state.table.rows }
+        ensures { (state : VState) → slice_get self.now.model.now.states i ≡ Some state
+            → AreKept state_words result.now state.table.rows }
     {
         words_at(self.index.words.states.as_slice(), i)
     }
 
     /// The words of the rows of the table of the condition with this number.
     pub(crate) fn condition_words(&self, i: usize) -> &[RowWords]
-        ensures { (truth : VTruth) → slice_get self.now.model.now.conditions i ≡ Some truth → AreKept truth_words result.now truth.table.rows }
+        ensures { (truth : VTruth) → slice_get self.now.model.now.conditions i ≡ Some truth
+            → AreKept truth_words result.now truth.table.rows }
     {
         words_at(self.index.words.conditions.as_slice(), i)
     }
 
     /// The words of the rows of the table of the output with this number.
     pub(crate) fn output_words(&self, i: usize) -> &[RowWords]
-        ensures { (output : VOutput) → slice_get self.now.model.now.outputs i ≡ Some output → AreKept truth_words result.now (value_rows output.value) }
+        ensures { (output : VOutput) → slice_get self.now.model.now.outputs i ≡ Some output
+            → AreKept truth_words result.now (value_rows output.value) }
     {
         words_at(self.index.words.outputs.as_slice(), i)
     }

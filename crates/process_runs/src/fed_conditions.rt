@@ -9,8 +9,8 @@ use sqlite_items::Items;
 use std::alloc::{AllocError, Global};
 use vital_models::VTruth;
 
-/// For each input of an entity the places of the conditions that it feeds, in order. `AllocError` comes only where memory is wanted and
-/// not there.
+/// For each input of an entity the places of the conditions that it feeds, in order. `AllocError` comes only where memory is
+/// wanted and not there.
 pub(crate) fn fed_conditions(
     alloc: Global,
     ports: &Ports,
@@ -32,7 +32,8 @@ fn add_inputs(
     inputs: &[usize],
     place: usize,
 ) -> Result<(), AllocError>
-    ensures lists { OnOk result ((lists : ℕ → List ℕ) → AreLists lists all.old.items → AreLists (λ n. lists n ++ cond (is_among ports.now.list.now inputs.now n) (place ∷ []) []) all.new.items) }
+    ensures lists { OnOk result ((lists : ℕ → List ℕ) → AreLists lists all.old.items
+        → AreLists (λ n. lists n ++ cond (is_among ports.now.list.now inputs.now n) (place ∷ []) []) all.new.items) }
     ensures len { OnOk result (length all.new.items ≡ length all.old.items) }
 {
     for j in 0..inputs.len() {
@@ -41,8 +42,8 @@ fn add_inputs(
     Ok(())
 }
 
-/// Adds the place of a condition to the list of the input that this port of it is, where none of the earlier ports is that input. A
-/// condition has few inputs.
+/// Adds the place of a condition to the list of the input that this port of it is, where none of the earlier ports is that input.
+/// A condition has few inputs.
 fn add_input(
     all: &mut Vec<Items<usize>>,
     ports: &Ports,
@@ -50,7 +51,8 @@ fn add_input(
     port: usize,
     place: usize,
 ) -> Result<(), AllocError>
-    ensures lists { OnOk result (AddsPlace (is_among ports.now.list.now earlier.now) (λ n. is_among ports.now.list.now earlier.now n || is_read ports.now.list.now n port) place all.old.items all.new.items) }
+    ensures lists { OnOk result (AddsPlace (is_among ports.now.list.now earlier.now)
+        (λ n. is_among ports.now.list.now earlier.now n || is_read ports.now.list.now n port) place all.old.items all.new.items) }
     ensures len { OnOk result (length all.new.items ≡ length all.old.items) }
 {
     let input = input_number(ports, port);

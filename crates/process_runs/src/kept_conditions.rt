@@ -1,5 +1,5 @@
-//! The values of the conditions of an entity, kept from one change to the next and found anew where an input of theirs changed. `room`
-//! has place for the columns of any table.
+//! The values of the conditions of an entity, kept from one change to the next and found anew where an input of theirs changed.
+//! `room` has place for the columns of any table.
 ghost use Rattle.std.specs.Prelude.{◌≡◌, ◌<◌, All, length, map, drop, IfOk, Some, slice_get};
 ghost use Rattle.model_traces.specs.ProcessValues.{truth_value};
 ghost use Rattle.run_parts.specs.Places.{FindsAnew};
@@ -69,7 +69,8 @@ pub(crate) fn find_anew(
     requires room { HasRoom (length room.old) tables.now.model.now }
     requires inside { All (λ place. place < length tables.now.model.now.conditions) places.now }
     requires one_each { length values.old ≡ length tables.now.model.now.conditions }
-    ensures anew { FindsAnew (truth_value tables.now.model.now.ports inputs.now) tables.now.model.now.conditions places.now values.old values.new }
+    ensures anew { FindsAnew (truth_value tables.now.model.now.ports inputs.now) tables.now.model.now.conditions places.now
+        values.old values.new }
     ensures room { length room.new ≡ length room.old }
 {
     for j in 0..places.len() {

@@ -1,5 +1,5 @@
-//! The simulator of a VITAL entity, and the run of its process, event by event: the look-ups of its tables, the values and the delays
-//! of its outputs. (IEEE 1076.4-2000.)
+//! The simulator of a VITAL entity, and the run of its process, event by event: the look-ups of its tables, the values and the
+//! delays of its outputs. (IEEE 1076.4-2000.)
 #![tactic(auto)]
 
 mod conditions;

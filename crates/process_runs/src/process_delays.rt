@@ -34,7 +34,8 @@ fn gate_holds(values: &EntityValues, gate: &HGate) -> bool
 
 /// The delay that a path gives, there where it begins at the input and its condition holds.
 fn path_delay(values: &EntityValues, change: OutputChange, path: &HPath) -> Option<u64>
-    ensures { result ≡ path_delay_of (begins_at values.now.tables.model.now.ports change.input) (path_at values.now.tables.model.now values.now.inputs.now) change.from change.to path.now }
+    ensures { result ≡ path_delay_of (begins_at values.now.tables.model.now.ports change.input)
+        (path_at values.now.tables.model.now values.now.inputs.now) change.from change.to path.now }
 {
     if input_number(&values.tables.ports(), path.from) != change.input {
         return None;
@@ -47,7 +48,8 @@ fn path_delay(values: &EntityValues, change: OutputChange, path: &HPath) -> Opti
 
 /// The least delay over the paths of an output that hold, 0 where none does.
 pub(crate) fn least_delay(values: &EntityValues, change: OutputChange, output: &VOutput) -> u64
-    ensures { result ≡ least_delay change.from change.to (paths_from values.now.tables.model.now values.now.inputs.now change.input output.now) }
+    ensures { result ≡ least_delay change.from change.to
+        (paths_from values.now.tables.model.now values.now.inputs.now change.input output.now) }
 {
     let paths = output.paths.as_slice();
     let mut best = None;

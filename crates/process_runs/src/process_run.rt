@@ -5,7 +5,8 @@ ghost use Rattle.cell_machine.specs.Report.{any_true};
 ghost use Rattle.model_traces.specs.PortNumbers.{input_count};
 ghost use Rattle.process_runs.specs.EntityRooms.{IsSound, HasRoom};
 ghost use Rattle.process_runs.specs.KeptConditions.{condition_values};
-ghost use Rattle.process_runs.specs.EntitySteps.{HasParts, start_state, violation_by, event_reports, event_step, state_step, change_reports, IsReady, CanTake};
+ghost use Rattle.process_runs.specs.EntitySteps.{HasParts, start_state, violation_by, event_reports, event_step, state_step};
+ghost use Rattle.process_runs.specs.EntitySteps.{change_reports, IsReady, CanTake};
 
 use crate::entity_tables::EntityTables;
 use crate::entity_values::EntityValues;
@@ -86,7 +87,14 @@ fn change_input(
     requires current { conditions.old ≡ condition_values tables.now.model.now run.old.inputs }
     requires each_input { length run.old.inputs ≡ input_count tables.now.model.now.ports }
     requires inside { change.pin < length run.old.inputs }
-    ensures changed { run.new ≡ record { inputs = slice_set run.old.inputs change.pin change.to; before = run.old.before; states = run.old.states; violation = run.old.violation; stamps = run.old.stamps } }
+    ensures changed { run.new ≡ record {
+      inputs = slice_set run.old.inputs change.pin change.to;
+      before = run.old.before;
+      states =
+          run.old.states;
+      violation = run.old.violation;
+      stamps = run.old.stamps;
+    } }
     ensures current { conditions.new ≡ condition_values tables.now.model.now (slice_set run.old.inputs change.pin change.to) }
     ensures room { length room.new ≡ length room.old }
 {
@@ -106,9 +114,11 @@ fn step_event(
     earlier: &mut Items<Trit>,
     room: &mut Items<Trit>,
 )
-    requires able { CanTake tables.now.model.now run.old conditions.old reports.old (length earlier.old) (length room.old) change.pin }
+    requires able { CanTake tables.now.model.now run.old conditions.old reports.old (length earlier.old)
+        (length room.old) change.pin }
     requires from { from ≡ value_before run.old.inputs change }
-    ensures stepped { run.new ≡ event_step tables.now.model.now run.old change (violation_by (any_true (event_reports tables.now.model.now run.old change))) }
+    ensures stepped { run.new ≡ event_step tables.now.model.now run.old change
+        (violation_by (any_true (event_reports tables.now.model.now run.old change))) }
     ensures reports { reports.new ≡ event_reports tables.now.model.now run.old change }
     ensures ready { IsReady tables.now.model.now run.new conditions.new reports.new (length earlier.new) (length room.new) }
 {

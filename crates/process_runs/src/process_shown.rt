@@ -35,7 +35,8 @@ fn output_step(
     requires words { AreKept truth_words words.now (value_rows output.now.value) }
     requires room { HasRoom (length room.old) values.now.tables.model.now }
     requires columns { source_count output.now.value ≤ length room.old }
-    ensures shown { result ≡ output_step values.now.tables.model.now values.now.inputs.now values.now.states.now input output.now was }
+    ensures shown { result ≡ output_step values.now.tables.model.now values.now.inputs.now values.now.states.now input output.now
+        was }
     ensures len { length room.new ≡ length room.old }
 {
     let value = output_value(values, &output.value, words, room);
@@ -67,7 +68,8 @@ pub(crate) fn show_entity(
     requires sound { IsSound values.now.tables.model.now }
     requires room { HasRoom (length room.old) values.now.tables.model.now }
     requires one_each { length shown.old ≡ length values.now.tables.model.now.outputs }
-    ensures stepped { shown.new ≡ each (output_step values.now.tables.model.now values.now.inputs.now values.now.states.now input) values.now.tables.model.now.outputs shown.old }
+    ensures stepped { shown.new ≡ each (output_step values.now.tables.model.now values.now.inputs.now values.now.states.now input)
+        values.now.tables.model.now.outputs shown.old }
     ensures len { length shown.new ≡ length shown.old }
     ensures room { length room.new ≡ length room.old }
 {
@@ -88,7 +90,9 @@ fn show_start(
 ) -> Result<Items<ShownPort>, AllocError>
     requires sound { IsSound values.now.tables.model.now }
     requires room { HasRoom (length room.old) values.now.tables.model.now }
-    ensures shown { IfOk result (λ shown. shown ≡ map (output_first values.now.tables.model.now values.now.inputs.now values.now.states.now) values.now.tables.model.now.outputs) }
+    ensures shown { IfOk result (λ shown. shown ≡ map
+        (output_first values.now.tables.model.now values.now.inputs.now values.now.states.now)
+        values.now.tables.model.now.outputs) }
     ensures len { length room.new ≡ length room.old }
 {
     let mut shown = Items::new(alloc);
@@ -117,7 +121,8 @@ pub(crate) fn first_shown(
     requires sound { IsSound tables.now.model.now }
     requires room { HasRoom (length room.old) tables.now.model.now }
     requires current { conditions.now ≡ condition_values tables.now.model.now inputs.now }
-    ensures { IfOk result (λ shown. shown ≡ map (output_first tables.now.model.now inputs.now states.now) tables.now.model.now.outputs) }
+    ensures { IfOk result (λ shown. shown ≡ map (output_first tables.now.model.now inputs.now states.now)
+        tables.now.model.now.outputs) }
 {
     let values = EntityValues {
         tables: *tables,

@@ -87,7 +87,8 @@ pub(crate) fn step_entity(
     requires earlier { HasRoom (length earlier.old) tables.now.model.now }
     requires room { HasRoom (length room.old) tables.now.model.now }
     requires one_each { length states.old ≡ length tables.now.model.now.states }
-    ensures stepped { states.new ≡ each (next_by tables.now.model.now was before.now violation inputs.now) tables.now.model.now.states states.old }
+    ensures stepped { states.new ≡ each (next_by tables.now.model.now was before.now violation inputs.now)
+        tables.now.model.now.states states.old }
     ensures len { length states.new ≡ length states.old }
     ensures earlier { length earlier.new ≡ length earlier.old }
     ensures room { length room.new ≡ length room.old }

@@ -1,5 +1,5 @@
-//! The values of an entity's conditions and outputs, of the values of its inputs and its states. `room` has place for the columns of
-//! any table.
+//! The values of an entity's conditions and outputs, of the values of its inputs and its states. `room` has place for the columns
+//! of any table.
 ghost use Rattle.std.specs.Prelude.{◌≡◌, ◌+◌, ◌<◌, ◌≤◌, ◌++◌, length, map, take, All};
 ghost use Rattle.udp_tables.specs.Tables.{AreKept};
 ghost use Rattle.vital_models.specs.Sound.{IsValue};
@@ -27,7 +27,8 @@ pub(crate) fn feed(
 )
     requires first { start ≤ 1 }
     requires room { start + length nets.now ≤ length room.old }
-    ensures front { take (start + length nets.now) room.new ≡ take start room.old ++ map (input_value ports.now.list.now inputs.now) nets.now }
+    ensures front { take (start + length nets.now) room.new ≡ take start room.old
+        ++ map (input_value ports.now.list.now inputs.now) nets.now }
     ensures len { length room.new ≡ length room.old }
 {
     for i in 0..nets.len() {

@@ -1,5 +1,6 @@
 -- Inputs of which no row that may match asks anything may have any values.
-use Rattle.std.proofs.Common.{◌≡◌, ◌≢◌, ℕ, zero, suc, ◌<◌, ◌≤◌, Bool, true, false, not, cond, ◌&&◌, ◌||◌, nat_eq, List, [], ◌∷◌, length, map, refl, sym, ◌∙◌, ap, inl, inr, arith}
+use Rattle.std.proofs.Common.{◌≡◌, ◌≢◌, ℕ, zero, suc, ◌<◌, ◌≤◌, Bool, true, false, not, cond, ◌&&◌, ◌||◌, nat_eq, List, [], ◌∷◌}
+use Rattle.std.proofs.Common.{length, map, refl, sym, ◌∙◌, ap, inl, inr, arith}
 use Rattle.std.specs.Prelude.{All, slice_set, slice_index_or}
 use Rattle.std.specs.List.{list_all}
 use Rattle.std.proofs.lemmas.Bool.{cases_Bool, cases_eq, false≢true, eq-eqb}
@@ -46,7 +47,8 @@ either false b h e = absurd (false≢true e)
 entry-same :
     (n k : ℕ) (e : Entry) (values others : List Trit)
     → (not (nat_eq k n) || is_any e) ≡ true → ((j : ℕ) → j ≢ n → numbered_value values j ≡ numbered_value others j)
-    → entry_matches e (numbered_value values k) (numbered_value values k) ≡ entry_matches e (numbered_value others k) (numbered_value others k)
+    → entry_matches e (numbered_value values k) (numbered_value values k) ≡ entry_matches e (numbered_value others k)
+    (numbered_value others k)
 entry-same n k e values others h same =
     elim (cases_eq k n) [
       | inl at ↦
@@ -125,13 +127,16 @@ row-free p old n order row values others state h wide inside few same =
       | inl asks ↦ ap (λ b. b && level_matches row.state state) (changing p old n order row.inputs values others asks same)
       | inr asks ↦
           let out = by-not (selects p old row) (sym (ap (λ b. b || not (selects p old row)) asks) ∙ h) in
-          not-selected p old row one state out (wide ∙ sym one-long) (omega (arith, inside, one-long)) (omega (arith, few, one-long))
-          ∙ sym (not-selected p old row other state out (wide ∙ sym other-long) (omega (arith, inside, other-long)) (omega (arith, few, other-long)))
+          not-selected p old row one state out (wide ∙ sym one-long) (omega (arith, inside, one-long))
+          (omega (arith, few, one-long))
+          ∙ sym (not-selected p old row other state out (wide ∙ sym other-long) (omega (arith, inside, other-long))
+          (omega (arith, few, other-long)))
     ]
 
 -- the first row that is hit, by two tests that are the same
 first-same :
-    (one other : UdpRow → Bool) (value : UdpRow → Trit) (keep : UdpRow → Bool) (P : UdpRow → Type 0) (rows : List UdpRow) (o r : Trit)
+    (one other : UdpRow → Bool) (value : UdpRow → Trit) (keep : UdpRow → Bool) (P : UdpRow → Type 0) (rows : List UdpRow)
+    (o r : Trit)
     → list_all keep rows ≡ true → All P rows → ((row : UdpRow) → keep row ≡ true → P row → one row ≡ other row) → o ≡ r
     → first one value rows o ≡ first other value rows r
 first-same one other value keep P [] o r k all same e = e

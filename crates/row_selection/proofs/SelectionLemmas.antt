@@ -1,8 +1,10 @@
 -- Selected rows: their words tell exactly whether their levels match, and they decide as all rows do.
-use Rattle.std.proofs.Common.{◌≡◌, ℕ, zero, suc, ◌+◌, ◌*◌, ◌<◌, ◌≤◌, Bool, true, false, cond, ◌&&◌, ◌||◌, nat_eq, bit_and, List, [], ◌∷◌, ◌++◌, length, map, take, refl, sym, ◌∙◌, ap, subst, inl, inr, arith, length-set}
+use Rattle.std.proofs.Common.{◌≡◌, ℕ, zero, suc, ◌+◌, ◌*◌, ◌<◌, ◌≤◌, Bool, true, false, cond, ◌&&◌, ◌||◌, nat_eq, bit_and, List}
+use Rattle.std.proofs.Common.{[], ◌∷◌, ◌++◌, length, map, take, refl, sym, ◌∙◌, ap, subst, inl, inr, arith, length-set}
 use Rattle.std.specs.Prelude.{All, filter, slice_set, slice_index_or}
 use Rattle.std.specs.List.{list_all}
-use Rattle.std.proofs.lemmas.Bool.{cases_Bool, cases_eq, false≢true, eq-eqb, ne_eqb, and_left, and_right, and_from, or_left, or_right}
+use Rattle.std.proofs.lemmas.Bool.{cases_Bool, cases_eq, false≢true, eq-eqb, ne_eqb, and_left, and_right, and_from, or_left}
+use Rattle.std.proofs.lemmas.Bool.{or_right}
 use Rattle.std.proofs.lemmas.List.{take_all}
 use Rattle.std.proofs.lemmas.Nat.{and_le_l}
 use Rattle.trit_cubes.specs.declared.trits.Trit.{Trit}
@@ -50,7 +52,9 @@ value_bits-below : (l : Level) → value_bits l < 4
 value_bits-below l = grind arith
 
 -- at an input that does not change, no entry matches that is no level
-entry-exact : (e : Entry) (t : Trit) → (is_level e && nat_eq (bit_and (value_bits (level_of t)) (asked_bits (level_after e))) (value_bits (level_after e))) ≡ entry_matches e t t
+entry-exact : (e : Entry) (t : Trit)
+    → (is_level e && nat_eq (bit_and (value_bits (level_of t)) (asked_bits (level_after e)))
+    (value_bits (level_after e))) ≡ entry_matches e t t
 entry-exact (entry.Level l) t = bits-exact l t
 entry-exact (entry.Pair v w) Zero = refl
 entry-exact (entry.Pair v w) One = refl
@@ -75,7 +79,8 @@ nat_eq-blocks : (b d m n : ℕ) → b < 4 → d < 4 → nat_eq (b + 4 * m) (d + 
 nat_eq-blocks b d m n p q =
     elim (cases_eq b d) [
       | inl e ↦ elim (cases_eq m n) [
-        | inl h ↦ eq-eqb (b + 4 * m) (d + 4 * n) (omega arith) ∙ sym (and_from (nat_eq b d) (nat_eq m n) (eq-eqb b d e) (eq-eqb m n h))
+        | inl h ↦ eq-eqb (b + 4 * m) (d + 4 * n) (omega arith)
+            ∙ sym (and_from (nat_eq b d) (nat_eq m n) (eq-eqb b d e) (eq-eqb m n h))
         | inr h ↦ ne_eqb (b + 4 * m) (d + 4 * n) (λ g. h (omega arith)) ∙ sym (and_right (nat_eq b d) (nat_eq m n) (ne_eqb m n h))
       ]
       | inr e ↦ ne_eqb (b + 4 * m) (d + 4 * n) (λ g. e (omega arith)) ∙ sym (and_left (nat_eq b d) (nat_eq m n) (ne_eqb b d e))
@@ -89,7 +94,8 @@ and-pairs false b c d = refl
 
 -- levels match exactly where the words do
 words-exact : (es : List Entry) (ts : List Trit) → length ts ≡ length es
-    → (list_all is_level es && nat_eq (bit_and (words_of (map level_of ts)).values (words_of (map level_after es)).asked) (words_of (map level_after es)).values)
+    → (list_all is_level es && nat_eq (bit_and (words_of (map level_of ts)).values (words_of (map level_after es)).asked)
+    (words_of (map level_after es)).values)
     ≡ columns_match entry_matches es ts ts
 words-exact [] [] f = refl
 words-exact [] (t ∷ ts) f = absurd (omega arith)
@@ -103,7 +109,8 @@ words-exact (e ∷ es) (t ∷ ts) f =
     let y = (words_of (map level_after es)).values in
     let levels = is_level e && list_all is_level es in
     let below : bit_and v a < 4 = omega (arith, and_le_l v a, value_bits-below (level_of t)) in
-    ap (λ n. levels && nat_eq n (b + 4 * y)) (and-blocks 2 v a w x (value_bits-below (level_of t)) (asked_bits-below (level_after e)))
+    ap (λ n. levels && nat_eq n (b + 4 * y))
+    (and-blocks 2 v a w x (value_bits-below (level_of t)) (asked_bits-below (level_after e)))
     ∙ ap (λ r. levels && r) (nat_eq-blocks (bit_and v a) b (bit_and w x) y below (value_bits-below (level_after e)))
     ∙ and-pairs (is_level e) (list_all is_level es) (nat_eq (bit_and v a) b) (nat_eq (bit_and w x) y)
     ∙ (λ i. entry-exact e t i && words-exact es ts (omega arith) i)
@@ -112,13 +119,15 @@ words-exact (e ∷ es) (t ∷ ts) f =
 at-change :
     (p : ℕ) (old : Trit) (es : List Entry) (ts : List Trit) → p < length es → length ts ≡ length es
     → columns_match entry_matches es (slice_set ts p old) ts
-    ≡ (entry_matches (slice_index_or es p any) old (slice_index_or ts p Unknown) && columns_match entry_matches (slice_set es p any) ts ts)
+    ≡ (entry_matches (slice_index_or es p any) old (slice_index_or ts p Unknown)
+    && columns_match entry_matches (slice_set es p any) ts ts)
 at-change p old [] ts l f = absurd (omega arith)
 at-change p old (e ∷ es) [] l f = absurd (omega arith)
 at-change zero old (e ∷ es) (t ∷ ts) l f = refl
 at-change (suc p) old (e ∷ es) (t ∷ ts) l f =
     ap (λ r. entry_matches e t t && r) (at-change p old es ts (omega arith) (omega arith))
-    ∙ and-swap (entry_matches e t t) (entry_matches (slice_index_or es p any) old (slice_index_or ts p Unknown)) (columns_match entry_matches (slice_set es p any) ts ts)
+    ∙ and-swap (entry_matches e t t) (entry_matches (slice_index_or es p any) old (slice_index_or ts p Unknown))
+    (columns_match entry_matches (slice_set es p any) ts ts)
 
 settled-exact :
     (p : ℕ) (row : UdpRow) (values : List Trit) → length row.inputs ≡ length values → length values ≤ 32
@@ -129,7 +138,9 @@ settled-exact p row values f few =
     let wide : length es ≡ length row.inputs = length-set row.inputs p any in
     let short : take 32 es ≡ es = take_all 32 es (omega (arith, wide, f, few)) in
     let whole : take 32 values ≡ values = take_all 32 values few in
-    (λ i. list_all is_level es && nat_eq (bit_and (words_of (map level_of (whole i))).values (words_of (map level_after (short i))).asked) (words_of (map level_after (short i))).values)
+    (λ i. list_all is_level es && nat_eq
+    (bit_and (words_of (map level_of (whole i))).values (words_of (map level_after (short i))).asked)
+    (words_of (map level_after (short i))).values)
     ∙ words-exact es values (omega (arith, wide, f))
 
 may-go : (e : Entry) (old new : Trit) → entry_matches e old new ≡ true → may_go e old ≡ true
@@ -158,7 +169,8 @@ row-hit p old row values state f l few =
     ap (λ b. b && level_matches row.state state)
     (at-change p old row.inputs values (omega (arith, f, l)) (sym f)
     ∙ ap (λ b. entry_matches e old new && b) (sym (settled-exact p row values f few)))
-    ∙ in-order (entry_matches e old new) (list_all is_level (settled p row)) (may_match (row_words level_after (settled p row)) (value_word values))
+    ∙ in-order (entry_matches e old new) (list_all is_level (settled p row))
+    (may_match (row_words level_after (settled p row)) (value_word values))
     (level_matches row.state state) (may_go e old) (may-go e old new)
 
 all-among : {X : Type 0} (P : X → Type 0) (xs : List X) → All P xs → (x : X) → Among x xs → P x
@@ -168,7 +180,8 @@ all-among P (y ∷ ys) h x (inr a) = all-among P ys (λ k d l. h (suc k) d (omeg
 
 -- the first of all rows, where those that are passed over are not hit
 first-selected :
-    {R S V : Type 0} (hit : R → Bool) (value : R → V) (keep : R → Bool) (f : R → S) (shit : S → Bool) (svalue : S → V) (rows : List R) (o : V)
+    {R S V : Type 0} (hit : R → Bool) (value : R → V) (keep : R → Bool) (f : R → S) (shit : S → Bool) (svalue : S
+    → V) (rows : List R) (o : V)
     → ((row : R) → Among row rows → hit row ≡ (keep row && shit (f row))) → ((row : R) → value row ≡ svalue (f row))
     → first hit value rows o ≡ first shit svalue (map f (filter keep rows)) o
 first-selected hit value keep f shit svalue [] o is same = refl
@@ -183,13 +196,15 @@ of-kind :
     (levels : Bool) (p : ℕ) (old : Trit) (rows : List UdpRow) (values : List Trit) (state o : Trit)
     → All (λ row. length row.inputs ≡ length values) rows → p < length values → length values ≤ 32
     → first (λ row. is_of levels row && row_matches (slice_set values p old) values state row) (row_next state) rows o
-    ≡ first (selected_hit (value_word values) old (slice_index_or values p Unknown) state) (λ row. next_of state row.next) (selected_of levels p old rows) o
+    ≡ first (selected_hit (value_word values) old (slice_index_or values p Unknown) state) (λ row. next_of state row.next)
+    (selected_of levels p old rows) o
 of-kind levels p old rows values state o wide inside few =
     let hit = selected_hit (value_word values) old (slice_index_or values p Unknown) state in
     first-selected (λ row. is_of levels row && row_matches (slice_set values p old) values state row) (row_next state)
     (λ row. is_of levels row && selects p old row) (selected_row p) hit (λ (row : SelectedRow). next_of state row.next) rows o
     (λ row a.
-    ap (λ b. is_of levels row && b) (row-hit p old row values state (all-among (λ (r : UdpRow). length r.inputs ≡ length values) rows wide row a) inside few)
+    ap (λ b. is_of levels row && b) (row-hit p old row values state
+    (all-among (λ (r : UdpRow). length r.inputs ≡ length values) rows wide row a) inside few)
     ∙ and-assoc (is_of levels row) (selects p old row) (hit (selected_row p row)))
     (λ row. refl)
 

@@ -1,6 +1,7 @@
 -- The rows of a primitive's table that may match at a change of one input from one value, and what the first of them gives that
 -- does. (What a row matches and which row decides: IEEE 1364-2005, clause 8.)
-use Rattle.std.specs.Prelude.{ℕ, Bool, true, false, not, ◌&&◌, ◌||◌, nat_eq, List, [], ◌∷◌, ◌++◌, map, filter, slice_set, slice_index_or}
+use Rattle.std.specs.Prelude.{ℕ, Bool, true, false, not, ◌&&◌, ◌||◌, nat_eq, List, [], ◌∷◌, ◌++◌, map, filter, slice_set}
+use Rattle.std.specs.Prelude.{slice_index_or}
 use Rattle.std.specs.List.{list_all}
 use Rattle.trit_cubes.specs.declared.trits.Trit.{Trit}
 use Rattle.trit_cubes.specs.declared.trits.Trit.TheVariants.{Zero, One, Unknown}
@@ -40,7 +41,13 @@ is_of false row = not (is_level_row row)
 -- what is asked of a row
 abbrev pub selected_row : ℕ → UdpRow → SelectedRow
 selected_row p row =
-    record { words = row_words level_after (settled p row); entry = slice_index_or row.inputs p any; state = row.state; next = row.next }
+    record {
+      words = row_words level_after (settled p row);
+      entry = slice_index_or row.inputs p any;
+      state = row.state;
+      next =
+          row.next;
+    }
 
 -- The rows that are selected, in the order in which they decide: those without a change entry, and then those with one.
 abbrev pub selected_of : Bool → ℕ → Trit → List UdpRow → List SelectedRow
@@ -52,7 +59,8 @@ selection p old rows = selected_of true p old rows ++ selected_of false p old ro
 -- Whether a selected row matches, where the inputs have this word, the one that changes goes from the one value to the other, and
 -- the state is this one.
 abbrev pub selected_hit : ℕ → Trit → Trit → Trit → SelectedRow → Bool
-selected_hit word old new state row = may_match row.words word && (entry_matches row.entry old new && level_matches row.state state)
+selected_hit word old new state row =
+    may_match row.words word && (entry_matches row.entry old new && level_matches row.state state)
 
 -- what the first selected row that matches gives, x without one
 abbrev pub chosen : ℕ → Trit → Trit → Trit → List SelectedRow → Trit

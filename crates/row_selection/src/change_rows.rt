@@ -99,7 +99,8 @@ impl<'a> ChangeRows<'a> {
     /// The same from each state.
     pub fn next_states(&self, inputs: &[Trit]) -> NextStates
         requires { length inputs.now ≡ length self.now.udp.now.inputs }
-        ensures { result ≡ next_states (udp_next self.now.udp.now.rows (slice_set inputs.now self.now.place self.now.old) inputs.now) }
+        ensures { result ≡ next_states (udp_next self.now.udp.now.rows (slice_set inputs.now self.now.place self.now.old)
+            inputs.now) }
     {
         let word = value_word(inputs);
         NextStates {

@@ -3,7 +3,8 @@ ghost use Rattle.std.specs.Prelude.{◌≡◌, ◌<◌, ◌≤◌, [], ◌∷◌
 ghost use Rattle.std.specs.List.{list_all};
 ghost use Rattle.udp_tables.specs.Primitive.{is_level};
 ghost use Rattle.udp_tables.specs.Sequential.{HasEntries};
-ghost use Rattle.row_selection.specs.Selection.{any, settled, may_go, selects, is_of, selected_row, selected_of, selected_hit, chosen, is_any, asks_nothing, ignored_by, ignored};
+ghost use Rattle.row_selection.specs.Selection.{any, settled, may_go, selects, is_of, selected_row, selected_of, selected_hit};
+ghost use Rattle.row_selection.specs.Selection.{chosen, is_any, asks_nothing, ignored_by, ignored};
 
 use cell_machine::Few;
 use trit_cubes::Trit;

@@ -16,7 +16,8 @@ pub IsFront-all : (files : Files) → IsFront files files
 IsFront-all files = ([], append-nil files)
 
 -- one file more
-pub bound_state-more : (s : DeskState) (files more : Files) (bytes : InSlot → List ℕ) → bound_state s (files ++ more) bytes ≡ bound_state (bound_state s files bytes) more bytes
+pub bound_state-more : (s : DeskState) (files more : Files) (bytes : InSlot → List ℕ)
+    → bound_state s (files ++ more) bytes ≡ bound_state (bound_state s files bytes) more bytes
 bound_state-more s [] more bytes = refl
 bound_state-more s (file ∷ files) more bytes = bound_state-more (bound_at s file.0 bytes) files more bytes
 
@@ -32,16 +33,21 @@ took_all-nothing s =
 -- some bytes of one slot are read
 pub took_all-only : (s : DeskState) (slot : InSlot) (n : ℕ) → took_all s (only slot n) ≡ took s slot n
 unfolding took_all
-took_all-only s Library n = took-zero (took (took (took s Library n) Verilog 0) Vital 0) Stimulus ∙ took-zero (took (took s Library n) Verilog 0) Vital ∙ took-zero (took s Library n) Verilog
+took_all-only s Library n = took-zero (took (took (took s Library n) Verilog 0) Vital 0) Stimulus
+    ∙ took-zero (took (took s Library n) Verilog 0) Vital ∙ took-zero (took s Library n) Verilog
 took_all-only s Verilog n =
-    took-zero (took (took (took s Library 0) Verilog n) Vital 0) Stimulus ∙ took-zero (took (took s Library 0) Verilog n) Vital ∙ ap (λ t. took t Verilog n) (took-zero s Library)
+    took-zero (took (took (took s Library 0) Verilog n) Vital 0) Stimulus ∙ took-zero (took (took s Library 0) Verilog n) Vital
+    ∙ ap (λ t. took t Verilog n) (took-zero s Library)
 took_all-only s Vital n =
-    took-zero (took (took (took s Library 0) Verilog 0) Vital n) Stimulus ∙ ap (λ t. took t Vital n) (took-zero (took s Library 0) Verilog ∙ took-zero s Library)
+    took-zero (took (took (took s Library 0) Verilog 0) Vital n) Stimulus
+    ∙ ap (λ t. took t Vital n) (took-zero (took s Library 0) Verilog ∙ took-zero s Library)
 took_all-only s Stimulus n =
-    ap (λ t. took t Stimulus n) (took-zero (took (took s Library 0) Verilog 0) Vital ∙ took-zero (took s Library 0) Verilog ∙ took-zero s Library)
+    ap (λ t. took t Stimulus n) (took-zero (took (took s Library 0) Verilog 0) Vital ∙ took-zero (took s Library 0) Verilog
+    ∙ took-zero s Library)
 
 -- what is left of a slot that was bound
-pub left_opened : (s : DeskState) (slot : InSlot) (bytes : List ℕ) → (opened s slot bytes).left slot ≡ option_map (λ _. bytes) (s.left slot)
+pub left_opened : (s : DeskState) (slot : InSlot) (bytes : List ℕ)
+    → (opened s slot bytes).left slot ≡ option_map (λ _. bytes) (s.left slot)
 unfolding opened
 left_opened s Library bytes = refl
 left_opened s Verilog bytes = refl
@@ -54,5 +60,6 @@ left_told None bytes h = absurd cc
 left_told (Some x) bytes h = refl
 
 -- the bytes of the file that a word names, where the desk tells its folder
-pub named_bytes : (s : DeskState) (folder : Folder) (place : ℕ) (bytes : List ℕ) → s.folder ≡ Some folder → IsFileAt s place bytes → bytes_at s.words folder place ≡ bytes
+pub named_bytes : (s : DeskState) (folder : Folder) (place : ℕ) (bytes : List ℕ) → s.folder ≡ Some folder → IsFileAt s place bytes
+    → bytes_at s.words folder place ≡ bytes
 named_bytes s folder place bytes e f = ap (λ o. unwrap_or o []) (rw e at f)

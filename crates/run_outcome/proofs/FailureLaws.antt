@@ -1,5 +1,6 @@
 -- How many calls failed in a run, by its status.
-use Rattle.std.proofs.Common.{◌≡◌, ℕ, ◌∙◌, Bool, true, false, Result, Ok, Err, MatchResult, IsTrue, if◌then◌else◌, refl, sym, subst, arith}
+use Rattle.std.proofs.Common.{◌≡◌, ℕ, ◌∙◌, Bool, true, false, Result, Ok, Err, MatchResult, IsTrue, if◌then◌else◌, refl, sym}
+use Rattle.std.proofs.Common.{subst, arith}
 use Rattle.text_io.specs.declared.outside.Failed.{Failed}
 use Rattle.text_io.specs.declared.stop.Stop.{Stop}
 use Rattle.text_io.specs.declared.stop.Stop.TheVariants as stops
@@ -10,7 +11,8 @@ use Rattle.run_outcome.specs.Status.{is_decided, is_unfailed, status_by, status_
 use Rattle.run_outcome.specs.Runs.{StopsWithStatus}
 
 -- where none had failed before, one failed in a run that ends so, or none
-pub counted_once : (end : Status) (before now : ℕ) → before ≡ 0 → (IsTrue (is_unfailed end) → now ≡ before) → (end ≡ status.Outside → Rose before now)
+pub counted_once : (end : Status) (before now : ℕ) → before ≡ 0 → (IsTrue (is_unfailed end) → now ≡ before)
+    → (end ≡ status.Outside → Rose before now)
     → now ≡ (if is_unfailed end then 0 else 1)
 counted_once status.Outside before now none kept rose = omega (arith, none, rose refl)
 counted_once status.Memory before now none kept rose = let same : now ≡ before = kept cc in same ∙ none
@@ -29,7 +31,8 @@ pub record IsPlain (end : Status) : Type 0 where
   pub has_reading : end ≡ status.Usage → ⊥
 
 -- a run ends with what was written last, or where this failed
-pub ends_by_writing : {T : Type 0} (before now : ℕ) (written : Result T Failed) (end result : Status) → IsPlain end → HasCause before now written
+pub ends_by_writing : {T : Type 0} (before now : ℕ) (written : Result T Failed) (end result : Status) → IsPlain end
+    → HasCause before now written
     → MatchResult written (λ _. result ≡ end) (λ _. result ≡ status.Outside) → StopsWithStatus before now result
 ends_by_writing before now (Ok x) end result plain h is = subst (StopsWithStatus before now) (sym is) (record {
   counts = record { later = h.later; kept = λ u. h.kept; failed = λ e. absurd (plain.no_failure e) };
@@ -40,7 +43,8 @@ ends_by_writing before now (Err y) end result plain h is = subst (StopsWithStatu
   usage = λ e. absurd cc;
 })
 
-by_call : {T : Type 0} (ends : T → Status) (before now : ℕ) (last : Result T Stop) → ((value : T) → IsPlain (ends value)) → StopsWithCause before now last
+by_call : {T : Type 0} (ends : T → Status) (before now : ℕ) (last : Result T Stop) → ((value : T) → IsPlain (ends value))
+    → StopsWithCause before now last
     → StopsWithStatus before now (status_by ends last)
 by_call ends before now (Ok value) plain h = record {
   counts = record { later = h.later; kept = λ u. h.kept; failed = λ e. absurd ((plain value).no_failure e) };
@@ -56,10 +60,12 @@ by_call ends before now (Err stops.Memory) plain h = record {
 }
 
 -- a run counts its failed calls as its last call does, before which none failed
-pub ends_by_call : {T : Type 0} (ends : T → Status) (before now after : ℕ) (last : Result T Stop) (result : Status) → ((value : T) → IsPlain (ends value))
+pub ends_by_call : {T : Type 0} (ends : T → Status) (before now after : ℕ) (last : Result T Stop) (result : Status)
+    → ((value : T) → IsPlain (ends value))
     → now ≡ before → StopsWithCause now after last → result ≡ status_by ends last → StopsWithStatus before after result
 ends_by_call ends before now after last result plain kept h is =
-    subst (λ count. StopsWithStatus count after result) kept (subst (StopsWithStatus now after) (sym is) (by_call ends now after last plain h))
+    subst (λ count. StopsWithStatus count after result) kept
+    (subst (StopsWithStatus now after) (sym is) (by_call ends now after last plain h))
 
 where_plain : (some_differ : Bool) → IsPlain (status_where some_differ)
 where_plain true = record { no_failure = λ e. absurd cc; has_reading = λ e. absurd cc }
@@ -68,4 +74,5 @@ where_plain false = record { no_failure = λ e. absurd cc; has_reading = λ e. a
 -- so does a run that compares
 pub ends_by_comparing : (before now after : ℕ) (compared : Result Bool Stop) (result : Status) → now ≡ before
     → StopsWithCause now after compared → result ≡ compared_status compared → StopsWithStatus before after result
-ends_by_comparing before now after compared result kept h is = ends_by_call status_where before now after compared result where_plain kept h is
+ends_by_comparing before now after compared result kept h is =
+    ends_by_call status_where before now after compared result where_plain kept h is

@@ -1,5 +1,6 @@
 -- What was known of a desk before files were bound and read, and the files that are bound.
-use Rattle.std.proofs.Common.{◌≡◌, ◌<◌, ℕ, ◌+◌, zero, suc, Bool, true, false, ◌||◌, ◌&&◌, List, [], ◌∷◌, ◌++◌, take, length, drop, Option, Some, None, IfSome, IsSome, refl, sym, ap, subst, ◌∙◌, append_assoc, arith}
+use Rattle.std.proofs.Common.{◌≡◌, ◌<◌, ℕ, ◌+◌, zero, suc, Bool, true, false, ◌||◌, ◌&&◌, List, [], ◌∷◌, ◌++◌, take, length, drop}
+use Rattle.std.proofs.Common.{Option, Some, None, IfSome, IsSome, refl, sym, ap, subst, ◌∙◌, append_assoc, arith}
 use Rattle.std.specs.Prelude.{slice_index_or}
 use Rattle.std.specs.Option.{option_map}
 use Rattle.std.proofs.lemmas.List.{length-append}
@@ -41,7 +42,8 @@ words-bound_state s (file ∷ files) bytes = words-bound_state (bound_at s file.
 
 folder-bound_state : (s : DeskState) (files : Files) (bytes : InSlot → List ℕ) → (bound_state s files bytes).folder ≡ s.folder
 folder-bound_state s [] bytes = refl
-folder-bound_state s (file ∷ files) bytes = folder-bound_state (bound_at s file.0 bytes) files bytes ∙ folder-bound_at s file.0 bytes
+folder-bound_state s (file ∷ files) bytes = folder-bound_state (bound_at s file.0 bytes) files bytes
+    ∙ folder-bound_at s file.0 bytes
 
 words-took_all : (s : DeskState) (taken : InSlot → ℕ) → (took_all s taken).words ≡ s.words
 unfolding took took_all
@@ -51,35 +53,45 @@ folder-took_all : (s : DeskState) (taken : InSlot → ℕ) → (took_all s taken
 unfolding took took_all
 folder-took_all s taken = refl
 
-pub words_before : (old now : DeskState) (files : Files) (bytes : InSlot → List ℕ) (taken : InSlot → ℕ) → now ≡ took_all (bound_state old files bytes) taken → now.words ≡ old.words
-words_before old now files bytes taken e = ap (λ s. s.words) e ∙ words-took_all (bound_state old files bytes) taken ∙ words-bound_state old files bytes
+pub words_before : (old now : DeskState) (files : Files) (bytes : InSlot → List ℕ) (taken : InSlot → ℕ)
+    → now ≡ took_all (bound_state old files bytes) taken → now.words ≡ old.words
+words_before old now files bytes taken e = ap (λ s. s.words) e ∙ words-took_all (bound_state old files bytes) taken
+    ∙ words-bound_state old files bytes
 
-folder_before : (old now : DeskState) (files : Files) (bytes : InSlot → List ℕ) (taken : InSlot → ℕ) → now ≡ took_all (bound_state old files bytes) taken → now.folder ≡ old.folder
-folder_before old now files bytes taken e = ap (λ s. s.folder) e ∙ folder-took_all (bound_state old files bytes) taken ∙ folder-bound_state old files bytes
+folder_before : (old now : DeskState) (files : Files) (bytes : InSlot → List ℕ) (taken : InSlot → ℕ)
+    → now ≡ took_all (bound_state old files bytes) taken → now.folder ≡ old.folder
+folder_before old now files bytes taken e = ap (λ s. s.folder) e ∙ folder-took_all (bound_state old files bytes) taken
+    ∙ folder-bound_state old files bytes
 
-file_at_same : (s t : DeskState) (place : ℕ) (bytes : List ℕ) → s.words ≡ t.words → s.folder ≡ t.folder → IsFileAt s place bytes → IsFileAt t place bytes
+file_at_same : (s t : DeskState) (place : ℕ) (bytes : List ℕ) → s.words ≡ t.words → s.folder ≡ t.folder → IsFileAt s place bytes
+    → IsFileAt t place bytes
 file_at_same s t place bytes w f h = rw (w, f) at h
 
 -- a file that a word names was so before
-pub file_before : (old now : DeskState) (files : Files) (bytes : InSlot → List ℕ) (taken : InSlot → ℕ) (place : ℕ) (content : List ℕ) → now ≡ took_all (bound_state old files bytes) taken
+pub file_before : (old now : DeskState) (files : Files) (bytes : InSlot → List ℕ) (taken : InSlot
+    → ℕ) (place : ℕ) (content : List ℕ) → now ≡ took_all (bound_state old files bytes) taken
     → IsFileAt now place content → IsFileAt old place content
 file_before old now files bytes taken place content e h =
     file_at_same now old place content (words_before old now files bytes taken e) (folder_before old now files bytes taken e) h
 
 -- What is left of a slot that none of the files is bound to.
 
-left-bound_at : (s : DeskState) (slot : Slot) (bytes : InSlot → List ℕ) (t : InSlot) → is_input_slot t slot ≡ false → (bound_at s slot bytes).left t ≡ s.left t
+left-bound_at : (s : DeskState) (slot : Slot) (bytes : InSlot → List ℕ) (t : InSlot) → is_input_slot t slot ≡ false
+    → (bound_at s slot bytes).left t ≡ s.left t
 unfolding opened created
-left-bound_at s (Input slot) bytes t other = put_in-other s.left slot (option_map (λ _. bytes slot) (s.left slot)) t (same_in-swap slot t ∙ other)
+left-bound_at s (Input slot) bytes t other =
+    put_in-other s.left slot (option_map (λ _. bytes slot) (s.left slot)) t (same_in-swap slot t ∙ other)
 left-bound_at s (Output slot) bytes t other = refl
 
-left-bound_state : (s : DeskState) (files : Files) (bytes : InSlot → List ℕ) (t : InSlot) → is_read_among t files ≡ false → (bound_state s files bytes).left t ≡ s.left t
+left-bound_state : (s : DeskState) (files : Files) (bytes : InSlot → List ℕ) (t : InSlot) → is_read_among t files ≡ false
+    → (bound_state s files bytes).left t ≡ s.left t
 left-bound_state s [] bytes t fresh = refl
 left-bound_state s (file ∷ files) bytes t fresh =
     left-bound_state (bound_at s file.0 bytes) files bytes t (second_false (is_input_slot t file.0) (is_read_among t files) fresh)
     ∙ left-bound_at s file.0 bytes t (first_false (is_input_slot t file.0) (is_read_among t files) fresh)
 
-left_before : (old now : DeskState) (files : Files) (bytes : InSlot → List ℕ) (taken : InSlot → ℕ) (slot : InSlot) → is_read_among slot files ≡ false
+left_before : (old now : DeskState) (files : Files) (bytes : InSlot → List ℕ) (taken : InSlot → ℕ) (slot : InSlot)
+    → is_read_among slot files ≡ false
     → now ≡ took_all (bound_state old files bytes) taken → now.left slot ≡ option_map (drop (taken slot)) (old.left slot)
 left_before old now files bytes taken slot fresh e =
     ap (λ s. s.left slot) e
@@ -91,31 +103,39 @@ of_told None now n P e told h = absurd cc
 of_told (Some left) now n P e told h = rw e at h
 
 -- what holds where the desk tells what is left of a slot that none of the files is bound to
-pub where_told : (old now : DeskState) (files : Files) (bytes : InSlot → List ℕ) (taken : InSlot → ℕ) (slot : InSlot) (P : Type 0) → is_read_among slot files ≡ false
+pub where_told : (old now : DeskState) (files : Files) (bytes : InSlot → List ℕ) (taken : InSlot → ℕ) (slot : InSlot) (P : Type 0)
+    → is_read_among slot files ≡ false
     → now ≡ took_all (bound_state old files bytes) taken → IsSome (old.left slot) → IfSome (now.left slot) (λ _. P) → P
 where_told old now files bytes taken slot P fresh e told h =
     of_told (old.left slot) (now.left slot) (taken slot) P (left_before old now files bytes taken slot fresh e) told h
 
 -- Bytes for one slot more.
 
-bound_at-put : (s : DeskState) (slot : Slot) (bytes : InSlot → List ℕ) (t : InSlot) (content : List ℕ) → is_input_slot t slot ≡ false
+bound_at-put : (s : DeskState) (slot : Slot) (bytes : InSlot → List ℕ) (t : InSlot) (content : List ℕ)
+    → is_input_slot t slot ≡ false
     → bound_at s slot (put_in bytes t content) ≡ bound_at s slot bytes
 bound_at-put s (Input slot) bytes t content other = ap (opened s slot) (put_in-other bytes t content slot other)
 bound_at-put s (Output slot) bytes t content other = refl
 
-pub bound_state-put : (s : DeskState) (files : Files) (bytes : InSlot → List ℕ) (t : InSlot) (content : List ℕ) → is_read_among t files ≡ false
+pub bound_state-put : (s : DeskState) (files : Files) (bytes : InSlot → List ℕ) (t : InSlot) (content : List ℕ)
+    → is_read_among t files ≡ false
     → bound_state s files (put_in bytes t content) ≡ bound_state s files bytes
 bound_state-put s [] bytes t content fresh = refl
 bound_state-put s (file ∷ files) bytes t content fresh =
-    bound_state-put (bound_at s file.0 (put_in bytes t content)) files bytes t content (second_false (is_input_slot t file.0) (is_read_among t files) fresh)
-    ∙ ap (λ x. bound_state x files bytes) (bound_at-put s file.0 bytes t content (first_false (is_input_slot t file.0) (is_read_among t files) fresh))
+    bound_state-put (bound_at s file.0 (put_in bytes t content)) files bytes t content
+    (second_false (is_input_slot t file.0) (is_read_among t files) fresh)
+    ∙ ap (λ x. bound_state x files bytes)
+    (bound_at-put s file.0 bytes t content (first_false (is_input_slot t file.0) (is_read_among t files) fresh))
 
-named-put : (s : DeskState) (slot : Slot) (place : ℕ) (bytes : InSlot → List ℕ) (t : InSlot) (content : List ℕ) → is_input_slot t slot ≡ false
+named-put : (s : DeskState) (slot : Slot) (place : ℕ) (bytes : InSlot → List ℕ) (t : InSlot) (content : List ℕ)
+    → is_input_slot t slot ≡ false
     → IsNamed s slot place bytes → IsNamed s slot place (put_in bytes t content)
-named-put s (Input slot) place bytes t content other h = subst (IsFileAt s place) (sym (put_in-other bytes t content slot other)) h
+named-put s (Input slot) place bytes t content other h =
+    subst (IsFileAt s place) (sym (put_in-other bytes t content slot other)) h
 named-put s (Output slot) place bytes t content other h = tt
 
-pub AreNamed-put : (s : DeskState) (files : Files) (bytes : InSlot → List ℕ) (t : InSlot) (content : List ℕ) → is_read_among t files ≡ false
+pub AreNamed-put : (s : DeskState) (files : Files) (bytes : InSlot → List ℕ) (t : InSlot) (content : List ℕ)
+    → is_read_among t files ≡ false
     → AreNamed s files bytes → AreNamed s files (put_in bytes t content)
 AreNamed-put s [] bytes t content fresh h = tt
 AreNamed-put s (file ∷ files) bytes t content fresh h = (
@@ -123,7 +143,8 @@ AreNamed-put s (file ∷ files) bytes t content fresh h = (
   AreNamed-put s files bytes t content (second_false (is_input_slot t file.0) (is_read_among t files) fresh) h.1,
 )
 
-pub AreNamed-more : (s : DeskState) (files more : Files) (bytes : InSlot → List ℕ) → AreNamed s files bytes → AreNamed s more bytes → AreNamed s (files ++ more) bytes
+pub AreNamed-more : (s : DeskState) (files more : Files) (bytes : InSlot → List ℕ) → AreNamed s files bytes
+    → AreNamed s more bytes → AreNamed s (files ++ more) bytes
 AreNamed-more s [] more bytes h k = k
 AreNamed-more s (file ∷ files) more bytes h k = (h.0, AreNamed-more s files more bytes h.1 k)
 
@@ -135,18 +156,22 @@ Tells-behind [] more s folder h = h
 Tells-behind (file ∷ files) more s folder h = Tells-behind files more s folder h.1
 
 -- the desk tells the file behind the first
-pub tells_next : (files done others : Files) (slot : InSlot) (place : ℕ) (s : DeskState) (folder : Folder) → ((done ++ ((Input slot, place) ∷ [])) ++ others) ≡ files
+pub tells_next : (files done others : Files) (slot : InSlot) (place : ℕ) (s : DeskState) (folder : Folder)
+    → ((done ++ ((Input slot, place) ∷ [])) ++ others) ≡ files
     → Tells files s folder → TellsAt s folder (Input slot)
 tells_next files done others slot place s folder e h =
     let all = subst (λ f. Tells f s folder) (sym e ∙ append_assoc done ((Input slot, place) ∷ []) others) h in
     (Tells-behind done ((Input slot, place) ∷ others) s folder all).0
 
 -- so many of the files as the first and one more
-pub first_files : (files done others : Files) (file : Slot × ℕ) → ((done ++ (file ∷ [])) ++ others) ≡ files → done ++ (file ∷ []) ≡ take (length done + 1) files
+pub first_files : (files done others : Files) (file : Slot × ℕ) → ((done ++ (file ∷ [])) ++ others) ≡ files
+    → done ++ (file ∷ []) ≡ take (length done + 1) files
 first_files files done others file e =
-    sym (take-append_seam (done ++ (file ∷ [])) others) ∙ ap (λ n. take n ((done ++ (file ∷ [])) ++ others)) (length-append done (file ∷ [])) ∙ ap (take (length done + 1)) e
+    sym (take-append_seam (done ++ (file ∷ [])) others)
+    ∙ ap (λ n. take n ((done ++ (file ∷ [])) ++ others)) (length-append done (file ∷ [])) ∙ ap (take (length done + 1)) e
 
-no_output_at : (files : Files) → are_inputs files ≡ true → (slot : OutSlot) (place k : ℕ) → k < length files → slice_index_or files k (Output slot, place) ≡ (Output slot, place) → ⊥
+no_output_at : (files : Files) → are_inputs files ≡ true → (slot : OutSlot) (place k : ℕ) → k < length files
+    → slice_index_or files k (Output slot, place) ≡ (Output slot, place) → ⊥
 no_output_at [] all slot place k h e = omega (arith, h)
 no_output_at ((Input s, n) ∷ files) all slot place zero h e = let same : ◌≡◌ (Input s) (Output slot) = ap (λ file. file.0) e in cc
 no_output_at ((Output s, n) ∷ files) all slot place k h e = cc

@@ -1,5 +1,6 @@
 -- Runs of a command that reads all its files, one after another.
-use Rattle.std.proofs.Common.{◌≡◌, ◌⊎◌, inl, inr, ℕ, ◌+◌, Bool, true, false, List, [], ◌∷◌, ◌++◌, take, length, Result, Ok, Err, IfSome, IsTrue, refl, sym, ap, subst, ◌∙◌}
+use Rattle.std.proofs.Common.{◌≡◌, ◌⊎◌, inl, inr, ℕ, ◌+◌, Bool, true, false, List, [], ◌∷◌, ◌++◌, take, length, Result, Ok, Err}
+use Rattle.std.proofs.Common.{IfSome, IsTrue, refl, sym, ap, subst, ◌∙◌}
 use Rattle.std.proofs.lemmas.List.{append-nil}
 use Rattle.std.proofs.Math.Seq.{take-length}
 use Rattle.text_io.specs.declared.slots.InSlot.{InSlot}
@@ -20,11 +21,13 @@ use Rattle.run_outcome.proofs.WrittenLaws.{wrote_all-nothing, wrote_all-report, 
 use Rattle.run_outcome.proofs.BindingLaws.{IsFront-nothing, bound_state-more, took_all-nothing, named_bytes}
 use Rattle.run_outcome.proofs.RunsLaws.{nothing}
 use Rattle.run_outcome.proofs.SlotLaws.{put_in-there, took-took_all, opened-took_all}
-use Rattle.run_outcome.proofs.FileLaws.{file_before, where_told, bound_state-put, AreNamed-put, AreNamed-more, tells_next, first_files, reads_alone}
+use Rattle.run_outcome.proofs.FileLaws.{file_before, where_told, bound_state-put, AreNamed-put, AreNamed-more, tells_next}
+use Rattle.run_outcome.proofs.FileLaws.{first_files, reads_alone}
 
 -- what a run comes to at the file that the word at this place names, the last of so many
 abbrev pub at_file : {T : Type 0} → List (List ℕ) → FileAnswer T → ℕ → ℕ → (T → Folder → Outcome) → Folder → Outcome
-at_file words answer place binds more folder = outcome_by binds (answer (bytes_at words folder place)) (λ value. more value folder)
+at_file words answer place binds more folder =
+    outcome_by binds (answer (bytes_at words folder place)) (λ value. more value folder)
 
 -- the files so far and one more
 abbrev pub with_file : Files → InSlot → ℕ → Files
@@ -43,10 +46,12 @@ nothing_read files outcome s = record {
 
 -- The state behind one file more.
 
-more_state : (old now : DeskState) (done : Files) (bytes : InSlot → List ℕ) (taken : InSlot → ℕ) (slot : InSlot) (place : ℕ) (content : List ℕ) (count : ℕ)
+more_state : (old now : DeskState) (done : Files) (bytes : InSlot → List ℕ) (taken : InSlot → ℕ) (slot : InSlot) (place : ℕ)
+    (content : List ℕ) (count : ℕ)
     → is_read_among slot done ≡ false → now ≡ took_all (bound_state old done bytes) taken
     → took (opened now slot content) slot count
-    ≡ took_all (bound_state old (with_file done slot place) (put_in bytes slot content)) (put_in (put_in taken slot 0) slot (put_in taken slot 0 slot + count))
+    ≡ took_all (bound_state old (with_file done slot place) (put_in bytes slot content))
+    (put_in (put_in taken slot 0) slot (put_in taken slot 0 slot + count))
 more_state old now done bytes taken slot place content count fresh e =
     let before = bound_state old done bytes in
     let bound : opened before slot content ≡ bound_state old (with_file done slot place) (put_in bytes slot content) =
@@ -58,26 +63,36 @@ more_state old now done bytes taken slot place content count fresh e =
     ∙ took-took_all (opened before slot content) (put_in taken slot 0) slot count
     ∙ ap (λ s. took_all s (put_in (put_in taken slot 0) slot (put_in taken slot 0 slot + count))) bound
 
-more_named : (old now : DeskState) (done : Files) (bytes : InSlot → List ℕ) (taken : InSlot → ℕ) (slot : InSlot) (place : ℕ) (content : List ℕ) → is_read_among slot done ≡ false
+more_named : (old now : DeskState) (done : Files) (bytes : InSlot → List ℕ) (taken : InSlot → ℕ) (slot : InSlot) (place : ℕ)
+    (content : List ℕ) → is_read_among slot done ≡ false
     → now ≡ took_all (bound_state old done bytes) taken → AreNamed old done bytes → IsFileAt now place content
     → AreNamed old (with_file done slot place) (put_in bytes slot content)
 more_named old now done bytes taken slot place content fresh e named h =
-    AreNamed-more old done ((Input slot, place) ∷ []) (put_in bytes slot content) (AreNamed-put old done bytes slot content fresh named)
-    (subst (IsFileAt old place) (sym (put_in-there bytes slot content)) (file_before old now done bytes taken place content e h), tt)
+    AreNamed-more old done ((Input slot, place) ∷ []) (put_in bytes slot content)
+    (AreNamed-put old done bytes slot content fresh named) (
+      subst (IsFileAt old place) (sym (put_in-there bytes slot content)) (file_before old now done bytes taken place content e h),
+      tt,
+    )
 
 -- what the bytes of the file are read as, where the desk tells the files
-read_as : {T : Type 0} (files done : Files) (outcome behind : Folder → Outcome) (answer : FileAnswer T) (old now : DeskState) (slot : InSlot) (place : ℕ) (folder : Folder) (content : List ℕ)
+read_as : {T : Type 0} (files done : Files) (outcome behind : Folder → Outcome) (answer : FileAnswer T) (old now : DeskState)
+    (slot : InSlot) (place : ℕ) (folder : Folder) (content : List ℕ)
     (P : Result T FileStop → Type 0)
-    → HasRead files done outcome behind old now → is_read_among slot done ≡ false → IsFront (with_file done slot place) files → Tells files old folder
+    → HasRead files done outcome behind old now → is_read_among slot done ≡ false → IsFront (with_file done slot place) files
+    → Tells files old folder
     → IsFileAt now place content → IfSome (now.left slot) (λ _. P (answer content)) → P (answer (bytes_at old.words folder place))
 read_as files done outcome behind answer old now slot place folder content P r fresh front tells named h =
     let at : TellsAt old folder (Input slot) = tells_next files done front.0 slot place old folder front.1 tells in
-    let there = named_bytes old folder place content at.0 (file_before old now done r.bytes r.taken place content r.state named) in
-    subst (λ bytes. P (answer bytes)) (sym there) (where_told old now done r.bytes r.taken slot (P (answer content)) fresh r.state at.1 h)
+    let there = named_bytes old folder place content at.0 (file_before old now done r.bytes r.taken place content r.state named)
+    in
+    subst (λ bytes. P (answer bytes)) (sym there)
+    (where_told old now done r.bytes r.taken slot (P (answer content)) fresh r.state at.1 h)
 
 -- one file more
-pub one_more : {T : Type 0} (files done : Files) (outcome : Folder → Outcome) (answer : FileAnswer T) (more : T → Folder → Outcome) (old now new : DeskState) (slot : InSlot) (place binds : ℕ) (value : T)
-    → HasRead files done outcome (at_file old.words answer place binds more) old now → is_read_among slot done ≡ false → IsFront (with_file done slot place) files
+pub one_more : {T : Type 0} (files done : Files) (outcome : Folder → Outcome) (answer : FileAnswer T) (more : T → Folder
+    → Outcome) (old now new : DeskState) (slot : InSlot) (place binds : ℕ) (value : T)
+    → HasRead files done outcome (at_file old.words answer place binds more) old now → is_read_among slot done ≡ false
+    → IsFront (with_file done slot place) files
     → FileIsTaken answer now new slot place value → HasRead files (with_file done slot place) outcome (more value) old new
 one_more {T = T} files done outcome answer more old now new slot place binds value r fresh front t = record {
   bytes = put_in r.bytes slot t.bytes;
@@ -88,7 +103,8 @@ one_more {T = T} files done outcome answer more old now new slot place binds val
   goes_on = λ folder tells.
       r.goes_on folder tells
       ∙ ap (λ found. outcome_by binds found (λ value. more value folder))
-      (read_as files done outcome (at_file old.words answer place binds more) answer old now slot place folder t.bytes (λ (found : Result T FileStop). found ≡ Ok value) r fresh front tells t.named t.told);
+      (read_as files done outcome (at_file old.words answer place binds more) answer old now slot place folder t.bytes
+      (λ (found : Result T FileStop). found ≡ Ok value) r fresh front tells t.named t.told);
 }
 
 -- A run that ends at a file.
@@ -98,7 +114,8 @@ at_end : Bool → Files → InSlot → ℕ → Files
 at_end true done slot place = with_file done slot place
 at_end false done slot place = done
 
-front_at_end : (bound : Bool) (files done : Files) (slot : InSlot) (place : ℕ) → IsFront done files → IsFront (with_file done slot place) files → IsFront (at_end bound done slot place) files
+front_at_end : (bound : Bool) (files done : Files) (slot : InSlot) (place : ℕ) → IsFront done files
+    → IsFront (with_file done slot place) files → IsFront (at_end bound done slot place) files
 unfolding at_end
 front_at_end true files done slot place h k = k
 front_at_end false files done slot place h k = h
@@ -111,20 +128,25 @@ taken_at_end : Bool → (InSlot → ℕ) → InSlot → ℕ → InSlot → ℕ
 taken_at_end true taken slot count = put_in (put_in taken slot 0) slot (put_in taken slot 0 slot + count)
 taken_at_end false taken slot count = put_in taken slot (taken slot + count)
 
-state_at_end : (bound : Bool) (old now : DeskState) (done : Files) (bytes : InSlot → List ℕ) (taken : InSlot → ℕ) (slot : InSlot) (place : ℕ) (content : List ℕ) (count : ℕ)
+state_at_end : (bound : Bool) (old now : DeskState) (done : Files) (bytes : InSlot → List ℕ) (taken : InSlot
+    → ℕ) (slot : InSlot) (place : ℕ) (content : List ℕ) (count : ℕ)
     → is_read_among slot done ≡ false → now ≡ took_all (bound_state old done bytes) taken
     → took (opened_where bound now slot content) slot count
-    ≡ took_all (bound_state old (at_end bound done slot place) (bytes_at_end bound bytes slot content)) (taken_at_end bound taken slot count)
+    ≡ took_all (bound_state old (at_end bound done slot place) (bytes_at_end bound bytes slot content))
+    (taken_at_end bound taken slot count)
 unfolding at_end bytes_at_end taken_at_end
-state_at_end true old now done bytes taken slot place content count fresh e = more_state old now done bytes taken slot place content count fresh e
+state_at_end true old now done bytes taken slot place content count fresh e =
+    more_state old now done bytes taken slot place content count fresh e
 state_at_end false old now done bytes taken slot place content count fresh e =
     ap (λ s. took s slot count) e ∙ took-took_all (bound_state old done bytes) taken slot count
 
-named_at_end : (bound : Bool) (old now : DeskState) (done : Files) (bytes : InSlot → List ℕ) (taken : InSlot → ℕ) (slot : InSlot) (place : ℕ) (content : List ℕ) → is_read_among slot done ≡ false
+named_at_end : (bound : Bool) (old now : DeskState) (done : Files) (bytes : InSlot → List ℕ) (taken : InSlot
+    → ℕ) (slot : InSlot) (place : ℕ) (content : List ℕ) → is_read_among slot done ≡ false
     → now ≡ took_all (bound_state old done bytes) taken → AreNamed old done bytes → (bound ≡ true → IsFileAt now place content)
     → AreNamed old (at_end bound done slot place) (bytes_at_end bound bytes slot content)
 unfolding at_end bytes_at_end
-named_at_end true old now done bytes taken slot place content fresh e named h = more_named old now done bytes taken slot place content fresh e named (h refl)
+named_at_end true old now done bytes taken slot place content fresh e named h =
+    more_named old now done bytes taken slot place content fresh e named (h refl)
 named_at_end false old now done bytes taken slot place content fresh e named h = named
 
 -- nothing was appended but to the faults
@@ -132,7 +154,8 @@ faults_alone : (s : DeskState) (line : List ℕ) → wrote s Faults line ≡ wro
 faults_alone s line = ap (λ t. wrote t Faults line) (sym (wrote_all-nothing s))
 
 -- some of a line is told
-part_of_line : (line whole : List ℕ) (status : Status) (binds : ℕ) (o : Outcome) → o ≡ record { status = status; binds = binds; text = nothing_written; faults = whole } → IsPrefix line whole
+part_of_line : (line whole : List ℕ) (status : Status) (binds : ℕ) (o : Outcome)
+    → o ≡ record { status = status; binds = binds; text = nothing_written; faults = whole } → IsPrefix line whole
     → IsPartOf nothing_written line o
 part_of_line line whole status binds o e p = rw e (record { text_part = IsPart-nothing nothing_written; faults_part = p })
 
@@ -140,8 +163,10 @@ part_of_line line whole status binds o e p = rw e (record { text_part = IsPart-n
 no_line : (line : List ℕ) (o : Outcome) → line ≡ [] → IsPartOf nothing_written line o
 no_line line o e = rw e (record { text_part = IsPart-nothing o.text; faults_part = nothing o.faults })
 
-pub ends_there : {T : Type 0} (files done : Files) (outcome : Folder → Outcome) (answer : FileAnswer T) (more : T → Folder → Outcome) (old now new : DeskState) (slot : InSlot) (place binds : ℕ) (status : Status)
-    → HasRead files done outcome (at_file old.words answer place binds more) old now → is_read_among slot done ≡ false → IsFront (with_file done slot place) files → binds ≡ length done + 1
+pub ends_there : {T : Type 0} (files done : Files) (outcome : Folder → Outcome) (answer : FileAnswer T) (more : T → Folder
+    → Outcome) (old now new : DeskState) (slot : InSlot) (place binds : ℕ) (status : Status)
+    → HasRead files done outcome (at_file old.words answer place binds more) old now → is_read_among slot done ≡ false
+    → IsFront (with_file done slot place) files → binds ≡ length done + 1
     → are_inputs files ≡ true → FileEndsRun answer now new slot place status → RunsAs files outcome old new status
 unfolding at_end
 ends_there {T = T} files done outcome answer more old now new slot place binds status r fresh front count reads f = record {
@@ -150,7 +175,8 @@ ends_there {T = T} files done outcome answer more old now new slot place binds s
   taken = taken_at_end f.bound r.taken slot f.count;
   text = nothing_written;
   faults = f.line;
-  state = f.state ∙ ap (λ s. wrote s Faults f.line) (state_at_end f.bound old now done r.bytes r.taken slot place f.bytes f.count fresh r.state) ∙ faults_alone _ f.line;
+  state = f.state ∙ ap (λ s. wrote s Faults f.line)
+      (state_at_end f.bound old now done r.bytes r.taken slot place f.bytes f.count fresh r.state) ∙ faults_alone _ f.line;
   planned = front_at_end f.bound files done slot place r.planned front;
   named = named_at_end f.bound old now done r.bytes r.taken slot place f.bytes fresh r.state r.named f.named;
   part = λ folder tells. by_part folder tells f.part;
@@ -167,23 +193,30 @@ ends_there {T = T} files done outcome answer more old now new slot place binds s
         → outcome folder ≡ record { status = stop.status; binds = binds; text = nothing_written; faults = stop.line }
     comes folder stop tells e = r.goes_on folder tells ∙ ap (λ found. outcome_by binds found (λ value. more value folder)) e
 
-    ended : IsTrue (is_decided status) → (folder : Folder) → Tells files old folder → outcome folder ≡ record { status = status; binds = binds; text = nothing_written; faults = f.line }
+    ended : IsTrue (is_decided status) → (folder : Folder) → Tells files old folder
+        → outcome folder ≡ record { status = status; binds = binds; text = nothing_written; faults = f.line }
     ended d folder tells =
         let whole = f.whole d in
         comes folder (record { status = status; line = f.line }) tells
-        (read_as files done outcome (at_file old.words answer place binds more) answer old now slot place folder f.bytes (λ (found : Result T FileStop). found ≡ Err (record { status = status; line = f.line })) r fresh front tells (f.named whole.0) whole.1)
+        (read_as files done outcome (at_file old.words answer place binds more) answer old now slot place folder f.bytes
+        (λ (found : Result T FileStop). found ≡ Err (record { status = status; line = f.line })) r fresh front tells
+        (f.named whole.0) whole.1)
 
     by_part : (folder : Folder) → Tells files old folder
-        → (f.line ≡ []) ⊎ ((f.bound ≡ true) × IfSome (now.left slot) (λ _. (stop : FileStop) × (answer f.bytes ≡ Err stop) × IsPrefix f.line stop.line))
+        → (f.line ≡ []) ⊎ ((f.bound ≡ true)
+        × IfSome (now.left slot) (λ _. (stop : FileStop) × (answer f.bytes ≡ Err stop) × IsPrefix f.line stop.line))
         → IsPartOf nothing_written f.line (outcome folder)
     by_part folder tells (inl e) = no_line f.line (outcome folder) e
     by_part folder tells (inr h) =
-        let (stop, read, p) = read_as files done outcome (at_file old.words answer place binds more) answer old now slot place folder f.bytes
-        (λ (found : Result T FileStop). (stop : FileStop) × (found ≡ Err stop) × IsPrefix f.line stop.line) r fresh front tells (f.named h.0) h.1 in
+        let (stop, read, p) = read_as files done outcome (at_file old.words answer place binds more) answer old now slot place
+        folder f.bytes
+        (λ (found : Result T FileStop). (stop : FileStop) × (found ≡ Err stop) × IsPrefix f.line stop.line) r fresh front tells
+        (f.named h.0) h.1 in
         part_of_line f.line stop.line stop.status binds (outcome folder) (comes folder stop tells read) p
 
 -- A run that ends between two files, for want of memory.
-pub stops_between : (files done : Files) (outcome behind : Folder → Outcome) (old now : DeskState) (status : Status) → HasRead files done outcome behind old now → is_decided status ≡ false
+pub stops_between : (files done : Files) (outcome behind : Folder → Outcome) (old now : DeskState) (status : Status)
+    → HasRead files done outcome behind old now → is_decided status ≡ false
     → RunsAs files outcome old now status
 stops_between files done outcome behind old now status r undecided = record {
   bound = done;
@@ -191,7 +224,8 @@ stops_between files done outcome behind old now status r undecided = record {
   taken = r.taken;
   text = nothing_written;
   faults = [];
-  state = r.state ∙ sym (wrote-nil (took_all (bound_state old done r.bytes) r.taken) Faults) ∙ faults_alone (took_all (bound_state old done r.bytes) r.taken) [];
+  state = r.state ∙ sym (wrote-nil (took_all (bound_state old done r.bytes) r.taken) Faults)
+      ∙ faults_alone (took_all (bound_state old done r.bytes) r.taken) [];
   planned = r.planned;
   named = r.named;
   part = λ folder tells. no_line [] (outcome folder) refl;
@@ -201,9 +235,11 @@ stops_between files done outcome behind old now status r undecided = record {
 }
 
 -- All files were read, and a part of a text was appended to the report: all of it where the run is decided, which then ends so.
-pub reports_all : (files : Files) (outcome : Folder → Outcome) (old now new : DeskState) (ends result : Status) (text all : List ℕ)
+pub reports_all : (files : Files) (outcome : Folder → Outcome) (old now new : DeskState) (ends result : Status)
+    (text all : List ℕ)
     → HasRead files files outcome (λ _. record { status = ends; binds = length files; text = in_report all; faults = [] }) old now
-    → are_inputs files ≡ true → new ≡ wrote now Report text → IsPrefix text all → (IsTrue (is_decided result) → (result ≡ ends) × (text ≡ all))
+    → are_inputs files ≡ true → new ≡ wrote now Report text → IsPrefix text all
+    → (IsTrue (is_decided result) → (result ≡ ends) × (text ≡ all))
     → RunsAs files outcome old new result
 reports_all files outcome old now new ends result text all r reads e part whole = record {
   bound = files;
@@ -211,7 +247,8 @@ reports_all files outcome old now new ends result text all r reads e part whole 
   taken = r.taken;
   text = in_report text;
   faults = [];
-  state = e ∙ sym (wrote_all-report now text) ∙ sym (wrote-nil (wrote_all now (in_report text)) Faults) ∙ ap (λ s. wrote (wrote_all s (in_report text)) Faults []) r.state;
+  state = e ∙ sym (wrote_all-report now text) ∙ sym (wrote-nil (wrote_all now (in_report text)) Faults)
+      ∙ ap (λ s. wrote (wrote_all s (in_report text)) Faults []) r.state;
   planned = ([], append-nil files);
   named = r.named;
   part = λ folder tells. rw (r.goes_on folder tells) (record {

@@ -27,15 +27,19 @@ pub undecided : (result : Status) → result ≡ Outside → IsTrue (is_decided 
 undecided result e d = absurd (let h = rw e at d in cc)
 
 -- nothing was read
-unread : (s : DeskState) (text : Written) (faults : List ℕ) → wrote (wrote_all s text) Faults faults ≡ wrote (wrote_all (took_all s (λ _. 0)) text) Faults faults
+unread : (s : DeskState) (text : Written) (faults : List ℕ)
+    → wrote (wrote_all s text) Faults faults ≡ wrote (wrote_all (took_all s (λ _. 0)) text) Faults faults
 unread s text faults = ap (λ t. wrote (wrote_all t text) Faults faults) (sym (took_all-nothing s))
 
 -- lines were added to the report alone
-reported : (s : DeskState) (text : List ℕ) → wrote s Report text ≡ wrote (wrote_all (took_all s (λ _. 0)) (in_report text)) Faults []
-reported s text = sym (wrote_all-report s text) ∙ sym (wrote-nil (wrote_all s (in_report text)) Faults) ∙ unread s (in_report text) []
+reported : (s : DeskState) (text : List ℕ)
+    → wrote s Report text ≡ wrote (wrote_all (took_all s (λ _. 0)) (in_report text)) Faults []
+reported s text = sym (wrote_all-report s text) ∙ sym (wrote-nil (wrote_all s (in_report text)) Faults)
+    ∙ unread s (in_report text) []
 
 -- lines were added to the faults alone
-faulted : (s : DeskState) (text : List ℕ) → wrote s Faults text ≡ wrote (wrote_all (took_all s (λ _. 0)) nothing_written) Faults text
+faulted : (s : DeskState) (text : List ℕ)
+    → wrote s Faults text ≡ wrote (wrote_all (took_all s (λ _. 0)) nothing_written) Faults text
 faulted s text = ap (λ t. wrote t Faults text) (sym (wrote_all-nothing s)) ∙ unread s nothing_written text
 
 -- a run that has read nothing
@@ -43,10 +47,12 @@ abbrev pub RunsUnread : Files → (Folder → Outcome) → DeskState → DeskSta
 RunsUnread files outcome old new result = (run : RunsAs files outcome old new result) × (run.taken ≡ (λ _. 0))
 
 -- a run of a command without files that ended so
-plain : (files : Files) (outcome : Folder → Outcome) (old new : DeskState) (result : Status) (text : Written) (faults : List ℕ) → files ≡ []
+plain : (files : Files) (outcome : Folder → Outcome) (old new : DeskState) (result : Status) (text : Written) (faults : List ℕ)
+    → files ≡ []
     → new ≡ wrote (wrote_all (took_all old (λ _. 0)) text) Faults faults
     → ((folder : Folder) → IsPartOf text faults (outcome folder))
-    → (IsTrue (is_decided result) → (folder : Folder) → (0 ≡ (outcome folder).binds) × IsAllOf result text faults (outcome folder))
+    → (IsTrue (is_decided result) → (folder : Folder) → (0 ≡ (outcome folder).binds)
+    × IsAllOf result text faults (outcome folder))
     → RunsUnread files outcome old new result
 plain files outcome old new result text faults none state part whole =
     let run : RunsAs files outcome old new result = record {
@@ -74,7 +80,8 @@ abbrev pub faulting : Status → List ℕ → Outcome
 faulting status line = record { status = status; binds = 0; text = nothing_written; faults = line }
 
 -- a run that appends one text to the report
-pub report_runs : {T : Type 0} (files : Files) (outcome : Folder → Outcome) (old new : DeskState) (text : List ℕ) (ends : Status) (written : Result T Failed) (result : Status)
+pub report_runs : {T : Type 0} (files : Files) (outcome : Folder → Outcome) (old new : DeskState) (text : List ℕ) (ends : Status)
+    (written : Result T Failed) (result : Status)
     → files ≡ [] → ((folder : Folder) → outcome folder ≡ reporting ends text) → WritesText old new Report text written
     → MatchResult written (λ _. result ≡ ends) (λ _. result ≡ Outside) → RunsUnread files outcome old new result
 report_runs files outcome old new text ends (Ok x) result none e w r =
@@ -83,11 +90,16 @@ report_runs files outcome old new text ends (Ok x) result none e w r =
     (λ _ folder. rw (e folder) (refl, record { same_status = r; same_text = refl; same_faults = refl }))
 report_runs files outcome old new text ends (Err y) result none e w r =
     plain files outcome old new result (in_report w.part.0) [] none (w.part.2 ∙ reported old w.part.0)
-    (λ folder. rw (e folder) (record { text_part = record { verilog = nothing _; vital = nothing _; report = w.part.1 }; faults_part = nothing [] }))
+    (λ folder. rw (e folder) (record {
+      text_part =
+          record { verilog = nothing _; vital = nothing _; report = w.part.1 };
+      faults_part = nothing [];
+    }))
     (λ d. undecided result r d)
 
 -- a run that appends one line to the faults
-pub faults_runs : {T : Type 0} (files : Files) (outcome : Folder → Outcome) (old new : DeskState) (line : List ℕ) (told : Status) (written : Result T Failed) (result : Status)
+pub faults_runs : {T : Type 0} (files : Files) (outcome : Folder → Outcome) (old new : DeskState) (line : List ℕ) (told : Status)
+    (written : Result T Failed) (result : Status)
     → files ≡ [] → ((folder : Folder) → outcome folder ≡ faulting told line) → WritesText old new Faults line written
     → MatchResult written (λ _. result ≡ told) (λ _. result ≡ Outside) → RunsUnread files outcome old new result
 faults_runs files outcome old new line told (Ok x) result none e w r =

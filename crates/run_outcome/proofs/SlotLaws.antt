@@ -34,11 +34,13 @@ put_in-there each Vital value = refl
 put_in-there each Stimulus value = refl
 
 -- another slot has what it had
-pub put_in-other : {X : Type 0} (each : InSlot → X) (slot : InSlot) (value : X) (other : InSlot) → same_in slot other ≡ false → put_in each slot value other ≡ each other
+pub put_in-other : {X : Type 0} (each : InSlot → X) (slot : InSlot) (value : X) (other : InSlot) → same_in slot other ≡ false
+    → put_in each slot value other ≡ each other
 put_in-other each slot value other e = rw e refl
 
 -- what is left of each slot after so many bytes of each were read
-left_of_each : (s : DeskState) (taken : InSlot → ℕ) (t : InSlot) → (took_all s taken).left t ≡ option_map (drop (taken t)) (s.left t)
+left_of_each : (s : DeskState) (taken : InSlot → ℕ) (t : InSlot)
+    → (took_all s taken).left t ≡ option_map (drop (taken t)) (s.left t)
 unfolding took took_all
 left_of_each s taken Library = refl
 left_of_each s taken Verilog = refl
@@ -58,7 +60,8 @@ drop_more None m n = refl
 drop_more (Some bytes) m n = ap Some (drop-drop n m bytes)
 
 -- what holds at one slot after another
-at_each : {X : Type 0} (f g : InSlot → X) → f Library ≡ g Library → f Verilog ≡ g Verilog → f Vital ≡ g Vital → f Stimulus ≡ g Stimulus → (t : InSlot) → f t ≡ g t
+at_each : {X : Type 0} (f g : InSlot → X) → f Library ≡ g Library → f Verilog ≡ g Verilog → f Vital ≡ g Vital
+    → f Stimulus ≡ g Stimulus → (t : InSlot) → f t ≡ g t
 at_each f g library verilog vital stimulus Library = library
 at_each f g library verilog vital stimulus Verilog = verilog
 at_each f g library verilog vital stimulus Vital = vital
@@ -72,21 +75,30 @@ left_of w taken t = option_map (drop (taken t)) (w t)
 abbrev left_more : (InSlot → Option (List ℕ)) → (InSlot → ℕ) → InSlot → ℕ → InSlot → Option (List ℕ)
 left_more w taken slot n = put_in (left_of w taken) slot (option_map (drop n) (left_of w taken slot))
 
-more_of : (w : InSlot → Option (List ℕ)) (taken : InSlot → ℕ) (slot : InSlot) (n : ℕ) (t : InSlot) → left_more w taken slot n t ≡ left_of w (put_in taken slot (taken slot + n)) t
-more_of w taken Library n = at_each (left_more w taken Library n) (left_of w (put_in taken Library (taken Library + n))) (drop_more (w Library) (taken Library) n) refl refl refl
-more_of w taken Verilog n = at_each (left_more w taken Verilog n) (left_of w (put_in taken Verilog (taken Verilog + n))) refl (drop_more (w Verilog) (taken Verilog) n) refl refl
-more_of w taken Vital n = at_each (left_more w taken Vital n) (left_of w (put_in taken Vital (taken Vital + n))) refl refl (drop_more (w Vital) (taken Vital) n) refl
-more_of w taken Stimulus n = at_each (left_more w taken Stimulus n) (left_of w (put_in taken Stimulus (taken Stimulus + n))) refl refl refl (drop_more (w Stimulus) (taken Stimulus) n)
+more_of : (w : InSlot → Option (List ℕ)) (taken : InSlot → ℕ) (slot : InSlot) (n : ℕ) (t : InSlot)
+    → left_more w taken slot n t ≡ left_of w (put_in taken slot (taken slot + n)) t
+more_of w taken Library n = at_each (left_more w taken Library n) (left_of w (put_in taken Library (taken Library + n)))
+    (drop_more (w Library) (taken Library) n) refl refl refl
+more_of w taken Verilog n = at_each (left_more w taken Verilog n) (left_of w (put_in taken Verilog (taken Verilog + n))) refl
+    (drop_more (w Verilog) (taken Verilog) n) refl refl
+more_of w taken Vital n = at_each (left_more w taken Vital n) (left_of w (put_in taken Vital (taken Vital + n))) refl refl
+    (drop_more (w Vital) (taken Vital) n) refl
+more_of w taken Stimulus n = at_each (left_more w taken Stimulus n) (left_of w (put_in taken Stimulus (taken Stimulus + n))) refl
+    refl refl (drop_more (w Stimulus) (taken Stimulus) n)
 
-took_of_each : (s : DeskState) (taken : InSlot → ℕ) (slot : InSlot) (n : ℕ) → took (took_each s taken) slot n ≡ took_each s (put_in taken slot (taken slot + n))
+took_of_each : (s : DeskState) (taken : InSlot → ℕ) (slot : InSlot) (n : ℕ)
+    → took (took_each s taken) slot n ≡ took_each s (put_in taken slot (taken slot + n))
 unfolding took took_each
 took_of_each s taken slot n = λ i. record s { left = λ t. more_of s.left taken slot n t i }
 
 -- more bytes of one slot are read
-pub took-took_all : (s : DeskState) (taken : InSlot → ℕ) (slot : InSlot) (n : ℕ) → took (took_all s taken) slot n ≡ took_all s (put_in taken slot (taken slot + n))
-took-took_all s taken slot n = ap (λ t. took t slot n) (all_of_each s taken) ∙ took_of_each s taken slot n ∙ sym (all_of_each s (put_in taken slot (taken slot + n)))
+pub took-took_all : (s : DeskState) (taken : InSlot → ℕ) (slot : InSlot) (n : ℕ)
+    → took (took_all s taken) slot n ≡ took_all s (put_in taken slot (taken slot + n))
+took-took_all s taken slot n = ap (λ t. took t slot n) (all_of_each s taken) ∙ took_of_each s taken slot n
+    ∙ sym (all_of_each s (put_in taken slot (taken slot + n)))
 
-fresh_left : (o : Option (List ℕ)) (bytes : List ℕ) (m : ℕ) → option_map (λ _. bytes) (option_map (drop m) o) ≡ option_map (drop 0) (option_map (λ _. bytes) o)
+fresh_left : (o : Option (List ℕ)) (bytes : List ℕ) (m : ℕ)
+    → option_map (λ _. bytes) (option_map (drop m) o) ≡ option_map (drop 0) (option_map (λ _. bytes) o)
 fresh_left None bytes m = refl
 fresh_left (Some left) bytes m = refl
 
@@ -108,8 +120,10 @@ opened_of_each s taken slot bytes = λ i. record s {
 pub opened-took_all : (s : DeskState) (taken : InSlot → ℕ) (slot : InSlot) (bytes : List ℕ)
     → opened (took_all s taken) slot bytes ≡ took_all (opened s slot bytes) (put_in taken slot 0)
 opened-took_all s taken slot bytes =
-    ap (λ t. opened t slot bytes) (all_of_each s taken) ∙ opened_of_each s taken slot bytes ∙ sym (all_of_each (opened s slot bytes) (put_in taken slot 0))
+    ap (λ t. opened t slot bytes) (all_of_each s taken) ∙ opened_of_each s taken slot bytes
+    ∙ sym (all_of_each (opened s slot bytes) (put_in taken slot 0))
 
 -- what is left of a slot is known where it was
-pub left-took_all : (s : DeskState) (taken : InSlot → ℕ) (t : InSlot) → (took_all s taken).left t ≡ option_map (drop (taken t)) (s.left t)
+pub left-took_all : (s : DeskState) (taken : InSlot → ℕ) (t : InSlot)
+    → (took_all s taken).left t ≡ option_map (drop (taken t)) (s.left t)
 left-took_all s taken t = left_of_each s taken t

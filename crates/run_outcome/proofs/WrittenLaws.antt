@@ -1,5 +1,6 @@
 -- Laws of what a command appends to its three outputs.
-use Rattle.std.proofs.Common.{◌≡◌, ℕ, List, [], ◌++◌, Option, Some, None, Result, Ok, Err, IsErr, refl, sym, ap, ◌∙◌, append_assoc, IsTrue}
+use Rattle.std.proofs.Common.{◌≡◌, ℕ, List, [], ◌++◌, Option, Some, None, Result, Ok, Err, IsErr, refl, sym, ap, ◌∙◌}
+use Rattle.std.proofs.Common.{append_assoc, IsTrue}
 use Rattle.std.specs.Option.{option_map}
 use Rattle.std.proofs.lemmas.List.{append-nil}
 use Rattle.text_io.specs.declared.outside.Failed.{Failed}
@@ -9,19 +10,23 @@ use Rattle.text_io.specs.declared.slots.OutSlot.TheVariants.{VerilogText, VitalT
 use Rattle.text_io.specs.declared.slots.Slot.{Slot}
 use Rattle.text_io.specs.Desk.{DeskState, is_bound, took, wrote, IsPrefix, WritesText}
 use Rattle.text_io.proofs.Wrote.{wrote-nil, IsPrefix-append, IsPrefix-front}
-use Rattle.run_outcome.specs.Written.{Written, nothing_written, in_verilog, in_vital, in_report, joined, IsPart, wrote_all, Writes}
+use Rattle.run_outcome.specs.Written.{Written, nothing_written, in_verilog, in_vital, in_report, joined, IsPart, wrote_all}
+use Rattle.run_outcome.specs.Written.{Writes}
 
 appended-twice : (known : Option (List ℕ)) (a b : List ℕ)
-    → option_map (λ before. before ++ b) (option_map (λ before. before ++ a) known) ≡ option_map (λ before. before ++ (a ++ b)) known
+    → option_map (λ before. before ++ b) (option_map (λ before. before ++ a) known) ≡ option_map (λ before. before ++ (a ++ b))
+    known
 appended-twice None a b = refl
 appended-twice (Some before) a b = ap Some (append_assoc before a b)
 
 -- nothing appended
 pub wrote_all-nothing : (s : DeskState) → wrote_all s nothing_written ≡ s
 unfolding wrote_all
-wrote_all-nothing s = wrote-nil (wrote (wrote s VerilogText []) VitalText []) Report ∙ wrote-nil (wrote s VerilogText []) VitalText ∙ wrote-nil s VerilogText
+wrote_all-nothing s = wrote-nil (wrote (wrote s VerilogText []) VitalText []) Report
+    ∙ wrote-nil (wrote s VerilogText []) VitalText ∙ wrote-nil s VerilogText
 
-twice_at : (s : DeskState) (a b : Written) (t : OutSlot) → (wrote_all (wrote_all s a) b).written t ≡ (wrote_all s (joined a b)).written t
+twice_at : (s : DeskState) (a b : Written) (t : OutSlot)
+    → (wrote_all (wrote_all s a) b).written t ≡ (wrote_all s (joined a b)).written t
 unfolding wrote wrote_all
 twice_at s a b VerilogText = appended-twice (s.written VerilogText) a.verilog b.verilog
 twice_at s a b VitalText = appended-twice (s.written VitalText) a.vital b.vital
@@ -36,12 +41,14 @@ wrote_all-joined s a b = λ i. record s { written = λ t. twice_at s a b t i }
 -- Verilog text alone
 pub wrote_all-verilog : (s : DeskState) (text : List ℕ) → wrote_all s (in_verilog text) ≡ wrote s VerilogText text
 unfolding wrote_all
-wrote_all-verilog s text = wrote-nil (wrote (wrote s VerilogText text) VitalText []) Report ∙ wrote-nil (wrote s VerilogText text) VitalText
+wrote_all-verilog s text = wrote-nil (wrote (wrote s VerilogText text) VitalText []) Report
+    ∙ wrote-nil (wrote s VerilogText text) VitalText
 
 -- VHDL text alone
 wrote_all-vital : (s : DeskState) (text : List ℕ) → wrote_all s (in_vital text) ≡ wrote s VitalText text
 unfolding wrote_all
-wrote_all-vital s text = wrote-nil (wrote (wrote s VerilogText []) VitalText text) Report ∙ ap (λ t. wrote t VitalText text) (wrote-nil s VerilogText)
+wrote_all-vital s text = wrote-nil (wrote (wrote s VerilogText []) VitalText text) Report
+    ∙ ap (λ t. wrote t VitalText text) (wrote-nil s VerilogText)
 
 -- lines of the report alone
 pub wrote_all-report : (s : DeskState) (text : List ℕ) → wrote_all s (in_report text) ≡ wrote s Report text
@@ -49,7 +56,8 @@ unfolding wrote_all
 wrote_all-report s text = ap (λ t. wrote t Report text) (wrote-nil (wrote s VerilogText []) VitalText ∙ wrote-nil s VerilogText)
 
 -- reading leaves alone what was written
-pub took-wrote_all : (s : DeskState) (text : Written) (slot : InSlot) (n : ℕ) → took (wrote_all s text) slot n ≡ wrote_all (took s slot n) text
+pub took-wrote_all : (s : DeskState) (text : Written) (slot : InSlot) (n : ℕ)
+    → took (wrote_all s text) slot n ≡ wrote_all (took s slot n) text
 unfolding took wrote wrote_all
 took-wrote_all s text slot n = refl
 
@@ -58,11 +66,13 @@ pub is_bound-wrote_all : (s : DeskState) (text : Written) (slot : Slot) → is_b
 unfolding wrote wrote_all
 is_bound-wrote_all s text slot = refl
 
-pub still_bound_all : (s now : DeskState) (text : Written) (slot : Slot) → now ≡ wrote_all s text → IsTrue (is_bound s slot) → IsTrue (is_bound now slot)
+pub still_bound_all : (s now : DeskState) (text : Written) (slot : Slot) → now ≡ wrote_all s text → IsTrue (is_bound s slot)
+    → IsTrue (is_bound now slot)
 still_bound_all s now text slot e h = rw (e, is_bound-wrote_all s text slot) h
 
 -- some bytes, and then some more
-pub wrote_on : (s now next : DeskState) (a b : Written) → now ≡ wrote_all s a → next ≡ wrote_all now b → next ≡ wrote_all s (joined a b)
+pub wrote_on : (s now next : DeskState) (a b : Written) → now ≡ wrote_all s a → next ≡ wrote_all now b
+    → next ≡ wrote_all s (joined a b)
 wrote_on s now next a b first second = second ∙ ap (λ t. wrote_all t b) first ∙ wrote_all-joined s a b
 
 prefix_all : (xs : List ℕ) → IsPrefix xs xs
@@ -116,7 +126,8 @@ all_goes_on old now new a b (Err y) e w = record {
 -- a stop within the first of two
 pub all_stops : {S T E F : Type 0} (old new : DeskState) (a b : Written) (y : E) (r : Result T F)
     → Writes {T = S} {E = E} old new a (Err y) → IsErr r → Writes old new (joined a b) r
-all_stops old new a b y r w e = stopped old new (joined a b) w.part.part r e (IsPart-front w.part.part a b w.part.is_part) w.part.state
+all_stops old new a b y r w e = stopped old new (joined a b) w.part.part r e (IsPart-front w.part.part a b w.part.is_part)
+    w.part.state
 
 -- a fault within Verilog text
 pub verilog_stops : {S T E : Type 0} (old new : DeskState) (text : List ℕ) (y : Failed) (r : Result T E)
@@ -143,7 +154,8 @@ report_stops old new text y r w e =
     (w.part.2 ∙ sym (wrote_all-report old w.part.0))
 
 -- all of the Verilog text, of the VHDL text, or of the lines
-pub verilog_whole : (old new : DeskState) (text : List ℕ) → new ≡ wrote old VerilogText text → new ≡ wrote_all old (in_verilog text)
+pub verilog_whole : (old new : DeskState) (text : List ℕ) → new ≡ wrote old VerilogText text
+    → new ≡ wrote_all old (in_verilog text)
 verilog_whole old new text e = e ∙ sym (wrote_all-verilog old text)
 
 pub vital_whole : (old new : DeskState) (text : List ℕ) → new ≡ wrote old VitalText text → new ≡ wrote_all old (in_vital text)

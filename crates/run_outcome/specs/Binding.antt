@@ -53,7 +53,8 @@ HasOutputs first files = (slot : OutSlot) (place : ℕ) → Contains files (Outp
 
 -- after so many bytes of each input slot were read
 unfoldable pub took_all : DeskState → (InSlot → ℕ) → DeskState
-took_all s taken = took (took (took (took s Library (taken Library)) Verilog (taken Verilog)) Vital (taken Vital)) Stimulus (taken Stimulus)
+took_all s taken = took (took (took (took s Library (taken Library)) Verilog (taken Verilog)) Vital (taken Vital)) Stimulus
+    (taken Stimulus)
 
 -- nothing is read but so many bytes of one slot
 abbrev pub only : InSlot → ℕ → InSlot → ℕ

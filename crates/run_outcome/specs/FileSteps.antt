@@ -38,38 +38,42 @@ abbrev pub opened_where : Bool → DeskState → InSlot → List ℕ → DeskSta
 opened_where true s slot bytes = opened s slot bytes
 opened_where false s slot bytes = s
 
--- The file that the word at this place names was bound, some of its bytes were read, and nothing else changed. Where the desk tells
--- what is left of the slot, the file's bytes are read as this.
-pub record FileIsTaken {T : Type 0} (answer : FileAnswer T) (old new : DeskState) (slot : InSlot) (place : ℕ) (value : T) : Type 0 where
+-- The file that the word at this place names was bound, some of its bytes were read, and nothing else changed. Where the desk
+-- tells what is left of the slot, the file's bytes are read as this.
+pub record FileIsTaken {T : Type 0} (answer : FileAnswer T) (old new : DeskState) (slot : InSlot) (place : ℕ) (value : T) :
+    Type 0 where
   pub bytes : List ℕ
   pub count : ℕ
   pub named : IsFileAt old place bytes
   pub state : new ≡ took (opened old slot bytes) slot count
   pub told : IfSome (old.left slot) (λ _. answer bytes ≡ Ok value)
 
--- The file that the word at this place names ended the run: it was bound or not, and some of its bytes were read. What was told is a
--- part of the line with which its bytes end the run, and all of it where no call failed and memory was found; the status is then
--- theirs. Nothing else changed.
-pub record FileEndsRun {T : Type 0} (answer : FileAnswer T) (old new : DeskState) (slot : InSlot) (place : ℕ) (status : Status) : Type 0 where
+-- The file that the word at this place names ended the run: it was bound or not, and some of its bytes were read. What was told
+-- is a part of the line with which its bytes end the run, and all of it where no call failed and memory was found; the status is
+-- then theirs. Nothing else changed.
+pub record FileEndsRun {T : Type 0} (answer : FileAnswer T) (old new : DeskState) (slot : InSlot) (place : ℕ) (status : Status) :
+    Type 0 where
   pub bound : Bool
   pub bytes : List ℕ
   pub count : ℕ
   pub line : List ℕ
   pub named : bound ≡ true → IsFileAt old place bytes
   pub state : new ≡ wrote (took (opened_where bound old slot bytes) slot count) Faults line
-  pub part : (line ≡ []) ⊎ ((bound ≡ true) × IfSome (old.left slot) (λ _. (stop : FileStop) × (answer bytes ≡ Err stop) × IsPrefix line stop.line))
-  pub whole : IsTrue (is_decided status) → (bound ≡ true) × IfSome (old.left slot) (λ _. answer bytes ≡ Err (record { status = status; line = line }))
+  pub part : (line ≡ []) ⊎ ((bound ≡ true)
+      × IfSome (old.left slot) (λ _. (stop : FileStop) × (answer bytes ≡ Err stop) × IsPrefix line stop.line))
+  pub whole : IsTrue (is_decided status) → (bound ≡ true)
+      × IfSome (old.left slot) (λ _. answer bytes ≡ Err (record { status = status; line = line }))
 
--- This stop was told, and the run ends with this status: a part of the line was told, and all of it where no call failed and memory was
--- found; the status is then the stop's. Nothing else changed.
+-- This stop was told, and the run ends with this status: a part of the line was told, and all of it where no call failed and
+-- memory was found; the status is then the stop's. Nothing else changed.
 pub record TellsStop (stop : FileStop) (old new : DeskState) (end : Status) : Type 0 where
   pub line : List ℕ
   pub state : new ≡ wrote old Faults line
   pub part : IsPrefix line stop.line
   pub whole : IsTrue (is_decided end) → (end ≡ stop.status) × (line ≡ stop.line)
 
--- The run ends by this answer, with this status: a part of the answer's line was told, and all of it where no call failed and memory
--- was found; the status is then the answer's. Nothing else changed.
+-- The run ends by this answer, with this status: a part of the answer's line was told, and all of it where no call failed and
+-- memory was found; the status is then the answer's. Nothing else changed.
 pub record EndsBy {T : Type 0} (answer : Result T FileStop) (old new : DeskState) (end : Status) : Type 0 where
   pub line : List ℕ
   pub state : new ≡ wrote old Faults line

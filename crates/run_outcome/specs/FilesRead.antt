@@ -28,8 +28,8 @@ abbrev pub is_read_among : InSlot → Files → Bool
 is_read_among slot [] = false
 is_read_among slot (file ∷ files) = is_input_slot slot file.0 || is_read_among slot files
 
--- The first of a command's files were bound, in order, some bytes of each were read, and nothing else changed. Where the desk tells
--- the files, what the run comes to is what it comes to behind these.
+-- The first of a command's files were bound, in order, some bytes of each were read, and nothing else changed. Where the desk
+-- tells the files, what the run comes to is what it comes to behind these.
 pub record HasRead (files done : Files) (outcome behind : Folder → Outcome) (old now : DeskState) : Type 0 where
   pub bytes : InSlot → List ℕ
   pub taken : InSlot → ℕ

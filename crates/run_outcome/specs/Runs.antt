@@ -26,10 +26,13 @@ pub record RunsAs (files : Files) (outcome : Folder → Outcome) (old new : Desk
   pub named : AreNamed old bound bytes
   pub part : (folder : Folder) → Tells files old folder → IsPartOf text faults (outcome folder)
   pub outputs : IsTrue (is_decided result) → HasOutputs bound files
-  pub all_bound : IsTrue (is_decided result) → (folder : Folder) → Tells files old folder → bound ≡ take (outcome folder).binds files
-  pub whole : IsTrue (is_decided result) → (folder : Folder) → Tells files old folder → IsAllOf result text faults (outcome folder)
+  pub all_bound : IsTrue (is_decided result) → (folder : Folder) → Tells files old folder
+      → bound ≡ take (outcome folder).binds files
+  pub whole : IsTrue (is_decided result) → (folder : Folder) → Tells files old folder
+      → IsAllOf result text faults (outcome folder)
 
--- The count of faults rose where a call failed, and in every other case it stayed as it was. Words without a reading end no run here.
+-- The count of faults rose where a call failed, and in every other case it stayed as it was. Words without a reading end no run
+-- here.
 pub record StopsWithStatus (before now : ℕ) (end : Status) : Type 0 where
   pub counts : CountsFaults (λ P. IsTrue (is_unfailed end) → P) (λ P. end ≡ Outside → P) before now
   pub usage : end ≡ Usage → ⊥

@@ -3,7 +3,8 @@ use Rattle.std.specs.Prelude.{ℕ, Bool, true, false, Result, Ok, Err, if◌then
 use Rattle.text_io.specs.declared.stop.Stop.{Stop}
 use Rattle.text_io.specs.declared.stop.Stop.TheVariants as stops
 use Rattle.run_outcome.specs.declared.status.Status.{Status}
-use Rattle.run_outcome.specs.declared.status.Status.TheVariants.{Done, Usage, Library, Cells, Stimulus, Model, Differ, Outside, Memory, TooLong}
+use Rattle.run_outcome.specs.declared.status.Status.TheVariants.{Done, Usage, Library, Cells, Stimulus, Model, Differ, Outside}
+use Rattle.run_outcome.specs.declared.status.Status.TheVariants.{Memory, TooLong}
 
 -- the program's exit code for a status
 abbrev pub code_of : Status → ℕ

@@ -9,8 +9,8 @@ use std::{env, io};
 /// How many standard streams there are: input, output and error, whose descriptors are 0, 1 and 2.
 const STANDARD_STREAMS: i32 = 3;
 
-/// Opens `/dev/null` in the place of each standard stream that is closed, so that no file of a run takes its descriptor and with it
-/// what is written there. A system opens a file at the least free descriptor.
+/// Opens `/dev/null` in the place of each standard stream that is closed, so that no file of a run takes its descriptor and with
+/// it what is written there. A system opens a file at the least free descriptor.
 pub fn open_closed_streams(rt: &HostRuntime) {
     for _stream in 0..STANDARD_STREAMS {
         let mut options = OpenOptions::new();

@@ -89,7 +89,8 @@ pub fn ended(written: Result<(), Failed>, status: Status) -> Status
     }
 }
 
-/// The status of a run that compares: by whether something differs, `Differ` or `Done`, or that of the call with which it stopped.
+/// The status of a run that compares: by whether something differs, `Differ` or `Done`, or that of the call with which it
+/// stopped.
 pub fn compared_status(compared: Result<bool, Stop>) -> Status
     ensures { result ≡ compared_status_of compared }
 {

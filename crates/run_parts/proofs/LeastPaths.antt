@@ -1,5 +1,6 @@
 -- The least delay of paths, path by path.
-use Rattle.std.proofs.Common.{◌≡◌, ℕ, suc, true, false, ◌&&◌, Bool, List, ◌∷◌, ◌+◌, map, drop, refl, sym, ap, ◌∙◌, Option, Some, None, add-one, slice_get, cond, if◌then◌else◌}
+use Rattle.std.proofs.Common.{◌≡◌, ℕ, suc, true, false, ◌&&◌, Bool, List, ◌∷◌, ◌+◌, map, drop, refl, sym, ap, ◌∙◌, Option, Some}
+use Rattle.std.proofs.Common.{None, add-one, slice_get, cond, if◌then◌else◌}
 use Rattle.std.specs.Prelude.{filter}
 use Rattle.trit_cubes.specs.declared.trits.Trit.{Trit}
 use Rattle.cell_machine.specs.Delay.{Path, lesser, least, path_delay, active_delays}

@@ -1,5 +1,6 @@
 -- Lists that have numbers, as they are filled.
-use Rattle.std.proofs.Common.{◌≡◌, ℕ, zero, suc, ◌≤◌, cond, List, [], ◌∷◌, ◌++◌, length, get_or, set, refl, ap, sym, ◌∙◌, Some, slice_get, nat_eq}
+use Rattle.std.proofs.Common.{◌≡◌, ℕ, zero, suc, ◌≤◌, cond, List, [], ◌∷◌, ◌++◌, length, get_or, set, refl, ap, sym, ◌∙◌, Some}
+use Rattle.std.proofs.Common.{slice_get, nat_eq}
 use Rattle.std.proofs.Math.Dec.{eqb-zero-suc, eqb-suc-zero, eqb-suc-suc}
 use Rattle.std.proofs.lemmas.List.{append-nil, set_past}
 use Rattle.run_parts.specs.NumberedLists.{AreLists}
@@ -33,5 +34,6 @@ not-added all lists q x past are = added all all lists q x [] (sym (set_past all
 
 -- the same lists by other words
 pub same-lists :
-    {X : Type 0} (all : List (List X)) (lists others : ℕ → List X) → ((n : ℕ) → lists n ≡ others n) → AreLists lists all → AreLists others all
+    {X : Type 0} (all : List (List X)) (lists others : ℕ → List X) → ((n : ℕ) → lists n ≡ others n) → AreLists lists all
+    → AreLists others all
 same-lists all lists others same are = λ n found e. are n found e ∙ same n

@@ -1,5 +1,7 @@
 -- The places of entries that pass a test, and what is done at these places, one after another.
-use Rattle.std.proofs.Common.{◌≡◌, ℕ, zero, suc, ◌+◌, ◌<◌, ◌≤◌, Bool, true, false, ◌||◌, cond, List, [], ◌∷◌, ◌++◌, append_assoc, length, get_or, set, take, drop, map, refl, ap, sym, ◌∙◌, Option, Some, None, slice_get, arith, add-one, length-take-le, length-drop}
+use Rattle.std.proofs.Common.{◌≡◌, ℕ, zero, suc, ◌+◌, ◌<◌, ◌≤◌, Bool, true, false, ◌||◌, cond, List, [], ◌∷◌, ◌++◌, append_assoc}
+use Rattle.std.proofs.Common.{length, get_or, set, take, drop, map, refl, ap, sym, ◌∙◌, Option, Some, None, slice_get, arith}
+use Rattle.std.proofs.Common.{add-one, length-take-le, length-drop}
 use Rattle.std.specs.List.{list_any}
 use Rattle.std.proofs.lemmas.List.{append-nil, take_more, take-append-drop, drop_all, length-set, set-get_or}
 use Rattle.std.proofs.lemmas.Option.{slice_get_within, get_or_from_slice_get}
@@ -148,7 +150,8 @@ past-end (x ∷ xs) zero e = absurd cc
 past-end (x ∷ xs) (suc i) e = let rest = past-end xs i e in omega (arith, rest)
 
 pub step-more :
-    {X S : Type 0} (f : X → S → S) (xs : List X) (places : List ℕ) (j : ℕ) (ss : List S) (k : ℕ) (d : S) (new : S) (next : List S) {x : X}
+    {X S : Type 0} (f : X → S → S) (xs : List X) (places : List ℕ) (j : ℕ) (ss : List S) (k : ℕ) (d : S) (new : S)
+    (next : List S) {x : X}
     → slice_get places j ≡ Some k → slice_get xs k ≡ Some x → new ≡ f x (get_or ss k d) → next ≡ set ss k new
     → stepped f d xs (drop (j + 1) places) next ≡ stepped f d xs (drop j places) ss
 step-more f xs places j ss k d new next here found own written =
@@ -167,13 +170,15 @@ drop-set (x ∷ ss) (suc k) s = drop-set ss k s
 one-anew :
     {X S : Type 0} (before now : X → S) (d : S) (xs rest : List X) (x : X) (k : ℕ) (ss : List S) (places : List ℕ) (b : Bool)
     → (b ≡ false → before x ≡ now x) → drop k xs ≡ x ∷ rest → drop k ss ≡ before x ∷ map before rest
-    → ((us : List S) → drop (k + 1) us ≡ map before rest → stepped (λ y s. now y) d xs places us ≡ take (k + 1) us ++ map now rest)
+    → ((us : List S) → drop (k + 1) us ≡ map before rest
+    → stepped (λ y s. now y) d xs places us ≡ take (k + 1) us ++ map now rest)
     → stepped (λ y s. now y) d xs (cond b (k ∷ places) places) ss ≡ take k ss ++ (now x ∷ map now rest)
 one-anew before now d xs rest x k ss places true same is are again =
     let found = get-drop xs k x rest is in
     let within = slice_get_within ss k (before x) (get-drop ss k (before x) (map before rest) are) in
     let behind : drop (k + 1) (set ss k (now x)) ≡ map before rest
-    = ap (λ m. drop m (set ss k (now x))) (add-one k) ∙ drop-set ss k (now x) ∙ sym (drop-behind ss k (before x) (map before rest) are) in
+    = ap (λ m. drop m (set ss k (now x))) (add-one k) ∙ drop-set ss k (now x)
+    ∙ sym (drop-behind ss k (before x) (map before rest) are) in
     ap (λ o. stepped (λ y s. now y) d xs places (step_one (λ y s. now y) d k ss o)) found
     ∙ again (set ss k (now x)) behind
     ∙ ap (λ m. take m (set ss k (now x)) ++ map now rest) (add-one k)

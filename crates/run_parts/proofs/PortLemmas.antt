@@ -1,5 +1,6 @@
 -- The numbers of ports among the inputs, as a list.
-use Rattle.std.proofs.Common.{◌≡◌, ℕ, ◌+◌, ◌<◌, ◌≤◌, true, false, List, length, map, get_or, ap, sym, ◌∙◌, Some, None, slice_get, arith, inl, inr, ◌⊎◌, [], ◌∷◌, ◌++◌}
+use Rattle.std.proofs.Common.{◌≡◌, ℕ, ◌+◌, ◌<◌, ◌≤◌, true, false, List, length, map, get_or, ap, sym, ◌∙◌, Some, None, slice_get}
+use Rattle.std.proofs.Common.{arith, inl, inr, ◌⊎◌, [], ◌∷◌, ◌++◌}
 use Rattle.std.specs.Prelude.{count_by}
 use Rattle.std.specs.List.{range_with_len}
 use Rattle.std.proofs.lemmas.List.{take_all}
@@ -25,7 +26,8 @@ pub unlisted-number :
 unlisted-number ports p e = by (slice_get_cases (input_numbers ports) p).1
   where
     by :
-        ((n : ℕ) × (p < length (input_numbers ports)) × (slice_get (input_numbers ports) p ≡ Some n) × (get_or (input_numbers ports) p n ≡ n))
+        ((n : ℕ) × (p < length (input_numbers ports)) × (slice_get (input_numbers ports) p ≡ Some n)
+        × (get_or (input_numbers ports) p n ≡ n))
         ⊎ ((length (input_numbers ports) ≤ p) × (slice_get (input_numbers ports) p ≡ None))
         → input_count ports ≡ input_number ports p
     by (inl found) = let listed = found.2 in absurd cc

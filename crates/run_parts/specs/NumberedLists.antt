@@ -9,4 +9,5 @@ AreLists {X} lists all = (n : ℕ) (found : List X) → slice_get all n ≡ Some
 abbrev pub AddsPlace : (ℕ → Bool) → (ℕ → Bool) → ℕ → List (List ℕ) → List (List ℕ) → Type 0
 AddsPlace before after place old new =
     (lists : ℕ → List ℕ)
-    → AreLists (λ n. lists n ++ cond (before n) (place ∷ []) []) old → AreLists (λ n. lists n ++ cond (after n) (place ∷ []) []) new
+    → AreLists (λ n. lists n ++ cond (before n) (place ∷ []) []) old
+    → AreLists (λ n. lists n ++ cond (after n) (place ∷ []) []) new

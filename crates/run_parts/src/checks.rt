@@ -70,7 +70,8 @@ fn check_reports<V: Conditions>(
     check: &TimingCheck,
     stamps: Times,
 ) -> bool
-    ensures { result ≡ reports_where seen.now.ports.list.now (V.counts values.now) seen.now.from seen.now.change check.now stamps }
+    ensures { result ≡ reports_where seen.now.ports.list.now (V.counts values.now) seen.now.from seen.now.change check.now
+        stamps }
 {
     if !happens(seen, check.second) {
         return false;
@@ -89,7 +90,8 @@ pub fn compare_all<V: Conditions>(
 )
     requires one_each { length stamps.now ≡ length checks.now }
     requires one_report { length reports.old ≡ length checks.now }
-    ensures reports { reports.new ≡ each (reports_where seen.now.ports.list.now (V.counts values.now) seen.now.from seen.now.change) checks.now stamps.now }
+    ensures reports { reports.new ≡ each
+        (reports_where seen.now.ports.list.now (V.counts values.now) seen.now.from seen.now.change) checks.now stamps.now }
     ensures len { length reports.new ≡ length reports.old }
 {
     for i in 0..reports.len() {

@@ -1,5 +1,5 @@
-//! What the runs of a module and of an entity have in common: the numbers of their ports among the inputs, their timing checks, what
-//! they hold before any change, and what their outputs show.
+//! What the runs of a module and of an entity have in common: the numbers of their ports among the inputs, their timing checks,
+//! what they hold before any change, and what their outputs show.
 #![tactic(auto)]
 
 mod checks;

@@ -19,7 +19,8 @@ pub fn empty_lists<T: Drop>(alloc: Global, count: usize) -> Result<Vec<Items<T>>
 
 /// Adds an entry to the list with this number, where there is one.
 pub fn add<T: Drop>(all: &mut Vec<Items<T>>, number: usize, entry: T) -> Result<(), AllocError>
-    ensures lists { OnOk result ((lists : ℕ → List T) → AreLists lists all.old.items → AreLists (λ n. lists n ++ cond (nat_eq number n) (entry ∷ []) []) all.new.items) }
+    ensures lists { OnOk result ((lists : ℕ → List T) → AreLists lists all.old.items
+        → AreLists (λ n. lists n ++ cond (nat_eq number n) (entry ∷ []) []) all.new.items) }
     ensures len { OnOk result (length all.new.items ≡ length all.old.items) }
 {
     if number < all.len() {

@@ -1,5 +1,6 @@
 -- No more places than both supports have sources.
-use Rattle.std.proofs.Common.{◌≡◌, ℕ, zero, suc, ◌+◌, ◌<◌, ◌≤◌, Bool, true, false, ◌||◌, cond, List, [], ◌∷◌, length, map, filter, nat_eq, refl, inl, inr, arith, length-append}
+use Rattle.std.proofs.Common.{◌≡◌, ℕ, zero, suc, ◌+◌, ◌<◌, ◌≤◌, Bool, true, false, ◌||◌, cond, List, [], ◌∷◌, length, map, filter}
+use Rattle.std.proofs.Common.{nat_eq, refl, inl, inr, arith, length-append}
 use Rattle.std.specs.List.{list_any, range_with_len}
 use Rattle.std.proofs.lemmas.Bool.{ne_eqb, eq-eqb, cases_eq}
 use Rattle.cell_machine.specs.declared.outputs.Source.{Source}
@@ -56,13 +57,16 @@ passing test pins groups =
 one_place : (y : Source) (pins groups : ℕ) → passing (λ s. same_source s y) pins groups ≤ 1
 one_place (source.Pin p) pins groups =
     let test : Source → Bool = λ s. same_source s (source.Pin p) in
-    let few : length (filter test (pin_sources (range_with_len 0 pins))) ≤ 1 = once test (λ j. source.Pin j) p (λ j. refl) 0 pins in
-    let none : filter test (state_sources (range_with_len 0 groups)) ≡ [] = never test (λ j. source.State j) (λ j. refl) 0 groups in
+    let few : length (filter test (pin_sources (range_with_len 0 pins))) ≤ 1 = once test (λ j. source.Pin j) p (λ j. refl) 0 pins
+    in
+    let none : filter test (state_sources (range_with_len 0 groups)) ≡ [] = never test (λ j. source.State j) (λ j. refl) 0 groups
+    in
     rw none (omega (arith, few))
 one_place (source.State g) pins groups =
     let test : Source → Bool = λ s. same_source s (source.State g) in
     let none : filter test (pin_sources (range_with_len 0 pins)) ≡ [] = never test (λ j. source.Pin j) (λ j. refl) 0 pins in
-    let few : length (filter test (state_sources (range_with_len 0 groups))) ≤ 1 = once test (λ j. source.State j) g (λ j. refl) 0 groups in
+    let few : length (filter test (state_sources (range_with_len 0 groups))) ≤ 1 =
+    once test (λ j. source.State j) g (λ j. refl) 0 groups in
     rw none (omega (arith, few))
 
 no_place : (xs : List Source) → filter (λ s. false) xs ≡ []
@@ -70,7 +74,8 @@ no_place [] = refl
 no_place (x ∷ xs) = no_place xs
 
 -- so do the sources of a support
-support_places : (support : List Source) (pins groups : ℕ) → passing (λ s. list_any (same_source s) support) pins groups ≤ length support
+support_places : (support : List Source) (pins groups : ℕ)
+    → passing (λ s. list_any (same_source s) support) pins groups ≤ length support
 support_places [] pins groups =
     rw (no_place (pin_sources (range_with_len 0 pins)), no_place (state_sources (range_with_len 0 groups))) (omega arith)
 support_places (y ∷ ys) pins groups =
@@ -83,7 +88,8 @@ support_places (y ∷ ys) pins groups =
     omega (arith, of_pins, of_groups, one, more)
 
 -- The places are no more than the sources of both supports.
-pub few_places : (cell : CellData) (first second : List Source) → length (places_of cell first second) ≤ length first + length second
+pub few_places : (cell : CellData) (first second : List Source)
+    → length (places_of cell first second) ≤ length first + length second
 few_places cell first second =
     let pins = length cell.pins in
     let groups = length cell.groups in
@@ -93,7 +99,8 @@ few_places cell first second =
     let of_groups = either_few one other (state_sources (range_with_len 0 groups)) in
     let here = support_places first pins groups in
     let there = support_places second pins groups in
-    rw (length-append (filter (in_either first second) (pin_sources (range_with_len 0 pins))) (filter (in_either first second) (state_sources (range_with_len 0 groups))))
+    rw (length-append (filter (in_either first second) (pin_sources (range_with_len 0 pins)))
+    (filter (in_either first second) (state_sources (range_with_len 0 groups))))
     (omega (arith, of_pins, of_groups, here, there))
 
 -- so are the pins among them

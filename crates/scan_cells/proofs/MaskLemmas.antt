@@ -1,12 +1,14 @@
 -- Points restricted to places.
-use Rattle.std.proofs.Common.{◌≡◌, ◌≢◌, ◌⊎◌, ℕ, ◌^◌, ◌<◌, min, max, Bool, true, false, not, cond, nat_eq, bit_and, List, [], ◌∷◌, Option, Some, None, refl, sym, ap, subst, ◌∙◌, inl, inr, eqb-true, arith}
+use Rattle.std.proofs.Common.{◌≡◌, ◌≢◌, ◌⊎◌, ℕ, ◌^◌, ◌<◌, min, max, Bool, true, false, not, cond, nat_eq, bit_and, List, [], ◌∷◌}
+use Rattle.std.proofs.Common.{Option, Some, None, refl, sym, ap, subst, ◌∙◌, inl, inr, eqb-true, arith}
 use Rattle.std.specs.Prelude.{bit_or, bit_xor, unwrap_or, position}
 use Rattle.std.specs.List.{list_all}
 use Rattle.std.specs.Option.{option_map_or}
 use Rattle.std.specs.Int.{bit_at}
 use Rattle.std.proofs.lemmas.Bool.{cases_eq, true≢false, and_parts, and_from}
 use Rattle.std.proofs.lemmas.Nat.{and_comm, and_assoc, and_le_l}
-use Rattle.std.proofs.lemmas.Nat.Bits.{bit_at_and, bit_at_or, bit_at_xor, bit_at-pow_same, bit_at-pow_other, bit_at-lt, same_from_bits}
+use Rattle.std.proofs.lemmas.Nat.Bits.{bit_at_and, bit_at_or, bit_at_xor, bit_at-pow_same, bit_at-pow_other, bit_at-lt}
+use Rattle.std.proofs.lemmas.Nat.Bits.{same_from_bits}
 use Rattle.cell_machine.specs.declared.outputs.Source.{Source}
 use Rattle.cell_machine.specs.declared.outputs.Source.TheVariants as source
 use Rattle.scan_cells.specs.Views.{ViewData}
@@ -36,7 +38,8 @@ set_kept k point mask e =
     ap (λ n. nat_eq n 1) (bit_at_and point mask k)
     ∙ kept_bit (bit_at point k) (bit_at mask k) (eqb-true (bit_at mask k) 1 e) (bit_at-lt point k)
 
-value_kept : (places : List Source) (s : Source) (point mask : ℕ) → is_in places mask s ≡ true → value_at places (bit_and point mask) s ≡ value_at places point s
+value_kept : (places : List Source) (s : Source) (point mask : ℕ) → is_in places mask s ≡ true
+    → value_at places (bit_and point mask) s ≡ value_at places point s
 unfolding value_at
 value_kept places s point mask e = set_kept (unwrap_or (position (same_source s) places) 0) point mask e
 
@@ -100,7 +103,8 @@ changed_out point k mask e = same_from_bits (bit_and (bit_xor point (2 ^ k)) mas
 abbrev pub Near : ℕ → ℕ → ℕ → Type 0
 Near n after before = (before ≡ after) ⊎ ((k : ℕ) × (k < n) × (before ≡ changed_at after k))
 
-pub near_changed : (n after k mask : ℕ) → k < n → (b : Bool) → is_set k mask ≡ b → Near n (bit_and after mask) (bit_and (changed_at after k) mask)
+pub near_changed : (n after k mask : ℕ) → k < n → (b : Bool) → is_set k mask ≡ b
+    → Near n (bit_and after mask) (bit_and (changed_at after k) mask)
 near_changed n after k mask l true e = inr (k, l, changed_in after k mask e)
 near_changed n after k mask l false e = inl (changed_out after k mask e)
 
@@ -141,7 +145,8 @@ set_also k more mask e =
     let most : max (bit_at more k) (bit_at mask k) ≡ 1 = omega (arith, one, small) in
     ap (λ n. nat_eq n 1) (bit_at_or more mask k ∙ most)
 
-pub in_more : (places : List Source) (mask more : ℕ) (s : Source) → is_in places mask s ≡ true → is_in places (bit_or mask more) s ≡ true
+pub in_more : (places : List Source) (mask more : ℕ) (s : Source) → is_in places mask s ≡ true
+    → is_in places (bit_or mask more) s ≡ true
 in_more places mask more s h = set_more (unwrap_or (position (same_source s) places) 0) mask more h
 
 pub are_also :

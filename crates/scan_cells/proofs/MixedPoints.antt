@@ -1,5 +1,7 @@
--- Where a cell and its view do not differ at points with 0 at the places of the one or of the other, they do not differ at a point.
-use Rattle.std.proofs.Common.{◌≡◌, ◌≢◌, ◌⊎◌, ℕ, ◌+◌, ◌<◌, Bool, true, false, bit_and, length, None, refl, sym, ap, subst, ◌∙◌, inl, inr, arith}
+-- Where a cell and its view do not differ at points with 0 at the places of the one or of the other, they do not differ at a
+-- point.
+use Rattle.std.proofs.Common.{◌≡◌, ◌≢◌, ◌⊎◌, ℕ, ◌+◌, ◌<◌, Bool, true, false, bit_and, length, None, refl, sym, ap, subst, ◌∙◌}
+use Rattle.std.proofs.Common.{inl, inr, arith}
 use Rattle.std.specs.List.{range_with_len}
 use Rattle.std.proofs.lemmas.Bool.{cases_eq}
 use Rattle.std.proofs.lemmas.Nat.{and_assoc, and_le_l}
@@ -8,20 +10,26 @@ use Rattle.cell_machine.specs.CellTrace.{step_at, sources_at, output_value_at}
 use Rattle.scan_cells.specs.Views.{ViewData}
 use Rattle.scan_cells.specs.Places.{is_set, changed_at, is_inactive}
 use Rattle.scan_cells.specs.Masks.{IsMask}
-use Rattle.scan_cells.specs.Comparison.{first_some, cell_support, view_support, step_places, cell_step, view_step, state_difference, change_difference, after_difference, output_support, output_places, cell_output, view_output, point_difference}
-use Rattle.scan_cells.proofs.Sides.{or_none, none_or, first_none, none_first, guarded, guard, no_difference, difference_none, states_none, none_states}
-use Rattle.scan_cells.proofs.MaskLemmas.{values_kept, inactive_kept, changed_in, changed_out, Near, near_changed, near_kept, masks_swap, less_masked, less_twice}
+use Rattle.scan_cells.specs.Comparison.{first_some, cell_support, view_support, step_places, cell_step, view_step}
+use Rattle.scan_cells.specs.Comparison.{state_difference, change_difference, after_difference, output_support, output_places}
+use Rattle.scan_cells.specs.Comparison.{cell_output, view_output, point_difference}
+use Rattle.scan_cells.proofs.Sides.{or_none, none_or, first_none, none_first, guarded, guard, no_difference, difference_none}
+use Rattle.scan_cells.proofs.Sides.{states_none, none_states}
+use Rattle.scan_cells.proofs.MaskLemmas.{values_kept, inactive_kept, changed_in, changed_out, Near, near_changed, near_kept}
+use Rattle.scan_cells.proofs.MaskLemmas.{masks_swap, less_masked, less_twice}
 
 -- what no difference at a point says of the steps that lead to it
 after_agrees :
     (cell : CellData) (view : ViewData) (g after : ℕ) → after_difference cell view g after ≡ None
     → is_inactive view (step_places cell view g) after ≡ true
-    → (before : ℕ) → Near (length (step_places cell view g)) after before → is_inactive view (step_places cell view g) before ≡ true
+    → (before : ℕ) → Near (length (step_places cell view g)) after before
+    → is_inactive view (step_places cell view g) before ≡ true
     → (s : Bool) → cell_step cell view g before after s ≡ view_step cell view g before after s
 after_agrees cell view g after h idle before near idle' =
     let parts =
     or_none (change_difference cell view g after after)
-    (first_some (λ k. change_difference cell view g after (changed_at after k)) (range_with_len 0 (length (step_places cell view g))))
+    (first_some (λ k. change_difference cell view g after (changed_at after k))
+    (range_with_len 0 (length (step_places cell view g))))
     (guarded (is_inactive view (step_places cell view g) after) _ h idle) in
     let none : change_difference cell view g after before ≡ None =
     elim near [
@@ -37,18 +45,22 @@ after_agrees cell view g after h idle before near idle' =
 agrees_after :
     (cell : CellData) (view : ViewData) (g after : ℕ)
     → (is_inactive view (step_places cell view g) after ≡ true
-    → (before : ℕ) → Near (length (step_places cell view g)) after before → is_inactive view (step_places cell view g) before ≡ true
+    → (before : ℕ) → Near (length (step_places cell view g)) after before
+    → is_inactive view (step_places cell view g) before ≡ true
     → (s : Bool) → cell_step cell view g before after s ≡ view_step cell view g before after s)
     → after_difference cell view g after ≡ None
 agrees_after cell view g after h =
     guard (is_inactive view (step_places cell view g) after) _ (λ idle.
     none_or (change_difference cell view g after after)
-    (first_some (λ k. change_difference cell view g after (changed_at after k)) (range_with_len 0 (length (step_places cell view g))))
+    (first_some (λ k. change_difference cell view g after (changed_at after k))
+    (range_with_len 0 (length (step_places cell view g))))
     (guard (is_inactive view (step_places cell view g) after) (state_difference cell view g after after) (λ idle'.
     none_states cell view g after after (h idle after (inl refl) idle')))
     (none_first (λ k. change_difference cell view g after (changed_at after k)) 0 (length (step_places cell view g)) (λ k _ place.
-    guard (is_inactive view (step_places cell view g) (changed_at after k)) (state_difference cell view g (changed_at after k) after) (λ idle'.
-    none_states cell view g (changed_at after k) after (h idle (changed_at after k) (inr (k, omega (arith, place), refl)) idle')))))
+    guard (is_inactive view (step_places cell view g) (changed_at after k))
+    (state_difference cell view g (changed_at after k) after) (λ idle'.
+    none_states cell view g (changed_at after k) after
+    (h idle (changed_at after k) (inr (k, omega (arith, place), refl)) idle')))))
 
 cell_kept :
     (cell : CellData) (view : ViewData) (g before after mask : ℕ) (s : Bool)
@@ -71,13 +83,15 @@ view_kept cell view g before after mask s h =
 -- the steps of groups
 pub mixed_steps :
     (cell : CellData) (view : ViewData) (g point a b : ℕ)
-    → IsMask view (step_places cell view g) (cell_support cell g) a → IsMask view (step_places cell view g) (view_support view g) b
+    → IsMask view (step_places cell view g) (cell_support cell g) a
+    → IsMask view (step_places cell view g) (view_support view g) b
     → bit_and point a ≢ point → bit_and point b ≢ point
     → ((p : ℕ) → p < point → after_difference cell view g p ≡ None) → after_difference cell view g point ≡ None
 mixed_steps cell view g point a b of_cell of_view first second none =
     let places = step_places cell view g in
     let n = length places in
-    let idle : (p mask : ℕ) → is_inactive view places p ≡ true → IsMask view places (cell_support cell g) mask ⊎ IsMask view places (view_support view g) mask → is_inactive view places (bit_and p mask) ≡ true
+    let idle : (p mask : ℕ) → is_inactive view places p ≡ true → IsMask view places (cell_support cell g) mask
+    ⊎ IsMask view places (view_support view g) mask → is_inactive view places (bit_and p mask) ≡ true
     = λ p mask e either. elim either [
       | inl m ↦ inactive_kept view places p mask m.of_enable ∙ e
       | inr m ↦ inactive_kept view places p mask m.of_enable ∙ e
@@ -86,33 +100,40 @@ mixed_steps cell view g point a b of_cell of_view first second none =
     let to_cell = near_kept n point before a near in
     let to_view = near_kept n point before b near in
     sym (cell_kept cell view g before point a s of_cell)
-    ∙ after_agrees cell view g (bit_and point a) (none (bit_and point a) (less_masked point a first)) (idle point a here (inl of_cell))
+    ∙ after_agrees cell view g (bit_and point a) (none (bit_and point a) (less_masked point a first))
+    (idle point a here (inl of_cell))
     (bit_and before a) to_cell (idle before a there (inl of_cell)) s
     ∙ sym (view_kept cell view g (bit_and before a) (bit_and point a) b s of_view)
     ∙ (λ i. view_step cell view g (masks_swap before a b i) (masks_swap point a b i) s)
-    ∙ sym (after_agrees cell view g (bit_and (bit_and point b) a) (none (bit_and (bit_and point b) a) (less_twice point b a second))
+    ∙ sym (after_agrees cell view g (bit_and (bit_and point b) a)
+    (none (bit_and (bit_and point b) a) (less_twice point b a second))
     (idle (bit_and point b) a (idle point b here (inr of_view)) (inl of_cell))
     (bit_and (bit_and before b) a) (near_kept n (bit_and point b) (bit_and before b) a to_view)
     (idle (bit_and before b) a (idle before b there (inr of_view)) (inl of_cell)) s)
     ∙ cell_kept cell view g (bit_and before b) (bit_and point b) a s of_cell
-    ∙ after_agrees cell view g (bit_and point b) (none (bit_and point b) (less_masked point b second)) (idle point b here (inr of_view))
+    ∙ after_agrees cell view g (bit_and point b) (none (bit_and point b) (less_masked point b second))
+    (idle point b here (inr of_view))
     (bit_and before b) to_view (idle before b there (inr of_view)) s
     ∙ view_kept cell view g before point b s of_view)
 
--- the steps of groups at a change of a place, restricted to some places, where nothing differs before the point nor at it unchanged
+-- the steps of groups at a change of a place, restricted to some places, where nothing differs before the point nor at it
+-- unchanged
 module _ (cell : CellData) (view : ViewData) (g after k : ℕ)
     (none : (p : ℕ) → p < after → after_difference cell view g p ≡ None)
     (same : change_difference cell view g after after ≡ None)
     (place : k < length (step_places cell view g)) where
   masked_at_point :
-      (mask : ℕ) (b : Bool) → is_set k mask ≡ b → bit_and after mask ≡ after → bit_and (changed_at after k) mask ≢ changed_at after k
+      (mask : ℕ) (b : Bool) → is_set k mask ≡ b → bit_and after mask ≡ after
+      → bit_and (changed_at after k) mask ≢ changed_at after k
       → is_inactive view (step_places cell view g) (bit_and after mask) ≡ true
-      → (s : Bool) → cell_step cell view g (bit_and (changed_at after k) mask) (bit_and after mask) s ≡ view_step cell view g (bit_and (changed_at after k) mask) (bit_and after mask) s
+      → (s : Bool) → cell_step cell view g (bit_and (changed_at after k) mask) (bit_and after mask) s ≡ view_step cell view g
+      (bit_and (changed_at after k) mask) (bit_and after mask) s
   masked_at_point mask true in_mask within other idle s =
       absurd (other (changed_in after k mask in_mask ∙ ap (λ p. changed_at p k) within))
   masked_at_point mask false in_mask within other idle s =
       let back : bit_and (changed_at after k) mask ≡ after = changed_out after k mask in_mask ∙ within in
-      let here : is_inactive view (step_places cell view g) after ≡ true = ap (is_inactive view (step_places cell view g)) (sym within) ∙ idle in
+      let here : is_inactive view (step_places cell view g) after ≡ true =
+      ap (is_inactive view (step_places cell view g)) (sym within) ∙ idle in
       (λ i. cell_step cell view g (back i) (within i) s)
       ∙ states_none cell view g after after
       (guarded (is_inactive view (step_places cell view g) after) (state_difference cell view g after after) same here) s
@@ -122,7 +143,8 @@ module _ (cell : CellData) (view : ViewData) (g after k : ℕ)
       (mask : ℕ) → bit_and (changed_at after k) mask ≢ changed_at after k
       → is_inactive view (step_places cell view g) (bit_and after mask) ≡ true
       → is_inactive view (step_places cell view g) (bit_and (changed_at after k) mask) ≡ true
-      → (s : Bool) → cell_step cell view g (bit_and (changed_at after k) mask) (bit_and after mask) s ≡ view_step cell view g (bit_and (changed_at after k) mask) (bit_and after mask) s
+      → (s : Bool) → cell_step cell view g (bit_and (changed_at after k) mask) (bit_and after mask) s ≡ view_step cell view g
+      (bit_and (changed_at after k) mask) (bit_and after mask) s
   masked_agrees mask other idle idle' s =
       elim (cases_eq (bit_and after mask) after) [
         | inl within ↦ masked_at_point mask (is_set k mask) refl within other idle s
@@ -135,7 +157,8 @@ module _ (cell : CellData) (view : ViewData) (g after k : ℕ)
 -- the steps of groups at a change from a mixed point
 pub mixed_change :
     (cell : CellData) (view : ViewData) (g after k a b : ℕ)
-    → IsMask view (step_places cell view g) (cell_support cell g) a → IsMask view (step_places cell view g) (view_support view g) b
+    → IsMask view (step_places cell view g) (cell_support cell g) a
+    → IsMask view (step_places cell view g) (view_support view g) b
     → bit_and (changed_at after k) a ≢ changed_at after k → bit_and (changed_at after k) b ≢ changed_at after k
     → k < length (step_places cell view g)
     → ((p : ℕ) → p < after → after_difference cell view g p ≡ None) → change_difference cell view g after after ≡ None
@@ -171,9 +194,11 @@ mixed_change cell view g after k a b of_cell of_view first second place none sam
 -- the values of outputs
 point_agrees :
     (cell : CellData) (view : ViewData) (i j point : ℕ) → point_difference cell view i j point ≡ None
-    → is_inactive view (output_places cell view i j) point ≡ true → cell_output cell view i j point ≡ view_output cell view i j point
+    → is_inactive view (output_places cell view i j) point ≡ true
+    → cell_output cell view i j point ≡ view_output cell view i j point
 point_agrees cell view i j point h idle =
-    no_difference (length cell.groups + i + 1) point point false (cell_output cell view i j point) (view_output cell view i j point)
+    no_difference (length cell.groups + i + 1) point point false (cell_output cell view i j point)
+    (view_output cell view i j point)
     (guarded (is_inactive view (output_places cell view i j) point) _ h idle)
 
 cell_output_kept :
@@ -184,7 +209,8 @@ cell_output_kept cell view i j point mask h =
     ap (output_value_at cell i) (values_kept (output_places cell view i j) (sources_at cell i) point mask h.of_support)
 
 view_output_kept :
-    (cell : CellData) (view : ViewData) (i j point mask : ℕ) → IsMask view (output_places cell view i j) (output_support view j) mask
+    (cell : CellData) (view : ViewData) (i j point mask : ℕ)
+    → IsMask view (output_places cell view i j) (output_support view j) mask
     → view_output cell view i j (bit_and point mask) ≡ view_output cell view i j point
 unfolding view_output
 view_output_kept cell view i j point mask h =
@@ -192,7 +218,8 @@ view_output_kept cell view i j point mask h =
 
 pub mixed_outputs :
     (cell : CellData) (view : ViewData) (i j point a b : ℕ)
-    → IsMask view (output_places cell view i j) (sources_at cell i) a → IsMask view (output_places cell view i j) (output_support view j) b
+    → IsMask view (output_places cell view i j) (sources_at cell i) a
+    → IsMask view (output_places cell view i j) (output_support view j) b
     → bit_and point a ≢ point → bit_and point b ≢ point
     → ((p : ℕ) → p < point → point_difference cell view i j p ≡ None) → point_difference cell view i j point ≡ None
 mixed_outputs cell view i j point a b of_cell of_view first second none =
@@ -201,12 +228,14 @@ mixed_outputs cell view i j point a b of_cell of_view first second none =
     let at_cell = inactive_kept view places point a of_cell.of_enable ∙ here in
     let at_view = inactive_kept view places point b of_view.of_enable ∙ here in
     let at_both = inactive_kept view places (bit_and point b) a of_cell.of_enable ∙ at_view in
-    difference_none (length cell.groups + i + 1) point point false (cell_output cell view i j point) (view_output cell view i j point)
+    difference_none (length cell.groups + i + 1) point point false (cell_output cell view i j point)
+    (view_output cell view i j point)
     (sym (cell_output_kept cell view i j point a of_cell)
     ∙ point_agrees cell view i j (bit_and point a) (none (bit_and point a) (less_masked point a first)) at_cell
     ∙ sym (view_output_kept cell view i j (bit_and point a) b of_view)
     ∙ ap (view_output cell view i j) (masks_swap point a b)
-    ∙ sym (point_agrees cell view i j (bit_and (bit_and point b) a) (none (bit_and (bit_and point b) a) (less_twice point b a second)) at_both)
+    ∙ sym (point_agrees cell view i j (bit_and (bit_and point b) a)
+    (none (bit_and (bit_and point b) a) (less_twice point b a second)) at_both)
     ∙ cell_output_kept cell view i j (bit_and point b) a of_cell
     ∙ point_agrees cell view i j (bit_and point b) (none (bit_and point b) (less_masked point b second)) at_view
     ∙ view_output_kept cell view i j point b of_view))

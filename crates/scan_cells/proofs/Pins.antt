@@ -1,5 +1,6 @@
 -- The pins of a view stand in its cell.
-use Rattle.std.proofs.Common.{◌≡◌, ℕ, ◌<◌, true, List, [], ◌∷◌, length, map, slice_get, Option, Some, None, is_some, unwrap_or, get_or, refl, sym, ◌∙◌, ap}
+use Rattle.std.proofs.Common.{◌≡◌, ℕ, ◌<◌, true, List, [], ◌∷◌, length, map, slice_get, Option, Some, None, is_some, unwrap_or}
+use Rattle.std.proofs.Common.{get_or, refl, sym, ◌∙◌, ap}
 use Rattle.std.specs.Prelude.{bytes_eq}
 use Rattle.std.specs.List.{list_all}
 use Rattle.std.proofs.lemmas.Bool.{and_parts, true≢false}
@@ -31,7 +32,8 @@ pins_are a b h =
     let directions = directions_are a.direction b.direction parts.1 in
     λ i. record { name = names i; direction = directions i }
 
-found_at : (pins : List Pin) (pin : Pin) (o : Option ℕ) → o ≡ number_of pins pin → is_some o ≡ true → slice_get pins (unwrap_or o 0) ≡ Some pin
+found_at : (pins : List Pin) (pin : Pin) (o : Option ℕ) → o ≡ number_of pins pin → is_some o ≡ true
+    → slice_get pins (unwrap_or o 0) ≡ Some pin
 found_at pins pin None e h = absurd (true≢false (sym h))
 found_at pins pin (Some n) e h =
     let found = position-Some (same_pin pin) pins n pin (sym e) in
@@ -50,7 +52,8 @@ pins_found pins (pin ∷ more) h =
     let parts = and_parts (is_among pins pin) (list_all (is_among pins) more) h in
     λ i. found_at pins pin (number_of pins pin) refl parts.0 i ∷ pins_found pins more parts.1 i
 
-pub numbers_below : (pins of_view : List Pin) → list_all (is_among pins) of_view ≡ true → AllBelow (length pins) (numbers_of pins of_view)
+pub numbers_below : (pins of_view : List Pin) → list_all (is_among pins) of_view ≡ true
+    → AllBelow (length pins) (numbers_of pins of_view)
 numbers_below pins [] h = tt
 numbers_below pins (pin ∷ more) h =
     let parts = and_parts (is_among pins pin) (list_all (is_among pins) more) h in

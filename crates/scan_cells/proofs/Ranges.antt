@@ -1,5 +1,6 @@
 -- Going through numbers in order.
-use Rattle.std.proofs.Common.{◌≡◌, ℕ, suc, ◌+◌, ◌-◌, ◌<◌, ◌≤◌, Bool, List, [], ◌∷◌, ◌++◌, length, map, filter, Option, Some, None, inl, inr, sym, subst, ◌∙◌, ap, arith, append_assoc, append-nil, length-append}
+use Rattle.std.proofs.Common.{◌≡◌, ℕ, suc, ◌+◌, ◌-◌, ◌<◌, ◌≤◌, Bool, List, [], ◌∷◌, ◌++◌, length, map, filter, Option, Some, None}
+use Rattle.std.proofs.Common.{inl, inr, sym, subst, ◌∙◌, ap, arith, append_assoc, append-nil, length-append}
 use Rattle.std.proofs.lemmas.List.Elements.{filter-append}
 use Rattle.std.specs.List.{range_with_len}
 use Rattle.std.proofs.lemmas.Bool.{cases_eq}
@@ -41,7 +42,8 @@ pub first_here :
 first_here f i n whole d h some e =
     ap (λ o. or_else o (first_some f (range_with_len (i + 1) (n - (i + 1))))) (sym some) ∙ sym (first_turn f i n h) ∙ e
 
-pub none_yet : {B : Type 0} (f : ℕ → Option B) (i : ℕ) → f i ≡ None → ((p : ℕ) → p < i → f p ≡ None) → (p : ℕ) → p < i + 1 → f p ≡ None
+pub none_yet : {B : Type 0} (f : ℕ → Option B) (i : ℕ) → f i ≡ None → ((p : ℕ) → p < i → f p ≡ None) → (p : ℕ) → p < i + 1
+    → f p ≡ None
 none_yet f i none before p h =
     elim (cases_eq p i) [
       | inl e ↦ subst (λ q. f q ≡ None) (sym e) none

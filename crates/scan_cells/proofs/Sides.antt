@@ -1,5 +1,6 @@
 -- A first difference is one, and where there is none all is equal.
-use Rattle.std.proofs.Common.{◌≡◌, ◌≢◌, ℕ, zero, suc, ◌+◌, ◌^◌, ◌%◌, ◌<◌, ◌≤◌, Bool, true, false, not, cond, List, [], ◌∷◌, length, nat_eq, Option, Some, None, refl, sym, ◌∙◌, ap, subst, inl, inr, arith}
+use Rattle.std.proofs.Common.{◌≡◌, ◌≢◌, ℕ, zero, suc, ◌+◌, ◌^◌, ◌%◌, ◌<◌, ◌≤◌, Bool, true, false, not, cond, List, [], ◌∷◌}
+use Rattle.std.proofs.Common.{length, nat_eq, Option, Some, None, refl, sym, ◌∙◌, ap, subst, inl, inr, arith}
 use Rattle.std.specs.Prelude.{⊤}
 use Rattle.std.specs.List.{range_with_len}
 use Rattle.std.specs.Option.{option_map_or}
@@ -14,7 +15,10 @@ use Rattle.scan_cells.specs.declared.answers.Agreement.TheVariants.{Same}
 use Rattle.scan_cells.specs.declared.answers.Difference.{Difference}
 use Rattle.scan_cells.specs.Views.{ViewData}
 use Rattle.scan_cells.specs.Places.{is_set, changed_at, is_inactive}
-use Rattle.scan_cells.specs.Comparison.{or_else, first_some, difference, step_places, cell_step, view_step, step_difference, state_difference, change_difference, after_difference, group_difference, output_in_view, output_pin, output_places, cell_output, view_output, point_difference, pair_difference, output_difference, first_difference, answered}
+use Rattle.scan_cells.specs.Comparison.{or_else, first_some, difference, step_places, cell_step, view_step, step_difference}
+use Rattle.scan_cells.specs.Comparison.{state_difference, change_difference, after_difference, group_difference, output_in_view}
+use Rattle.scan_cells.specs.Comparison.{output_pin, output_places, cell_output, view_output, point_difference, pair_difference}
+use Rattle.scan_cells.specs.Comparison.{output_difference, first_difference, answered}
 use Rattle.scan_cells.specs.Laws.{AllAgree, SameIsAgreement, DifferencesDiffer, ChangesOnePlace}
 
 -- no answer among two, and among a list
@@ -25,7 +29,8 @@ or_none (Some x) b h = absurd (cc)
 pub none_or : {A : Type 0} (a b : Option A) → a ≡ None → b ≡ None → or_else a b ≡ None
 none_or a b h k = ap (λ o. or_else o b) h ∙ k
 
-pub first_none : {B : Type 0} (f : ℕ → Option B) (k n : ℕ) → first_some f (range_with_len k n) ≡ None → (i : ℕ) → k ≤ i → i < k + n → f i ≡ None
+pub first_none : {B : Type 0} (f : ℕ → Option B) (k n : ℕ) → first_some f (range_with_len k n) ≡ None → (i : ℕ) → k ≤ i
+    → i < k + n → f i ≡ None
 first_none f k zero h i l m = absurd (omega (arith, l, m))
 first_none f k (suc n) h i l m =
     let parts = or_none (f k) (first_some f (range_with_len (k + 1) n)) h in
@@ -34,7 +39,8 @@ first_none f k (suc n) h i l m =
       | inr ne ↦ first_none f (k + 1) n parts.1 i (omega (arith, l, ne)) (omega (arith, m))
     ]
 
-pub none_first : {B : Type 0} (f : ℕ → Option B) (k n : ℕ) → ((i : ℕ) → k ≤ i → i < k + n → f i ≡ None) → first_some f (range_with_len k n) ≡ None
+pub none_first : {B : Type 0} (f : ℕ → Option B) (k n : ℕ) → ((i : ℕ) → k ≤ i → i < k + n → f i ≡ None)
+    → first_some f (range_with_len k n) ≡ None
 none_first f k zero h = refl
 none_first f k (suc n) h =
     none_or (f k) (first_some f (range_with_len (k + 1) n)) (h k (omega arith) (omega arith))
@@ -75,7 +81,8 @@ no_difference p b a s x y h =
     (by_same (same x y) (record { part = p; before = b; after = a; state = s; of_cell = x; of_view = y }) h)
 
 pub difference_none : (p b a : ℕ) (s : Bool) (x y : Trit) → x ≡ y → difference p b a s x y ≡ None
-difference_none p b a s x y e = subst (λ z. difference p b a s x z ≡ None) e (ap (λ c. cond c None (Some (record { part = p; before = b; after = a; state = s; of_cell = x; of_view = x }))) (same_self x))
+difference_none p b a s x y e = subst (λ z. difference p b a s x z ≡ None) e
+    (ap (λ c. cond c None (Some (record { part = p; before = b; after = a; state = s; of_cell = x; of_view = x }))) (same_self x))
 
 answered_same : (o : Option Difference) → answered o ≡ Same → o ≡ None
 answered_same None h = refl
@@ -100,8 +107,10 @@ pub none_states :
     → state_difference cell view g before after ≡ None
 none_states cell view g before after h =
     none_or (step_difference cell view g before after false) (step_difference cell view g before after true)
-    (difference_none (g + 1) before after false (cell_step cell view g before after false) (view_step cell view g before after false) (h false))
-    (difference_none (g + 1) before after true (cell_step cell view g before after true) (view_step cell view g before after true) (h true))
+    (difference_none (g + 1) before after false (cell_step cell view g before after false)
+    (view_step cell view g before after false) (h false))
+    (difference_none (g + 1) before after true (cell_step cell view g before after true) (view_step cell view g before after true)
+    (h true))
 
 -- what no difference after a point says
 after_none :
@@ -109,14 +118,17 @@ after_none :
     → (g after : ℕ) → g < length cell.groups → after < 2 ^ length (step_places cell view g)
     → is_inactive view (step_places cell view g) after ≡ true
     → (change_difference cell view g after after ≡ None)
-    × (first_some (λ k. change_difference cell view g after (changed_at after k)) (range_with_len 0 (length (step_places cell view g))) ≡ None)
+    × (first_some (λ k. change_difference cell view g after (changed_at after k))
+    (range_with_len 0 (length (step_places cell view g))) ≡ None)
 after_none cell view h g after inside below idle =
     let of_group : group_difference cell view g ≡ None =
     first_none (group_difference cell view) 0 (length cell.groups) h g (omega arith) (omega (arith, inside)) in
     let at_after : after_difference cell view g after ≡ None =
-    first_none (after_difference cell view g) 0 (2 ^ length (step_places cell view g)) of_group after (omega arith) (omega (arith, below)) in
+    first_none (after_difference cell view g) 0 (2 ^ length (step_places cell view g)) of_group after (omega arith)
+    (omega (arith, below)) in
     or_none (change_difference cell view g after after)
-    (first_some (λ k. change_difference cell view g after (changed_at after k)) (range_with_len 0 (length (step_places cell view g))))
+    (first_some (λ k. change_difference cell view g after (changed_at after k))
+    (range_with_len 0 (length (step_places cell view g))))
     (guarded (is_inactive view (step_places cell view g) after) _ at_after idle)
 
 agree_from : (cell : CellData) (view : ViewData) → first_difference cell view ≡ None → AllAgree cell view
@@ -132,7 +144,8 @@ agree_from cell view h =
           s;
       changed = λ g after k s inside below place idle idle'.
           states_none cell view g (changed_at after k) after
-          (guarded (is_inactive view (step_places cell view g) (changed_at after k)) (state_difference cell view g (changed_at after k) after)
+          (guarded (is_inactive view (step_places cell view g) (changed_at after k))
+          (state_difference cell view g (changed_at after k) after)
           (first_none (λ k. change_difference cell view g after (changed_at after k)) 0 (length (step_places cell view g))
           (after_none cell view parts.0 g after inside below idle).1 k (omega arith) (omega (arith, place)))
           idle')
@@ -143,8 +156,10 @@ agree_from cell view h =
           let of_pair : pair_difference cell view i j ≡ None =
           subst (λ o. option_map_or (pair_difference cell view i) o None ≡ None) e of_output in
           let at_point : point_difference cell view i j point ≡ None =
-          first_none (point_difference cell view i j) 0 (2 ^ length (output_places cell view i j)) of_pair point (omega arith) (omega (arith, below)) in
-          no_difference (length cell.groups + i + 1) point point false (cell_output cell view i j point) (view_output cell view i j point)
+          first_none (point_difference cell view i j) 0 (2 ^ length (output_places cell view i j)) of_pair point (omega arith)
+          (omega (arith, below)) in
+          no_difference (length cell.groups + i + 1) point point false (cell_output cell view i j point)
+          (view_output cell view i j point)
           (guarded (is_inactive view (output_places cell view i j) point) _ at_point idle);
     }
 
@@ -155,19 +170,23 @@ pair_none cell view h i inside None e = refl
 pair_none cell view h i inside (Some j) e =
     none_first (point_difference cell view i j) 0 (2 ^ length (output_places cell view i j)) (λ point _ below.
     guard (is_inactive view (output_places cell view i j) point) _ (λ idle.
-    difference_none (length cell.groups + i + 1) point point false (cell_output cell view i j point) (view_output cell view i j point)
+    difference_none (length cell.groups + i + 1) point point false (cell_output cell view i j point)
+    (view_output cell view i j point)
     (h.outputs i j point inside e (omega (arith, below)) idle)))
 
-group_none : (cell : CellData) (view : ViewData) → AllAgree cell view → (g : ℕ) → g < length cell.groups → group_difference cell view g ≡ None
+group_none : (cell : CellData) (view : ViewData) → AllAgree cell view → (g : ℕ) → g < length cell.groups
+    → group_difference cell view g ≡ None
 group_none cell view h g inside =
     none_first (after_difference cell view g) 0 (2 ^ length (step_places cell view g)) (λ after _ below.
     guard (is_inactive view (step_places cell view g) after) _ (λ idle.
     none_or (change_difference cell view g after after)
-    (first_some (λ k. change_difference cell view g after (changed_at after k)) (range_with_len 0 (length (step_places cell view g))))
+    (first_some (λ k. change_difference cell view g after (changed_at after k))
+    (range_with_len 0 (length (step_places cell view g))))
     (guard (is_inactive view (step_places cell view g) after) (state_difference cell view g after after) (λ _.
     none_states cell view g after after (λ s. h.unchanged g after s inside (omega (arith, below)) idle)))
     (none_first (λ k. change_difference cell view g after (changed_at after k)) 0 (length (step_places cell view g)) (λ k _ place.
-    guard (is_inactive view (step_places cell view g) (changed_at after k)) (state_difference cell view g (changed_at after k) after) (λ idle'.
+    guard (is_inactive view (step_places cell view g) (changed_at after k))
+    (state_difference cell view g (changed_at after k) after) (λ idle'.
     none_states cell view g (changed_at after k) after
     (λ s. h.changed g after k s inside (omega (arith, below)) (omega (arith, place)) idle idle'))))))
 
@@ -175,7 +194,8 @@ from_agree : (cell : CellData) (view : ViewData) → AllAgree cell view → firs
 from_agree cell view h =
     none_or (first_some (group_difference cell view) (range_with_len 0 (length cell.groups)))
     (first_some (output_difference cell view) (range_with_len 0 (length cell.outputs)))
-    (none_first (group_difference cell view) 0 (length cell.groups) (λ g _ inside. group_none cell view h g (omega (arith, inside))))
+    (none_first (group_difference cell view) 0 (length cell.groups)
+    (λ g _ inside. group_none cell view h g (omega (arith, inside))))
     (none_first (output_difference cell view) 0 (length cell.outputs) (λ i _ inside.
     pair_none cell view h i (omega (arith, inside)) (output_in_view view (output_pin cell i)) refl))
 
@@ -207,13 +227,16 @@ real_by true d e = tt
 real_by false d e = e
 
 real_difference : (p b a : ℕ) (s : Bool) (x y : Trit) → IsReal (difference p b a s x y)
-real_difference p b a s x y = real_by (same x y) (record { part = p; before = b; after = a; state = s; of_cell = x; of_view = y }) refl
+real_difference p b a s x y = real_by (same x y) (record { part = p; before = b; after = a; state = s; of_cell = x; of_view = y })
+    refl
 
 real_states : (cell : CellData) (view : ViewData) (g before after : ℕ) → IsReal (state_difference cell view g before after)
 real_states cell view g before after =
     real_or (step_difference cell view g before after false) (step_difference cell view g before after true)
-    (real_difference (g + 1) before after false (cell_step cell view g before after false) (view_step cell view g before after false))
-    (real_difference (g + 1) before after true (cell_step cell view g before after true) (view_step cell view g before after true))
+    (real_difference (g + 1) before after false (cell_step cell view g before after false)
+    (view_step cell view g before after false))
+    (real_difference (g + 1) before after true (cell_step cell view g before after true)
+    (view_step cell view g before after true))
 
 real_change : (cell : CellData) (view : ViewData) (g after before : ℕ) → IsReal (change_difference cell view g after before)
 real_change cell view g after before =
@@ -225,14 +248,17 @@ real_group cell view g =
     real_first (after_difference cell view g) (range_with_len 0 (2 ^ length (step_places cell view g))) (λ after.
     real_guard (is_inactive view (step_places cell view g) after) _
     (real_or (change_difference cell view g after after) _ (real_change cell view g after after)
-    (real_first (λ k. change_difference cell view g after (changed_at after k)) _ (λ k. real_change cell view g after (changed_at after k)))))
+    (real_first (λ k. change_difference cell view g after (changed_at after k)) _
+    (λ k. real_change cell view g after (changed_at after k)))))
 
-real_pair : (cell : CellData) (view : ViewData) (i : ℕ) (o : Option ℕ) → IsReal (option_map_or (pair_difference cell view i) o None)
+real_pair : (cell : CellData) (view : ViewData) (i : ℕ) (o : Option ℕ)
+    → IsReal (option_map_or (pair_difference cell view i) o None)
 real_pair cell view i None = tt
 real_pair cell view i (Some j) =
     real_first (point_difference cell view i j) (range_with_len 0 (2 ^ length (output_places cell view i j))) (λ point.
     real_guard (is_inactive view (output_places cell view i j) point) _
-    (real_difference (length cell.groups + i + 1) point point false (cell_output cell view i j point) (view_output cell view i j point)))
+    (real_difference (length cell.groups + i + 1) point point false (cell_output cell view i j point)
+    (view_output cell view i j point)))
 
 real_all : (cell : CellData) (view : ViewData) → IsReal (first_difference cell view)
 real_all cell view =

@@ -10,7 +10,8 @@ abbrev IsBelow : ℕ → Option Enable → Type 0
 IsBelow n None = ⊤
 IsBelow n (Some enable) = enable.pin < n
 
-below_or : (n pin : ℕ) (active : Option Bool) (later : Option Enable) → pin < n → IsBelow n later → IsBelow n (enable_or active pin later)
+below_or : (n pin : ℕ) (active : Option Bool) (later : Option Enable) → pin < n → IsBelow n later
+    → IsBelow n (enable_or active pin later)
 below_or n pin None later h k = k
 below_or n pin (Some active) later h k = h
 
@@ -21,5 +22,6 @@ below_first n (owner ∷ owners) (pin ∷ pins) h =
     below_or n pin (active_of owner) (first_enable owners pins) h.0 (below_first n owners pins h.1)
 
 pub enable_below :
-    (n : ℕ) (owners : List Group) (pins : List ℕ) (enable : Enable) → AllBelow n pins → first_enable owners pins ≡ Some enable → enable.pin < n
+    (n : ℕ) (owners : List Group) (pins : List ℕ) (enable : Enable) → AllBelow n pins → first_enable owners pins ≡ Some enable
+    → enable.pin < n
 enable_below n owners pins enable h e = subst (IsBelow n) e (below_first n owners pins h)

@@ -1,7 +1,8 @@
 -- How a scan cell and its test view are compared: state by state and output by output, at all points at which the scan
 -- enable is inactive. (This project's rule; Liberty Reference Manual, `test_cell` group: the test cell says what the cell
 -- does out of test.)
-use Rattle.std.specs.Prelude.{ℕ, ◌+◌, ◌^◌, Bool, true, false, List, [], ◌∷◌, length, map, nat_eq, position, slice_get, slice_index_or, Option, Some, None, if◌then◌else◌}
+use Rattle.std.specs.Prelude.{ℕ, ◌+◌, ◌^◌, Bool, true, false, List, [], ◌∷◌, length, map, nat_eq, position, slice_get}
+use Rattle.std.specs.Prelude.{slice_index_or, Option, Some, None, if◌then◌else◌}
 use Rattle.std.specs.List.{range_with_len}
 use Rattle.std.specs.Option.{option_map_or}
 use Rattle.trit_cubes.specs.declared.trits.Trit.{Trit}
@@ -75,7 +76,8 @@ after_difference cell view g after =
     if is_inactive view (step_places cell view g) after
     then
     or_else (change_difference cell view g after after)
-    (first_some (λ k. change_difference cell view g after (changed_at after k)) (range_with_len 0 (length (step_places cell view g))))
+    (first_some (λ k. change_difference cell view g after (changed_at after k))
+    (range_with_len 0 (length (step_places cell view g))))
     else None
 
 -- The points come in the order of their numbers.
@@ -106,13 +108,15 @@ unfoldable pub cell_output : CellData → ViewData → ℕ → ℕ → ℕ → T
 cell_output cell view i j point = output_value_at cell i (values_at (output_places cell view i j) (sources_at cell i) point)
 
 unfoldable pub view_output : CellData → ViewData → ℕ → ℕ → ℕ → Trit
-view_output cell view i j point = output_value_at view.cell j (values_at (output_places cell view i j) (output_support view j) point)
+view_output cell view i j point =
+    output_value_at view.cell j (values_at (output_places cell view i j) (output_support view j) point)
 
 -- The outputs come after the groups. Before and after are the same point, and the state is told as 0.
 abbrev pub point_difference : CellData → ViewData → ℕ → ℕ → ℕ → Option Difference
 point_difference cell view i j point =
     if is_inactive view (output_places cell view i j) point
-    then difference (length cell.groups + i + 1) point point false (cell_output cell view i j point) (view_output cell view i j point)
+    then difference (length cell.groups + i + 1) point point false (cell_output cell view i j point)
+    (view_output cell view i j point)
     else None
 
 abbrev pub pair_difference : CellData → ViewData → ℕ → ℕ → Option Difference

@@ -14,7 +14,8 @@ active_named text =
 
 -- The same for the pins of a group. Of several `signal_type` attributes the last counts. (This project's rule.)
 unfoldable pub active_of : Group → Option Bool
-active_of pin = option_map_or (λ (attribute : Attribute). active_named attribute.text) (attribute_of pin (codes "signal_type")) None
+active_of pin = option_map_or (λ (attribute : Attribute). active_named attribute.text) (attribute_of pin (codes "signal_type"))
+    None
 
 abbrev pub enable_or : Option Bool → ℕ → Option Enable → Option Enable
 enable_or None pin later = later

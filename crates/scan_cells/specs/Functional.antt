@@ -19,7 +19,16 @@ use Rattle.scan_cells.specs.Views.{ViewData, is_among, numbers_of, same_outline}
 abbrev pub cell_of : ℕ → Group → CellData
 cell_of number group =
     let subject = subject_of None group in
-    record { name = cell_name group; number = number; pins = pins_of group; groups = groups_of group; outputs = outputs_of group; checks = checks_of subject group; arcs = arcs_of subject group }
+    record {
+      name = cell_name group;
+      number = number;
+      pins = pins_of group;
+      groups = groups_of group;
+      outputs =
+          outputs_of group;
+      checks = checks_of subject group;
+      arcs = arcs_of subject group;
+    }
 
 -- The cell with this number that a group describes, where no reason refuses it. No cells stand before it.
 abbrev pub read_group : ℕ → Group → Option CellData

@@ -5,7 +5,8 @@ use Rattle.scan_cells.specs.declared.answers.Agreement.TheVariants.{Same}
 use Rattle.scan_cells.specs.declared.answers.Difference.{Difference}
 use Rattle.scan_cells.specs.Views.{ViewData}
 use Rattle.scan_cells.specs.Places.{is_set, changed_at, is_inactive}
-use Rattle.scan_cells.specs.Comparison.{step_places, cell_step, view_step, output_in_view, output_pin, output_places, cell_output, view_output, first_difference, agreement}
+use Rattle.scan_cells.specs.Comparison.{step_places, cell_step, view_step, output_in_view, output_pin, output_places, cell_output}
+use Rattle.scan_cells.specs.Comparison.{view_output, first_difference, agreement}
 
 -- With the scan enable inactive before and after, the steps of the groups are equal: at every point after, from the same
 -- point and from every point that differs from it in one place, and from both states. The outputs are equal at all points

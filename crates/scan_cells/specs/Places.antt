@@ -1,5 +1,6 @@
 -- The points at which a scan cell and its test view are compared. (This project's rule.)
-use Rattle.std.specs.Prelude.{ℕ, ◌==◌, ◌^◌, Bool, true, false, not, ◌||◌, List, ◌++◌, length, map, filter, nat_eq, position, slice_index_or, unwrap_or, bit_xor, if◌then◌else◌}
+use Rattle.std.specs.Prelude.{ℕ, ◌==◌, ◌^◌, Bool, true, false, not, ◌||◌, List, ◌++◌, length, map, filter, nat_eq, position}
+use Rattle.std.specs.Prelude.{slice_index_or, unwrap_or, bit_xor, if◌then◌else◌}
 use Rattle.std.specs.List.{list_any, range_with_len}
 use Rattle.std.specs.Option.{option_map_or}
 use Rattle.std.specs.Int.{bit_at}

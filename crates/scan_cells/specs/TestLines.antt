@@ -11,7 +11,8 @@ digit true = codes "1"
 -- where the cell and its test view differ first
 unfoldable pub difference_text : ℕ → ℕ → ℕ → Bool → List ℕ
 difference_text part before after state =
-    codes "differs part " ++ (decimal part ++ (codes " before " ++ (decimal before ++ (codes " after " ++ (decimal after ++ (codes " state "
+    codes "differs part " ++ (decimal part
+    ++ (codes " before " ++ (decimal before ++ (codes " after " ++ (decimal after ++ (codes " state "
     ++ digit state))))))
 
 -- what the line says: a test cell that gives no view is left out

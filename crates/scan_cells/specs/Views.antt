@@ -1,5 +1,6 @@
 -- The test view of a scan cell beside the cell (Liberty Reference Manual, `test_cell` group).
-use Rattle.std.specs.Prelude.{◌≡◌, ℕ, ◌<◌, Bool, true, false, not, ◌&&◌, ◌||◌, List, length, map, nat_eq, bytes_eq, position, slice_get, Option, Some, is_some, unwrap_or}
+use Rattle.std.specs.Prelude.{◌≡◌, ℕ, ◌<◌, Bool, true, false, not, ◌&&◌, ◌||◌, List, length, map, nat_eq, bytes_eq, position}
+use Rattle.std.specs.Prelude.{slice_get, Option, Some, is_some, unwrap_or}
 use Rattle.std.specs.List.{list_all, list_any}
 use Rattle.cell_machine.specs.declared.pins.Direction.{Direction}
 use Rattle.cell_machine.specs.declared.pins.Direction.TheVariants as direction
@@ -46,7 +47,8 @@ is_output_named name pin = is_output pin.direction && bytes_eq name pin.name
 
 -- whether each output pin has its name among the output pins of others
 abbrev pub outputs_within : List Pin → List Pin → Bool
-outputs_within pins others = list_all (λ (pin : Pin). not (is_output pin.direction) || list_any (is_output_named pin.name) others) pins
+outputs_within pins others = list_all (λ (pin : Pin). not (is_output pin.direction) || list_any (is_output_named pin.name) others)
+    pins
 
 -- whether two cells have as many state groups, and the same set of names of outputs
 abbrev pub same_outline : CellData → CellData → Bool

@@ -3,7 +3,9 @@ ghost use Rattle.std.specs.Prelude.{◌≡◌, length};
 ghost use Rattle.std.specs.List.{range_with_len};
 ghost use Rattle.cell_machine.specs.CellData.{data_of};
 ghost use Rattle.scan_cells.specs.Views.{view_data, StandsBeside};
-ghost use Rattle.scan_cells.specs.Comparison.{first_some, group_difference as group_difference_of, output_difference as output_difference_of, first_difference as first_difference_of, agreement};
+ghost use Rattle.scan_cells.specs.Comparison.{first_some, group_difference as group_difference_of};
+ghost use Rattle.scan_cells.specs.Comparison.{output_difference as output_difference_of, first_difference as first_difference_of};
+ghost use Rattle.scan_cells.specs.Comparison.{agreement};
 
 use crate::answers::{Agreement, Difference};
 use crate::group_steps::group_difference;
@@ -15,7 +17,8 @@ use cell_machine::Cell;
 #[tactic(auto, using(crate::proofs::Ranges::first_turn, crate::proofs::Ranges::first_end))]
 fn first_of_groups(cell: &Cell, view: &View) -> Option<Difference>
     requires { StandsBeside (data_of cell.now) (view_data view.now) }
-    ensures { result ≡ first_some (group_difference_of (data_of cell.now) (view_data view.now)) (range_with_len 0 (length cell.now.groups)) }
+    ensures { result ≡ first_some (group_difference_of (data_of cell.now) (view_data view.now))
+        (range_with_len 0 (length cell.now.groups)) }
 {
     for group in 0..cell.groups.len() {
         if let Some(difference) = group_difference(cell, view, group) {
@@ -28,7 +31,8 @@ fn first_of_groups(cell: &Cell, view: &View) -> Option<Difference>
 /// The first difference of the outputs.
 #[tactic(auto, using(crate::proofs::Ranges::first_turn, crate::proofs::Ranges::first_end))]
 fn first_of_outputs(cell: &Cell, view: &View) -> Option<Difference>
-    ensures { result ≡ first_some (output_difference_of (data_of cell.now) (view_data view.now)) (range_with_len 0 (length cell.now.outputs)) }
+    ensures { result ≡ first_some (output_difference_of (data_of cell.now) (view_data view.now))
+        (range_with_len 0 (length cell.now.outputs)) }
 {
     for output in 0..cell.outputs.len() {
         if let Some(difference) = output_difference(cell, view, output) {

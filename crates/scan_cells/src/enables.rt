@@ -1,6 +1,7 @@
 //! The scan enable of a test cell.
 ghost use Rattle.std.specs.Prelude.{◌≡◌, map};
-ghost use Rattle.scan_cells.specs.Enables.{active_named as active_named_of, active_of as active_of_group, first_enable as first_enable_of};
+ghost use Rattle.scan_cells.specs.Enables.{active_named as active_named_of, active_of as active_of_group};
+ghost use Rattle.scan_cells.specs.Enables.{first_enable as first_enable_of};
 
 use liberty_groups::{Group, last_attribute};
 

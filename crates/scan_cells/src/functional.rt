@@ -10,8 +10,8 @@ use crate::readings::{pin_owners, read_group};
 use crate::test_group::view_group;
 use crate::view_pins::{are_among, numbers_of, same_outline};
 use crate::views::View;
-use cell_machine::Cell;
 use cell_attributes::held::held_with;
+use cell_machine::Cell;
 use liberty_groups::Group;
 use sqlite_items::Items;
 use std::alloc::{AllocError, Global};
@@ -52,7 +52,8 @@ fn enabled_pins(
 
 /// The view of a cell that a group describes.
 fn view_of(alloc: Global, cell: &Cell, group: &Group) -> Result<Option<View>, AllocError>
-    ensures is { IfOk result (λ view. option_map view_data view ≡ view_by (data_of cell.now) group.now (read_group_of cell.now.number group.now)) }
+    ensures is { IfOk result (λ view. option_map view_data view ≡ view_by (data_of cell.now) group.now
+        (read_group_of cell.now.number group.now)) }
     ensures beside { IfOk result (λ view. IfSome view (λ v. StandsBeside (data_of cell.now) (view_data v))) }
 {
     let Some(view) = read_group(alloc, cell.number, group)? else {

@@ -7,7 +7,9 @@ ghost use Rattle.scan_cells.specs.Places.{same_source, is_inactive, changed_at a
 ghost use Rattle.cell_machine.specs.declared.outputs.Source.TheVariants as source;
 ghost use Rattle.scan_cells.specs.Masks.{IsMask};
 ghost use Rattle.scan_cells.specs.Weights.{weight_of};
-ghost use Rattle.scan_cells.specs.Comparison.{first_some, cell_support, view_support, step_places, cell_step, view_step, difference, state_difference, change_difference, after_difference, group_difference as group_difference_of};
+ghost use Rattle.scan_cells.specs.Comparison.{first_some, cell_support, view_support, step_places, cell_step, view_step};
+ghost use Rattle.scan_cells.specs.Comparison.{difference, state_difference, change_difference, after_difference};
+ghost use Rattle.scan_cells.specs.Comparison.{group_difference as group_difference_of};
 
 use crate::answers::Difference;
 use crate::masks::{is_mixed, mask_of};
@@ -86,8 +88,10 @@ impl<'a> GroupPair<'a> {
     /// The steps of the cell's group.
     #[tactic(auto, unfolding(crate::specs::Comparison::cell_step))]
     fn cell_steps(&self, before: u32, after: u32) -> StateSteps
-        ensures zero { result.«zero» ≡ cell_step (data_of self.now.cell.now) (view_data self.now.view.now) self.now.group before after false }
-        ensures one { result.one ≡ cell_step (data_of self.now.cell.now) (view_data self.now.view.now) self.now.group before after true }
+        ensures zero { result.«zero» ≡ cell_step (data_of self.now.cell.now) (view_data self.now.view.now) self.now.group before
+            after false }
+        ensures one { result.one ≡ cell_step (data_of self.now.cell.now) (view_data self.now.view.now) self.now.group before after
+            true }
     {
         self.of_cell.steps(before, after)
     }
@@ -95,8 +99,10 @@ impl<'a> GroupPair<'a> {
     /// The steps of the view's group.
     #[tactic(auto, unfolding(crate::specs::Comparison::view_step))]
     fn view_steps(&self, before: u32, after: u32) -> StateSteps
-        ensures zero { result.«zero» ≡ view_step (data_of self.now.cell.now) (view_data self.now.view.now) self.now.group before after false }
-        ensures one { result.one ≡ view_step (data_of self.now.cell.now) (view_data self.now.view.now) self.now.group before after true }
+        ensures zero { result.«zero» ≡ view_step (data_of self.now.cell.now) (view_data self.now.view.now) self.now.group before
+            after false }
+        ensures one { result.one ≡ view_step (data_of self.now.cell.now) (view_data self.now.view.now) self.now.group before after
+            true }
     {
         self.of_view.steps(before, after)
     }
@@ -125,7 +131,8 @@ impl<'a> GroupPair<'a> {
 
     /// The first difference of the steps at a change.
     fn state_difference(&self, before: u32, after: u32) -> Option<Difference>
-        ensures { result ≡ state_difference (data_of self.now.cell.now) (view_data self.now.view.now) self.now.group before after }
+        ensures { result ≡ state_difference (data_of self.now.cell.now) (view_data self.now.view.now) self.now.group before
+            after }
     {
         let of_cell = self.cell_steps(before, after);
         let of_view = self.view_steps(before, after);
@@ -137,7 +144,8 @@ impl<'a> GroupPair<'a> {
 
     /// The same, but none where the scan enable is active before the change.
     fn change_difference(&self, after: u32, before: u32) -> Option<Difference>
-        ensures { result ≡ change_difference (data_of self.now.cell.now) (view_data self.now.view.now) self.now.group after before }
+        ensures { result ≡ change_difference (data_of self.now.cell.now) (view_data self.now.view.now) self.now.group after
+            before }
     {
         if self.is_inactive(before) {
             self.state_difference(before, after)
@@ -147,14 +155,17 @@ impl<'a> GroupPair<'a> {
     }
 
     /// The difference at a change of one place that leads to a point, where there is none at the points before it and none where
-    /// nothing changes. Then there is none at a change from a point with 1 at a place that the cell's group does not depend on and
-    /// at one that the view's does not, since the two differ there only where they do without these places.
+    /// nothing changes. Then there is none at a change from a point with 1 at a place that the cell's group does not depend on
+    /// and at one that the view's does not, since the two differ there only where they do without these places.
     fn next_change(&self, after: u32, k: usize) -> Option<Difference>
         requires place { k < length self.now.places }
-        requires before { (p : ℕ) → p < after → after_difference (data_of self.now.cell.now) (view_data self.now.view.now) self.now.group p ≡ None }
-        requires unchanged { change_difference (data_of self.now.cell.now) (view_data self.now.view.now) self.now.group after after ≡ None }
+        requires before { (p : ℕ) → p < after
+            → after_difference (data_of self.now.cell.now) (view_data self.now.view.now) self.now.group p ≡ None }
+        requires unchanged { change_difference (data_of self.now.cell.now) (view_data self.now.view.now) self.now.group after
+            after ≡ None }
         requires idle { is_inactive (view_data self.now.view.now) self.now.places after ≡ true }
-        ensures { result ≡ change_difference (data_of self.now.cell.now) (view_data self.now.view.now) self.now.group after (changed_at_place after k) }
+        ensures { result ≡ change_difference (data_of self.now.cell.now) (view_data self.now.view.now) self.now.group after
+            (changed_at_place after k) }
     {
         let before = changed_at(after, k);
         if is_mixed(before, self.cell_mask, self.view_mask) {
@@ -167,10 +178,13 @@ impl<'a> GroupPair<'a> {
     /// where nothing changes.
     #[tactic(auto, using(crate::proofs::Ranges::first_turn, crate::proofs::Ranges::first_end))]
     fn changed_difference(&self, after: u32) -> Option<Difference>
-        requires before { (p : ℕ) → p < after → after_difference (data_of self.now.cell.now) (view_data self.now.view.now) self.now.group p ≡ None }
-        requires unchanged { change_difference (data_of self.now.cell.now) (view_data self.now.view.now) self.now.group after after ≡ None }
+        requires before { (p : ℕ) → p < after
+            → after_difference (data_of self.now.cell.now) (view_data self.now.view.now) self.now.group p ≡ None }
+        requires unchanged { change_difference (data_of self.now.cell.now) (view_data self.now.view.now) self.now.group after
+            after ≡ None }
         requires idle { is_inactive (view_data self.now.view.now) self.now.places after ≡ true }
-        ensures { result ≡ first_some (λ k. change_difference (data_of self.now.cell.now) (view_data self.now.view.now) self.now.group after (changed_at_place after k)) (range_with_len 0 (length self.now.places)) }
+        ensures { result ≡ first_some (λ k. change_difference (data_of self.now.cell.now) (view_data self.now.view.now)
+            self.now.group after (changed_at_place after k)) (range_with_len 0 (length self.now.places)) }
     {
         for k in 0..self.places.as_slice().len() {
             if let Some(difference) = self.next_change(after, k) {
@@ -180,10 +194,11 @@ impl<'a> GroupPair<'a> {
         None
     }
 
-    /// The first difference at a point, unchanged or after a change of one place, where there is none at the points before it; none
-    /// where the scan enable is active.
+    /// The first difference at a point, unchanged or after a change of one place, where there is none at the points before it;
+    /// none where the scan enable is active.
     fn after_difference(&self, after: u32) -> Option<Difference>
-        requires before { (p : ℕ) → p < after → after_difference (data_of self.now.cell.now) (view_data self.now.view.now) self.now.group p ≡ None }
+        requires before { (p : ℕ) → p < after
+            → after_difference (data_of self.now.cell.now) (view_data self.now.view.now) self.now.group p ≡ None }
         ensures { result ≡ after_difference (data_of self.now.cell.now) (view_data self.now.view.now) self.now.group after }
     {
         if !self.is_inactive(after) {
@@ -198,7 +213,8 @@ impl<'a> GroupPair<'a> {
     /// The first difference at a point, where there is none at the points before it. Then there is none at a point with 1 at a
     /// place that the cell's group does not depend on and at one that the view's does not.
     fn next_difference(&self, after: u32) -> Option<Difference>
-        requires before { (p : ℕ) → p < after → after_difference (data_of self.now.cell.now) (view_data self.now.view.now) self.now.group p ≡ None }
+        requires before { (p : ℕ) → p < after
+            → after_difference (data_of self.now.cell.now) (view_data self.now.view.now) self.now.group p ≡ None }
         ensures { result ≡ after_difference (data_of self.now.cell.now) (view_data self.now.view.now) self.now.group after }
     {
         if is_mixed(after, self.cell_mask, self.view_mask) {

@@ -5,7 +5,9 @@ ghost use Rattle.cell_machine.specs.CellTrace.{sources_at};
 ghost use Rattle.scan_cells.specs.Views.{view_data};
 ghost use Rattle.scan_cells.specs.Masks.{IsMask};
 ghost use Rattle.scan_cells.specs.Weights.{weight_of};
-ghost use Rattle.scan_cells.specs.Comparison.{is_on_pin as is_on_pin_of, output_in_view as output_in_view_of, output_support, output_places, cell_output, view_output, point_difference, pair_difference, output_difference as output_difference_of};
+ghost use Rattle.scan_cells.specs.Comparison.{is_on_pin as is_on_pin_of, output_in_view as output_in_view_of, output_support};
+ghost use Rattle.scan_cells.specs.Comparison.{output_places, cell_output, view_output, point_difference, pair_difference};
+ghost use Rattle.scan_cells.specs.Comparison.{output_difference as output_difference_of};
 
 use crate::answers::Difference;
 use crate::masks::{is_mixed, mask_of};
@@ -71,7 +73,8 @@ impl<'a> OutputPair<'a> {
     /// The value of the cell's output at a point.
     #[tactic(auto, unfolding(crate::specs::Comparison::cell_output))]
     fn cell_output(&self, point: u32) -> Trit
-        ensures { result ≡ cell_output (data_of self.now.cell.now) (view_data self.now.view.now) self.now.output self.now.view_output point }
+        ensures { result ≡ cell_output (data_of self.now.cell.now) (view_data self.now.view.now) self.now.output
+            self.now.view_output point }
     {
         let point = values_over(self.cell_weights.as_slice(), point);
         output_at(self.cell, self.output, point.as_slice())
@@ -80,7 +83,8 @@ impl<'a> OutputPair<'a> {
     /// The value of the view's output at a point.
     #[tactic(auto, unfolding(crate::specs::Comparison::view_output))]
     fn view_output(&self, point: u32) -> Trit
-        ensures { result ≡ view_output (data_of self.now.cell.now) (view_data self.now.view.now) self.now.output self.now.view_output point }
+        ensures { result ≡ view_output (data_of self.now.cell.now) (view_data self.now.view.now) self.now.output
+            self.now.view_output point }
     {
         let point = values_over(self.view_weights.as_slice(), point);
         output_at(&self.view.cell, self.view_output, point.as_slice())
@@ -88,7 +92,8 @@ impl<'a> OutputPair<'a> {
 
     /// The difference of the outputs at a point; none where the scan enable is active.
     fn point_difference(&self, point: u32) -> Option<Difference>
-        ensures { result ≡ point_difference (data_of self.now.cell.now) (view_data self.now.view.now) self.now.output self.now.view_output point }
+        ensures { result ≡ point_difference (data_of self.now.cell.now) (view_data self.now.view.now) self.now.output
+            self.now.view_output point }
     {
         if !is_inactive(self.view, self.places.as_slice(), point) {
             return None;
@@ -107,7 +112,10 @@ impl<'a> OutputPair<'a> {
     /// The difference at a point, where there is none at the points before it. Then there is none at a point with 1 at a place
     /// that the cell's output does not depend on and at one that the view's does not.
     fn next_difference(&self, point: u32) -> Option<Difference>
-        ensures { ((p : ℕ) → p < point → point_difference (data_of self.now.cell.now) (view_data self.now.view.now) self.now.output self.now.view_output p ≡ None) → result ≡ point_difference (data_of self.now.cell.now) (view_data self.now.view.now) self.now.output self.now.view_output point }
+        ensures { ((p : ℕ) → p < point → point_difference (data_of self.now.cell.now) (view_data self.now.view.now)
+            self.now.output self.now.view_output p ≡ None)
+            → result ≡ point_difference (data_of self.now.cell.now) (view_data self.now.view.now) self.now.output
+            self.now.view_output point }
     {
         if is_mixed(point, self.cell_mask, self.view_mask) {
             return None;
@@ -117,7 +125,8 @@ impl<'a> OutputPair<'a> {
 
     /// The first difference of the outputs.
     fn difference(&self) -> Option<Difference>
-        ensures { result ≡ pair_difference (data_of self.now.cell.now) (view_data self.now.view.now) self.now.output self.now.view_output }
+        ensures { result ≡ pair_difference (data_of self.now.cell.now) (view_data self.now.view.now) self.now.output
+            self.now.view_output }
     {
         for point in 0..point_count(self.places.as_slice().len()) {
             if let Some(difference) = self.next_difference(point) {

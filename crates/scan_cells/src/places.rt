@@ -2,7 +2,8 @@
 ghost use Rattle.std.specs.Prelude.{◌≡◌, ◌+◌, ◌≤◌, ◌<◌, ◌++◌, [], ◌∷◌, length, filter, position, IfSome};
 ghost use Rattle.std.specs.List.{list_any, range_with_len};
 ghost use Rattle.cell_machine.specs.CellData.{data_of};
-ghost use Rattle.scan_cells.specs.Places.{same_source as same_source_of, pin_sources, state_sources, in_either as in_either_of, places_of as places_of_cell};
+ghost use Rattle.scan_cells.specs.Places.{same_source as same_source_of, pin_sources, state_sources, in_either as in_either_of};
+ghost use Rattle.scan_cells.specs.Places.{places_of as places_of_cell};
 
 use crate::sources::{Sources, no_sources, same_source};
 use cell_machine::{Cell, Source};

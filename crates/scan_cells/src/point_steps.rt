@@ -70,15 +70,18 @@ impl<'a> PointSteps<'a> {
     fn step(&self, before: usize, after: usize, state: bool) -> Trit
         requires before { before < 2 ^ length self.now.weights }
         requires after { after < 2 ^ length self.now.weights }
-        ensures { result ≡ step_at (data_of self.now.kept.cell.now) self.now.kept.group (point_with (length self.now.weights) before) (point_with (length self.now.weights) after) state }
+        ensures { result ≡ step_at (data_of self.now.kept.cell.now) self.now.kept.group
+            (point_with (length self.now.weights) before) (point_with (length self.now.weights) after) state }
     {
         self.kept.step(before, after, state)
     }
 
     /// The steps at a change of points.
     pub fn steps(&self, before: u32, after: u32) -> StateSteps
-        ensures zero { result.«zero» ≡ step_at (data_of self.now.kept.cell.now) self.now.kept.group (weighed self.now.weights before) (weighed self.now.weights after) false }
-        ensures one { result.one ≡ step_at (data_of self.now.kept.cell.now) self.now.kept.group (weighed self.now.weights before) (weighed self.now.weights after) true }
+        ensures zero { result.«zero» ≡ step_at (data_of self.now.kept.cell.now) self.now.kept.group
+            (weighed self.now.weights before) (weighed self.now.weights after) false }
+        ensures one { result.one ≡ step_at (data_of self.now.kept.cell.now) self.now.kept.group (weighed self.now.weights before)
+            (weighed self.now.weights after) true }
     {
         let before = self.number(before);
         let after = self.number(after);

@@ -3,13 +3,14 @@ ghost use Rattle.std.specs.Prelude.{◌≡◌, ◌<◌, ◌≤◌, ◌^◌, true
 ghost use Rattle.std.specs.Option.{option_map_or};
 ghost use Rattle.cell_machine.specs.declared.outputs.Source.TheVariants as source;
 ghost use Rattle.scan_cells.specs.Views.{view_data};
-ghost use Rattle.scan_cells.specs.Places.{same_source, is_set as is_set_at, changed_at as changed_at_place, is_idle as is_idle_at, is_inactive as is_inactive_at};
+ghost use Rattle.scan_cells.specs.Places.{same_source, is_set as is_set_at, changed_at as changed_at_place};
+ghost use Rattle.scan_cells.specs.Places.{is_idle as is_idle_at, is_inactive as is_inactive_at};
 ghost use Rattle.scan_cells.specs.Weights.{weight_of as weight_of_source, weighed};
 
 use crate::places::place_of;
 use crate::views::View;
-use cell_machine::{Few, Source};
 use cell_attributes::limits::MOST_OUTPUT_SOURCES;
+use cell_machine::{Few, Source};
 
 /// The number that place k weighs.
 pub fn weight(k: usize) -> u32

@@ -6,9 +6,9 @@ ghost use Rattle.cell_attributes.specs.Pins.{owners_of as owners_of_group};
 ghost use Rattle.scan_cells.specs.Functional.{read_group as read_group_of};
 
 use bool_functions::Names;
-use cell_machine::Cell;
 use cell_attributes::groups::{inner_groups, pins_among};
 use cell_attributes::pins::owners_of;
+use cell_machine::Cell;
 use cell_reader::{CellFault, read_cell};
 use liberty_groups::Group;
 use std::alloc::{AllocError, Global};

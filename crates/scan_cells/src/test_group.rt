@@ -2,7 +2,8 @@
 ghost use Rattle.std.specs.Prelude.{◌≡◌, IfOk, OnOk, [], ◌++◌, ◌∷◌, map, filter, codes};
 ghost use Rattle.std.specs.Option.{option_copied};
 ghost use Rattle.liberty_groups.specs.declared.tree.Item.{out-Item};
-ghost use Rattle.scan_cells.specs.TestGroup.{test_of as test_of_cell, is_time as is_time_name, is_kept, untimed as untimed_group, view_group as view_group_of, name_value as name_value_of, untimed_item};
+ghost use Rattle.scan_cells.specs.TestGroup.{test_of as test_of_cell, is_time as is_time_name, is_kept, untimed as untimed_group};
+ghost use Rattle.scan_cells.specs.TestGroup.{view_group as view_group_of, name_value as name_value_of, untimed_item};
 ghost use Rattle.cell_attributes.specs.Groups.{inner_groups as inner_groups_of};
 
 use cell_attributes::groups::inner_groups;

@@ -3,7 +3,10 @@ ghost use Rattle.std.specs.Prelude.{◌≡◌, ◌||◌, not, IfOk};
 ghost use Rattle.std.specs.List.{list_all, list_any};
 ghost use Rattle.cell_machine.specs.CellRules.{is_output as is_output_of};
 ghost use Rattle.cell_machine.specs.CellData.{data_of};
-ghost use Rattle.scan_cells.specs.Views.{same_direction as same_direction_of, same_pin as same_pin_of, number_of as number_of_pin, is_among, numbers_of as numbers_of_pins, is_output_named as is_output_named_of, outputs_within as outputs_within_of, same_outline as same_outline_of};
+ghost use Rattle.scan_cells.specs.Views.{same_direction as same_direction_of, same_pin as same_pin_of};
+ghost use Rattle.scan_cells.specs.Views.{number_of as number_of_pin, is_among, numbers_of as numbers_of_pins};
+ghost use Rattle.scan_cells.specs.Views.{is_output_named as is_output_named_of, outputs_within as outputs_within_of};
+ghost use Rattle.scan_cells.specs.Views.{same_outline as same_outline_of};
 
 use cell_machine::{Cell, Direction, Pin};
 use sqlite_items::Items;

@@ -1,5 +1,6 @@
 -- Words that stand next, at any offset, and how long a section is at least.
-use Rattle.std.proofs.Common.{◌≡◌, ℕ, suc, ◌+◌, ◌<◌, Bool, true, false, ◌&&◌, ◌||◌, if◌then◌else◌, List, [], ◌∷◌, ◌++◌, length, Option, slice_get, unwrap_or, refl, ap, ◌∙◌, arith}
+use Rattle.std.proofs.Common.{◌≡◌, ℕ, suc, ◌+◌, ◌<◌, Bool, true, false, ◌&&◌, ◌||◌, if◌then◌else◌, List, [], ◌∷◌, ◌++◌, length}
+use Rattle.std.proofs.Common.{Option, slice_get, unwrap_or, refl, ap, ◌∙◌, arith}
 use Rattle.std.proofs.Math.Seq.{take-append_seam}
 use Rattle.lexer.specs.Tokens.{Token, Lexis, scan, scan_of, at_front, after, spellings}
 use Rattle.lexer.specs.Places.{AreInOrder}
@@ -40,14 +41,18 @@ module _ (l : Lexis) where
       ∙ over_bytes t (at + 1) w r ∙ ap (λ (i : ℕ). scan l t i 0 r) f
 
   -- a token is found
-  pub over_token : (t : Bool) (at b : ℕ) (w r : List ℕ) → l.separator_length (b ∷ w ++ r) ≡ 0 → l.token_length t (b ∷ w ++ r) ≡ suc (length w) →
-      scan l t at 0 (b ∷ w ++ r) ≡ after (record { at = at; bytes = b ∷ w }) (scan l (l.flag_after t (b ∷ w)) (at + suc (length w)) 0 r)
+  pub over_token : (t : Bool) (at b : ℕ) (w r : List ℕ) → l.separator_length (b ∷ w ++ r) ≡ 0
+      → l.token_length t (b ∷ w ++ r) ≡ suc (length w) →
+      scan l t at 0 (b ∷ w ++ r) ≡ after (record { at = at; bytes = b ∷ w })
+      (scan l (l.flag_after t (b ∷ w)) (at + suc (length w)) 0 r)
   over_token t at b w r e f =
       let g : at + 1 + length w ≡ at + suc (length w) = omega arith in
       ap (λ n. at_front l t at (b ∷ w ++ r) (λ o k. scan l o (at + 1) k (w ++ r)) n (l.token_length t (b ∷ w ++ r))) e
       ∙ ap (λ n. at_front l t at (b ∷ w ++ r) (λ o k. scan l o (at + 1) k (w ++ r)) 0 n) f
-      ∙ ap (λ (s : List ℕ). after (record { at = at; bytes = b ∷ s }) (scan l (l.flag_after t (b ∷ s)) (at + 1) (length w) (w ++ r))) (take-append_seam w r)
-      ∙ ap (after (record { at = at; bytes = b ∷ w })) (over_bytes (l.flag_after t (b ∷ w)) (at + 1) w r ∙ ap (λ (i : ℕ). scan l (l.flag_after t (b ∷ w)) i 0 r) g)
+      ∙ ap (λ (s : List ℕ). after (record { at = at; bytes = b ∷ s })
+      (scan l (l.flag_after t (b ∷ s)) (at + 1) (length w) (w ++ r))) (take-append_seam w r)
+      ∙ ap (after (record { at = at; bytes = b ∷ w }))
+      (over_bytes (l.flag_after t (b ∷ w)) (at + 1) w r ∙ ap (λ (i : ℕ). scan l (l.flag_after t (b ∷ w)) i 0 r) g)
 
   pub behind_pair : (t : Token) (r : List Token × Option ℕ) → (after t r).0 ≡ t ∷ r.0
   behind_pair t (ts, f) = refl
@@ -59,30 +64,36 @@ module _ (l : Lexis) where
       by (ts, f) (us, g) e = ap (λ (found : List (List ℕ) × Bool). found.0) e
 
   -- the words at a token are those at any offset
-  pub words_at : (is_same : List ℕ → List ℕ → Bool) (words : List (List ℕ)) (t : Bool) (at b : ℕ) (w r : List ℕ) → l.separator_length (b ∷ w ++ r) ≡ 0 →
+  pub words_at : (is_same : List ℕ → List ℕ → Bool) (words : List (List ℕ)) (t : Bool) (at b : ℕ) (w r : List ℕ)
+      → l.separator_length (b ∷ w ++ r) ≡ 0 →
       l.token_length t (b ∷ w ++ r) ≡ suc (length w) →
       are_next is_same words (scan l t at 0 (b ∷ w ++ r)).0 ≡ are_next is_same words (tokens_with l t (b ∷ w) r)
   words_at is_same words t at b w r e f =
       let set : Bool = l.flag_after t (b ∷ w) in
       ap (λ (found : List Token × Option ℕ). are_next is_same words found.0) (over_token t at b w r e f)
       ∙ ap (are_next is_same words) (behind_pair (record { at = at; bytes = b ∷ w }) (scan l set (at + suc (length w)) 0 r))
-      ∙ same_words is_same words (record { at = at; bytes = b ∷ w } ∷ (scan l set (at + suc (length w)) 0 r).0) (tokens_with l t (b ∷ w) r)
+      ∙ same_words is_same words (record { at = at; bytes = b ∷ w } ∷ (scan l set (at + suc (length w)) 0 r).0)
+      (tokens_with l t (b ∷ w) r)
       (ap (λ (ws : List (List ℕ)). (b ∷ w) ∷ ws) (same_tokens set (at + suc (length w)) 0 r))
 
 -- a section begins here, whatever the offset is
-pub begins_anywhere : (v : Vocabulary) (m : Marks) (t : Bool) (at : ℕ) (s : List ℕ) → begins_section v m t at s ≡ begins_section v m t 0 s
+pub begins_anywhere : (v : Vocabulary) (m : Marks) (t : Bool) (at : ℕ) (s : List ℕ)
+    → begins_section v m t at s ≡ begins_section v m t 0 s
 begins_anywhere v m t at s =
     same_words v.is_same m.beginning (scan v.lexis t at 0 s).0 (scan v.lexis t 0 0 s).0 (same_tokens v.lexis t at 0 s)
 
 -- a part ends behind a byte at least
-some_end : (is_same : List ℕ → List ℕ → Bool) (e : Ending) (ended : Bool) (from len : ℕ) (ts : List Token) (f : Option ℕ) (n : ℕ) → AreInOrder from len ts f → 0 < n →
+some_end : (is_same : List ℕ → List ℕ → Bool) (e : Ending) (ended : Bool) (from len : ℕ) (ts : List Token) (f : Option ℕ) (n : ℕ)
+    → AreInOrder from len ts f → 0 < n →
     0 < unwrap_or (slice_get (ends is_same e ended ts) 0) n
 some_end is_same e ended from len [] f n o h = h
 some_end is_same e ended from len (t ∷ ts) f n o h =
-    by (ended || are_next is_same e.words (t ∷ ts)) (is_same t.bytes e.closing) (λ k. some_end is_same e k (t.at + length t.bytes) len ts f n o.3 h)
+    by (ended || are_next is_same e.words (t ∷ ts)) (is_same t.bytes e.closing)
+    (λ k. some_end is_same e k (t.at + length t.bytes) len ts f n o.3 h)
   where
     by : (met closed : Bool) → ((k : Bool) → 0 < unwrap_or (slice_get (ends is_same e k ts) 0) n) →
-        0 < unwrap_or (slice_get (if met then (if closed then behind t ∷ ends is_same e false ts else ends is_same e true ts) else ends is_same e false ts) 0) n
+        0 < unwrap_or (slice_get (if met then (if closed then behind t ∷ ends is_same e false ts else ends is_same e true ts)
+        else ends is_same e false ts) 0) n
     by true true go = omega (arith, o.1)
     by true false go = go true
     by false closed go = go false
@@ -90,4 +101,5 @@ some_end is_same e ended from len (t ∷ ts) f n o h =
 -- a section has a byte at least
 pub some_section : (v : Vocabulary) (m : Marks) (b : ℕ) (bs : List ℕ) → 0 < section_length v m (b ∷ bs)
 some_section v m b bs =
-    some_end v.is_same m.ending false 0 (length (b ∷ bs)) (scan_of v.lexis (b ∷ bs)).0 (scan_of v.lexis (b ∷ bs)).1 (length (b ∷ bs)) (stand_in_order v.lexis (b ∷ bs)) (omega arith)
+    some_end v.is_same m.ending false 0 (length (b ∷ bs)) (scan_of v.lexis (b ∷ bs)).0 (scan_of v.lexis (b ∷ bs)).1
+    (length (b ∷ bs)) (stand_in_order v.lexis (b ∷ bs)) (omega arith)

@@ -1,5 +1,6 @@
 -- Texts of which the sections are known, and the tokens outside of them: put together from their pieces.
-use Rattle.std.proofs.Common.{◌≡◌, ℕ, zero, suc, Bool, true, false, List, [], ◌∷◌, ◌++◌, map, length, replicate, refl, sym, ap, ◌∙◌, flat_map, append_assoc}
+use Rattle.std.proofs.Common.{◌≡◌, ℕ, zero, suc, Bool, true, false, List, [], ◌∷◌, ◌++◌, map, length, replicate, refl, sym, ap}
+use Rattle.std.proofs.Common.{◌∙◌, flat_map, append_assoc}
 use Rattle.std.proofs.lemmas.List.{append-nil}
 use Rattle.std.specs.List.{AllByRecursion}
 use Rattle.lexer.specs.Tokens.{Lexis, scan_of}
@@ -20,16 +21,24 @@ abbrev pub none : Barred
 none t x s = false
 
 -- Before any bytes these tokens stand in a text outside its sections, which are these.
-pub record Outlined (v : Vocabulary) (m : Marks) (t : Bool) (text : List ℕ) (f : Front) (found : List (List ℕ)) (u : Bool) : Type 0 where
+pub record Outlined (v : Vocabulary) (m : Marks) (t : Bool) (text : List ℕ) (f : Front) (found : List (List ℕ)) (u : Bool) :
+    Type 0 where
   pub rest : List ℕ
   pub drawn : (r : List ℕ) → outline v m t 0 (text ++ r) ≡ (rest ++ (outline v m u 0 r).0, found ++ (outline v m u 0 r).1)
   pub spells : SpellsBy v.lexis none Anything t rest f u
 
 -- a text in which no section begins
-pub plain : {v : Vocabulary} {m : Marks} {t u : Bool} {text : List ℕ} {f : Front} → SpellsBy v.lexis (begins v m) Anything t text f u → Outlined v m t text f [] u
-plain {v} {m} {text = text} h = record { rest = text; drawn = λ r. kept_whole v m (h.passes r tt); spells = barred_less (λ t x s e. refl) h }
+pub plain : {v : Vocabulary} {m : Marks} {t u : Bool} {text : List ℕ} {f : Front}
+    → SpellsBy v.lexis (begins v m) Anything t text f u → Outlined v m t text f [] u
+plain {v} {m} {text = text} h = record {
+  rest = text;
+  drawn = λ r. kept_whole v m (h.passes r tt);
+  spells =
+      barred_less (λ t x s e. refl) h;
+}
 
--- What makes a text a section before other bytes: its first token has so many bytes and one more, and begins a section, which is of its length.
+-- What makes a text a section before other bytes: its first token has so many bytes and one more, and begins a section, which is
+-- of its length.
 pub record IsSection (v : Vocabulary) (m : Marks) (t : Bool) (b : ℕ) (w : List ℕ) (r : List ℕ) : Type 0 where
   pub less : ℕ
   pub alone : v.lexis.separator_length (b ∷ w ++ r) ≡ 0
@@ -38,12 +47,14 @@ pub record IsSection (v : Vocabulary) (m : Marks) (t : Bool) (b : ℕ) (w : List
   pub size : section_length v m (b ∷ w ++ r) ≡ suc (length w)
 
 -- spaces are passed over, where each is a separator
-spaces_pass : (l : Lexis) → ((s : List ℕ) → l.separator_length (32 ∷ s) ≡ 1) → (t : Bool) (n : ℕ) (r : List ℕ) → Passes l none t (replicate n 32) r (λ s. s) t
+spaces_pass : (l : Lexis) → ((s : List ℕ) → l.separator_length (32 ∷ s) ≡ 1) → (t : Bool) (n : ℕ) (r : List ℕ)
+    → Passes l none t (replicate n 32) r (λ s. s) t
 spaces_pass l one t zero r = at_end
 spaces_pass l one t (suc n) r = separator 32 [] (replicate n 32) refl (one (replicate n 32 ++ r)) (spaces_pass l one t n r)
 
 -- a section
-pub section : {v : Vocabulary} {m : Marks} {t : Bool} → ((s : List ℕ) → v.lexis.separator_length (32 ∷ s) ≡ 1) → (b : ℕ) (w : List ℕ) → ((r : List ℕ) → IsSection v m t b w r)
+pub section : {v : Vocabulary} {m : Marks} {t : Bool} → ((s : List ℕ) → v.lexis.separator_length (32 ∷ s) ≡ 1)
+    → (b : ℕ) (w : List ℕ) → ((r : List ℕ) → IsSection v m t b w r)
     → Outlined v m t (b ∷ w) (λ s. s) ((b ∷ w) ∷ []) t
 section {v} {m} {t} one b w h = record {
   rest = replicate (suc (length w)) 32;
@@ -52,7 +63,8 @@ section {v} {m} {t} one b w h = record {
 }
 
 -- a section where these bytes follow, in which none begins
-pub section_before : {v : Vocabulary} {m : Marks} {t u : Bool} {c : List ℕ} {f : Front} → ((s : List ℕ) → v.lexis.separator_length (32 ∷ s) ≡ 1) → (b : ℕ) (w : List ℕ)
+pub section_before : {v : Vocabulary} {m : Marks} {t u : Bool} {c : List ℕ} {f : Front}
+    → ((s : List ℕ) → v.lexis.separator_length (32 ∷ s) ≡ 1) → (b : ℕ) (w : List ℕ)
     → ((r : List ℕ) → IsSection v m t b w (c ++ r)) → Outlined v m t c f [] u → Outlined v m t ((b ∷ w) ++ c) f ((b ∷ w) ∷ []) u
 section_before {v = v} {m = m} {t = t} {u = u} {c = c} one b w h k =
     let spaces : List ℕ = replicate (suc (length w)) 32 in
@@ -65,16 +77,20 @@ section_before {v = v} {m = m} {t = t} {u = u} {c = c} one b w h k =
       spells = behind (record { passes = λ r p. spaces_pass v.lexis one t (suc (length w)) r }) k.spells;
     }
 
-both : (a c : List ℕ) (xs ys : List (List ℕ)) (o : Outline) → ◌≡◌ {A = Outline} (a ++ (c ++ o.0), xs ++ (ys ++ o.1)) ((a ++ c) ++ o.0, (xs ++ ys) ++ o.1)
+both : (a c : List ℕ) (xs ys : List (List ℕ)) (o : Outline)
+    → ◌≡◌ {A = Outline} (a ++ (c ++ o.0), xs ++ (ys ++ o.1)) ((a ++ c) ++ o.0, (xs ++ ys) ++ o.1)
 both a c xs ys o =
-    ap (λ (s : List ℕ). (s, xs ++ (ys ++ o.1))) (sym (append_assoc a c o.0)) ∙ ap (λ (found : List (List ℕ)). ((a ++ c) ++ o.0, found)) (sym (append_assoc xs ys o.1))
+    ap (λ (s : List ℕ). (s, xs ++ (ys ++ o.1))) (sym (append_assoc a c o.0))
+    ∙ ap (λ (found : List (List ℕ)). ((a ++ c) ++ o.0, found)) (sym (append_assoc xs ys o.1))
 
 -- one text behind another
-pub one_behind : {v : Vocabulary} {m : Marks} {t u w : Bool} {a c : List ℕ} {f g : Front} {xs ys : List (List ℕ)} → Outlined v m t a f xs u → Outlined v m u c g ys w
+pub one_behind : {v : Vocabulary} {m : Marks} {t u w : Bool} {a c : List ℕ} {f g : Front} {xs ys : List (List ℕ)}
+    → Outlined v m t a f xs u → Outlined v m u c g ys w
     → Outlined v m t (a ++ c) (λ s. f (g s)) (xs ++ ys) w
 one_behind {v = v} {m = m} {t = t} {w = w} {a = a} {c = c} {xs = xs} {ys = ys} h k = record {
   rest = h.rest ++ k.rest;
-  drawn = λ r. ap (outline v m t 0) (append_assoc a c r) ∙ h.drawn (c ++ r) ∙ ap (λ (o : Outline). (h.rest ++ o.0, xs ++ o.1)) (k.drawn r)
+  drawn = λ r. ap (outline v m t 0) (append_assoc a c r) ∙ h.drawn (c ++ r)
+      ∙ ap (λ (o : Outline). (h.rest ++ o.0, xs ++ o.1)) (k.drawn r)
       ∙ both h.rest k.rest xs ys (outline v m w 0 r);
   spells = behind h.spells k.spells;
 }
@@ -84,8 +100,10 @@ pub nothing : {v : Vocabulary} {m : Marks} {t : Bool} → Outlined v m t [] (λ 
 nothing = record { rest = []; drawn = λ r. refl; spells = spelling.nothing }
 
 -- texts one behind the other
-pub each_outlined : {v : Vocabulary} {m : Marks} {A : Type 0} {t : Bool} {text : A → List ℕ} {f : A → Front} {found : A → List (List ℕ)} (Q : A → Type 0)
-    → ((x : A) → Q x → Outlined v m t (text x) (f x) (found x) t) → (xs : List A) → AllByRecursion Q xs → Outlined v m t (flat_map text xs) (each f xs) (flat_map found xs) t
+pub each_outlined : {v : Vocabulary} {m : Marks} {A : Type 0} {t : Bool} {text : A → List ℕ} {f : A → Front} {found : A
+    → List (List ℕ)} (Q : A → Type 0)
+    → ((x : A) → Q x → Outlined v m t (text x) (f x) (found x) t) → (xs : List A) → AllByRecursion Q xs
+    → Outlined v m t (flat_map text xs) (each f xs) (flat_map found xs) t
 each_outlined Q h [] all = nothing
 each_outlined Q h (x ∷ xs) all = one_behind (h x all.0) (each_outlined Q h xs all.1)
 
@@ -95,7 +113,8 @@ pub record IsOutlined (v : Vocabulary) (m : Marks) (text : List ℕ) (tokens : L
   pub tokens_around : separators.spelled (scan_of v.lexis (blanked text (sections v m text))) ≡ (tokens, false)
 
 -- the sections of a text, and the tokens around them
-pub outlined_is : {v : Vocabulary} {m : Marks} {u : Bool} {text : List ℕ} {f : Front} {found : List (List ℕ)} → Outlined v m false text f found u → IsOutlined v m text (f []) found
+pub outlined_is : {v : Vocabulary} {m : Marks} {u : Bool} {text : List ℕ} {f : Front} {found : List (List ℕ)}
+    → Outlined v m false text f found u → IsOutlined v m text (f []) found
 outlined_is {v} {m} {u} {text} {f} {found} h =
     let all : ◌≡◌ {A = Outline} (blanked text (sections v m text), map (text_of text) (sections v m text)) (h.rest, found) =
     outline_is v m text ∙ ap (outline v m false 0) (sym (append-nil text)) ∙ h.drawn []

@@ -1,10 +1,12 @@
 -- The outline of a text is what its sections say.
-use Rattle.std.proofs.Common.{◌≡◌, ℕ, zero, suc, ◌+◌, ◌-◌, ◌≤◌, ◌<◌, Bool, true, false, if◌then◌else◌, List, [], ◌∷◌, ◌++◌, map, take, drop, replicate, slice_range, refl, sym, ap, subst, ◌∙◌, arith, append_assoc}
+use Rattle.std.proofs.Common.{◌≡◌, ℕ, zero, suc, ◌+◌, ◌-◌, ◌≤◌, ◌<◌, Bool, true, false, if◌then◌else◌, List, [], ◌∷◌, ◌++◌, map}
+use Rattle.std.proofs.Common.{take, drop, replicate, slice_range, refl, sym, ap, subst, ◌∙◌, arith, append_assoc}
 use Rattle.std.proofs.lemmas.List.{take-append-drop, drop-drop}
 use Rattle.std.proofs.Math.Seq.{take-add}
 use Rattle.lexer.specs.declared.span.Span.{Span}
 use Rattle.driver_sections.specs.Marks.{Vocabulary, Marks}
-use Rattle.driver_sections.specs.Sections.{section_length, begins_section, sections_from, sections, blanked_from, blanked, text_of}
+use Rattle.driver_sections.specs.Sections.{section_length, begins_section, sections_from, sections, blanked_from, blanked}
+use Rattle.driver_sections.specs.Sections.{text_of}
 use Rattle.driver_sections.specs.Sections as sections
 use Rattle.section_outlines.specs.Outline.{Outline, with_bytes, with_section, at_token, at_front, outline}
 use Rattle.section_outlines.proofs.Offsets.{begins_anywhere, some_section}
@@ -27,7 +29,9 @@ split text from k (s ∷ found) h =
     let more : List ℕ = replicate (s.end - s.at) 32 ++ blanked_from text s.end found in
     let size : s.at - from ≡ k + (s.at - (from + k)) = omega (arith, h) in
     ap (λ (n : ℕ). take n (drop from text) ++ more) size
-    ∙ ap (λ (x : List ℕ). x ++ more) (take-add k (s.at - (from + k)) (drop from text) ∙ ap (λ (x : List ℕ). take k (drop from text) ++ take (s.at - (from + k)) x) (drop-drop k from text))
+    ∙ ap (λ (x : List ℕ). x ++ more)
+    (take-add k (s.at - (from + k)) (drop from text)
+    ∙ ap (λ (x : List ℕ). take k (drop from text) ++ take (s.at - (from + k)) x) (drop-drop k from text))
     ∙ append_assoc (take k (drop from text)) (slice_range text (from + k) s.at) more
 
 module _ (v : Vocabulary) (m : Marks) where
@@ -44,11 +48,13 @@ module _ (v : Vocabulary) (m : Marks) where
       rest set n = sections_from v m set (at + 1) n bs
 
       by_token : (is : Bool) (n : ℕ) → ((set : Bool) (n : ℕ) → BeginFrom (at + 0) (rest set n)) →
-          BeginFrom (at + 0) (if is then record { at = at; end = at + section_length v m (b ∷ bs) } ∷ rest flag (section_length v m (b ∷ bs) - 1) else rest (v.lexis.flag_after flag (take (suc n) (b ∷ bs))) n)
+          BeginFrom (at + 0) (if is then record { at = at; end = at + section_length v m (b ∷ bs) } ∷ rest flag
+          (section_length v m (b ∷ bs) - 1) else rest (v.lexis.flag_after flag (take (suc n) (b ∷ bs))) n)
       by_token true n later = omega arith
       by_token false n later = later (v.lexis.flag_after flag (take (suc n) (b ∷ bs))) n
 
-      by : (k j : ℕ) → ((set : Bool) (n : ℕ) → BeginFrom (at + 0) (rest set n)) → BeginFrom (at + 0) (sections.at_front v m flag at (b ∷ bs) rest k j)
+      by : (k j : ℕ) → ((set : Bool) (n : ℕ) → BeginFrom (at + 0) (rest set n))
+          → BeginFrom (at + 0) (sections.at_front v m flag at (b ∷ bs) rest k j)
       by zero zero later = tt
       by zero (suc n) later = by_token (begins_section v m flag at (b ∷ bs)) n later
       by (suc n) j later = later flag n
@@ -62,26 +68,34 @@ module _ (v : Vocabulary) (m : Marks) where
     pair a c x y e f = ap (λ (s : List ℕ). (s, x)) e ∙ ap (λ (z : List (List ℕ)). (c, z)) f
 
     -- so many bytes of no section stand next
-    pass : (bs : List ℕ) (at n : ℕ) (found : List Span) (o : Outline) → drop at text ≡ bs → BeginFrom (at + 1 + n) found → said (at + 1 + n) found ≡ o →
+    pass : (bs : List ℕ) (at n : ℕ) (found : List Span) (o : Outline) → drop at text ≡ bs → BeginFrom (at + 1 + n) found
+        → said (at + 1 + n) found ≡ o →
         said (at + 0) found ≡ with_bytes (take (suc n) bs) o
     pass bs at n found o e h i =
         let z : at + 0 ≡ at = omega arith in
         let k : at + suc n ≡ at + 1 + n = omega arith in
         ap (λ (j : ℕ). said j found) z
-        ∙ ap (λ (s : List ℕ). (s, map (text_of text) found)) (split text at (suc n) found (subst (λ (j : ℕ). BeginFrom j found) (sym k) h))
+        ∙ ap (λ (s : List ℕ). (s, map (text_of text) found))
+        (split text at (suc n) found (subst (λ (j : ℕ). BeginFrom j found) (sym k) h))
         ∙ ap (λ (s : List ℕ). (take (suc n) s ++ blanked_from text (at + suc n) found, map (text_of text) found)) e
         ∙ ap (λ (j : ℕ). with_bytes (take (suc n) bs) (said j found)) k
         ∙ ap (with_bytes (take (suc n) bs)) i
 
     -- a section of so many bytes stands next
-    section : (bs : List ℕ) (at n : ℕ) (found : List Span) (o : Outline) → drop at text ≡ bs → 0 < n → said (at + 1 + (n - 1)) found ≡ o →
+    section : (bs : List ℕ) (at n : ℕ) (found : List Span) (o : Outline) → drop at text ≡ bs → 0 < n
+        → said (at + 1 + (n - 1)) found ≡ o →
         said (at + 0) (record { at = at; end = at + n } ∷ found) ≡ with_section n (take n bs) o
     section bs at n found o e h i =
         let none : at - (at + 0) ≡ 0 = omega arith in
         let size : at + n - at ≡ n = omega arith in
         let k : at + n ≡ at + 1 + (n - 1) = omega (arith, h) in
-        ap (λ (j : ℕ). (take j (drop (at + 0) text) ++ (replicate (at + n - at) 32 ++ blanked_from text (at + n) found), take (at + n - at) (drop at text) ∷ map (text_of text) found)) none
-        ∙ ap (λ (j : ℕ). (replicate j 32 ++ blanked_from text (at + n) found, take j (drop at text) ∷ map (text_of text) found)) size
+        ap (λ (j : ℕ). (
+          take j (drop (at + 0) text) ++ (replicate (at + n - at) 32 ++ blanked_from text (at + n) found),
+          take
+              (at + n - at) (drop at text) ∷ map (text_of text) found,
+        )) none
+        ∙ ap (λ (j : ℕ). (replicate j 32 ++ blanked_from text (at + n) found, take j (drop at text) ∷ map (text_of text) found))
+        size
         ∙ ap (λ (s : List ℕ). (replicate n 32 ++ blanked_from text (at + n) found, take n s ∷ map (text_of text) found)) e
         ∙ ap (λ (j : ℕ). with_section n (take n bs) (said j found)) k
         ∙ ap (with_section n (take n bs)) i
@@ -89,7 +103,8 @@ module _ (v : Vocabulary) (m : Marks) where
     behind_first : (at b : ℕ) (bs : List ℕ) → drop at text ≡ b ∷ bs → drop (at + 1) text ≡ bs
     behind_first at b bs e = sym (drop-drop 1 at text) ∙ ap (drop 1) e
 
-    outlined : (bs : List ℕ) (flag : Bool) (at n : ℕ) → drop at text ≡ bs → said (at + n) (sections_from v m flag at n bs) ≡ outline v m flag n bs
+    outlined : (bs : List ℕ) (flag : Bool) (at n : ℕ) → drop at text ≡ bs
+        → said (at + n) (sections_from v m flag at n bs) ≡ outline v m flag n bs
     outlined [] flag at n e =
         ap (λ (s : List ℕ). (s, [])) (sym (drop-drop n at text) ∙ ap (drop n) e ∙ nothing n)
       where
@@ -100,7 +115,8 @@ module _ (v : Vocabulary) (m : Marks) where
         let k : at + suc n ≡ at + 1 + n = omega arith in
         ap (λ (j : ℕ). said j (sections_from v m flag (at + 1) n bs)) k ∙ outlined bs flag (at + 1) n (behind_first at b bs e)
     outlined (b ∷ bs) flag at zero e =
-        by (v.lexis.separator_length (b ∷ bs)) (v.lexis.token_length flag (b ∷ bs)) (λ set n. outlined bs set (at + 1) n (behind_first at b bs e))
+        by (v.lexis.separator_length (b ∷ bs)) (v.lexis.token_length flag (b ∷ bs))
+        (λ set n. outlined bs set (at + 1) n (behind_first at b bs e))
       where
         rest : Bool → ℕ → List Span
         rest set n = sections_from v m set (at + 1) n bs
@@ -108,15 +124,18 @@ module _ (v : Vocabulary) (m : Marks) where
         others : Bool → ℕ → Outline
         others set n = outline v m set n bs
 
-        by_token : (is : Bool) (n : ℕ) → ((set : Bool) (n : ℕ) → said (at + 1 + n) (rest set n) ≡ others set n) → begins_section v m flag 0 (b ∷ bs) ≡ is →
+        by_token : (is : Bool) (n : ℕ) → ((set : Bool) (n : ℕ) → said (at + 1 + n) (rest set n) ≡ others set n)
+            → begins_section v m flag 0 (b ∷ bs) ≡ is →
             said (at + 0) (sections.at_token v m flag at (b ∷ bs) rest n) ≡ at_token v m flag (b ∷ bs) others n
         by_token true n later f =
             let size : ℕ = section_length v m (b ∷ bs) in
             rw (begins_anywhere v m flag at (b ∷ bs), f)
-            (section (b ∷ bs) at size (rest flag (size - 1)) (others flag (size - 1)) e (some_section v m b bs) (later flag (size - 1)))
+            (section (b ∷ bs) at size (rest flag (size - 1)) (others flag (size - 1)) e (some_section v m b bs)
+            (later flag (size - 1)))
         by_token false n later f =
             let set : Bool = v.lexis.flag_after flag (take (suc n) (b ∷ bs)) in
-            rw (begins_anywhere v m flag at (b ∷ bs), f) (pass (b ∷ bs) at n (rest set n) (others set n) e (begin bs set (at + 1) n) (later set n))
+            rw (begins_anywhere v m flag at (b ∷ bs), f)
+            (pass (b ∷ bs) at n (rest set n) (others set n) e (begin bs set (at + 1) n) (later set n))
 
         by : (k j : ℕ) → ((set : Bool) (n : ℕ) → said (at + 1 + n) (rest set n) ≡ others set n) →
             said (at + 0) (sections.at_front v m flag at (b ∷ bs) rest k j) ≡ at_front v m flag (b ∷ bs) others k j
@@ -125,5 +144,6 @@ module _ (v : Vocabulary) (m : Marks) where
         by (suc n) j later = pass (b ∷ bs) at n (rest flag n) (others flag n) e (begin bs flag (at + 1) n) (later flag n)
 
   -- the outline of a text: its bytes without its sections, and these
-  pub outline_is : (text : List ℕ) → ◌≡◌ {A = Outline} (blanked text (sections v m text), map (text_of text) (sections v m text)) (outline v m false 0 text)
+  pub outline_is : (text : List ℕ) → ◌≡◌ {A = Outline} (blanked text (sections v m text), map (text_of text) (sections v m text))
+      (outline v m false 0 text)
   outline_is text = outlined text text false 0 0 refl

@@ -18,8 +18,10 @@ is_fault answer (fault.Unequal at) e = e
 is_fault answer fault.Memory e = tt
 
 -- what is answered with something in the place of nothing
-pub answered : {T E : Type 0} (value : T) (rest : Result (Result (Unit {0}) ModelFault) E) (told : Result T ModelFault) (result : Result (Result T ModelFault) E)
-    → result ≡ result_map_both (result_map_both (λ _. value) (λ f. f)) (λ e. e) rest → IfOk rest (λ a. result_map_both (λ _. value) (λ f. f) a ≡ told)
+pub answered : {T E : Type 0} (value : T) (rest : Result (Result (Unit {0}) ModelFault) E) (told : Result T ModelFault)
+    (result : Result (Result T ModelFault) E)
+    → result ≡ result_map_both (result_map_both (λ _. value) (λ f. f)) (λ e. e) rest
+    → IfOk rest (λ a. result_map_both (λ _. value) (λ f. f) a ≡ told)
     → IfOk result (λ a. a ≡ told)
 answered value (Ok a) told result e same = rw e same
 answered value (Err x) told result e same = rw e tt

@@ -1,6 +1,7 @@
--- The models and the drivers of a text in whose sections drivers stand, in any language of models. (That sections of a file of models
--- hold drivers, each of them one, is this project's rule.)
-use Rattle.std.specs.Prelude.{ℕ, ◌+◌, ◌==◌, Bool, false, ◌&&◌, ◌||◌, nat_le, nat_lt, if◌then◌else◌, List, [], ◌∷◌, ◌++◌, map, flat_map, reverse, take, Result, Ok, Err}
+-- The models and the drivers of a text in whose sections drivers stand, in any language of models. (That sections of a file of
+-- models hold drivers, each of them one, is this project's rule.)
+use Rattle.std.specs.Prelude.{ℕ, ◌+◌, ◌==◌, Bool, false, ◌&&◌, ◌||◌, nat_le, nat_lt, if◌then◌else◌, List, [], ◌∷◌, ◌++◌, map}
+use Rattle.std.specs.Prelude.{flat_map, reverse, take, Result, Ok, Err}
 use Rattle.std.specs.List.{filter}
 use Rattle.std.specs.Result.{result_map_both, result_unwrap_or}
 use Rattle.lexer.specs.Tokens.{scan_of}
@@ -15,9 +16,9 @@ use Rattle.sectioned_texts.specs.declared.driven_models.DrivenModels.{DrivenMode
 use Rattle.driver_sections.specs.Marks.{Vocabulary, Marks, Ending, ends}
 use Rattle.driver_sections.specs.Sections.{sections, blanked, text_of}
 
--- A language of models, and of sections that hold drivers: its tokens; how sections are marked, and how models end; the models of a
--- text without sections, or its fault; the names that a model takes; a model as one that may be a core; and the driver that a section
--- holds, or its fault, where these names are taken and the models that may be cores are these.
+-- A language of models, and of sections that hold drivers: its tokens; how sections are marked, and how models end; the models of
+-- a text without sections, or its fault; the names that a model takes; a model as one that may be a core; and the driver that a
+-- section holds, or its fault, where these names are taken and the models that may be cores are these.
 pub record SectionLanguage (M : Type 0) : Type 0 where
   pub vocabulary : Vocabulary
   pub marks : Marks
@@ -41,7 +42,8 @@ fault_behind from fault.Memory = fault.Memory
 
 -- of two faults the first counts: its offset is less, or is the same and its kind no later
 abbrev pub counts_first : ModelFault → ModelFault → Bool
-counts_first f g = nat_lt (fault_place f) (fault_place g) || ((fault_place f == fault_place g) && nat_le (fault_rank f) (fault_rank g))
+counts_first f g = nat_lt (fault_place f) (fault_place g)
+    || ((fault_place f == fault_place g) && nat_le (fault_rank f) (fault_rank g))
 
 -- a fault, or one that counts before it
 abbrev pub first_fault : {A : Type 0} → ModelFault → Result A ModelFault → ModelFault
@@ -68,13 +70,15 @@ module _ {M : Type 0} (l : SectionLanguage M) where
 
   -- the driver of a section of a text, where these names are taken and the models that may be cores are these
   abbrev pub section_driver : List ℕ → List (List ℕ) → List Core → Span → Result DriverModel ModelFault
-  section_driver bytes names cores s = result_map_both (λ driver. driver) (fault_behind s.at) (l.section names cores (text_of bytes s))
+  section_driver bytes names cores s =
+      result_map_both (λ driver. driver) (fault_behind s.at) (l.section names cores (text_of bytes s))
 
   -- these drivers, and those of the sections behind them, in order; or the fault of the first section that holds none
   abbrev pub more_drivers : List ℕ → List M → List DriverModel → List Span → Result (List DriverModel) ModelFault
   more_drivers bytes models drivers [] = Ok drivers
   more_drivers bytes models drivers (s ∷ sections) =
-      and_then (section_driver bytes (taken_names models drivers) (map l.core models) s) (λ driver. more_drivers bytes models (drivers ++ driver ∷ []) sections)
+      and_then (section_driver bytes (taken_names models drivers) (map l.core models) s)
+      (λ driver. more_drivers bytes models (drivers ++ driver ∷ []) sections)
 
   -- these models, and the drivers of these sections of a text; or the fault of the first section that holds none
   abbrev pub with_drivers : List ℕ → List Span → List M → Result (DrivenModels M) ModelFault
@@ -94,8 +98,8 @@ module _ {M : Type 0} (l : SectionLanguage M) where
   abbrev pub rest_of : List ℕ → List ℕ
   rest_of bytes = blanked bytes (sections l.vocabulary l.marks bytes)
 
-  -- The models and the drivers of a text, or its fault: of those of the rest and of the sections the one that counts first. Sections
-  -- stand one behind the other, and a fault of a section lies in it: so the fault of the first section that has one counts before those
-  -- of the others.
+  -- The models and the drivers of a text, or its fault: of those of the rest and of the sections the one that counts first.
+  -- Sections stand one behind the other, and a fault of a section lies in it: so the fault of the first section that has one
+  -- counts before those of the others.
   unfoldable pub driven_models : List ℕ → Result (DrivenModels M) ModelFault
   driven_models bytes = driven_by bytes (sections l.vocabulary l.marks bytes) (rest_of bytes) (l.text (rest_of bytes))

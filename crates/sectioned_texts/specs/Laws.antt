@@ -17,4 +17,5 @@ ReadsAsBefore l bytes =
 
 -- all drivers of a text may stand where they do
 abbrev pub HasGoodDrivers : {M : Type 0} → SectionLanguage M → List ℕ → Type 0
-HasGoodDrivers {M} l bytes = (found : DrivenModels M) → driven_models l bytes ≡ Ok found → AllMayStand l found.models found.drivers
+HasGoodDrivers {M} l bytes = (found : DrivenModels M) → driven_models l bytes ≡ Ok found
+    → AllMayStand l found.models found.drivers

@@ -6,8 +6,8 @@ ghost use Rattle.sectioned_texts.specs.DrivenModels as spec;
 use crate::faults::fault_behind;
 use crate::language::SectionLanguage;
 use driver_models::{Cores, DriverModel, KnownNames};
-use std::alloc::{AllocError, Global};
 use lexer::Span;
+use std::alloc::{AllocError, Global};
 use udp_tables::ModelFault;
 
 /// What a part of a text is read as, or its fault. The `AllocError` comes only where memory is wanting.
@@ -26,7 +26,8 @@ pub(crate) fn with_answer<T: Drop>(value: T, rest: Answer<()>) -> Answer<T>
 
 /// The models of a text without sections, or its fault.
 pub(crate) fn models_of<L: SectionLanguage>(alloc: Global, text: &[u8]) -> Answer<Vec<L::Model>>
-    ensures { IfOk result (λ answer. result_map_both (λ models. models.items) (λ fault. fault) answer ≡ L.language.text text.now) }
+    ensures { IfOk result (λ answer. result_map_both (λ models. models.items) (λ fault. fault) answer ≡ L.language.text
+        text.now) }
 {
     match L::read(alloc, text) {
         Ok(models) => Ok(Ok(models)),

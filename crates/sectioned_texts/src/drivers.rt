@@ -8,9 +8,9 @@ use crate::answers::{Answer, section_driver, with_answer};
 use crate::language::SectionLanguage;
 use crate::scope::{cores_of, taken_names};
 use driver_models::{Cores, DriverLanguage, DriverModel, KnownNames};
+use lexer::Span;
 use sqlite_items::Items;
 use std::alloc::{AllocError, Global};
-use lexer::Span;
 
 /// These names with that of a driver, which stands behind these drivers then.
 fn with_driver<D: DriverLanguage>(
@@ -39,7 +39,8 @@ fn push_drivers<L: SectionLanguage>(
     requires inside { LieInside text.now sections.now }
     requires cores { cores.now ≡ map L.language.core models.now }
     requires none { drivers.old ≡ [] }
-    ensures { IfOk result (λ answer. result_map_both (λ _. drivers.new) (λ fault. fault) answer ≡ spec.more_drivers L.language text.now models.now [] sections.now) }
+    ensures { IfOk result (λ answer. result_map_both (λ _. drivers.new) (λ fault. fault) answer ≡ spec.more_drivers L.language
+        text.now models.now [] sections.now) }
 {
     let mut names = taken_names::<L>(alloc, models)?;
     for section in sections {
@@ -51,7 +52,8 @@ fn push_drivers<L: SectionLanguage>(
     Ok(Ok(()))
 }
 
-/// The drivers of these sections of a text, in order, or the fault of the first that holds none, where the models that count are these.
+/// The drivers of these sections of a text, in order, or the fault of the first that holds none, where the models that count are
+/// these.
 #[tactic(auto, using(crate::proofs::ToldFaults::answered))]
 pub(crate) fn drivers_of<L: SectionLanguage>(
     alloc: Global,

@@ -60,8 +60,8 @@ pub(crate) fn first_of(fault: ModelFault, other: ModelFault) -> ModelFault
     }
 }
 
-/// An offset of a part of a text, by the offset where the part begins, as one of the text. There is no memory for a text in which it
-/// is none.
+/// An offset of a part of a text, by the offset where the part begins, as one of the text. There is no memory for a text in which
+/// it is none.
 fn offset_behind(from: usize, at: usize) -> Result<usize, AllocError>
     ensures { IfOk result (λ moved. moved ≡ from + at) }
 {

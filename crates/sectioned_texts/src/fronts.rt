@@ -33,7 +33,8 @@ fn first_front<L: SectionLanguage>(
     ends: &[usize],
     last: usize,
 ) -> Result<Vec<L::Model>, AllocError>
-    ensures { IfOk result (λ models. models.items ≡ spec.front_models L.language.text text.now (filter (λ to. nat_le to last) ends.now)) }
+    ensures { IfOk result (λ models. models.items ≡ spec.front_models L.language.text text.now
+        (filter (λ to. nat_le to last) ends.now)) }
 {
     for to in ends {
         if *to <= last {

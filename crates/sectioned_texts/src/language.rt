@@ -10,12 +10,13 @@ ghost use Rattle.sectioned_texts.specs.Faults.{IsFaultIn};
 ghost use Rattle.sectioned_texts.specs.DrivenModels as spec;
 
 use driver_models::{Core, Cores, DriverLanguage, DriverModel, KnownNames};
+use lexer::Span;
 use sqlite_items::Items;
 use std::alloc::{AllocError, Global};
-use lexer::Span;
 use udp_tables::ModelFault;
 
-/// A language of models, and of sections that hold drivers. An `AllocError`, and the fault `Memory`, come only where memory is wanting.
+/// A language of models, and of sections that hold drivers. An `AllocError`, and the fault `Memory`, come only where memory is
+/// wanting.
 pub trait SectionLanguage {
     /// A model.
     type Model: Drop;
@@ -33,7 +34,8 @@ pub trait SectionLanguage {
 
     /// The offsets behind the models of a text, in order.
     fn ends(alloc: Global, text: &[u8]) -> Result<Vec<usize>, AllocError>
-        ensures { IfOk result (λ found. found.items ≡ ends language.vocabulary.is_same language.model_end false (scan_of language.vocabulary.lexis text.now).0) };
+        ensures { IfOk result (λ found. found.items ≡ ends language.vocabulary.is_same language.model_end false
+            (scan_of language.vocabulary.lexis text.now).0) };
 
     /// The models of a text without sections, in order, or its fault.
     fn read(alloc: Global, text: &[u8]) -> Result<Vec<Self::Model>, ModelFault>

@@ -13,9 +13,9 @@ use crate::faults::first_of;
 use crate::fronts::whole_models;
 use crate::language::SectionLanguage;
 use driver_sections::blanked;
+use lexer::Span;
 use sqlite_items::Items;
 use std::alloc::{AllocError, Global};
-use lexer::Span;
 use udp_tables::ModelFault;
 
 /// The models and the drivers of a text with these sections, whose rest is the text of these models, or the fault of a section.
@@ -83,9 +83,10 @@ fn driven_models<L: SectionLanguage>(alloc: Global, text: &[u8]) -> Answer<Drive
 
 /// The models of a text in a language, and the drivers that its sections hold.
 ///
-/// The fault is the one with the least offset, of the rest around the sections and of all sections; its offset counts bytes of the text
-/// from 0. `Memory` comes only where memory is wanting. Each driver that is read is sound, has a name that nothing else in the text
-/// has, and its core is one of the models, with the ports of its core. The time is that of a few readings of the text.
+/// The fault is the one with the least offset, of the rest around the sections and of all sections; its offset counts bytes of
+/// the text from 0. `Memory` comes only where memory is wanting. Each driver that is read is sound, has a name that nothing else
+/// in the text has, and its core is one of the models, with the ports of its core. The time is that of a few readings of the
+/// text.
 #[tactic(auto, using(crate::proofs::ToldFaults::is_fault))]
 pub fn read_driven<L: SectionLanguage>(
     alloc: Global,

@@ -98,7 +98,8 @@ flip_flop_statements =
     simple_before _ _ (codes "next_state") (codes "D")
     (simple_before _ _ (codes "clocked_on") (codes "CK") (simple_before _ _ (codes "clear") (codes "R") nothing)) in
     let check =
-    timing_before _ _ (codes "setup_rising") (codes "rise_constraint") (codes "20") (codes "fall_constraint") (codes "20") nothing in
+    timing_before _ _ (codes "setup_rising") (codes "rise_constraint") (codes "20") (codes "fall_constraint") (codes "20") nothing
+    in
     let delayed =
     simple_before _ _ (codes "function") (codes "IQ")
     (timing_before _ _ (codes "rising_edge") (codes "cell_rise") (codes "5") (codes "cell_fall") (codes "7") nothing) in
@@ -106,7 +107,8 @@ flip_flop_statements =
     inner_before _ _ _ _ (codes "ff") (text (codes "IQ") ∷ text (codes "IQN") ∷ []) state
     (pin_before _ _ _ _ (codes "CK") (codes "input") nothing
     (pin_before _ _ _ _ (codes "D") (codes "input") check
-    (pin_before _ _ _ _ (codes "R") (codes "input") nothing (pin_before _ _ _ _ (codes "Q") (codes "output") delayed nothing)))) in
+    (pin_before _ _ _ _ (codes "R") (codes "input") nothing (pin_before _ _ _ _ (codes "Q") (codes "output") delayed nothing))))
+    in
     all.same
 
 -- a cell with a latch
@@ -143,7 +145,8 @@ clock_gate_statements =
     (pin_before _ _ _ _ (codes "E") (codes "input") nothing
     (pin_before _ _ _ _ (codes "SE") (codes "input") nothing
     (pin_before _ _ _ _ (codes "IQ") (codes "internal") (simple_before _ _ (codes "internal_node") (codes "IQ") nothing)
-    (pin_before _ _ _ _ (codes "GCK") (codes "output") (simple_before _ _ (codes "state_function") (codes "CK * IQ") nothing) nothing))))) in
+    (pin_before _ _ _ _ (codes "GCK") (codes "output") (simple_before _ _ (codes "state_function") (codes "CK * IQ") nothing)
+    nothing))))) in
     all.same
 
 -- what stands behind a function text, joined from the inside out
@@ -212,7 +215,8 @@ of_name name h = ap (λ (q : List ℕ). codes "cell (\"" ++ (((q ++ 34 ∷ []) +
 
 of_number :
     (number : ℕ) → number < 2 ^ 64
-    → head_text (codes "cell") (text (codes "G" ++ decimal number) ∷ []) ≡ codes "cell (\"G" ++ (decimal number ++ codes "\") {\n")
+    → head_text (codes "cell") (text (codes "G" ++ decimal number) ∷ []) ≡ codes
+    "cell (\"G" ++ (decimal number ++ codes "\") {\n")
 of_number number h =
     of_name (codes "G" ++ decimal number) (quoted_name number h)
     ∙ ap (λ (t : List ℕ). codes "cell (\"G" ++ t) (behind_name (decimal number))

@@ -1,5 +1,6 @@
 -- The text of the library, cell by cell.
-use Rattle.std.proofs.Common.{◌≡◌, ℕ, zero, suc, ◌+◌, ◌-◌, ◌%◌, ◌<◌, List, [], ◌∷◌, ◌++◌, codes, decimal, length, sym, ap, ◌∙◌, arith, append_assoc}
+use Rattle.std.proofs.Common.{◌≡◌, ℕ, zero, suc, ◌+◌, ◌-◌, ◌%◌, ◌<◌, List, [], ◌∷◌, ◌++◌, codes, decimal, length, sym, ap, ◌∙◌}
+use Rattle.std.proofs.Common.{arith, append_assoc}
 use Rattle.std.proofs.lemmas.List.{append-nil}
 use Rattle.std.proofs.lemmas.Grind.{flat_map-append}
 use Rattle.liberty_groups.specs.declared.tree.Value.{Value}
@@ -8,7 +9,8 @@ use Rattle.liberty_groups.specs.declared.tree.Item.TheOpen.{Item-F, Group-F}
 use Rattle.liberty_groups.specs.declared.tree.Item.TheFolds.{map-Item}
 use Rattle.liberty_groups.specs.declared.tree.Item.TheVariants as item
 use Rattle.liberty_groups.specs.declared.tree.Group.{Group, out-roll-Group}
-use Rattle.liberty_groups.specs.Writing.{simple_text, complex_text, head_text, item_step, group_step, item_text, items_text, group_text}
+use Rattle.liberty_groups.specs.Writing.{simple_text, complex_text, head_text, item_step, group_step, item_text, items_text}
+use Rattle.liberty_groups.specs.Writing.{group_text}
 use Rattle.liberty_groups.proofs.Texts.{group_text_is}
 use Rattle.selftest_cells.specs.Statements.{text, simple, group}
 use Rattle.selftest_cells.specs.Library.{items_by, cell_group, cells, library, front_text, library_text}
@@ -19,16 +21,19 @@ inner_text g =
     fold_out-Item (List ℕ) (List ℕ) item_step group_step (item.Inner g)
     ∙ ap (λ (z : Item-F Item Group). item_step (map-Item Item Group (List ℕ) (List ℕ) item_text group_text z)) (item.outs-Inner g)
 
-pub statement_text : (name : List ℕ) (value : List Value) (at : ℕ) → item_text (item.Simple name value at) ≡ simple_text name value
+pub statement_text : (name : List ℕ) (value : List Value) (at : ℕ)
+    → item_text (item.Simple name value at) ≡ simple_text name value
 statement_text name value at =
     fold_out-Item (List ℕ) (List ℕ) item_step group_step (item.Simple name value at)
-    ∙ ap (λ (z : Item-F Item Group). item_step (map-Item Item Group (List ℕ) (List ℕ) item_text group_text z)) (item.outs-Simple name value at)
+    ∙ ap (λ (z : Item-F Item Group). item_step (map-Item Item Group (List ℕ) (List ℕ) item_text group_text z))
+    (item.outs-Simple name value at)
 
 pub complex_statement_text :
     (name : List ℕ) (arguments : List Value) (at : ℕ) → item_text (item.Complex name arguments at) ≡ complex_text name arguments
 complex_statement_text name arguments at =
     fold_out-Item (List ℕ) (List ℕ) item_step group_step (item.Complex name arguments at)
-    ∙ ap (λ (z : Item-F Item Group). item_step (map-Item Item Group (List ℕ) (List ℕ) item_text group_text z)) (item.outs-Complex name arguments at)
+    ∙ ap (λ (z : Item-F Item Group). item_step (map-Item Item Group (List ℕ) (List ℕ) item_text group_text z))
+    (item.outs-Complex name arguments at)
 
 pub text_of_group :
     (name : List ℕ) (arguments : List Value) (items : List Item)
@@ -43,7 +48,8 @@ cells_more : (n : ℕ) → items_text (cells (suc n)) ≡ items_text (cells n) +
 cells_more n =
     let one : items_text (item.Inner (cell_group (suc n)) ∷ []) ≡ group_text (cell_group (suc n)) =
     append-nil (item_text (item.Inner (cell_group (suc n)))) ∙ inner_text (cell_group (suc n)) in
-    flat_map-append item_text (cells n) (item.Inner (cell_group (suc n)) ∷ []) ∙ ap (λ (t : List ℕ). items_text (cells n) ++ t) one
+    flat_map-append item_text (cells n) (item.Inner (cell_group (suc n)) ∷ [])
+    ∙ ap (λ (t : List ℕ). items_text (cells n) ++ t) one
 
 -- the cells so far, and those behind them
 unrolled : (n k : ℕ) → items_text (cells n) ++ text_behind n k ≡ items_text (cells (k + n)) ++ end_text

@@ -17,7 +17,8 @@ taken_slot bytes rest count e Vital = refl
 taken_slot bytes rest count e Stimulus = refl
 
 -- after so many bytes were read
-pub library_took : (bytes rest : List ℕ) (count : ℕ) → rest ≡ drop count bytes → reads_library rest ≡ took (reads_library bytes) Library count
+pub library_took : (bytes rest : List ℕ) (count : ℕ) → rest ≡ drop count bytes
+    → reads_library rest ≡ took (reads_library bytes) Library count
 unfolding reads_library took
 library_took bytes rest count e = λ i. record {
   words = [];
@@ -44,7 +45,8 @@ library_wrote bytes slot = λ i. record {
 
 -- after so many bytes of a bound slot were read: it is that of the library
 pub bound_took :
-    (bytes rest : List ℕ) (count : ℕ) (slot : InSlot) → IsTrue (is_bound (reads_library bytes) (Input slot)) → rest ≡ drop count bytes
+    (bytes rest : List ℕ) (count : ℕ) (slot : InSlot) → IsTrue (is_bound (reads_library bytes) (Input slot))
+    → rest ≡ drop count bytes
     → reads_library rest ≡ took (reads_library bytes) slot count
 unfolding reads_library
 bound_took bytes rest count Library h e = library_took bytes rest count e

@@ -13,7 +13,8 @@ use Rattle.vital_models.specs.declared.model.HPath.{HPath}
 use Rattle.udp_tables.specs.declared.timing_checks.TimingCheck.{TimingCheck}
 use Rattle.vital_models.specs.declared.model.VEntity.{VEntity}
 use Rattle.vital_models.specs.Sound.{columns_of, IsState, IsTruth, feeds, IsValue, IsPath, IsOutput, IsCheck, IsSound}
-use Rattle.selftest_cells.specs.Damage.{alter_first, damaged_state_row, damaged_state, damaged_truth_row, damaged_value, damaged_output, damaged_by, DamagedEntitiesAreSound}
+use Rattle.selftest_cells.specs.Damage.{alter_first, damaged_state_row, damaged_state, damaged_truth_row, damaged_value}
+use Rattle.selftest_cells.specs.Damage.{damaged_output, damaged_by, DamagedEntitiesAreSound}
 use Rattle.selftest_cells.proofs.AlteredLists.{all-alter_first, all-alter_second, map-alter_first}
 
 -- as many states, and other outputs, leave the places of an entity as they are
@@ -57,7 +58,11 @@ module _ (e : VEntity) (ss : List VState) (os : List VOutput) (same : length ss 
   path_kept p h = record { starts = h.starts; gated = h.gated }
 
   output_kept : (o : VOutput) → IsOutput e o → IsOutput after o
-  output_kept o h = record { valued = value_kept o.value h.valued; paths = All-weaker (IsPath e) (IsPath after) path_kept o.paths h.paths }
+  output_kept o h = record {
+    valued = value_kept o.value h.valued;
+    paths =
+        All-weaker (IsPath e) (IsPath after) path_kept o.paths h.paths;
+  }
 
   damaged_output_kept : (o : VOutput) → IsOutput after o → IsOutput after (damaged_output o)
   damaged_output_kept o h = record { valued = damaged_value_kept o.value h.valued; paths = h.paths }

@@ -1,5 +1,6 @@
 -- The damaged module of a sound one is sound: damage keeps each primitive's inputs, its entries and whether it has a state.
-use Rattle.std.proofs.Common.{◌≡◌, ℕ, ◌≤◌, zero, suc, Bool, true, false, not, ◌&&◌, ◌||◌, List, [], ◌∷◌, ◌++◌, length, Option, Some, None, slice_get, refl, sym, ap, ◌∙◌, subst, IsTrue, if◌then◌else◌}
+use Rattle.std.proofs.Common.{◌≡◌, ℕ, ◌≤◌, zero, suc, Bool, true, false, not, ◌&&◌, ◌||◌, List, [], ◌∷◌, ◌++◌, length, Option}
+use Rattle.std.proofs.Common.{Some, None, slice_get, refl, sym, ap, ◌∙◌, subst, IsTrue, if◌then◌else◌}
 use Rattle.std.specs.List.{list_all}
 use Rattle.std.specs.Option.{option_map_or}
 use Rattle.std.proofs.lemmas.List.Elements.{All-weaker}
@@ -15,7 +16,8 @@ use Rattle.specify_blocks.specs.declared.model.Gate.TheVariants as gate
 use Rattle.specify_blocks.specs.declared.model.VPath.{VPath}
 use Rattle.udp_tables.specs.declared.timing_checks.TimingCheck.{TimingCheck}
 use Rattle.specify_blocks.specs.declared.model.VModule.{VModule}
-use Rattle.specify_blocks.specs.Nets.{is_sequential, same_net, net_driven, has_state, is_state, is_value, is_driven, holds_state, feeds_state, feeds_value}
+use Rattle.specify_blocks.specs.Nets.{is_sequential, same_net, net_driven, has_state, is_state, is_value, is_driven, holds_state}
+use Rattle.specify_blocks.specs.Nets.{feeds_state, feeds_value}
 use Rattle.specify_blocks.specs.Sound.{IsTable, IsPrimitive, IsInstance, AreInstances, is_gate, IsPath, is_enabling, IsCheck}
 use Rattle.selftest_cells.specs.Damage.{alter_first, damaged_row, damaged_udp, damaged_module, DamagedModulesAreSound}
 use Rattle.selftest_cells.proofs.AlteredLists.{all-alter_first}
@@ -37,10 +39,16 @@ table_kept false udp h =
 found_kept :
     (udps : List Udp) (j : ℕ) (udp : Udp)
     → slice_get udps j ≡ Some udp
-    → (again : Udp) × (slice_get (alter_first damaged_udp udps) j ≡ Some again) × (again.inputs ≡ udp.inputs) × (again.sequential ≡ udp.sequential)
+    → (again : Udp) × (slice_get (alter_first damaged_udp udps) j ≡ Some again) × (again.inputs ≡ udp.inputs)
+    × (again.sequential ≡ udp.sequential)
 found_kept [] j udp e = (udp, e, refl, refl)
-found_kept (x ∷ xs) zero udp e =
-    (damaged_udp x, refl, ap (λ o. option_map_or (λ (u : Udp). u.inputs) o []) e, ap (λ o. option_map_or (λ (u : Udp). u.sequential) o false) e)
+found_kept (x ∷ xs) zero udp e = (
+  damaged_udp x,
+  refl,
+  ap (λ o. option_map_or (λ (u : Udp). u.inputs) o []) e,
+  ap
+      (λ o. option_map_or (λ (u : Udp). u.sequential) o false) e,
+)
 found_kept (x ∷ xs) (suc j) udp e = (udp, e, refl, refl)
 
 sequential_kept : (udps : List Udp) (j : ℕ) → is_sequential (alter_first damaged_udp udps) j ≡ is_sequential udps j
@@ -136,7 +144,8 @@ module _ (m : VModule) where
 pub damaged_is_sound : DamagedModulesAreSound
 damaged_is_sound m h =
     record {
-      tables = all-alter_first damaged_udp (λ udp. IsTable udp.sequential udp) (λ udp. table_kept udp.sequential udp) m.udps h.tables;
+      tables = all-alter_first damaged_udp (λ udp. IsTable udp.sequential udp) (λ udp. table_kept udp.sequential udp) m.udps
+          h.tables;
       instances = instances_kept m [] m.instances h.instances;
       driven = h.driven;
       paths = All-weaker (IsPath m) (IsPath (damaged_module m)) (path_kept m) m.paths h.paths;

@@ -1,5 +1,6 @@
 -- The cells of the library and the library itself can be written.
-use Rattle.std.proofs.Common.{◌≡◌, ℕ, zero, suc, ◌-◌, ◌/◌, ◌%◌, ◌<◌, ◌^◌, ◌==◌, ◌&&◌, Bool, true, false, not, List, [], ◌∷◌, ◌++◌, codes, decimal, refl, ap, ◌∙◌, arith, if◌then◌else◌, IsTrue}
+use Rattle.std.proofs.Common.{◌≡◌, ℕ, zero, suc, ◌-◌, ◌/◌, ◌%◌, ◌<◌, ◌^◌, ◌==◌, ◌&&◌, Bool, true, false, not, List, [], ◌∷◌, ◌++◌}
+use Rattle.std.proofs.Common.{codes, decimal, refl, ap, ◌∙◌, arith, if◌then◌else◌, IsTrue}
 use Rattle.std.specs.List.{list_all, list_any}
 use Rattle.std.specs.Str.Parse.{AllDigits}
 use Rattle.std.proofs.lemmas.Bool.{ne_eqb, and_parts, and_from}
@@ -15,7 +16,8 @@ use Rattle.liberty_groups.specs.Writing.{is_name, is_quotable, is_writable, item
 use Rattle.selftest_cells.specs.Draws.{next, pick}
 use Rattle.selftest_cells.specs.Statements.{text, simple, complex, group, inner, pin, table, timing}
 use Rattle.selftest_cells.specs.Sums.{literal, product, bits_from, plus, sum_below, or_zero, function_text}
-use Rattle.selftest_cells.specs.Library.{input, function_items, setup, arc, flip_flop, flip_flop_items, latch, latch_items, state_rows, state_table, clock_gate_items, items_by, cell_group, cells, library}
+use Rattle.selftest_cells.specs.Library.{input, function_items, setup, arc, flip_flop, flip_flop_items, latch, latch_items}
+use Rattle.selftest_cells.specs.Library.{state_rows, state_table, clock_gate_items, items_by, cell_group, cells, library}
 
 -- neither a line feed nor a backslash, and no quote
 abbrev is_plain : ℕ → Bool
@@ -27,7 +29,8 @@ are_plain = list_all is_plain
 plain_parts : (b : ℕ) → IsTrue (is_plain b) → (b == 10) ≡ false × (b == 92) ≡ false × (b == 34) ≡ false
 plain_parts b h = by (b == 10) (b == 92) (b == 34) h
   where
-    by : (line back quote : Bool) → IsTrue (not line && (not back && not quote)) → (line ≡ false) × (back ≡ false) × (quote ≡ false)
+    by : (line back quote : Bool) → IsTrue (not line && (not back && not quote)) → (line ≡ false) × (back ≡ false)
+        × (quote ≡ false)
     by true back quote h = absurd cc
     by false true quote h = absurd cc
     by false false true h = absurd cc
@@ -87,7 +90,8 @@ plus_plain : (sum product : List ℕ) → IsTrue (are_plain sum) → IsTrue (are
 plus_plain [] product h k = k
 plus_plain (b ∷ bs) product h k = plain_append (b ∷ bs) (43 ∷ product) h k
 
-either_plain : (b : Bool) (xs ys : List ℕ) → IsTrue (are_plain xs) → IsTrue (are_plain ys) → IsTrue (are_plain (if b then xs else ys))
+either_plain : (b : Bool) (xs ys : List ℕ) → IsTrue (are_plain xs) → IsTrue (are_plain ys)
+    → IsTrue (are_plain (if b then xs else ys))
 either_plain true xs ys h k = h
 either_plain false xs ys h k = k
 
@@ -112,14 +116,17 @@ pub quoted_name : (n : ℕ) → n < 2 ^ 64 → quoted (codes "G" ++ decimal n) �
 quoted_name n h = plain_quoted (codes "G" ++ decimal n) (name_plain n h)
 
 -- a statement, a group and a pin that can be written
-simple_writable : (l : ℕ) (name value : List ℕ) → is_name name ≡ true → is_quotable (text value) ≡ true → item_is_writable l (simple name value) ≡ true
+simple_writable : (l : ℕ) (name value : List ℕ) → is_name name ≡ true → is_quotable (text value) ≡ true
+    → item_is_writable l (simple name value) ≡ true
 simple_writable l name value h k = writable_parts.simple l name (text value ∷ []) 0 ∙ rw h (rw k refl)
 
-complex_writable : (l : ℕ) (name value : List ℕ) → is_name name ≡ true → is_quotable (text value) ≡ true → item_is_writable l (complex name value) ≡ true
+complex_writable : (l : ℕ) (name value : List ℕ) → is_name name ≡ true → is_quotable (text value) ≡ true
+    → item_is_writable l (complex name value) ≡ true
 complex_writable l name value h k = writable_parts.complex l name (text value ∷ []) 0 ∙ rw h (rw k refl)
 
 group_writable :
-    (l : ℕ) (name : List ℕ) (arguments : List Value) (items : List Item) → is_name name ≡ true → list_all is_quotable arguments ≡ true
+    (l : ℕ) (name : List ℕ) (arguments : List Value) (items : List Item) → is_name name ≡ true
+    → list_all is_quotable arguments ≡ true
     → list_all (item_is_writable l) items ≡ true → is_writable (suc l) (group name arguments items) ≡ true
 group_writable l name arguments items h k m =
     let below : suc l - 1 ≡ l = omega (arith) in
@@ -128,7 +135,8 @@ group_writable l name arguments items h k m =
     ∙ rw some (rw h (rw k (ap (λ (n : ℕ). list_all (item_is_writable n) items) below ∙ m)))
 
 inner_writable :
-    (l : ℕ) (name : List ℕ) (arguments : List Value) (items : List Item) → is_name name ≡ true → list_all is_quotable arguments ≡ true
+    (l : ℕ) (name : List ℕ) (arguments : List Value) (items : List Item) → is_name name ≡ true
+    → list_all is_quotable arguments ≡ true
     → list_all (item_is_writable l) items ≡ true → item_is_writable (suc l) (inner name arguments items) ≡ true
 inner_writable l name arguments items h k m =
     writable_parts.inner (suc l) (group name arguments items) ∙ group_writable l name arguments items h k m
@@ -147,7 +155,8 @@ pin_writable l name direction more h k m =
     inner_writable l (codes "pin") (text name ∷ []) (simple (codes "direction") direction ∷ more) refl (rw h refl)
     (before l (simple (codes "direction") direction) more (simple_writable l (codes "direction") direction refl k) m)
 
-table_writable : (l : ℕ) (name entry : List ℕ) → is_name name ≡ true → is_quotable (text entry) ≡ true → item_is_writable (suc l) (table name entry) ≡ true
+table_writable : (l : ℕ) (name entry : List ℕ) → is_name name ≡ true → is_quotable (text entry) ≡ true
+    → item_is_writable (suc l) (table name entry) ≡ true
 unfolding table
 table_writable l name entry h k =
     inner_writable l name (text (codes "scalar") ∷ []) (complex (codes "values") entry ∷ []) h refl
@@ -155,10 +164,12 @@ table_writable l name entry h k =
 
 timing_writable :
     (l : ℕ) (related kind : List ℕ) (rise fall : Item) → is_quotable (text related) ≡ true → is_quotable (text kind) ≡ true
-    → item_is_writable l rise ≡ true → item_is_writable l fall ≡ true → item_is_writable (suc l) (timing related kind rise fall) ≡ true
+    → item_is_writable l rise ≡ true → item_is_writable l fall ≡ true
+    → item_is_writable (suc l) (timing related kind rise fall) ≡ true
 unfolding timing
 timing_writable l related kind rise fall h k m n =
-    inner_writable l (codes "timing") [] (simple (codes "related_pin") related ∷ simple (codes "timing_type") kind ∷ rise ∷ fall ∷ []) refl refl
+    inner_writable l (codes "timing") []
+    (simple (codes "related_pin") related ∷ simple (codes "timing_type") kind ∷ rise ∷ fall ∷ []) refl refl
     (before l (simple (codes "related_pin") related) (simple (codes "timing_type") kind ∷ rise ∷ fall ∷ [])
     (simple_writable l (codes "related_pin") related refl h)
     (before l (simple (codes "timing_type") kind) (rise ∷ fall ∷ []) (simple_writable l (codes "timing_type") kind refl k)
@@ -175,7 +186,8 @@ function_items_writable :
     (l : ℕ) (f : List ℕ) → is_quotable (text f) ≡ true → list_all (item_is_writable (three_above l)) (function_items f) ≡ true
 unfolding function_items
 function_items_writable l f h =
-    let value = before (suc (suc l)) (simple (codes "function") f) [] (simple_writable (suc (suc l)) (codes "function") f refl h) refl in
+    let value = before (suc (suc l)) (simple (codes "function") f) [] (simple_writable (suc (suc l)) (codes "function") f refl h)
+    refl in
     rw (plain_input l (codes "A") refl) (rw (plain_input l (codes "B") refl) (rw (plain_input l (codes "C") refl)
     (rw (pin_writable (suc (suc l)) (codes "Y") (codes "output") (simple (codes "function") f ∷ []) refl refl value) refl)))
 
@@ -189,15 +201,19 @@ setup_writable l =
 arc_writable : (l : ℕ) → item_is_writable (suc (suc l)) arc ≡ true
 unfolding arc
 arc_writable l =
-    timing_writable (suc l) (codes "CK") (codes "rising_edge") (table (codes "cell_rise") (codes "5")) (table (codes "cell_fall") (codes "7"))
-    refl refl (table_writable l (codes "cell_rise") (codes "5") refl refl) (table_writable l (codes "cell_fall") (codes "7") refl refl)
+    timing_writable (suc l) (codes "CK") (codes "rising_edge") (table (codes "cell_rise") (codes "5"))
+    (table (codes "cell_fall") (codes "7"))
+    refl refl (table_writable l (codes "cell_rise") (codes "5") refl refl)
+    (table_writable l (codes "cell_fall") (codes "7") refl refl)
 
 ff_writable : (l : ℕ) → item_is_writable (suc l) flip_flop ≡ true
 unfolding flip_flop
 ff_writable l =
     inner_writable l (codes "ff") (text (codes "IQ") ∷ text (codes "IQN") ∷ [])
-    (simple (codes "next_state") (codes "D") ∷ simple (codes "clocked_on") (codes "CK") ∷ simple (codes "clear") (codes "R") ∷ []) refl refl
-    (rw (simple_writable l (codes "next_state") (codes "D") refl refl) (rw (simple_writable l (codes "clocked_on") (codes "CK") refl refl)
+    (simple (codes "next_state") (codes "D") ∷ simple (codes "clocked_on") (codes "CK") ∷ simple (codes "clear") (codes "R") ∷ [])
+    refl refl
+    (rw (simple_writable l (codes "next_state") (codes "D") refl refl)
+    (rw (simple_writable l (codes "clocked_on") (codes "CK") refl refl)
     (rw (simple_writable l (codes "clear") (codes "R") refl refl) refl)))
 
 flip_flop_writable : (l : ℕ) → list_all (item_is_writable (three_above l)) flip_flop_items ≡ true
@@ -205,18 +221,21 @@ unfolding flip_flop_items
 flip_flop_writable l =
     let check = before (suc (suc l)) setup [] (setup_writable l) refl in
     let value =
-    before (suc (suc l)) (simple (codes "function") (codes "IQ")) (arc ∷ []) (simple_writable (suc (suc l)) (codes "function") (codes "IQ") refl refl)
+    before (suc (suc l)) (simple (codes "function") (codes "IQ")) (arc ∷ [])
+    (simple_writable (suc (suc l)) (codes "function") (codes "IQ") refl refl)
     (before (suc (suc l)) arc [] (arc_writable l) refl) in
     rw (ff_writable (suc (suc l))) (rw (plain_input l (codes "CK") refl)
     (rw (pin_writable (suc (suc l)) (codes "D") (codes "input") (setup ∷ []) refl refl check) (rw (plain_input l (codes "R") refl)
-    (rw (pin_writable (suc (suc l)) (codes "Q") (codes "output") (simple (codes "function") (codes "IQ") ∷ arc ∷ []) refl refl value) refl))))
+    (rw (pin_writable (suc (suc l)) (codes "Q") (codes "output") (simple (codes "function") (codes "IQ") ∷ arc ∷ []) refl refl
+    value) refl))))
 
 the_latch_writable : (l : ℕ) → item_is_writable (suc l) latch ≡ true
 unfolding latch
 the_latch_writable l =
     inner_writable l (codes "latch") (text (codes "IQ") ∷ text (codes "IQN") ∷ [])
     (simple (codes "data_in") (codes "D") ∷ simple (codes "enable") (codes "EN") ∷ []) refl refl
-    (rw (simple_writable l (codes "data_in") (codes "D") refl refl) (rw (simple_writable l (codes "enable") (codes "EN") refl refl) refl))
+    (rw (simple_writable l (codes "data_in") (codes "D") refl refl)
+    (rw (simple_writable l (codes "enable") (codes "EN") refl refl) refl))
 
 latch_writable : (l : ℕ) → list_all (item_is_writable (three_above l)) latch_items ≡ true
 unfolding latch_items
@@ -225,11 +244,14 @@ latch_writable l =
     before (suc (suc l)) (simple (codes "min_pulse_width_high") (codes "15")) []
     (simple_writable (suc (suc l)) (codes "min_pulse_width_high") (codes "15") refl refl) refl in
     let value =
-    before (suc (suc l)) (simple (codes "function") (codes "IQ")) [] (simple_writable (suc (suc l)) (codes "function") (codes "IQ") refl refl) refl in
+    before (suc (suc l)) (simple (codes "function") (codes "IQ")) []
+    (simple_writable (suc (suc l)) (codes "function") (codes "IQ") refl refl) refl in
     rw (the_latch_writable (suc (suc l)))
-    (rw (pin_writable (suc (suc l)) (codes "EN") (codes "input") (simple (codes "min_pulse_width_high") (codes "15") ∷ []) refl refl width)
+    (rw (pin_writable (suc (suc l)) (codes "EN") (codes "input") (simple (codes "min_pulse_width_high") (codes "15") ∷ []) refl
+    refl width)
     (rw (plain_input l (codes "D") refl)
-    (rw (pin_writable (suc (suc l)) (codes "Q") (codes "output") (simple (codes "function") (codes "IQ") ∷ []) refl refl value) refl)))
+    (rw (pin_writable (suc (suc l)) (codes "Q") (codes "output") (simple (codes "function") (codes "IQ") ∷ []) refl refl value)
+    refl)))
 
 state_rows_quotable : is_quotable (text state_rows) ≡ true
 unfolding state_rows
@@ -238,20 +260,25 @@ state_rows_quotable = refl
 the_table_writable : (l : ℕ) → item_is_writable (suc l) state_table ≡ true
 unfolding state_table
 the_table_writable l =
-    inner_writable l (codes "statetable") (text (codes "CK E SE") ∷ text (codes "IQ") ∷ []) (simple (codes "table") state_rows ∷ []) refl refl
+    inner_writable l (codes "statetable") (text (codes "CK E SE") ∷ text (codes "IQ") ∷ [])
+    (simple (codes "table") state_rows ∷ []) refl refl
     (rw (simple_writable l (codes "table") state_rows refl state_rows_quotable) refl)
 
 clock_gate_writable : (l : ℕ) → list_all (item_is_writable (three_above l)) clock_gate_items ≡ true
 unfolding clock_gate_items
 clock_gate_writable l =
     let node =
-    before (suc (suc l)) (simple (codes "internal_node") (codes "IQ")) [] (simple_writable (suc (suc l)) (codes "internal_node") (codes "IQ") refl refl) refl in
+    before (suc (suc l)) (simple (codes "internal_node") (codes "IQ")) []
+    (simple_writable (suc (suc l)) (codes "internal_node") (codes "IQ") refl refl) refl in
     let value =
     before (suc (suc l)) (simple (codes "state_function") (codes "CK * IQ")) []
     (simple_writable (suc (suc l)) (codes "state_function") (codes "CK * IQ") refl refl) refl in
-    rw (the_table_writable (suc (suc l))) (rw (plain_input l (codes "CK") refl) (rw (plain_input l (codes "E") refl) (rw (plain_input l (codes "SE") refl)
-    (rw (pin_writable (suc (suc l)) (codes "IQ") (codes "internal") (simple (codes "internal_node") (codes "IQ") ∷ []) refl refl node)
-    (rw (pin_writable (suc (suc l)) (codes "GCK") (codes "output") (simple (codes "state_function") (codes "CK * IQ") ∷ []) refl refl value) refl)))))
+    rw (the_table_writable (suc (suc l)))
+    (rw (plain_input l (codes "CK") refl) (rw (plain_input l (codes "E") refl) (rw (plain_input l (codes "SE") refl)
+    (rw (pin_writable (suc (suc l)) (codes "IQ") (codes "internal") (simple (codes "internal_node") (codes "IQ") ∷ []) refl refl
+    node)
+    (rw (pin_writable (suc (suc l)) (codes "GCK") (codes "output") (simple (codes "state_function") (codes "CK * IQ") ∷ []) refl
+    refl value) refl)))))
 
 -- those of the cell with this number
 items_writable : (l kind number : ℕ) → list_all (item_is_writable (three_above l)) (items_by kind number) ≡ true
@@ -275,12 +302,15 @@ cells_writable (suc n) h =
     list_all-append (item_is_writable 31) (cells n) (item.Inner (cell_group (suc n)) ∷ [])
     ∙ and_from (list_all (item_is_writable 31) (cells n)) (list_all (item_is_writable 31) (item.Inner (cell_group (suc n)) ∷ []))
     (cells_writable n (omega (arith, h)))
-    (before 31 (item.Inner (cell_group (suc n))) [] (writable_parts.inner 31 (cell_group (suc n)) ∙ cell_writable 27 (suc n) h) refl)
+    (before 31 (item.Inner (cell_group (suc n))) [] (writable_parts.inner 31 (cell_group (suc n)) ∙ cell_writable 27 (suc n) h)
+    refl)
 
 -- so can the library
 pub library_writable : (n : ℕ) → n < 2 ^ 64 → is_writable 32 (library n) ≡ true
 unfolding library
 library_writable n h =
-    group_writable 31 (codes "library") (text (codes "selftest") ∷ []) (simple (codes "time_unit") (codes "1ps") ∷ cells n) refl refl
-    (before 31 (simple (codes "time_unit") (codes "1ps")) (cells n) (simple_writable 31 (codes "time_unit") (codes "1ps") refl refl)
+    group_writable 31 (codes "library") (text (codes "selftest") ∷ []) (simple (codes "time_unit") (codes "1ps") ∷ cells n) refl
+    refl
+    (before 31 (simple (codes "time_unit") (codes "1ps")) (cells n)
+    (simple_writable 31 (codes "time_unit") (codes "1ps") refl refl)
     (cells_writable n h))

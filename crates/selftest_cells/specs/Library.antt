@@ -18,11 +18,13 @@ output name more = pin name (codes "output") more
 -- a function of three inputs
 unfoldable pub function_items : List ℕ → List Item
 function_items function =
-    input (codes "A") [] ∷ input (codes "B") [] ∷ input (codes "C") [] ∷ output (codes "Y") (simple (codes "function") function ∷ []) ∷ []
+    input (codes "A") [] ∷ input (codes "B") [] ∷ input (codes "C") [] ∷ output (codes "Y")
+    (simple (codes "function") function ∷ []) ∷ []
 
 unfoldable pub setup : Item
 setup =
-    timing (codes "CK") (codes "setup_rising") (table (codes "rise_constraint") (codes "20")) (table (codes "fall_constraint") (codes "20"))
+    timing (codes "CK") (codes "setup_rising") (table (codes "rise_constraint") (codes "20"))
+    (table (codes "fall_constraint") (codes "20"))
 
 unfoldable pub arc : Item
 arc = timing (codes "CK") (codes "rising_edge") (table (codes "cell_rise") (codes "5")) (table (codes "cell_fall") (codes "7"))

@@ -1,5 +1,5 @@
--- How the text of the library is read: the cells are made one after another, each when the bytes before it are read. This project's
--- rule.
+-- How the text of the library is read: the cells are made one after another, each when the bytes before it are read. This
+-- project's rule.
 use Rattle.std.specs.Prelude.{ℕ, zero, suc, ◌-◌, Bool, true, false, List, [], ◌∷◌, ◌++◌, drop, Option, Some, None}
 use Rattle.liberty_groups.specs.Writing.{group_text}
 use Rattle.text_io.specs.declared.slots.InSlot.{InSlot}

@@ -1,5 +1,5 @@
--- Statements and groups of a Liberty text as trees: each value is quoted, and no offset is told. (Liberty Reference Manual, general
--- syntax of a library file.)
+-- Statements and groups of a Liberty text as trees: each value is quoted, and no offset is told. (Liberty Reference Manual,
+-- general syntax of a library file.)
 use Rattle.std.specs.Prelude.{ℕ, true, List, [], ◌∷◌, codes}
 use Rattle.liberty_groups.specs.declared.tree.Value.{Value}
 use Rattle.liberty_groups.specs.declared.tree.Item.{Item}

@@ -2,8 +2,8 @@
 ghost use Rattle.std.specs.Prelude.{◌≡◌, ◌<◌, IfOk};
 ghost use Rattle.selftest_cells.specs.Changes.{value_of, changes_of, ChangesAreProper};
 
-use cell_machine::Change;
 use crate::{next, pick};
+use cell_machine::Change;
 use sqlite_items::Items;
 use std::alloc::{AllocError, Global};
 use trit_cubes::Trit;
@@ -22,8 +22,8 @@ fn value(number: u64) -> Trit
     }
 }
 
-/// The changes of the cell with a number from 1 on, where it has so many inputs: the oldest first, at times that rise strictly. An
-/// `Err` comes only where memory is wanting.
+/// The changes of the cell with a number from 1 on, where it has so many inputs: the oldest first, at times that rise strictly.
+/// An `Err` comes only where memory is wanting.
 #[tactic(auto, unfolding(crate::specs::Changes::changes_of))]
 pub fn cell_changes(alloc: Global, number: u64, inputs: usize) -> Result<Items<Change>, AllocError>
     requires { 0 < inputs }

@@ -1,6 +1,9 @@
 //! Damage of models.
 ghost use Rattle.std.specs.Prelude.{◌≡◌, ◌∷◌, IfOk};
-ghost use Rattle.selftest_cells.specs.Damage.{alter_first, alter_second, other_next, damaged_row, damaged_udp, damaged_module, other_state, damaged_state_row, damaged_state, other_value, damaged_truth_row, damaged_value, damaged_output, damaged_entity, DamagedModulesAreSound, DamagedEntitiesAreSound};
+ghost use Rattle.selftest_cells.specs.Damage.{alter_first, alter_second, other_next, damaged_row, damaged_udp, damaged_module};
+ghost use Rattle.selftest_cells.specs.Damage.{other_state, damaged_state_row, damaged_state, other_value, damaged_truth_row};
+ghost use Rattle.selftest_cells.specs.Damage.{damaged_value, damaged_output, damaged_entity, DamagedModulesAreSound};
+ghost use Rattle.selftest_cells.specs.Damage.{DamagedEntitiesAreSound};
 
 use specify_blocks::VModule;
 use sqlite_items::Items;
@@ -169,9 +172,9 @@ impl Damage for VOutput {
     }
 }
 
-/// The entity in which the second row of the first state table, and without states the first row of the first output's table, gives
-/// 0 in place of 1, or 1 in place of 0. A row that gives another thing, and an entity without such a row, stay as they are. An
-/// `Err` comes only where memory is wanting.
+/// The entity in which the second row of the first state table, and without states the first row of the first output's table,
+/// gives 0 in place of 1, or 1 in place of 0. A row that gives another thing, and an entity without such a row, stay as they are.
+/// An `Err` comes only where memory is wanting.
 pub fn damaged_entity(alloc: Global, mut model: VEntity) -> Result<VEntity, AllocError>
     ensures { IfOk result (λ e. e ≡ damaged_entity model) }
 {

@@ -1,7 +1,8 @@
 //! The texts of the cells that a run makes for itself.
 ghost use Rattle.std.specs.Prelude.{◌≡◌, ◌++◌, IfOk, OnOk};
 ghost use Rattle.liberty_groups.specs.Writing.{group_text, items_text};
-ghost use Rattle.selftest_cells.specs.Library.{function_items, flip_flop_items, latch_items, clock_gate_items, items_by, cell_group, front_text, AreWritable};
+ghost use Rattle.selftest_cells.specs.Library.{function_items, flip_flop_items, latch_items, clock_gate_items, items_by};
+ghost use Rattle.selftest_cells.specs.Library.{cell_group, front_text, AreWritable};
 ghost use Rattle.selftest_cells.specs.Draws.{next as next_of, pick as pick_of};
 ghost use Rattle.selftest_cells.specs.Sums.{function_text as function_text_of};
 

@@ -5,8 +5,8 @@ use crate::library::{cell_text, front};
 use std::alloc::{AllocError, Global};
 use text_io::{Desk, Failed, InSlot, OutSlot};
 
-/// The library of so many cells, to be read through a desk: its slot is bound from the start, and nothing else can be bound, read or
-/// written. Of its text no more is held than that of one cell.
+/// The library of so many cells, to be read through a desk: its slot is bound from the start, and nothing else can be bound, read
+/// or written. Of its text no more is held than that of one cell.
 #[derive(Drop)]
 pub struct OwnLibrary {
     alloc: Global,

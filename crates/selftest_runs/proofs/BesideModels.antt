@@ -30,7 +30,8 @@ use Rattle.stimulus.specs.DriveLines.{drive_machine}
 use Rattle.stimulus.specs.DriveSized.{drive_machine_sized}
 use Rattle.stimulus.proofs.DriveTraces.{drive_lines}
 use Rattle.stimulus.specs.Differences.{first_difference, NoDifferenceIsEqual}
-use Rattle.selftest_cells.specs.Damage.{alter_first, damaged_output, damaged_by, damaged_module, damaged_entity, DamagedModulesAreSound, DamagedEntitiesAreSound}
+use Rattle.selftest_cells.specs.Damage.{alter_first, damaged_output, damaged_by, damaged_module, damaged_entity}
+use Rattle.selftest_cells.specs.Damage.{DamagedModulesAreSound, DamagedEntitiesAreSound}
 use Rattle.caught_models.specs.Caught.{is_caught}
 
 -- these data keep the rules of cells
@@ -49,13 +50,15 @@ pub record IsEntityBeside (d : CellData) (e : VEntity) : Type 0 where
   pub inputs : inputs_of d ≡ input_count e.ports
   pub outputs : length d.outputs ≡ length e.outputs
 
-fitting_ports : (d : CellData) (m : VModule) (outputs : List OutputPin) (ps : List ℕ) → module_fits.FitOutputs d m outputs ps → length outputs ≡ length ps
+fitting_ports : (d : CellData) (m : VModule) (outputs : List OutputPin) (ps : List ℕ) → module_fits.FitOutputs d m outputs ps
+    → length outputs ≡ length ps
 fitting_ports d m [] [] f = refl
 fitting_ports d m [] (p ∷ ps) f = absurd f
 fitting_ports d m (output ∷ outputs) [] f = absurd f
 fitting_ports d m (output ∷ outputs) (p ∷ ps) f = ap suc (fitting_ports d m outputs ps f.1)
 
-fitting_outputs : (d : CellData) (e : VEntity) (outputs : List OutputPin) (os : List VOutput) → entity_fits.FitOutputs d e outputs os → length outputs ≡ length os
+fitting_outputs : (d : CellData) (e : VEntity) (outputs : List OutputPin) (os : List VOutput)
+    → entity_fits.FitOutputs d e outputs os → length outputs ≡ length os
 fitting_outputs d e [] [] f = refl
 fitting_outputs d e [] (o ∷ os) f = absurd f
 fitting_outputs d e (output ∷ outputs) [] f = absurd f
@@ -89,7 +92,8 @@ entity_beside d name e keep is = subst (IsEntityBeside d) (sym is) (own_entity d
 
 -- The damaged models.
 
-pub damaged_module_beside : (d : CellData) (m n : VModule) → DamagedModulesAreSound → KeepsRules d → m ≡ module_of d → n ≡ damaged_module m → IsModuleBeside d n
+pub damaged_module_beside : (d : CellData) (m n : VModule) → DamagedModulesAreSound → KeepsRules d → m ≡ module_of d
+    → n ≡ damaged_module m → IsModuleBeside d n
 damaged_module_beside d m n law keep e damaged =
     let own = module_beside d m keep e in
     subst (IsModuleBeside d) (sym damaged) (record { sound = law m own.sound; inputs = own.inputs; outputs = own.outputs })
@@ -106,7 +110,8 @@ as_many_outputs : (ss : List VState) (e : VEntity) → length (damaged_by ss e).
 as_many_outputs [] e = altered damaged_output e.outputs
 as_many_outputs (s ∷ ss) e = refl
 
-pub damaged_entity_beside : (d : CellData) (name : List ℕ) (e n : VEntity) → DamagedEntitiesAreSound → KeepsRules d → e ≡ entity_of d name → n ≡ damaged_entity e → IsEntityBeside d n
+pub damaged_entity_beside : (d : CellData) (name : List ℕ) (e n : VEntity) → DamagedEntitiesAreSound → KeepsRules d
+    → e ≡ entity_of d name → n ≡ damaged_entity e → IsEntityBeside d n
 damaged_entity_beside d name e n law keep is damaged =
     let own = entity_beside d name e keep is in
     subst (IsEntityBeside d) (sym damaged) (record {
@@ -131,12 +136,14 @@ never_by d cs trace caught law same is e =
     let not_caught : caught ≡ false = is ∙ ap (is_caught (cell_trace d cs)) same ∙ never d cs law in
     let both : true ≡ false = sym e ∙ not_caught in cc
 
-pub module_not_caught : (d : CellData) (m : VModule) (cs : List Change) (caught : Bool) → ModelsAgree → NoDifferenceIsEqual → KeepsRules d → m ≡ module_of d
+pub module_not_caught : (d : CellData) (m : VModule) (cs : List Change) (caught : Bool) → ModelsAgree → NoDifferenceIsEqual
+    → KeepsRules d → m ≡ module_of d
     → IsProperFrom (inputs_of d) [] cs → caught ≡ is_caught (cell_trace d cs) (module_trace m cs) → caught ≡ true → ⊥
 module_not_caught d m cs caught agree law keep own proper is e =
     never_by d cs (module_trace m cs) caught law (ap (λ n. module_trace n cs) own ∙ ((agree d [] keep).traces cs proper).0) is e
 
-pub entity_not_caught : (d : CellData) (name : List ℕ) (m : VEntity) (cs : List Change) (caught : Bool) → ModelsAgree → NoDifferenceIsEqual → KeepsRules d → m ≡ entity_of d name
+pub entity_not_caught : (d : CellData) (name : List ℕ) (m : VEntity) (cs : List Change) (caught : Bool) → ModelsAgree
+    → NoDifferenceIsEqual → KeepsRules d → m ≡ entity_of d name
     → IsProperFrom (inputs_of d) [] cs → caught ≡ is_caught (cell_trace d cs) (entity_trace m cs) → caught ≡ true → ⊥
 entity_not_caught d name m cs caught agree law keep own proper is e =
     never_by d cs (entity_trace m cs) caught law (ap (λ n. entity_trace n cs) own ∙ ((agree d name keep).traces cs proper).1) is e

@@ -11,9 +11,10 @@ use Rattle.selftest_runs.specs.Counts.{known_values}
 abbrev pub known_among : List Trit → ℕ
 known_among values = count_by (λ v. not (is_unknown v)) values
 
--- How far a simulator is run. It stands after a history, the rest of the changes goes on from there, and the known values so far make
--- with those of the rest all of them.
-pub record Counting (stands : List Change → Type 0) (line : List Change → Line) (inputs so_far : ℕ) (rest : List Change) (whole : ℕ) : Type 0 where
+-- How far a simulator is run. It stands after a history, the rest of the changes goes on from there, and the known values so far
+-- make with those of the rest all of them.
+pub record Counting (stands : List Change → Type 0) (line : List Change → Line) (inputs so_far : ℕ) (rest : List Change)
+    (whole : ℕ) : Type 0 where
   pub history : List Change
   pub standing : stands history
   pub proper : IsProperFrom inputs history rest

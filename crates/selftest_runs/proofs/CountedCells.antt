@@ -47,13 +47,16 @@ plus-plus a b c =
 -- one cell more
 all_counts-more : (cells : List CellEntry) (x : CellEntry) → all_counts (cells ++ x ∷ []) ≡ plus (all_counts cells) (counted x)
 all_counts-more [] x = plus-none (counted x) ∙ sym (none-plus (counted x))
-all_counts-more (y ∷ cells) x = ap (plus (counted y)) (all_counts-more cells x) ∙ sym (plus-plus (counted y) (all_counts cells) (counted x))
+all_counts-more (y ∷ cells) x = ap (plus (counted y)) (all_counts-more cells x)
+    ∙ sym (plus-plus (counted y) (all_counts cells) (counted x))
 
 -- The next cell.
 
 -- what is counted of it
-accepted_counted : (p : Progress) (group : Group) (cell : DrivenCell) (entity : List ℕ) (before more after : Counts) (cells : List CellEntry)
-    → IsAcceptedNext p group cell entity → before ≡ all_counts cells → more ≡ driven_counts (driven_data_of cell) entity → after ≡ plus before more
+accepted_counted : (p : Progress) (group : Group) (cell : DrivenCell) (entity : List ℕ) (before more after : Counts)
+    (cells : List CellEntry)
+    → IsAcceptedNext p group cell entity → before ≡ all_counts cells → more ≡ driven_counts (driven_data_of cell) entity
+    → after ≡ plus before more
     → after ≡ all_counts (cells ++ next_entry p group ∷ [])
 accepted_counted p group cell entity before more after cells h so_far here sum =
     let entry : next_entry p group ≡ kept_by p group None = ap (kept_by p group) h.unrefused in
@@ -65,7 +68,8 @@ refused_counted : (p : Progress) (group : Group) (refusal : Refusal) (counts : C
     → next_refusal p group ≡ Some refusal → counts ≡ all_counts cells → counts ≡ all_counts (cells ++ next_entry p group ∷ [])
 refused_counted p group refusal counts cells h so_far =
     let none : counted (next_entry p group) ≡ no_counts = ap (λ why. counted (kept_by p group why)) h in
-    so_far ∙ sym (plus-none (all_counts cells)) ∙ ap (plus (all_counts cells)) (sym none) ∙ sym (all_counts-more cells (next_entry p group))
+    so_far ∙ sym (plus-none (all_counts cells)) ∙ ap (plus (all_counts cells)) (sym none)
+    ∙ sym (all_counts-more cells (next_entry p group))
 
 pub next_counted : (p : Progress) (group : Group) (this : NextCell) (before more after : Counts) (cells : List CellEntry)
     → IsNext p group this → before ≡ all_counts cells → more ≡ counted_next this → after ≡ plus before more

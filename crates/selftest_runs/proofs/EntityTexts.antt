@@ -19,23 +19,31 @@ use Rattle.selftest_runs.specs.KeptTexts.{keeps_text}
 use Rattle.selftest_runs.proofs.KeptTextLemmas.{told}
 use Rattle.selftest_runs.proofs.NamesAlone.{one_apart}
 
-text_told : (kept : OutSlot) (text more : List ℕ) → keeps_text kept text ≡ wrote (keeps_text VitalText []) VitalText more → text ≡ more
+text_told : (kept : OutSlot) (text more : List ℕ) → keeps_text kept text ≡ wrote (keeps_text VitalText []) VitalText more
+    → text ≡ more
 unfolding keeps_text wrote
 text_told kept text more e = told text more _ (ap (λ (s : DeskState). s.written VitalText) e)
 
 -- what a desk keeps that the entity was written to
 pub entity_written : (kept : OutSlot) (text : List ℕ) (m : VEntity) (empty : DeskState)
-    → empty ≡ keeps_text VitalText [] → keeps_text kept text ≡ wrote empty VitalText (entity_text m) → text ≡ entities_text (m ∷ [])
+    → empty ≡ keeps_text VitalText [] → keeps_text kept text ≡ wrote empty VitalText (entity_text m)
+    → text ≡ entities_text (m ∷ [])
 unfolding entities_text
 entity_written kept text m empty d e =
-    text_told kept text (entity_text m) (e ∙ ap (λ (s : DeskState). wrote s VitalText (entity_text m)) d) ∙ sym (append-nil (entity_text m))
+    text_told kept text (entity_text m) (e ∙ ap (λ (s : DeskState). wrote s VitalText (entity_text m)) d)
+    ∙ sym (append-nil (entity_text m))
 
 -- an entity alone is well formed where it is
 one_entity : (m : VEntity) → IsWellFormedEntity m → AreWellFormed (m ∷ [])
-one_entity m h = record { entities = All-cons IsWellFormedEntity m [] h (All-nil IsWellFormedEntity); apart = one_apart str_eq_ignore_ascii_case m.name }
+one_entity m h = record {
+  entities = All-cons IsWellFormedEntity m [] h (All-nil IsWellFormedEntity);
+  apart =
+      one_apart str_eq_ignore_ascii_case m.name;
+}
 
 pub generated_entity :
-    (cell : CellData) (name : List ℕ) → EntityIsWellFormed → IsNumberedCell cell → IsNameOfEntity cell name → (m : VEntity) → m ≡ entity_of cell name
+    (cell : CellData) (name : List ℕ) → EntityIsWellFormed → IsNumberedCell cell → IsNameOfEntity cell name → (m : VEntity)
+    → m ≡ entity_of cell name
     → AreWellFormed (m ∷ [])
 generated_entity cell name law h named m e =
     one_entity m (subst IsWellFormedEntity (sym (e ∙ ap (entity_of cell) named.is)) (law cell named.given h))

@@ -1,5 +1,6 @@
 -- How a desk that keeps the text of one slot changes, and what it tells.
-use Rattle.std.proofs.Common.{◌≡◌, ℕ, Bool, true, false, List, [], ◌++◌, length, take, refl, sym, ap, ◌∙◌, arith, Some, None, if◌then◌else◌}
+use Rattle.std.proofs.Common.{◌≡◌, ℕ, Bool, true, false, List, [], ◌++◌, length, take, refl, sym, ap, ◌∙◌, arith, Some, None}
+use Rattle.std.proofs.Common.{if◌then◌else◌}
 use Rattle.std.specs.Option.{option_map}
 use Rattle.std.proofs.lemmas.List.{take_all}
 use Rattle.text_io.specs.declared.slots.OutSlot.{OutSlot}
@@ -16,13 +17,15 @@ more_kept text bytes true = refl
 more_kept text bytes false = refl
 
 put_kept : (kept other : OutSlot) (text bytes : List ℕ)
-    → written_at kept (text ++ bytes) other ≡ put_out (written_at kept text) kept (option_map (λ before. before ++ bytes) (written_at kept text kept)) other
+    → written_at kept (text ++ bytes) other ≡ put_out (written_at kept text) kept
+    (option_map (λ before. before ++ bytes) (written_at kept text kept)) other
 put_kept VerilogText other text bytes = more_kept text bytes (same_out VerilogText other)
 put_kept VitalText other text bytes = more_kept text bytes (same_out VitalText other)
 put_kept Report other text bytes = more_kept text bytes (same_out Report other)
 put_kept Faults other text bytes = more_kept text bytes (same_out Faults other)
 
-pub kept-wrote : (kept : OutSlot) (text bytes : List ℕ) → keeps_text kept (text ++ bytes) ≡ wrote (keeps_text kept text) kept bytes
+pub kept-wrote : (kept : OutSlot) (text bytes : List ℕ)
+    → keeps_text kept (text ++ bytes) ≡ wrote (keeps_text kept text) kept bytes
 unfolding keeps_text wrote
 kept-wrote kept text bytes = λ i. record {
   words = [];
@@ -40,14 +43,16 @@ none_kept text bytes true e = absurd cc
 none_kept text bytes false e = refl
 
 put_elsewhere : (kept slot other : OutSlot) (text bytes : List ℕ) → same_out kept slot ≡ false
-    → written_at kept text other ≡ put_out (written_at kept text) slot (option_map (λ before. before ++ bytes) (written_at kept text slot)) other
+    → written_at kept text other ≡ put_out (written_at kept text) slot
+    (option_map (λ before. before ++ bytes) (written_at kept text slot)) other
 put_elsewhere kept VerilogText VerilogText text bytes e = none_kept text bytes (same_out kept VerilogText) e
 put_elsewhere kept VitalText VitalText text bytes e = none_kept text bytes (same_out kept VitalText) e
 put_elsewhere kept Report Report text bytes e = none_kept text bytes (same_out kept Report) e
 put_elsewhere kept Faults Faults text bytes e = none_kept text bytes (same_out kept Faults) e
 put_elsewhere kept _ _ text bytes e = refl
 
-pub elsewhere-wrote : (kept slot : OutSlot) (text bytes : List ℕ) → same_out kept slot ≡ false → keeps_text kept text ≡ wrote (keeps_text kept text) slot bytes
+pub elsewhere-wrote : (kept slot : OutSlot) (text bytes : List ℕ) → same_out kept slot ≡ false
+    → keeps_text kept text ≡ wrote (keeps_text kept text) slot bytes
 unfolding keeps_text wrote
 elsewhere-wrote kept slot text bytes e = λ i. record {
   words = [];
@@ -74,5 +79,6 @@ same_is _ _ e = absurd cc
 pub wrote_whole : (kept slot : OutSlot) (text bytes after : List ℕ) → same_out kept slot ≡ true → after ≡ text ++ bytes
     → keeps_text kept after ≡ wrote (keeps_text kept text) slot (take (length bytes) bytes)
 wrote_whole kept slot text bytes after same e =
-    ap (keeps_text kept) e ∙ kept-wrote kept text bytes ∙ ap (λ (s : OutSlot). wrote (keeps_text kept text) s bytes) (same_is kept slot same)
+    ap (keeps_text kept) e ∙ kept-wrote kept text bytes ∙ ap (λ (s : OutSlot). wrote (keeps_text kept text) s bytes)
+    (same_is kept slot same)
     ∙ ap (λ (part : List ℕ). wrote (keeps_text kept text) slot part) (sym (take_all (length bytes) bytes (omega arith)))

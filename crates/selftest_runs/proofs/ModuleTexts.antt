@@ -18,7 +18,8 @@ use Rattle.selftest_runs.proofs.KeptTextLemmas.{told}
 use Rattle.selftest_runs.proofs.NamesAlone.{one_cell}
 
 text_told : (kept : OutSlot) (text prelude more : List ℕ)
-    → keeps_text kept text ≡ wrote (wrote (keeps_text VerilogText []) VerilogText prelude) VerilogText more → text ≡ prelude ++ more
+    → keeps_text kept text ≡ wrote (wrote (keeps_text VerilogText []) VerilogText prelude) VerilogText more
+    → text ≡ prelude ++ more
 unfolding keeps_text wrote
 text_told kept text prelude more e = told text (prelude ++ more) _ (ap (λ (s : DeskState). s.written VerilogText) e)
 
@@ -27,17 +28,22 @@ pub prelude_bound : (empty first : DeskState) → empty ≡ keeps_text VerilogTe
     → IsTrue (is_bound first (Output VerilogText))
 unfolding keeps_text wrote
 prelude_bound empty first d e =
-    subst (λ (s : DeskState). IsTrue (is_bound s (Output VerilogText))) (sym (e ∙ ap (λ (s : DeskState). wrote s VerilogText prelude_text) d)) refl
+    subst (λ (s : DeskState). IsTrue (is_bound s (Output VerilogText)))
+    (sym (e ∙ ap (λ (s : DeskState). wrote s VerilogText prelude_text) d)) refl
 
 -- what a desk keeps that the first line and the module were written to
 pub module_written : (kept : OutSlot) (text : List ℕ) (m : VModule) (empty first : DeskState)
-    → empty ≡ keeps_text VerilogText [] → first ≡ wrote empty VerilogText prelude_text → keeps_text kept text ≡ wrote first VerilogText (module_text m)
+    → empty ≡ keeps_text VerilogText [] → first ≡ wrote empty VerilogText prelude_text
+    → keeps_text kept text ≡ wrote first VerilogText (module_text m)
     → text ≡ modules_text (m ∷ [])
 unfolding modules_text
 module_written kept text m empty first d e f =
-    text_told kept text prelude_text (module_text m) (f ∙ ap (λ (s : DeskState). wrote s VerilogText (module_text m)) (e ∙ ap (λ (s : DeskState). wrote s VerilogText prelude_text) d))
+    text_told kept text prelude_text (module_text m)
+    (f ∙ ap (λ (s : DeskState). wrote s VerilogText (module_text m))
+    (e ∙ ap (λ (s : DeskState). wrote s VerilogText prelude_text) d))
     ∙ ap (λ (more : List ℕ). prelude_text ++ more) (sym (append-nil (module_text m)))
 
 -- the module of a cell stands alone in a text
-pub generated_module : (cell : CellData) → ModulesAreWellFormed → IsNumberedCell cell → (m : VModule) → m ≡ module_of cell → AreWellFormed (m ∷ [])
+pub generated_module : (cell : CellData) → ModulesAreWellFormed → IsNumberedCell cell → (m : VModule) → m ≡ module_of cell
+    → AreWellFormed (m ∷ [])
 generated_module cell law h m e = subst (λ (n : VModule). AreWellFormed (n ∷ [])) (sym e) (law (cell ∷ []) (one_cell cell h))

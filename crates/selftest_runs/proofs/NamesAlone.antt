@@ -15,22 +15,26 @@ use Rattle.generated_modules.proofs.KeptNames.{with_distinct_names}
 use Rattle.selftest_runs.specs.EntityNames.{IsNameWherePlain, NextCellsHaveEntityNames}
 
 -- the name of a cell's VITAL model behind models with these names
-named_behind : (given : List (List ℕ)) (cell : DrivenData) (name : List ℕ) → name ≡ vital_name given cell → IsNameWherePlain cell name
+named_behind : (given : List (List ℕ)) (cell : DrivenData) (name : List ℕ) → name ≡ vital_name given cell
+    → IsNameWherePlain cell name
 named_behind given cell name e plain = record {
   given = given;
-  is = e ∙ ap (λ b. if b then driver_name cell.core.number given cell.name else entity_name cell.core.number given cell.core.name) plain;
+  is = e ∙ ap (λ b. if b then driver_name cell.core.number given cell.name else entity_name cell.core.number given cell.core.name)
+      plain;
 }
 
 pub next_names : NextCellsHaveEntityNames
 unfolding next_entity
-next_names p group cell entity h = named_behind p.entities (driven_data_of cell) entity (h.same_entity ∙ sym (ap (vital_name p.entities) h.same_cell))
+next_names p group cell entity h =
+    named_behind p.entities (driven_data_of cell) entity (h.same_entity ∙ sym (ap (vital_name p.entities) h.same_cell))
 
 -- one thing is apart from all others
 pub one_apart : {X : Type 0} (same : X → X → Bool) (x : X) → IsDistinct same (x ∷ [])
 unfolding IsDistinct
 one_apart same x = IsDistinct-cons same x [] tt tt
 
-pub numbered : (cell : CellData) → IsTrue (is_cell cell.name cell.pins cell.groups cell.outputs cell.checks cell.arcs) → cell.number < 2 ^ 64
+pub numbered : (cell : CellData) → IsTrue (is_cell cell.name cell.pins cell.groups cell.outputs cell.checks cell.arcs)
+    → cell.number < 2 ^ 64
     → IsNumberedCell cell
 numbered cell rules number = record { rules = rules; number = number }
 

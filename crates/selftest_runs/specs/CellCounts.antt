@@ -22,8 +22,8 @@ changes_by number (suc inputs) = changes_of number (suc inputs)
 abbrev pub cell_changes : CellData → List Change
 cell_changes cell = changes_by cell.number (inputs_of cell)
 
--- What is counted on some changes: how many output values of the cell after them are 0 or 1, and whether the damaged module and the
--- damaged entity are caught.
+-- What is counted on some changes: how many output values of the cell after them are 0 or 1, and whether the damaged module and
+-- the damaged entity are caught.
 unfoldable pub counts_on : List Change → CellData → List ℕ → Counts
 counts_on changes cell entity = record {
   known = known_in (cell_trace cell changes);

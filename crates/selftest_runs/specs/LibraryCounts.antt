@@ -15,8 +15,8 @@ use Rattle.selftest_runs.specs.declared.counts.Counts.{Counts}
 use Rattle.selftest_runs.specs.Counts.{no_counts, plus}
 use Rattle.selftest_runs.specs.CellCounts.{cell_counts}
 
--- What is counted of a cell whose VITAL model has this name: of one whose outputs may float nothing, since its models are drivers, of
--- which none is damaged.
+-- What is counted of a cell whose VITAL model has this name: of one whose outputs may float nothing, since its models are
+-- drivers, of which none is damaged.
 abbrev pub driven_counts : DrivenData → List ℕ → Counts
 driven_counts cell entity = if may_float cell then no_counts else cell_counts cell.core entity
 
@@ -39,8 +39,8 @@ all_counts (cell ∷ cells) = plus (counted cell) (all_counts cells)
 unfoldable pub library_counts : List ℕ → Counts
 library_counts bytes = all_counts (kept_cells no_progress (items_within library_limit bytes))
 
--- After a call that counts the cells of the library that is bound: some bytes of it were taken, and nothing else changed. Where the
--- desk tells what is left of it, the answer is what is counted of these bytes.
+-- After a call that counts the cells of the library that is bound: some bytes of it were taken, and nothing else changed. Where
+-- the desk tells what is left of it, the answer is what is counted of these bytes.
 pub record CountsCells (old new : DeskState) (result : Result Counts Stop) : Type 0 where
   pub taken : ℕ
   pub state : new ≡ took old Library taken

@@ -62,9 +62,9 @@ fn counts_on(
     })
 }
 
-/// What is counted of a cell whose VITAL entity has this name. Its models are written, read back, and run beside it on the changes
-/// that are drawn for its number, and so are the damaged models. The name is one that an entity of the cell has. An `Err` comes
-/// only where memory is wanting or a count comes to 2 to the 64th.
+/// What is counted of a cell whose VITAL entity has this name. Its models are written, read back, and run beside it on the
+/// changes that are drawn for its number, and so are the damaged models. The name is one that an entity of the cell has. An `Err`
+/// comes only where memory is wanting or a count comes to 2 to the 64th.
 pub fn count_cell(alloc: Global, cell: &Cell, entity: &[u8]) -> Result<Counts, AllocError>
     requires { IsNameOfEntity (data_of cell.now) entity.now }
     ensures { IfOk result (λ counts. counts ≡ cell_counts (data_of cell.now) entity.now) }
@@ -75,8 +75,8 @@ pub fn count_cell(alloc: Global, cell: &Cell, entity: &[u8]) -> Result<Counts, A
     counts_on(alloc, cell, entity, changes, known)
 }
 
-/// What is counted of a cell whose VITAL model has this name: nothing where some of its outputs may float. Where none may, the name is
-/// one that an entity of the cell has. An `Err` comes only where memory is wanting or a count comes to 2 to the 64th.
+/// What is counted of a cell whose VITAL model has this name: nothing where some of its outputs may float. Where none may, the
+/// name is one that an entity of the cell has. An `Err` comes only where memory is wanting or a count comes to 2 to the 64th.
 pub(crate) fn count_driven(
     alloc: Global,
     cell: &DrivenCell,

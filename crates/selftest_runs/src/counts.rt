@@ -112,7 +112,8 @@ pub(crate) fn known_from_start<S: CellSim + Drop>(
 ) -> Result<u64, AllocError>
     requires start { IfOk started (λ sim. S.stands sim []) }
     requires proper { IfOk started (λ sim. IsProperFrom (S.machine sim).inputs [] changes.now) }
-    ensures { IfOk result (λ known. (sim : S) × (started ≡ Ok sim) × (known ≡ known_in (trace (S.machine sim).line changes.now))) }
+    ensures { IfOk result (λ known. (sim : S) × (started ≡ Ok sim)
+        × (known ≡ known_in (trace (S.machine sim).line changes.now))) }
 {
     let mut sim = started?;
     known_values(&mut sim, changes)

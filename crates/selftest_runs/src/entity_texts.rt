@@ -28,8 +28,8 @@ fn entity_text(alloc: Global, entity: &VEntity) -> Result<Vec<u8>, NotKept>
     Ok(desk.text)
 }
 
-/// A well formed entity written as VHDL text and read back of it: it is the entity that was written. `AllocError` comes only where
-/// memory is wanting. (IEEE 1076-1993, 1.1 and 1.2; IEEE 1076.4-2000.)
+/// A well formed entity written as VHDL text and read back of it: it is the entity that was written. `AllocError` comes only
+/// where memory is wanting. (IEEE 1076-1993, 1.1 and 1.2; IEEE 1076.4-2000.)
 pub fn read_back_entity(alloc: Global, entity: &VEntity) -> Result<VEntity, AllocError>
     requires { AreWellFormed (entity.now ∷ []) }
     ensures { IfOk result (λ read. read ≡ entity.now) }
@@ -46,8 +46,8 @@ pub fn read_back_entity(alloc: Global, entity: &VEntity) -> Result<VEntity, Allo
     }
 }
 
-/// The VITAL entity of a cell, with this name, written as VHDL text and read back of it. The name is one that an entity of the cell
-/// has. `AllocError` comes only where memory is wanting.
+/// The VITAL entity of a cell, with this name, written as VHDL text and read back of it. The name is one that an entity of the
+/// cell has. `AllocError` comes only where memory is wanting.
 pub fn entity_read_back(alloc: Global, cell: &Cell, name: &[u8]) -> Result<VEntity, AllocError>
     requires { IsNameOfEntity (data_of cell.now) name.now }
     ensures { IfOk result (λ read. read ≡ entity_of (data_of cell.now) name.now) }

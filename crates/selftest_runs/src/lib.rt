@@ -1,6 +1,6 @@
-//! The test cells run: each cell, its Verilog module and its VITAL entity on drawn changes, the models as their texts tell them, and
-//! then damaged models beside the cell. What is counted, and the report on it. A model that is written as text into memory and read
-//! back is the model that was written. (IEEE 1364-2005, A.1; IEEE 1076-1993, 1.1 and 1.2; IEEE 1076.4-2000.)
+//! The test cells run: each cell, its Verilog module and its VITAL entity on drawn changes, the models as their texts tell them,
+//! and then damaged models beside the cell. What is counted, and the report on it. A model that is written as text into memory
+//! and read back is the model that was written. (IEEE 1364-2005, A.1; IEEE 1076-1993, 1.1 and 1.2; IEEE 1076.4-2000.)
 #![tactic(auto)]
 
 mod cells;

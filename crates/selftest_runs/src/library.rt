@@ -15,8 +15,8 @@ use library_reader::{CellFold, NextCell, fold_cells};
 use std::alloc::{AllocError, Global};
 use text_io::{Desk, Stop};
 
-/// What is counted of the next cell as it was read of its group: nothing of one that is refused, and nothing of one whose outputs may
-/// float.
+/// What is counted of the next cell as it was read of its group: nothing of one that is refused, and nothing of one whose outputs
+/// may float.
 fn count_next(alloc: Global, group: &Group, next: &NextCell) -> Result<Counts, AllocError>
     requires { (p : Progress) × IsNumberedNext p group.now next.now }
     ensures { IfOk result (λ counts. counts ≡ counted_next next.now) }
@@ -39,9 +39,9 @@ impl CellFold for Counts {
     }
 }
 
-/// Counts the cells of the library that is bound, of which at most as many bytes are read as a library may have. Of cells of one name
-/// the first counts, nothing is counted of one whose outputs may float, and how the library ends does not matter. One cell is held at a time, and of the library's text only the
-/// statement that has not ended.
+/// Counts the cells of the library that is bound, of which at most as many bytes are read as a library may have. Of cells of one
+/// name the first counts, nothing is counted of one whose outputs may float, and how the library ends does not matter. One cell
+/// is held at a time, and of the library's text only the statement that has not ended.
 ///
 /// Faults: `Failed` where a read failed, `Memory` where there was none or a count comes to 2 to the 64th.
 pub fn count_cells<D: Desk>(alloc: Global, desk: &mut D) -> Result<Counts, Stop>

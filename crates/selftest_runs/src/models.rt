@@ -16,21 +16,22 @@ use crate::module_texts::module_read_back;
 use caught_models::{is_entity_caught, is_module_caught};
 use cell_machine::{Cell, Change};
 use model_traces::models_agree;
-use stimulus::no_difference_is_equal;
 use selftest_cells::{
     damaged_entities_are_sound, damaged_entity, damaged_module, damaged_modules_are_sound,
 };
 use std::alloc::{AllocError, Global};
+use stimulus::no_difference_is_equal;
 
-/// Whether the damaged module of a cell is caught on these changes. It is the one that the module's text tells, which shows what the
-/// cell shows.
+/// Whether the damaged module of a cell is caught on these changes. It is the one that the module's text tells, which shows what
+/// the cell shows.
 pub(crate) fn is_damaged_module_caught(
     alloc: Global,
     cell: &Cell,
     changes: &[Change],
 ) -> Result<bool, AllocError>
     requires { IsProperFrom (inputs_of (data_of cell.now)) [] changes.now }
-    ensures { IfOk result (λ caught. caught ≡ is_caught (cell_trace (data_of cell.now) changes.now) (module_trace (damaged_module (module_of (data_of cell.now))) changes.now)) }
+    ensures { IfOk result (λ caught. caught ≡ is_caught (cell_trace (data_of cell.now) changes.now)
+        (module_trace (damaged_module (module_of (data_of cell.now))) changes.now)) }
 {
     models_agree();
     no_difference_is_equal();
@@ -44,8 +45,8 @@ pub(crate) fn is_damaged_module_caught(
     is_module_caught(alloc, cell, &damaged, changes)
 }
 
-/// Whether the damaged entity of a cell is caught on these changes. It is the one that the entity's text tells, which shows what the
-/// cell shows.
+/// Whether the damaged entity of a cell is caught on these changes. It is the one that the entity's text tells, which shows what
+/// the cell shows.
 pub(crate) fn is_damaged_entity_caught(
     alloc: Global,
     cell: &Cell,
@@ -54,7 +55,8 @@ pub(crate) fn is_damaged_entity_caught(
 ) -> Result<bool, AllocError>
     requires name { IsNameOfEntity (data_of cell.now) name.now }
     requires proper { IsProperFrom (inputs_of (data_of cell.now)) [] changes.now }
-    ensures { IfOk result (λ caught. caught ≡ is_caught (cell_trace (data_of cell.now) changes.now) (entity_trace (damaged_entity (entity_of (data_of cell.now) name.now)) changes.now)) }
+    ensures { IfOk result (λ caught. caught ≡ is_caught (cell_trace (data_of cell.now) changes.now)
+        (entity_trace (damaged_entity (entity_of (data_of cell.now) name.now)) changes.now)) }
 {
     models_agree();
     no_difference_is_equal();

@@ -28,8 +28,8 @@ fn module_text(alloc: Global, model: &VModule) -> Result<Vec<u8>, NotKept>
     Ok(desk.text)
 }
 
-/// A well formed module written as Verilog text and read back of it: it is the module that was written. `AllocError` comes only where
-/// memory is wanting. (IEEE 1364-2005, A.1.)
+/// A well formed module written as Verilog text and read back of it: it is the module that was written. `AllocError` comes only
+/// where memory is wanting. (IEEE 1364-2005, A.1.)
 pub fn read_back_module(alloc: Global, model: &VModule) -> Result<VModule, AllocError>
     requires { AreWellFormed (model.now ∷ []) }
     ensures { IfOk result (λ read. read ≡ model.now) }
@@ -46,8 +46,8 @@ pub fn read_back_module(alloc: Global, model: &VModule) -> Result<VModule, Alloc
     }
 }
 
-/// The Verilog module of a cell, with its primitives, written as text and read back of it. `AllocError` comes only where memory is
-/// wanting.
+/// The Verilog module of a cell, with its primitives, written as text and read back of it. `AllocError` comes only where memory
+/// is wanting.
 pub fn module_read_back(alloc: Global, cell: &Cell) -> Result<VModule, AllocError>
     ensures { IfOk result (λ read. read ≡ module_of (data_of cell.now)) }
 {

@@ -8,8 +8,8 @@ use crate::counts::Counts;
 use selftest_cells::CHANGES_EACH;
 use text_io::{Bytes, Decimal, Desk, Failed, OutSlot, parts, write_part};
 
-/// Appends to the report the five lines of a run on so many cells, of which this was counted. After `Failed`, which comes only where
-/// a write failed, a prefix of them was appended. It takes no memory.
+/// Appends to the report the five lines of a run on so many cells, of which this was counted. After `Failed`, which comes only
+/// where a write failed, a prefix of them was appended. It takes no memory.
 #[tactic(auto, unfolding(crate::specs::Report::report_text))]
 pub fn write_report<D: Desk>(desk: &mut D, cells: u64, counts: &Counts) -> Result<(), Failed>
     requires { cells ≤ 10000 }

@@ -1,5 +1,6 @@
 -- The cells of a catalog, added one after another.
-use Rattle.std.proofs.Common.{◌≡◌, ◌<◌, ℕ, ◌+◌, true, is_some, List, [], ◌∷◌, ◌++◌, map, take, get_or, length, Option, Some, None, Result, Ok, Err, IfOk, refl, sym, ap, ◌∙◌}
+use Rattle.std.proofs.Common.{◌≡◌, ◌<◌, ℕ, ◌+◌, true, is_some, List, [], ◌∷◌, ◌++◌, map, take, get_or, length, Option, Some, None}
+use Rattle.std.proofs.Common.{Result, Ok, Err, IfOk, refl, sym, ap, ◌∙◌}
 use Rattle.bool_functions.specs.NameList.{number_of, AreDistinct}
 use Rattle.file_models.specs.declared.file_model.FileModel.{FileModel}
 use Rattle.library_reader.specs.LibraryCells.{CellEntry, name_of, cell_names}
@@ -14,17 +15,21 @@ use Rattle.simulation_catalog.specs.Catalog.{ports_in, numbers_in, simulated_in,
 use Rattle.file_models.proofs.NewNames.{new_name, one_more}
 
 -- these cells stand in a catalog, each with the numbers of its models
-pub record AreListed (models : NamedModels) (catalog : NamedCells) (kept : List (Option ModelNumbers)) (some : List CellEntry) : Type 0 where
+pub record AreListed (models : NamedModels) (catalog : NamedCells) (kept : List (Option ModelNumbers)) (some : List CellEntry) :
+    Type 0 where
   pub names : catalog.names ≡ cell_names some
   pub cells : catalog.cells ≡ map (ports_in models) some
   pub numbers : kept ≡ map (numbers_in models) some
 
 -- the next cell is added
-pub listed_more : (models : NamedModels) (old new : NamedCells) (before after : List (Option ModelNumbers)) (cells : List CellEntry) (i : ℕ) (cell : CellEntry)
+pub listed_more : (models : NamedModels) (old new : NamedCells) (before after : List (Option ModelNumbers))
+    (cells : List CellEntry) (i : ℕ) (cell : CellEntry)
     (ports : Ports) (numbers : Option ModelNumbers) (found : Option ℕ)
-    → i < length cells → cell ≡ get_or cells i cell → (AreDistinct (cell_names cells) → AreListed models old before (take i cells))
+    → i < length cells → cell ≡ get_or cells i cell
+    → (AreDistinct (cell_names cells) → AreListed models old before (take i cells))
     → AddsCell old (name_of cell) ports found new → ports ≡ ports_in models cell → numbers ≡ numbers_in models cell
-    → (is_some found ≡ true → after ≡ before ++ numbers ∷ []) → AreDistinct (cell_names cells) → AreListed models new after (take (i + 1) cells)
+    → (is_some found ≡ true → after ≡ before ++ numbers ∷ []) → AreDistinct (cell_names cells)
+    → AreListed models new after (take (i + 1) cells)
 listed_more models old new before after cells i cell ports numbers None h e so_far a p n pushed own =
     absurd (a.0 (ap (λ names. number_of names (name_of cell)) (so_far own).names ∙ new_name name_of cells i cell h e own))
 listed_more models old new before after cells i cell ports numbers (Some number) h e so_far a p n pushed own =
@@ -36,15 +41,23 @@ listed_more models old new before after cells i cell ports numbers (Some number)
     }
 
 -- the look-ups are by the names of the models
-pub named_as : (modules : List (FileModel VModule)) (entities : List (FileModel VEntity)) (some others : List (List ℕ)) → some ≡ module_names modules → others ≡ lowered_names entities
-    → record { modules = modules; module_names = some; entities = entities; entity_names = others } ≡ named_models modules entities
-named_as modules entities some others e f = λ i. record { modules = modules; module_names = e i; entities = entities; entity_names = f i }
+pub named_as : (modules : List (FileModel VModule)) (entities : List (FileModel VEntity)) (some others : List (List ℕ))
+    → some ≡ module_names modules → others ≡ lowered_names entities
+    → record { modules = modules; module_names = some; entities = entities; entity_names = others } ≡ named_models modules
+    entities
+named_as modules entities some others e f =
+    λ i. record { modules = modules; module_names = e i; entities = entities; entity_names = f i }
 
 -- the whole catalog
-pub whole_catalog : {E : Type 0} (result : Result Simulated E) (cells : List CellEntry) (modules : List (FileModel VModule)) (entities : List (FileModel VEntity)) (some others : List (List ℕ))
-    → (AreDistinct (module_names modules) → some ≡ module_names modules) → (AreDistinct (lowered_names entities) → others ≡ lowered_names entities)
-    → IfOk result (λ simulated. AreDistinct (cell_names cells) → simulated ≡ simulated_in (record { modules = modules; module_names = some; entities = entities; entity_names = others }) cells)
+pub whole_catalog : {E : Type 0} (result : Result Simulated E) (cells : List CellEntry) (modules : List (FileModel VModule))
+    (entities : List (FileModel VEntity)) (some others : List (List ℕ))
+    → (AreDistinct (module_names modules) → some ≡ module_names modules)
+    → (AreDistinct (lowered_names entities) → others ≡ lowered_names entities)
+    → IfOk result (λ simulated. AreDistinct (cell_names cells)
+    → simulated ≡ simulated_in (record { modules = modules; module_names = some; entities = entities; entity_names = others })
+    cells)
     → IfOk result (λ simulated. HaveOwnNames cells modules entities → simulated ≡ simulated_of cells modules entities)
 whole_catalog (Ok simulated) cells modules entities some others e f h =
-    λ own. h own.of_cells ∙ ap (λ models. simulated_in models cells) (named_as modules entities some others (e own.of_modules) (f own.of_entities))
+    λ own. h own.of_cells ∙ ap (λ models. simulated_in models cells)
+    (named_as modules entities some others (e own.of_modules) (f own.of_entities))
 whole_catalog (Err fault) cells modules entities some others e f h = h

@@ -12,15 +12,18 @@ use Rattle.simulation_catalog.specs.Sections.{HasData, DescribedAreCells}
 use Rattle.simulation_catalog.specs.Generated.{KeepsRules, DescribedKeepRules}
 
 -- an image in a list is that of a thing of the list
-pub image_at : {X Y : Type 0} (f : X → Y) (xs : List X) (i : ℕ) (y : Y) → slice_get (map f xs) i ≡ Some y → (x : X) × ((slice_get xs i ≡ Some x) × (f x ≡ y))
+pub image_at : {X Y : Type 0} (f : X → Y) (xs : List X) (i : ℕ) (y : Y) → slice_get (map f xs) i ≡ Some y → (x : X)
+    × ((slice_get xs i ≡ Some x) × (f x ≡ y))
 image_at f [] i y e = absurd cc
 image_at f (x ∷ xs) zero y e = let same : f x ≡ y = cc in (x, (refl, same))
 image_at f (x ∷ xs) (suc i) y e = image_at f xs i y e
 
 pub described_are_cells : DescribedAreCells
-described_are_cells cells number content entity e = let (one, (there, is)) = image_at described cells number (Accepted content entity) e in by one there is
+described_are_cells cells number content entity e = let (one, (there, is)) =
+    image_at described cells number (Accepted content entity) e in by one there is
   where
-    by : (one : LibraryCell) → slice_get cells number ≡ Some one → described one ≡ Accepted content entity → HasData cells number content entity
+    by : (one : LibraryCell) → slice_get cells number ≡ Some one → described one ≡ Accepted content entity
+        → HasData cells number content entity
     by (kept.Accepted cell name) there is =
         let same : driven_data_of cell ≡ content = cc in
         let named : name ≡ entity = cc in
@@ -30,9 +33,11 @@ described_are_cells cells number content entity e = let (one, (there, is)) = ima
 pub described_keep_rules : DescribedKeepRules
 described_keep_rules [] = All-nil KeepsRules
 described_keep_rules (kept.Accepted cell entity ∷ cells) =
-    All-cons KeepsRules (Accepted (driven_data_of cell) entity) (all_described cells) (record { core = cell.core.sound; driver = driver_of_cell cell })
+    All-cons KeepsRules (Accepted (driven_data_of cell) entity) (all_described cells)
+    (record { core = cell.core.sound; driver = driver_of_cell cell })
     (described_keep_rules cells)
-described_keep_rules (kept.Refused name refusal ∷ cells) = All-cons KeepsRules (Refused name refusal) (all_described cells) tt (described_keep_rules cells)
+described_keep_rules (kept.Refused name refusal ∷ cells) =
+    All-cons KeepsRules (Refused name refusal) (all_described cells) tt (described_keep_rules cells)
 
 -- a cell of a list, as one that the list is described to have
 

@@ -1,5 +1,7 @@
--- Beside the models that are generated for a library's cells a simulation ends neither for want of a model nor with traces that differ.
-use Rattle.std.proofs.Common.{◌≡◌, ℕ, zero, suc, Bool, true, false, if◌then◌else◌, List, [], ◌∷◌, length, map, nat_lt, position, bytes_eq, Option, Some, None, Result, Ok, Err, refl, sym, ap, subst, ◌∙◌}
+-- Beside the models that are generated for a library's cells a simulation ends neither for want of a model nor with traces that
+-- differ.
+use Rattle.std.proofs.Common.{◌≡◌, ℕ, zero, suc, Bool, true, false, if◌then◌else◌, List, [], ◌∷◌, length, map, nat_lt, position}
+use Rattle.std.proofs.Common.{bytes_eq, Option, Some, None, Result, Ok, Err, refl, sym, ap, subst, ◌∙◌}
 use Rattle.std.specs.Prelude.{◌≢◌, slice_get, All}
 use Rattle.std.specs.Option.{option_map}
 use Rattle.std.proofs.lemmas.List.{length-map}
@@ -57,8 +59,10 @@ answered number standing.Refused h n = (λ e. absurd cc, λ e. absurd cc)
 answered number standing.VerilogPorts h n = absurd (h.0 refl)
 answered number standing.VitalPorts h n = absurd (h.1 refl)
 
-answered_at : (models : NamedModels) (all : List CellEntry) (place at number : ℕ) → ((c : CellEntry) → slice_get all place ≡ Some c → IsSupplied (ports_in models c).standing)
-    → IsFine number (cell_answer (option_map (λ (one : Ports). entry_of_cell at one.standing) (slice_get (map (ports_in models) all) place)))
+answered_at : (models : NamedModels) (all : List CellEntry) (place at number : ℕ)
+    → ((c : CellEntry) → slice_get all place ≡ Some c → IsSupplied (ports_in models c).standing)
+    → IsFine number (cell_answer (option_map (λ (one : Ports). entry_of_cell at one.standing)
+    (slice_get (map (ports_in models) all) place)))
 answered_at models [] place at number h = (λ e. absurd cc, λ e. absurd cc)
 answered_at models (c ∷ all) zero at number h = answered at (ports_in models c).standing (h c refl) number
 answered_at models (c ∷ all) (suc place) at number h = answered_at models all place at number h
@@ -77,14 +81,17 @@ all_supplied cells own name number = by (position (bytes_eq name) (cell_names ce
     by : (place : Option ℕ) → position (bytes_eq name) (cell_names cells) ≡ place
         → IsFine number (cell_found (listed (cells_named cells (modules_of cells) (entities_of cells))) name)
     by None e =
-        subst (IsFine number) (sym (ap cell_answer (no_cell name (cell_names cells) (map (ports_in models) cells) e))) (λ f. absurd cc, λ f. absurd cc)
+        subst (IsFine number) (sym (ap cell_answer (no_cell name (cell_names cells) (map (ports_in models) cells) e)))
+        (λ f. absurd cc, λ f. absurd cc)
     by (Some at) e =
-        subst (IsFine number) (sym (ap cell_answer (some_cell name (cell_names cells) (map (ports_in models) cells) at same_length e)))
+        subst (IsFine number) (sym (ap cell_answer
+        (some_cell name (cell_names cells) (map (ports_in models) cells) at same_length e)))
         (answered_at models cells at at number (λ c there. supplied cells at c own there))
 
 -- The cause of a bad line.
 
-not_model : (listing : Listing) (why : Cause) → ((name : List ℕ) (number : ℕ) → IsFine number (cell_found listing name)) → NamesAnAnswer listing why
+not_model : (listing : Listing) (why : Cause) → ((name : List ℕ) (number : ℕ) → IsFine number (cell_found listing name))
+    → NamesAnAnswer listing why
     → cause_status why ≡ status.Model → ⊥
 not_model listing cause.Form fine names e = absurd cc
 not_model listing cause.UnknownCell fine names e = absurd cc
@@ -111,19 +118,25 @@ bad_line_stops cause.Value = (λ e. absurd cc, λ e. absurd cc)
 bad_line_stops cause.Time = (λ e. absurd cc, λ e. absurd cc)
 
 -- a run that is stopped, neither for want of a model nor by traces that differ
-stopped_fine : (cells : List CellEntry) (modules : List (FileModel VModule)) (entities : List (FileModel VEntity)) (stop : FileStop) → (stop.status ≡ status.Model → ⊥) → (stop.status ≡ status.Differ → ⊥)
+stopped_fine : (cells : List CellEntry) (modules : List (FileModel VModule)) (entities : List (FileModel VEntity))
+    (stop : FileStop) → (stop.status ≡ status.Model → ⊥) → (stop.status ≡ status.Differ → ⊥)
     → EndsEqual cells modules entities (Err stop)
-stopped_fine cells modules entities stop f g = record { not_model = f; not_differ = g; no_difference = tt; done = tt; sections = tt }
+stopped_fine cells modules entities stop f g =
+    record { not_model = f; not_differ = g; no_difference = tt; done = tt; sections = tt }
 
 ends_equal : (cells : List CellEntry) (bytes : List ℕ) (more : Bool) → All KeepsRules cells → HaveOwnModels cells
-    → EndsEqual cells (modules_of cells) (entities_of cells) (answer_where long_stimulus_stop (sections_in_text (cause_stop cells) (cells_named cells (modules_of cells) (entities_of cells))) more bytes)
-ends_equal cells bytes true keep own = stopped_fine cells (modules_of cells) (entities_of cells) long_stimulus_stop (λ e. absurd cc) (λ e. absurd cc)
+    → EndsEqual cells (modules_of cells) (entities_of cells)
+    (answer_where long_stimulus_stop
+    (sections_in_text (cause_stop cells) (cells_named cells (modules_of cells) (entities_of cells))) more bytes)
+ends_equal cells bytes true keep own =
+    stopped_fine cells (modules_of cells) (entities_of cells) long_stimulus_stop (λ e. absurd cc) (λ e. absurd cc)
 ends_equal cells bytes false keep own = by (stimulus_of listing bytes) refl
   where
     listing : Listing
     listing = listed (cells_named cells (modules_of cells) (entities_of cells))
 
-    by : (answer : Result (List Section) StimulusFault) → stimulus_of listing bytes ≡ answer → EndsEqual cells (modules_of cells) (entities_of cells) (sections_or_stop (cause_stop cells) answer)
+    by : (answer : Result (List Section) StimulusFault) → stimulus_of listing bytes ≡ answer
+        → EndsEqual cells (modules_of cells) (entities_of cells) (sections_or_stop (cause_stop cells) answer)
     by (Ok sections) e =
         let none = no_section_differs cells bytes sections keep own e in
         record {
@@ -136,7 +149,8 @@ ends_equal cells bytes false keep own = by (stimulus_of listing bytes) refl
     by (Err (fault.Line line why)) e =
         stopped_fine cells (modules_of cells) (entities_of cells) (stimulus_fault_stop (cause_stop cells) (fault.Line line why))
         (not_model listing why (all_supplied cells own) (causes_name_answers listing bytes line why e)) (bad_line_stops why).0
-    by (Err fault.Memory) e = stopped_fine cells (modules_of cells) (entities_of cells) (stimulus_fault_stop (cause_stop cells) fault.Memory) (λ f. absurd cc) (λ f. absurd cc)
+    by (Err fault.Memory) e = stopped_fine cells (modules_of cells) (entities_of cells)
+        (stimulus_fault_stop (cause_stop cells) fault.Memory) (λ f. absurd cc) (λ f. absurd cc)
 
 pub never_model_or_differ : NeverModelOrDiffer
 never_model_or_differ cells bytes keep own = ends_equal cells bytes (nat_lt stimulus_limit (length bytes)) keep own

@@ -17,16 +17,20 @@ use Rattle.stimulus.specs.TraceText.{heading_text}
 use Rattle.stimulus.specs.Comparison.{compared_text, first_unlike, verdict_text}
 use Rattle.stimulus.proofs.ThreeTraces.{none_unlike}
 use Rattle.simulation_catalog.specs.NamedModels.{named_models}
-use Rattle.simulation_catalog.specs.Comparisons.{Compared, cell_machine, lines_of, compared_at, compared_section, section_by, differs_by, differs}
+use Rattle.simulation_catalog.specs.Comparisons.{Compared, cell_machine, lines_of, compared_at, compared_section, section_by}
+use Rattle.simulation_catalog.specs.Comparisons.{differs_by, differs}
 use Rattle.simulation_catalog.specs.Sections.{CanBeCompared}
 use Rattle.simulation_catalog.specs.Catalog.{cells_named}
-use Rattle.simulation_catalog.specs.Generated.{modules_of, entities_of, own_verilog, own_vital, KeepsRules, HaveOwnModels, SaysEqual, NoSectionDiffers}
+use Rattle.simulation_catalog.specs.Generated.{modules_of, entities_of, own_verilog, own_vital, KeepsRules, HaveOwnModels}
+use Rattle.simulation_catalog.specs.Generated.{SaysEqual, NoSectionDiffers}
 use Rattle.simulation_catalog.proofs.ReadyCells.{all_at, compared_as, sections_of_cells}
 use Rattle.simulation_catalog.proofs.GeneratedModels.{accepted_are_ready, own_models_show_the_same, modules_run, entities_run}
 
 -- a section whose traces are equal says so
-says_equal : (cells : List CellEntry) (modules : List (FileModel VModule)) (entities : List (FileModel VEntity)) (section : Section) (c : Compared)
-    → compared_at cells modules entities section.cell ≡ Some c → first_unlike section.changes (lines_of c) ≡ None → SaysEqual cells modules entities section
+says_equal : (cells : List CellEntry) (modules : List (FileModel VModule)) (entities : List (FileModel VEntity))
+    (section : Section) (c : Compared)
+    → compared_at cells modules entities section.cell ≡ Some c → first_unlike section.changes (lines_of c) ≡ None
+    → SaysEqual cells modules entities section
 unfolding compared_section
 says_equal cells modules entities section c is equal = record {
   compared = c;
@@ -37,7 +41,8 @@ says_equal cells modules entities section c is equal = record {
 }
 
 section_equal : (cells : List CellEntry) (section : Section) → All KeepsRules cells → HaveOwnModels cells
-    → CanBeCompared cells (modules_of cells) (entities_of cells) section → SaysEqual cells (modules_of cells) (entities_of cells) section
+    → CanBeCompared cells (modules_of cells) (entities_of cells) section
+    → SaysEqual cells (modules_of cells) (entities_of cells) section
 section_equal cells section keep own r =
     let d = r.cell in
     let models = named_models (modules_of cells) (entities_of cells) in
@@ -46,21 +51,27 @@ section_equal cells section keep own r =
     subst (λ n. IsProperFrom n [] section.changes) r.have_ports.liberty_inputs r.proper in
     let keeps = all_at KeepsRules cells section.cell (Accepted d r.entity_name) keep r.is_accepted in
     let same = own_models_show_the_same d r.entity_name section.changes keeps proper in
-    let is = compared_as models d r.entity_name h.numbers (own_verilog d r.entity_name) (own_vital d r.entity_name) (slice_get cells section.cell) r.is_accepted h.are h.own_module h.own_entity in
+    let is = compared_as models d r.entity_name h.numbers (own_verilog d r.entity_name) (own_vital d r.entity_name)
+    (slice_get cells section.cell) r.is_accepted h.are h.own_module h.own_entity in
     says_equal cells (modules_of cells) (entities_of cells) section _ is
-    (none_unlike (cell_machine d).line (machine_by module_machine (own_verilog d r.entity_name)).line (machine_by entity_machine (own_vital d r.entity_name)).line section.changes same.verilog same.vital)
+    (none_unlike (cell_machine d).line (machine_by module_machine (own_verilog d r.entity_name)).line
+    (machine_by entity_machine (own_vital d r.entity_name)).line section.changes same.verilog same.vital)
 
 -- all sections say so
-pub sections_equal : (cells : List CellEntry) (bytes : List ℕ) (sections : List Section) → All KeepsRules cells → HaveOwnModels cells
+pub sections_equal : (cells : List CellEntry) (bytes : List ℕ) (sections : List Section) → All KeepsRules cells
+    → HaveOwnModels cells
     → stimulus_of (listed (cells_named cells (modules_of cells) (entities_of cells))) bytes ≡ Ok sections
     → All (SaysEqual cells (modules_of cells) (entities_of cells)) sections
 sections_equal cells bytes sections keep own e =
-    let all = sections_of_cells cells (modules_of cells) (entities_of cells) bytes sections keep (modules_run cells keep) (entities_run cells keep) e in
+    let all = sections_of_cells cells (modules_of cells) (entities_of cells) bytes sections keep (modules_run cells keep)
+    (entities_run cells keep) e in
     λ k d below. section_equal cells (slice_index_or sections k d) keep own (all k d below)
 
-no_difference_by : (cells : List CellEntry) (modules : List (FileModel VModule)) (entities : List (FileModel VEntity)) (section : Section) → SaysEqual cells modules entities section
+no_difference_by : (cells : List CellEntry) (modules : List (FileModel VModule)) (entities : List (FileModel VEntity))
+    (section : Section) → SaysEqual cells modules entities section
     → differs cells modules entities section ≡ false
-no_difference_by cells modules entities section h = ap (λ found. differs_by found section.changes) h.is_compared ∙ ap is_some h.equal
+no_difference_by cells modules entities section h = ap (λ found. differs_by found section.changes) h.is_compared
+    ∙ ap is_some h.equal
 
 pub no_section_differs : NoSectionDiffers
 no_section_differs cells bytes sections keep own e =

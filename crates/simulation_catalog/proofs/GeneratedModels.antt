@@ -1,5 +1,6 @@
 -- The models that are generated for the accepted cells of a library are found for these cells, and show what the cells show.
-use Rattle.std.proofs.Common.{◌≡◌, ℕ, zero, suc, ◌+◌, ◌-◌, Bool, true, false, cond, if◌then◌else◌, List, [], ◌∷◌, ◌++◌, codes, decimal, length, map, bytes_eq, Option, Some, None, refl, sym, ap, subst, ◌∙◌, arith}
+use Rattle.std.proofs.Common.{◌≡◌, ℕ, zero, suc, ◌+◌, ◌-◌, Bool, true, false, cond, if◌then◌else◌, List, [], ◌∷◌, ◌++◌, codes}
+use Rattle.std.proofs.Common.{decimal, length, map, bytes_eq, Option, Some, None, refl, sym, ap, subst, ◌∙◌, arith}
 use Rattle.std.specs.Prelude.{slice_get, All}
 use Rattle.std.specs.List.{IsDistinct, AllByRecursion, position_from}
 use Rattle.std.specs.Str.{str_to_ascii_lowercase}
@@ -38,21 +39,25 @@ use Rattle.stimulus.specs.Differences.{same_fact}
 use Rattle.simulation_catalog.specs.declared.same_ports.Spelling.{Spelling}
 use Rattle.simulation_catalog.specs.declared.same_ports.Spelling.TheVariants.{Exact, AnyCase}
 use Rattle.simulation_catalog.specs.SamePorts.{same_name, same_port, same_ports}
-use Rattle.simulation_catalog.specs.NamedModels.{named_models, module_names, lowered_names, module_ports, entity_ports, has_ports, with_ports, verilog_name, verilog_number, vital_number}
+use Rattle.simulation_catalog.specs.NamedModels.{named_models, module_names, lowered_names, module_ports, entity_ports, has_ports}
+use Rattle.simulation_catalog.specs.NamedModels.{with_ports, verilog_name, verilog_number, vital_number}
 use Rattle.simulation_catalog.specs.Standings.{standing_by, numbers_by}
 use Rattle.simulation_catalog.specs.CellModels.{over_core, cell_model}
 use Rattle.simulation_catalog.specs.Sections.{RunsByPorts}
-use Rattle.simulation_catalog.specs.Generated.{core_entity, core_entity_name, in_verilog, in_vital, modules_of, entities_of, KeepsRules, AcceptedAreReady, OwnModelsShowTheSame}
+use Rattle.simulation_catalog.specs.Generated.{core_entity, core_entity_name, in_verilog, in_vital, modules_of, entities_of}
+use Rattle.simulation_catalog.specs.Generated.{KeepsRules, AcceptedAreReady, OwnModelsShowTheSame}
 use Rattle.simulation_catalog.proofs.OwnModels.{AreModels, nothing_drives, all_run, shows_the_same, placed}
 
 -- The number of a name of which a list has one.
 
-at_place : (P : List ℕ → Type 0) {X : Type 0} (f : X → List ℕ) (xs : List X) (i : ℕ) (x : X) → AllByRecursion P (map f xs) → slice_get xs i ≡ Some x → P (f x)
+at_place : (P : List ℕ → Type 0) {X : Type 0} (f : X → List ℕ) (xs : List X) (i : ℕ) (x : X) → AllByRecursion P (map f xs)
+    → slice_get xs i ≡ Some x → P (f x)
 at_place P f [] i x h e = absurd cc
 at_place P f (y ∷ xs) zero x h e = let same : y ≡ x = cc in subst (λ z. P (f z)) same h.0
 at_place P f (y ∷ xs) (suc i) x h e = at_place P f xs i x h.1 e
 
-placed_from : {X : Type 0} (f : X → List ℕ) (n : ℕ) (xs : List X) (i : ℕ) (x : X) → AreDistinct (map f xs) → slice_get xs i ≡ Some x
+placed_from : {X : Type 0} (f : X → List ℕ) (n : ℕ) (xs : List X) (i : ℕ) (x : X) → AreDistinct (map f xs)
+    → slice_get xs i ≡ Some x
     → position_from (bytes_eq (f x)) n (map f xs) ≡ Some (n + i)
 unfolding IsDistinct
 placed_from f n [] i x own e = absurd cc
@@ -62,12 +67,16 @@ placed_from f n (y ∷ xs) zero x own e =
     let first : n ≡ n + zero = omega arith in
     ap (λ b. cond b (Some n) (position_from (bytes_eq (f x)) (n + 1) (map f xs))) here ∙ ap Some first
 placed_from f n (y ∷ xs) (suc i) x own e =
-    let other : bytes_eq (f x) (f y) ≡ false = bytes_equivalence.symm (f x) (f y) ∙ at_place (λ z. bytes_eq (f y) z ≡ false) f xs i x own.0 e in
+    let other : bytes_eq (f x) (f y) ≡ false = bytes_equivalence.symm (f x) (f y)
+    ∙ at_place (λ z. bytes_eq (f y) z ≡ false) f xs i x own.0 e in
     let later : (n + 1) + i ≡ n + suc i = omega arith in
-    ap (λ b. cond b (Some n) (position_from (bytes_eq (f x)) (n + 1) (map f xs))) other ∙ placed_from f (n + 1) xs i x own.1 e ∙ ap Some later
+    ap (λ b. cond b (Some n) (position_from (bytes_eq (f x)) (n + 1) (map f xs))) other ∙ placed_from f (n + 1) xs i x own.1 e
+    ∙ ap Some later
 
-pub own_number : {X : Type 0} (f : X → List ℕ) (xs : List X) (i : ℕ) (x : X) → AreDistinct (map f xs) → slice_get xs i ≡ Some x → number_of (map f xs) (f x) ≡ Some i
-own_number f xs i x own e = position_from-zero (bytes_eq (f x)) (map f xs) ∙ placed_from f 0 xs i x own e ∙ ap Some (let z : 0 + i ≡ i = omega arith in z)
+pub own_number : {X : Type 0} (f : X → List ℕ) (xs : List X) (i : ℕ) (x : X) → AreDistinct (map f xs) → slice_get xs i ≡ Some x
+    → number_of (map f xs) (f x) ≡ Some i
+own_number f xs i x own e = position_from-zero (bytes_eq (f x)) (map f xs) ∙ placed_from f 0 xs i x own e
+    ∙ ap Some (let z : 0 + i ≡ i = omega arith in z)
 
 -- Ports are the same as themselves.
 
@@ -83,7 +92,8 @@ ports_self : (spelling : Spelling) (ports : List VPort) → same_ports spelling 
 ports_self spelling [] = refl
 ports_self spelling (port ∷ ports) =
     and_from (same_port spelling port port) (same_ports spelling ports ports)
-    (and_from (same_name spelling port.name port.name) (same_fact port.input port.input) (name_self spelling port.name) (same_fact-self port.input))
+    (and_from (same_name spelling port.name port.name) (same_fact port.input port.input) (name_self spelling port.name)
+    (same_fact-self port.input))
     (ports_self spelling ports)
 
 counts : (spelling : Spelling) (ports : List VPort) (ports_at : ℕ → Option (List VPort)) (found : Option ℕ) (number : ℕ)
@@ -97,10 +107,12 @@ counts spelling ports ports_at found number e there =
 pub verilog_models : AreModels in_verilog sound_modules.IsSound module_machine
 unfolding verilog_driver_of
 verilog_models = record {
-  sound = λ cell entity keeps. module_is_sound cell.core (rules_of cell.core.name cell.core.pins cell.core.groups cell.core.outputs cell.core.checks cell.core.arcs keeps.core);
+  sound = λ cell entity keeps. module_is_sound cell.core
+      (rules_of cell.core.name cell.core.pins cell.core.groups cell.core.outputs cell.core.checks cell.core.arcs keeps.core);
   inputs = λ cell entity keeps. (generated-modules cell.core keeps.core).inputs;
   outputs = λ cell entity keeps.
-      fit-length (fitting_modules.FitsOutput cell.core (module_of cell.core)) cell.core.outputs (output_ports (ports_in_verilog.ports_of cell.core.pins))
+      fit-length (fitting_modules.FitsOutput cell.core (module_of cell.core)) cell.core.outputs
+      (output_ports (ports_in_verilog.ports_of cell.core.pins))
       (generated-modules cell.core keeps.core).outputs;
   traces = λ cell entity cs keeps proper. ((models-agree cell.core entity keeps.core).traces cs proper).0;
   core_ports = λ cell entity. verilog_directions 1 cell.core.pins;
@@ -123,10 +135,12 @@ vital_models = record {
 }
 
 -- all of them can be run
-pub modules_run : (cells : List CellEntry) → All KeepsRules cells → All (RunsByPorts sound_modules.IsSound module_machine) (modules_of cells)
+pub modules_run : (cells : List CellEntry) → All KeepsRules cells
+    → All (RunsByPorts sound_modules.IsSound module_machine) (modules_of cells)
 modules_run = all_run in_verilog sound_modules.IsSound module_machine verilog_models
 
-pub entities_run : (cells : List CellEntry) → All KeepsRules cells → All (RunsByPorts sound_entities.IsSound entity_machine) (entities_of cells)
+pub entities_run : (cells : List CellEntry) → All KeepsRules cells
+    → All (RunsByPorts sound_entities.IsSound entity_machine) (entities_of cells)
 entities_run = all_run in_vital sound_entities.IsSound entity_machine vital_models
 
 -- those that stand for a cell show what the cell shows
@@ -146,17 +160,21 @@ all_pins cell e =
 verilog_named : (cell : DrivenData) (entity : List ℕ) → (cell_model in_verilog cell entity).name ≡ verilog_name cell
 unfolding verilog_driver_of
 verilog_named cell entity =
-    elim (may_float cell) as (λ b. (if b then over_core in_verilog cell entity else plain_model in_verilog.as_core (module_of cell.core)).name ≡ (if b then driver_name cell.core.number cell.name else module_name cell.core.number cell.core.name)) [
+    elim (may_float cell) as (λ b. (if b then over_core in_verilog cell entity
+    else plain_model in_verilog.as_core (module_of cell.core)).name ≡ (if b then driver_name cell.core.number cell.name
+    else module_name cell.core.number cell.core.name)) [
       | true ↦ refl
       | false ↦ refl
     ]
 
-verilog_ported : (cell : DrivenData) (entity : List ℕ) → (cell_model in_verilog cell entity).ports ≡ ports_in_verilog.ports_of (pins_of cell)
+verilog_ported : (cell : DrivenData) (entity : List ℕ)
+    → (cell_model in_verilog cell entity).ports ≡ ports_in_verilog.ports_of (pins_of cell)
 unfolding verilog_driver_of
 verilog_ported cell entity = by (may_float cell) refl
   where
     by : (b : Bool) → may_float cell ≡ b
-        → (if b then over_core in_verilog cell entity else plain_model in_verilog.as_core (module_of cell.core)).ports ≡ ports_in_verilog.ports_of (pins_of cell)
+        → (if b then over_core in_verilog cell entity
+        else plain_model in_verilog.as_core (module_of cell.core)).ports ≡ ports_in_verilog.ports_of (pins_of cell)
     by true e = refl
     by false e = ap ports_in_verilog.ports_of (sym (all_pins cell e))
 
@@ -167,19 +185,23 @@ vital_named : (cell : DrivenData) (entity : List ℕ) → (cell_model in_vital c
 unfolding vital_driver_of
 vital_named cell entity = by (may_float cell) refl
   where
-    by : (b : Bool) → may_float cell ≡ b → (if b then over_core in_vital cell entity else plain_model in_vital.as_core (core_entity cell entity)).name ≡ entity
+    by : (b : Bool) → may_float cell ≡ b
+        → (if b then over_core in_vital cell entity else plain_model in_vital.as_core (core_entity cell entity)).name ≡ entity
     by true e = refl
     by false e = core_named cell entity e
 
-vital_ported : (cell : DrivenData) (entity : List ℕ) → (cell_model in_vital cell entity).ports ≡ ports_in_vital.ports_of entity (pins_of cell)
+vital_ported : (cell : DrivenData) (entity : List ℕ)
+    → (cell_model in_vital cell entity).ports ≡ ports_in_vital.ports_of entity (pins_of cell)
 unfolding vital_driver_of
 vital_ported cell entity = by (may_float cell) refl
   where
     by : (b : Bool) → may_float cell ≡ b
-        → (if b then over_core in_vital cell entity else plain_model in_vital.as_core (core_entity cell entity)).ports ≡ ports_in_vital.ports_of entity (pins_of cell)
+        → (if b then over_core in_vital cell entity
+        else plain_model in_vital.as_core (core_entity cell entity)).ports ≡ ports_in_vital.ports_of entity (pins_of cell)
     by true e = refl
     by false e =
-        ap (λ name. ports_in_vital.ports_of name cell.core.pins) (core_named cell entity e) ∙ ap (ports_in_vital.ports_of entity) (sym (all_pins cell e))
+        ap (λ name. ports_in_vital.ports_of name cell.core.pins) (core_named cell entity e)
+        ∙ ap (ports_in_vital.ports_of entity) (sym (all_pins cell e))
 
 -- So they are found.
 
@@ -190,14 +212,18 @@ accepted_are_ready cells number cell entity own there =
     let vital = placed in_vital sound_entities.IsSound entity_machine vital_models cells number cell entity there in
     let models = named_models (modules_of cells) (entities_of cells) in
     let module_is : verilog_number models cell ≡ Some verilog.place =
-    counts Exact (ports_in_verilog.ports_of (pins_of cell)) (module_ports (modules_of cells)) (number_of (module_names (modules_of cells)) (verilog_name cell)) verilog.place
+    counts Exact (ports_in_verilog.ports_of (pins_of cell)) (module_ports (modules_of cells))
+    (number_of (module_names (modules_of cells)) (verilog_name cell)) verilog.place
     (ap (number_of (module_names (modules_of cells))) (sym (verilog_named cell entity))
-    ∙ own_number (λ (f : FileModel VModule). f.name) (modules_of cells) verilog.place (cell_model in_verilog cell entity) own.modules verilog.there)
+    ∙ own_number (λ (f : FileModel VModule). f.name) (modules_of cells) verilog.place (cell_model in_verilog cell entity)
+    own.modules verilog.there)
     (ap (option_map (λ (f : FileModel VModule). f.ports)) verilog.there ∙ ap Some (verilog_ported cell entity)) in
     let entity_is : vital_number models entity cell ≡ Some vital.place =
-    counts AnyCase (ports_in_vital.ports_of entity (pins_of cell)) (entity_ports (entities_of cells)) (number_of (lowered_names (entities_of cells)) (lowered entity)) vital.place
+    counts AnyCase (ports_in_vital.ports_of entity (pins_of cell)) (entity_ports (entities_of cells))
+    (number_of (lowered_names (entities_of cells)) (lowered entity)) vital.place
     (ap (λ name. number_of (lowered_names (entities_of cells)) (lowered name)) (sym (vital_named cell entity))
-    ∙ own_number (λ (f : FileModel VEntity). lowered f.name) (entities_of cells) vital.place (cell_model in_vital cell entity) own.entities vital.there)
+    ∙ own_number (λ (f : FileModel VEntity). lowered f.name) (entities_of cells) vital.place (cell_model in_vital cell entity)
+    own.entities vital.there)
     (ap (option_map (λ (f : FileModel VEntity). f.ports)) vital.there ∙ ap Some (vital_ported cell entity)) in
     record {
       numbers = record { verilog = verilog.place; vital = vital.place };

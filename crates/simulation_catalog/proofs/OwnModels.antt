@@ -1,5 +1,6 @@
 -- The models of cells in a language: they can be run, they drive what drives the cell, and they show what the cell shows.
-use Rattle.std.proofs.Common.{◌≡◌, ℕ, zero, suc, ◌+◌, ◌<◌, Bool, true, false, if◌then◌else◌, List, [], ◌∷◌, ◌++◌, length, map, refl, sym, ap, subst, ◌∙◌, arith, Some}
+use Rattle.std.proofs.Common.{◌≡◌, ℕ, zero, suc, ◌+◌, ◌<◌, Bool, true, false, if◌then◌else◌, List, [], ◌∷◌, ◌++◌, length, map}
+use Rattle.std.proofs.Common.{refl, sym, ap, subst, ◌∙◌, arith, Some}
 use Rattle.std.specs.Prelude.{slice_get, nat_lt, All}
 use Rattle.std.proofs.lemmas.Bool.{ltb-false}
 use Rattle.std.proofs.lemmas.List.Elements.{All-cons, All-nil}
@@ -46,7 +47,8 @@ no_paths driver (path ∷ paths) e all =
 pub nothing_drives : (cell : DrivenData) → may_float cell ≡ false → cell.driver.drives ≡ []
 nothing_drives cell e = none_driven cell.driver.drives e
 
-pub plain_driver : (cell : DrivenData) → KeepsCellRules cell → may_float cell ≡ false → cell.driver ≡ plain cell.driver.inputs cell.driver.outputs
+pub plain_driver : (cell : DrivenData) → KeepsCellRules cell → may_float cell ≡ false
+    → cell.driver ≡ plain cell.driver.inputs cell.driver.outputs
 plain_driver cell keeps e =
     let none = nothing_drives cell e in
     let pathless = no_paths cell.driver cell.driver.paths none keeps.driver.sound.paths in
@@ -59,16 +61,21 @@ plain_is_sound inputs outputs = record { ascending = refl; outputs = All-nil _; 
 -- What holds of the models of cells in a language, by what is asked of a model and what runs of it.
 pub record AreModels {M : Type 0} (l : CellModels M) (is_sound : M → Type 0) (machine : M → Machine) : Type 0 where
   pub sound : (cell : DrivenData) (entity : List ℕ) → KeepsCellRules cell → is_sound (l.core cell entity)
-  pub inputs : (cell : DrivenData) (entity : List ℕ) → KeepsCellRules cell → (machine (l.core cell entity)).inputs ≡ inputs_of cell.core
-  pub outputs : (cell : DrivenData) (entity : List ℕ) → KeepsCellRules cell → (machine (l.core cell entity)).outputs ≡ length cell.core.outputs
+  pub inputs : (cell : DrivenData) (entity : List ℕ) → KeepsCellRules cell
+      → (machine (l.core cell entity)).inputs ≡ inputs_of cell.core
+  pub outputs : (cell : DrivenData) (entity : List ℕ) → KeepsCellRules cell
+      → (machine (l.core cell entity)).outputs ≡ length cell.core.outputs
   pub traces :
       (cell : DrivenData) (entity : List ℕ) (cs : List Change) → KeepsCellRules cell → IsProperFrom (inputs_of cell.core) [] cs
       → trace (machine (l.core cell entity)).line cs ≡ trace (cell_line cell.core) cs
-  pub core_ports : (cell : DrivenData) (entity : List ℕ) → directions (l.as_core (l.core cell entity)).ports ≡ port_directions cell.core.pins
-  pub driver_ports : (cell : DrivenData) (entity : List ℕ) → directions (l.driver cell entity).ports ≡ port_directions (pins_of cell)
+  pub core_ports : (cell : DrivenData) (entity : List ℕ)
+      → directions (l.as_core (l.core cell entity)).ports ≡ port_directions cell.core.pins
+  pub driver_ports : (cell : DrivenData) (entity : List ℕ)
+      → directions (l.driver cell entity).ports ≡ port_directions (pins_of cell)
   pub driver : (cell : DrivenData) (entity : List ℕ) → (l.driver cell entity).driver ≡ cell.driver
 
-module _ {M : Type 0} (l : CellModels M) (is_sound : M → Type 0) (machine : M → Machine) (are : AreModels l is_sound machine) where
+module _ {M : Type 0} (l : CellModels M) (is_sound : M → Type 0) (machine : M
+    → Machine) (are : AreModels l is_sound machine) where
   -- the ports of a core tell its machine's inputs and outputs
   record HasCounts (cell : DrivenData) (entity : List ℕ) : Type 0 where
     of_inputs : input_count (l.as_core (l.core cell entity)).ports ≡ inputs_of cell.core
@@ -80,16 +87,20 @@ module _ {M : Type 0} (l : CellModels M) (is_sound : M → Type 0) (machine : M 
       let same = are.core_ports cell entity in
       record {
         of_inputs = inputs_counted ports cell.core.pins same ∙ flags_count is_input_at cell.core.pins;
-        of_outputs = outputs_counted ports cell.core.pins same ∙ flags_count is_output_at cell.core.pins ∙ sym (core_outputs_counted cell.core (outputs_keep cell keeps));
+        of_outputs = outputs_counted ports cell.core.pins same ∙ flags_count is_output_at cell.core.pins
+            ∙ sym (core_outputs_counted cell.core (outputs_keep cell keeps));
       }
 
-  fits_core : (cell : DrivenData) (entity : List ℕ) → KeepsCellRules cell → FitsCore (l.driver cell entity) (l.as_core (l.core cell entity)).ports
+  fits_core : (cell : DrivenData) (entity : List ℕ) → KeepsCellRules cell
+      → FitsCore (l.driver cell entity) (l.as_core (l.core cell entity)).ports
   fits_core cell entity keeps =
-      fits cell.core cell.driver (outputs_keep cell keeps) keeps.driver (l.driver cell entity) (l.as_core (l.core cell entity)).ports (are.driver cell entity)
+      fits cell.core cell.driver (outputs_keep cell keeps) keeps.driver (l.driver cell entity)
+      (l.as_core (l.core cell entity)).ports (are.driver cell entity)
       (are.driver_ports cell entity) (are.core_ports cell entity)
 
   -- the model of a core can be run by itself
-  pub plain_runs : (cell : DrivenData) (entity : List ℕ) → KeepsCellRules cell → RunsByPorts is_sound machine (plain_model l.as_core (l.core cell entity))
+  pub plain_runs : (cell : DrivenData) (entity : List ℕ) → KeepsCellRules cell
+      → RunsByPorts is_sound machine (plain_model l.as_core (l.core cell entity))
   plain_runs cell entity keeps =
       let ports = (l.as_core (l.core cell entity)).ports in
       let counts = core_counts cell entity keeps in
@@ -115,7 +126,8 @@ module _ {M : Type 0} (l : CellModels M) (is_sound : M → Type 0) (machine : M 
   }
 
   -- the drivers over the model of a core can be run
-  pub driven_runs : (cell : DrivenData) (entity : List ℕ) → KeepsCellRules cell → RunsByPorts is_sound machine (over_core l cell entity)
+  pub driven_runs : (cell : DrivenData) (entity : List ℕ) → KeepsCellRules cell
+      → RunsByPorts is_sound machine (over_core l cell entity)
   driven_runs cell entity keeps =
       let d = l.driver cell entity in
       let sound = (fits_core cell entity keeps).sound in
@@ -123,7 +135,8 @@ module _ {M : Type 0} (l : CellModels M) (is_sound : M → Type 0) (machine : M 
         runs = record {
           core = are.sound cell entity keeps;
           driver = sound.driver;
-          is_core = subst (λ (some : Driver). IsCoreOf some (machine (l.core cell entity))) (sym (are.driver cell entity)) (core_of cell entity keeps);
+          is_core = subst (λ (some : Driver). IsCoreOf some (machine (l.core cell entity))) (sym (are.driver cell entity))
+              (core_of cell entity keeps);
         };
         inputs = inputs_named d.ports ∙ sym sound.inputs;
         outputs = outputs_named d.ports ∙ sym sound.outputs;
@@ -137,53 +150,64 @@ module _ {M : Type 0} (l : CellModels M) (is_sound : M → Type 0) (machine : M 
   others_keep : (c : CellEntry) (cells : List CellEntry) → All KeepsRules (c ∷ cells) → All KeepsRules cells
   others_keep c cells keep = λ k d below. keep (suc k) d (omega (arith, below))
 
-  plain_models_run : (cells : List CellEntry) → All KeepsRules cells → All (RunsByPorts is_sound machine) (map (plain_model l.as_core) (cores l cells))
+  plain_models_run : (cells : List CellEntry) → All KeepsRules cells
+      → All (RunsByPorts is_sound machine) (map (plain_model l.as_core) (cores l cells))
   plain_models_run [] keep = All-nil (RunsByPorts is_sound machine)
   plain_models_run (Accepted cell entity ∷ cells) keep =
-      All-cons (RunsByPorts is_sound machine) (plain_model l.as_core (l.core cell entity)) (map (plain_model l.as_core) (cores l cells))
-      (plain_runs cell entity (first_keeps (Accepted cell entity) cells keep)) (plain_models_run cells (others_keep (Accepted cell entity) cells keep))
+      All-cons (RunsByPorts is_sound machine) (plain_model l.as_core (l.core cell entity))
+      (map (plain_model l.as_core) (cores l cells))
+      (plain_runs cell entity (first_keeps (Accepted cell entity) cells keep))
+      (plain_models_run cells (others_keep (Accepted cell entity) cells keep))
   plain_models_run (Refused name refusal ∷ cells) keep = plain_models_run cells (others_keep (Refused name refusal) cells keep)
 
   drivers_run : (cells : List CellEntry) → All KeepsRules cells → All (RunsByPorts is_sound machine) (drivers l cells)
   drivers_run [] keep = All-nil (RunsByPorts is_sound machine)
   drivers_run (Accepted cell entity ∷ cells) keep =
       let rest = drivers_run cells (others_keep (Accepted cell entity) cells keep) in
-      elim (may_float cell) as (λ b. All (RunsByPorts is_sound machine) ((if b then over_core l cell entity ∷ [] else []) ++ drivers l cells)) [
+      elim (may_float cell) as (λ b. All (RunsByPorts is_sound machine)
+      ((if b then over_core l cell entity ∷ [] else []) ++ drivers l cells)) [
         | true ↦ All-cons (RunsByPorts is_sound machine) (over_core l cell entity) (drivers l cells)
             (driven_runs cell entity (first_keeps (Accepted cell entity) cells keep)) rest
         | false ↦ rest
       ]
   drivers_run (Refused name refusal ∷ cells) keep = drivers_run cells (others_keep (Refused name refusal) cells keep)
 
-  both_run : (some others : List (FileModel M)) → All (RunsByPorts is_sound machine) some → All (RunsByPorts is_sound machine) others → All (RunsByPorts is_sound machine) (some ++ others)
+  both_run : (some others : List (FileModel M)) → All (RunsByPorts is_sound machine) some
+      → All (RunsByPorts is_sound machine) others → All (RunsByPorts is_sound machine) (some ++ others)
   both_run [] others h g = g
   both_run (f ∷ some) others h g =
-      All-cons (RunsByPorts is_sound machine) f (some ++ others) (h 0 f (omega arith)) (both_run some others (λ k d below. h (suc k) d (omega (arith, below))) g)
+      All-cons (RunsByPorts is_sound machine) f (some ++ others) (h 0 f (omega arith))
+      (both_run some others (λ k d below. h (suc k) d (omega (arith, below))) g)
 
   pub all_run : (cells : List CellEntry) → All KeepsRules cells → All (RunsByPorts is_sound machine) (all_models l cells)
-  all_run cells keep = both_run (map (plain_model l.as_core) (cores l cells)) (drivers l cells) (plain_models_run cells keep) (drivers_run cells keep)
+  all_run cells keep = both_run (map (plain_model l.as_core) (cores l cells)) (drivers l cells) (plain_models_run cells keep)
+      (drivers_run cells keep)
 
   -- The model that stands for a cell drives what drives the cell, over the model of the cell's core.
 
-  plain_counts : (cell : DrivenData) (entity : List ℕ) → KeepsCellRules cell → may_float cell ≡ false → (plain_model l.as_core (l.core cell entity)).driver ≡ cell.driver
+  plain_counts : (cell : DrivenData) (entity : List ℕ) → KeepsCellRules cell → may_float cell ≡ false
+      → (plain_model l.as_core (l.core cell entity)).driver ≡ cell.driver
   plain_counts cell entity keeps e =
       let counts = core_counts cell entity keeps in
       let none : length cell.driver.drives ≡ 0 = ap (λ (drives : List ℕ). length drives) (nothing_drives cell e) in
       let whole = keeps.driver.is_core.outputs in
       let same_inputs = counts.of_inputs ∙ keeps.driver.is_core.inputs in
-      let same_outputs : output_count (l.as_core (l.core cell entity)).ports ≡ cell.driver.outputs = counts.of_outputs ∙ omega (arith, whole, none) in
+      let same_outputs : output_count (l.as_core (l.core cell entity)).ports ≡ cell.driver.outputs =
+      counts.of_outputs ∙ omega (arith, whole, none) in
       (λ i. plain (same_inputs i) (same_outputs i)) ∙ sym (plain_driver cell keeps e)
 
   model_driver : (cell : DrivenData) (entity : List ℕ) → KeepsCellRules cell → (cell_model l cell entity).driver ≡ cell.driver
   model_driver cell entity keeps = by (may_float cell) refl
     where
-      by : (b : Bool) → may_float cell ≡ b → (if b then over_core l cell entity else plain_model l.as_core (l.core cell entity)).driver ≡ cell.driver
+      by : (b : Bool) → may_float cell ≡ b
+          → (if b then over_core l cell entity else plain_model l.as_core (l.core cell entity)).driver ≡ cell.driver
       by true e = are.driver cell entity
       by false e = plain_counts cell entity keeps e
 
   model_core : (cell : DrivenData) (entity : List ℕ) → (cell_model l cell entity).core ≡ l.core cell entity
   model_core cell entity =
-      elim (may_float cell) as (λ b. (if b then over_core l cell entity else plain_model l.as_core (l.core cell entity)).core ≡ l.core cell entity) [
+      elim (may_float cell) as (λ b. (if b then over_core l cell entity
+      else plain_model l.as_core (l.core cell entity)).core ≡ l.core cell entity) [
         | true ↦ refl
         | false ↦ refl
       ]
@@ -193,11 +217,19 @@ module _ {M : Type 0} (l : CellModels M) (is_sound : M → Type 0) (machine : M 
       (cell : DrivenData) (entity : List ℕ) (cs : List Change) → KeepsCellRules cell → IsProperFrom cell.driver.inputs [] cs
       → lines_along (machine_by machine (cell_model l cell entity)).line cs ≡ lines_along (cell_machine cell).line cs
   shows_the_same cell entity cs keeps proper =
-      let of_core : IsProperFrom (inputs_of cell.core) [] cs = subst (λ n. IsProperFrom n [] cs) (sym keeps.driver.is_core.inputs) proper in
+      let of_core : IsProperFrom (inputs_of cell.core) [] cs =
+      subst (λ n. IsProperFrom n [] cs) (sym keeps.driver.is_core.inputs) proper in
       let same = are.traces cell entity cs keeps of_core in
       let driver = model_driver cell entity keeps in
       let core = model_core cell entity in
-      (λ i. lines_along (machine_by machine (record { name = (cell_model l cell entity).name; ports = (cell_model l cell entity).ports; core = core i; driver = driver i })).line cs)
+      (λ i. lines_along (machine_by machine
+      (record {
+        name = (cell_model l cell entity).name;
+        ports = (cell_model l cell entity).ports;
+        core = core i;
+        driver =
+            driver i;
+      })).line cs)
       ∙ equal_cores_drive_equally cell.driver (machine (l.core cell entity)) (cell_machine_of cell.core) cs same
 
   -- The model that stands for a cell has a place among all.
@@ -212,7 +244,8 @@ module _ {M : Type 0} (l : CellModels M) (is_sound : M → Type 0) (machine : M 
   get_behind (x ∷ xs) ys i =
       ap (slice_get (x ∷ (xs ++ ys))) (let s : length (x ∷ xs) + i ≡ suc (length xs + i) = omega arith in s) ∙ get_behind xs ys i
 
-  get_image : {X Y : Type 0} (f : X → Y) (xs : List X) (i : ℕ) (x : X) → slice_get xs i ≡ Some x → slice_get (map f xs) i ≡ Some (f x)
+  get_image : {X Y : Type 0} (f : X → Y) (xs : List X) (i : ℕ) (x : X) → slice_get xs i ≡ Some x
+      → slice_get (map f xs) i ≡ Some (f x)
   get_image f [] i x e = absurd cc
   get_image f (y ∷ xs) zero x e = let same : y ≡ x = cc in ap (λ z. Some (f z)) same
   get_image f (y ∷ xs) (suc i) x e = get_image f xs i x e
@@ -221,24 +254,31 @@ module _ {M : Type 0} (l : CellModels M) (is_sound : M → Type 0) (machine : M 
     place : ℕ
     there : slice_get xs place ≡ Some x
 
-  core_at : (cells : List CellEntry) (number : ℕ) (cell : DrivenData) (entity : List ℕ) → slice_get cells number ≡ Some (Accepted cell entity)
+  core_at : (cells : List CellEntry) (number : ℕ) (cell : DrivenData) (entity : List ℕ)
+      → slice_get cells number ≡ Some (Accepted cell entity)
       → IsAt (cores l cells) (l.core cell entity)
   core_at [] number cell entity e = absurd cc
   core_at (c ∷ cells) zero cell entity e =
       let same : c ≡ Accepted cell entity = cc in
-      subst (λ (one : CellEntry). IsAt (cores l (one ∷ cells)) (l.core cell entity)) (sym same) (record { place = 0; there = refl })
+      subst (λ (one : CellEntry). IsAt (cores l (one ∷ cells)) (l.core cell entity)) (sym same)
+      (record { place = 0; there = refl })
   core_at (Accepted other name ∷ cells) (suc number) cell entity e =
       let more = core_at cells number cell entity e in
       record { place = suc more.place; there = more.there }
   core_at (Refused name refusal ∷ cells) (suc number) cell entity e = core_at cells number cell entity e
 
-  driver_at : (cells : List CellEntry) (number : ℕ) (cell : DrivenData) (entity : List ℕ) → may_float cell ≡ true → slice_get cells number ≡ Some (Accepted cell entity)
+  driver_at : (cells : List CellEntry) (number : ℕ) (cell : DrivenData) (entity : List ℕ) → may_float cell ≡ true
+      → slice_get cells number ≡ Some (Accepted cell entity)
       → IsAt (drivers l cells) (over_core l cell entity)
   driver_at [] number cell entity floats e = absurd cc
   driver_at (c ∷ cells) zero cell entity floats e =
       let same : c ≡ Accepted cell entity = cc in
       subst (λ (one : CellEntry). IsAt (drivers l (one ∷ cells)) (over_core l cell entity)) (sym same)
-      (record { place = 0; there = ap (λ b. slice_get ((if b then over_core l cell entity ∷ [] else []) ++ drivers l cells) 0) floats })
+      (record {
+        place = 0;
+        there = ap (λ b. slice_get ((if b then over_core l cell entity ∷ [] else []) ++ drivers l cells) 0)
+            floats;
+      })
   driver_at (Accepted other name ∷ cells) (suc number) cell entity floats e =
       let more = driver_at cells number cell entity floats e in
       record {
@@ -252,14 +292,16 @@ module _ {M : Type 0} (l : CellModels M) (is_sound : M → Type 0) (machine : M 
     pub place : ℕ
     pub there : slice_get (all_models l cells) place ≡ Some f
 
-  pub placed : (cells : List CellEntry) (number : ℕ) (cell : DrivenData) (entity : List ℕ) → slice_get cells number ≡ Some (Accepted cell entity)
+  pub placed : (cells : List CellEntry) (number : ℕ) (cell : DrivenData) (entity : List ℕ)
+      → slice_get cells number ≡ Some (Accepted cell entity)
       → IsPlaced cells (cell_model l cell entity)
   placed cells number cell entity e = by (may_float cell) refl
     where
       plains : List (FileModel M)
       plains = map (plain_model l.as_core) (cores l cells)
 
-      by : (b : Bool) → may_float cell ≡ b → IsPlaced cells (if b then over_core l cell entity else plain_model l.as_core (l.core cell entity))
+      by : (b : Bool) → may_float cell ≡ b
+          → IsPlaced cells (if b then over_core l cell entity else plain_model l.as_core (l.core cell entity))
       by true floats =
           let behind = driver_at cells number cell entity floats e in
           record { place = length plains + behind.place; there = get_behind plains (drivers l cells) behind.place ∙ behind.there }
@@ -267,5 +309,6 @@ module _ {M : Type 0} (l : CellModels M) (is_sound : M → Type 0) (machine : M 
           let core = core_at cells number cell entity e in
           record {
             place = core.place;
-            there = get_front plains (drivers l cells) core.place (plain_model l.as_core (l.core cell entity)) (get_image (plain_model l.as_core) (cores l cells) core.place (l.core cell entity) core.there);
+            there = get_front plains (drivers l cells) core.place (plain_model l.as_core (l.core cell entity))
+                (get_image (plain_model l.as_core) (cores l cells) core.place (l.core cell entity) core.there);
           }

@@ -1,5 +1,6 @@
 -- Cells that may be given changes, and the models that stand for them.
-use Rattle.std.proofs.Common.{◌≡◌, ℕ, zero, suc, Bool, true, false, if◌then◌else◌, List, [], ◌∷◌, length, map, position, bytes_eq, Option, Some, None, refl, sym, ap, subst, ◌∙◌, arith}
+use Rattle.std.proofs.Common.{◌≡◌, ℕ, zero, suc, Bool, true, false, if◌then◌else◌, List, [], ◌∷◌, length, map, position, bytes_eq}
+use Rattle.std.proofs.Common.{Option, Some, None, refl, sym, ap, subst, ◌∙◌, arith}
 use Rattle.std.specs.Prelude.{Ok, slice_get, slice_index_or, All}
 use Rattle.std.specs.Option.{option_map}
 use Rattle.std.proofs.lemmas.List.{length-map}
@@ -35,7 +36,8 @@ use Rattle.simulation_catalog.specs.declared.numbers.ModelNumbers.{ModelNumbers}
 use Rattle.simulation_catalog.specs.declared.same_ports.Spelling.{Spelling}
 use Rattle.simulation_catalog.specs.declared.same_ports.Spelling.TheVariants.{Exact, AnyCase}
 use Rattle.simulation_catalog.specs.SamePorts.{same_ports}
-use Rattle.simulation_catalog.specs.NamedModels.{NamedModels, named_models, verilog_name, module_ports, entity_ports, has_ports, with_ports, verilog_number, vital_number}
+use Rattle.simulation_catalog.specs.NamedModels.{NamedModels, named_models, verilog_name, module_ports, entity_ports, has_ports}
+use Rattle.simulation_catalog.specs.NamedModels.{with_ports, verilog_number, vital_number}
 use Rattle.simulation_catalog.specs.Standings.{standing_by, numbers_by}
 use Rattle.simulation_catalog.specs.Catalog.{standing_in, ports_in, numbers_in, cells_named}
 use Rattle.simulation_catalog.specs.Comparisons.{cell_machine, beside, beside_numbers, beside_models}
@@ -46,27 +48,33 @@ use Rattle.simulation_catalog.proofs.PortCounts.{have_ports}
 
 -- What a catalog answers.
 
-answered : (number : ℕ) (how : Standing) (cell : ℕ) → cell_answer (Some (entry_of_cell number how)) ≡ cells.Cell cell → (number ≡ cell) × (how ≡ standing.Ready)
+answered : (number : ℕ) (how : Standing) (cell : ℕ) → cell_answer (Some (entry_of_cell number how)) ≡ cells.Cell cell
+    → (number ≡ cell) × (how ≡ standing.Ready)
 answered number standing.Ready cell e = let same : number ≡ cell = cc in (same, refl)
 answered number standing.Refused cell e = absurd cc
 answered number standing.VerilogPorts cell e = absurd cc
 answered number standing.VitalPorts cell e = absurd cc
 
-ready_at : (ports : List Ports) (at cell : ℕ) → cell_answer (option_map (λ (one : Ports). entry_of_cell at one.standing) (slice_get ports at)) ≡ cells.Cell cell
+ready_at : (ports : List Ports) (at cell : ℕ)
+    → cell_answer (option_map (λ (one : Ports). entry_of_cell at one.standing) (slice_get ports at)) ≡ cells.Cell cell
     → (one : Ports) × ((slice_get ports cell ≡ Some one) × (one.standing ≡ standing.Ready))
 ready_at ports at cell e = by (slice_get ports at) refl e
   where
-    by : (found : Option Ports) → slice_get ports at ≡ found → cell_answer (option_map (λ (one : Ports). entry_of_cell at one.standing) found) ≡ cells.Cell cell
+    by : (found : Option Ports) → slice_get ports at ≡ found
+        → cell_answer (option_map (λ (one : Ports). entry_of_cell at one.standing) found) ≡ cells.Cell cell
         → (one : Ports) × ((slice_get ports cell ≡ Some one) × (one.standing ≡ standing.Ready))
     by None f g = absurd cc
-    by (Some one) f g = let same = answered at one.standing cell g in (one, (subst (λ n. slice_get ports n ≡ Some one) same.0 f, same.1))
+    by (Some one) f g = let same = answered at one.standing cell g
+        in (one, (subst (λ n. slice_get ports n ≡ Some one) same.0 f, same.1))
 
 -- the ports of a cell that the catalog answers as one that may be given changes
-pub ready_cell : (named : NamedCells) (name : List ℕ) (cell : ℕ) → length named.names ≡ length named.cells → cell_found (listed named) name ≡ cells.Cell cell
+pub ready_cell : (named : NamedCells) (name : List ℕ) (cell : ℕ) → length named.names ≡ length named.cells
+    → cell_found (listed named) name ≡ cells.Cell cell
     → (one : Ports) × ((slice_get named.cells cell ≡ Some one) × (one.standing ≡ standing.Ready))
 ready_cell named name cell l e = by (position (bytes_eq name) named.names) refl
   where
-    by : (found : Option ℕ) → position (bytes_eq name) named.names ≡ found → (one : Ports) × ((slice_get named.cells cell ≡ Some one) × (one.standing ≡ standing.Ready))
+    by : (found : Option ℕ) → position (bytes_eq name) named.names ≡ found → (one : Ports)
+        × ((slice_get named.cells cell ≡ Some one) × (one.standing ≡ standing.Ready))
     by None f = absurd (let none = ap cell_answer (no_cell name named.names named.cells f) in cc)
     by (Some at) f = ready_at named.cells at cell (sym (ap cell_answer (some_cell name named.names named.cells at l f)) ∙ e)
 
@@ -90,7 +98,8 @@ fits : (spelling : Spelling) (ports : List VPort) (ports_at : ℕ → Option (Li
 fits spelling ports ports_at None number e = absurd cc
 fits spelling ports ports_at (Some k) number e = by (has_ports spelling ports (ports_at k)) refl e
   where
-    by : (b : Bool) → has_ports spelling ports (ports_at k) ≡ b → (if b then Some k else None) ≡ Some number → has_ports spelling ports (ports_at number) ≡ true
+    by : (b : Bool) → has_ports spelling ports (ports_at k) ≡ b → (if b then Some k else None) ≡ Some number
+        → has_ports spelling ports (ports_at number) ≡ true
     by true f g = let same : k ≡ number = cc in subst (λ n. has_ports spelling ports (ports_at n) ≡ true) same f
     by false f g = absurd cc
 
@@ -106,7 +115,8 @@ fitting_model {M = M} spelling ports_in ports models number e = by (slice_get mo
     by (Some m) f g = (m, (f, g))
 
 -- the models of a cell that may be given changes
-pub record HasModels (modules : List (FileModel VModule)) (entities : List (FileModel VEntity)) (cell : DrivenData) (entity : List ℕ) : Type 0 where
+pub record HasModels (modules : List (FileModel VModule)) (entities : List (FileModel VEntity)) (cell : DrivenData)
+    (entity : List ℕ) : Type 0 where
   pub numbers : ModelNumbers
   pub verilog : FileModel VModule
   pub vital : FileModel VEntity
@@ -124,10 +134,13 @@ has_models modules entities cell entity e =
     let found = both_found (verilog_number models cell) (vital_number models entity cell) e in
     let (m, (m_is, m_ports)) =
     fitting_model Exact (λ (f : FileModel VModule). f.ports) (in_verilog.ports_of (pins_of cell)) modules found.module_number
-    (fits Exact (in_verilog.ports_of (pins_of cell)) (module_ports modules) (number_of models.module_names (verilog_name cell)) found.module_number found.module_is) in
+    (fits Exact (in_verilog.ports_of (pins_of cell)) (module_ports modules) (number_of models.module_names (verilog_name cell))
+    found.module_number found.module_is) in
     let (n, (n_is, n_ports)) =
-    fitting_model AnyCase (λ (f : FileModel VEntity). f.ports) (in_vital.ports_of entity (pins_of cell)) entities found.entity_number
-    (fits AnyCase (in_vital.ports_of entity (pins_of cell)) (entity_ports entities) (number_of models.entity_names (lowered entity)) found.entity_number found.entity_is) in
+    fitting_model AnyCase (λ (f : FileModel VEntity). f.ports) (in_vital.ports_of entity (pins_of cell)) entities
+    found.entity_number
+    (fits AnyCase (in_vital.ports_of entity (pins_of cell)) (entity_ports entities)
+    (number_of models.entity_names (lowered entity)) found.entity_number found.entity_is) in
     record {
       numbers = record { verilog = found.module_number; vital = found.entity_number };
       verilog = m;
@@ -144,7 +157,8 @@ all_at P [] i x all e = absurd cc
 all_at P (y ∷ xs) zero x all e = let same : y ≡ x = cc in subst P same (all 0 y (omega arith))
 all_at P (y ∷ xs) (suc i) x all e = all_at P xs i x (λ k d h. all (suc k) d (omega (arith, h))) e
 
-pub compared_as : (models : NamedModels) (cell : DrivenData) (entity : List ℕ) (numbers : ModelNumbers) (m : FileModel VModule) (n : FileModel VEntity) (found : Option CellEntry)
+pub compared_as : (models : NamedModels) (cell : DrivenData) (entity : List ℕ) (numbers : ModelNumbers) (m : FileModel VModule)
+    (n : FileModel VEntity) (found : Option CellEntry)
     → found ≡ Some (Accepted cell entity) → numbers_in models (Accepted cell entity) ≡ Some numbers
     → slice_get models.modules numbers.verilog ≡ Some m → slice_get models.entities numbers.vital ≡ Some n
     → beside_models models found
@@ -160,21 +174,27 @@ compared_as models cell entity numbers m n found e f g h =
     ∙ (λ i. beside cell (ports_in models (Accepted cell entity)) (g i) (h i))
 
 -- a section on an accepted cell that may be given changes
-accepted_section : (all : List CellEntry) (modules : List (FileModel VModule)) (entities : List (FileModel VEntity)) (section : Section) (cell : DrivenData) (entity : List ℕ)
-    → All KeepsRules all → All (RunsByPorts modules_of.IsSound module_machine) modules → All (RunsByPorts entities_of.IsSound entity_machine) entities
-    → slice_get all section.cell ≡ Some (Accepted cell entity) → standing_in (named_models modules entities) entity cell ≡ standing.Ready
+accepted_section : (all : List CellEntry) (modules : List (FileModel VModule)) (entities : List (FileModel VEntity))
+    (section : Section) (cell : DrivenData) (entity : List ℕ)
+    → All KeepsRules all → All (RunsByPorts modules_of.IsSound module_machine) modules
+    → All (RunsByPorts entities_of.IsSound entity_machine) entities
+    → slice_get all section.cell ≡ Some (Accepted cell entity)
+    → standing_in (named_models modules entities) entity cell ≡ standing.Ready
     → IsSectionOf (listed (cells_named all modules entities)) section → CanBeCompared all modules entities section
 accepted_section all modules entities section cell entity keep modules_run entities_run there ready s =
     let models = named_models modules entities in
     let h = has_models modules entities cell entity ready in
-    let runs = all_at (RunsByPorts modules_of.IsSound module_machine) modules h.numbers.verilog h.verilog modules_run h.is_module in
-    let runs_too = all_at (RunsByPorts entities_of.IsSound entity_machine) entities h.numbers.vital h.vital entities_run h.is_entity in
+    let runs = all_at (RunsByPorts modules_of.IsSound module_machine) modules h.numbers.verilog h.verilog modules_run h.is_module
+    in
+    let runs_too = all_at (RunsByPorts entities_of.IsSound entity_machine) entities h.numbers.vital h.vital entities_run
+    h.is_entity in
     let ports_there : slice_get (map (ports_in models) all) section.cell ≡ Some (ports_in models (Accepted cell entity)) =
     slice_get-map (ports_in models) all section.cell ∙ ap (option_map (ports_in models)) there in
     let models_there : slice_get (map (numbers_in models) all) section.cell ≡ Some (Some h.numbers) =
     slice_get-map (numbers_in models) all section.cell ∙ ap (option_map (numbers_in models)) there ∙ ap Some h.are in
     let rules = all_at KeepsRules all section.cell (Accepted cell entity) keep there in
-    let below = inputs_below (cells_named all modules entities) section.cell (ports_in models (Accepted cell entity)) ports_there in
+    let below = inputs_below (cells_named all modules entities) section.cell (ports_in models (Accepted cell entity)) ports_there
+    in
     record {
       cell = cell;
       entity_name = entity;
@@ -187,36 +207,47 @@ accepted_section all modules entities section cell entity keep modules_run entit
       has_models = models_there;
       is_module = h.is_module;
       is_entity = h.is_entity;
-      is_compared = compared_as models cell entity h.numbers h.verilog h.vital (slice_get all section.cell) there h.are h.is_module h.is_entity;
+      is_compared = compared_as models cell entity h.numbers h.verilog h.vital (slice_get all section.cell) there h.are
+          h.is_module h.is_entity;
       runs_module = runs.runs;
       runs_entity = runs_too.runs;
-      have_ports = have_ports (standing_in models entity cell) cell entity h.verilog h.vital rules h.module_ports h.entity_ports runs runs_too;
+      have_ports = have_ports (standing_in models entity cell) cell entity h.verilog h.vital rules h.module_ports h.entity_ports
+          runs runs_too;
       proper = s.proper (length (ports_in models (Accepted cell entity)).inputs) below;
     }
 
 -- a section on a cell that may be given changes
-ready_section : (all : List CellEntry) (modules : List (FileModel VModule)) (entities : List (FileModel VEntity)) (section : Section) (c : CellEntry)
-    → All KeepsRules all → All (RunsByPorts modules_of.IsSound module_machine) modules → All (RunsByPorts entities_of.IsSound entity_machine) entities
+ready_section : (all : List CellEntry) (modules : List (FileModel VModule)) (entities : List (FileModel VEntity))
+    (section : Section) (c : CellEntry)
+    → All KeepsRules all → All (RunsByPorts modules_of.IsSound module_machine) modules
+    → All (RunsByPorts entities_of.IsSound entity_machine) entities
     → slice_get all section.cell ≡ Some c → (ports_in (named_models modules entities) c).standing ≡ standing.Ready
     → IsSectionOf (listed (cells_named all modules entities)) section → CanBeCompared all modules entities section
 ready_section all modules entities section (Accepted cell entity) keep modules_run entities_run there ready s =
     accepted_section all modules entities section cell entity keep modules_run entities_run there ready s
 ready_section all modules entities section (Refused name refusal) keep modules_run entities_run there ready s = absurd cc
 
-can_be_compared : (all : List CellEntry) (modules : List (FileModel VModule)) (entities : List (FileModel VEntity)) (section : Section)
-    → All KeepsRules all → All (RunsByPorts modules_of.IsSound module_machine) modules → All (RunsByPorts entities_of.IsSound entity_machine) entities
+can_be_compared : (all : List CellEntry) (modules : List (FileModel VModule)) (entities : List (FileModel VEntity))
+    (section : Section)
+    → All KeepsRules all → All (RunsByPorts modules_of.IsSound module_machine) modules
+    → All (RunsByPorts entities_of.IsSound entity_machine) entities
     → IsSectionOf (listed (cells_named all modules entities)) section → CanBeCompared all modules entities section
 can_be_compared all modules entities section keep modules_run entities_run s =
     let models = named_models modules entities in
-    let same_length : length (cell_names all) ≡ length (map (ports_in models) all) = length-map all name_of ∙ sym (length-map all (ports_in models)) in
+    let same_length : length (cell_names all) ≡ length (map (ports_in models) all) =
+    length-map all name_of ∙ sym (length-map all (ports_in models)) in
     let (one, (there, ready)) = ready_cell (cells_named all modules entities) s.named.0 section.cell same_length s.named.1 in
     let (c, (c_there, c_is)) = image_at (ports_in models) all section.cell one there in
-    ready_section all modules entities section c keep modules_run entities_run c_there (ap (λ (p : Ports). p.standing) c_is ∙ ready) s
+    ready_section all modules entities section c keep modules_run entities_run c_there
+    (ap (λ (p : Ports). p.standing) c_is ∙ ready) s
 
 -- the sections of a stimulus over cells that keep the rules
-pub sections_of_cells : (all : List CellEntry) (modules : List (FileModel VModule)) (entities : List (FileModel VEntity)) (bytes : List ℕ) (sections : List Section)
-    → All KeepsRules all → All (RunsByPorts modules_of.IsSound module_machine) modules → All (RunsByPorts entities_of.IsSound entity_machine) entities
-    → stimulus_of (listed (cells_named all modules entities)) bytes ≡ Ok sections → All (CanBeCompared all modules entities) sections
+pub sections_of_cells : (all : List CellEntry) (modules : List (FileModel VModule)) (entities : List (FileModel VEntity))
+    (bytes : List ℕ) (sections : List Section)
+    → All KeepsRules all → All (RunsByPorts modules_of.IsSound module_machine) modules
+    → All (RunsByPorts entities_of.IsSound entity_machine) entities
+    → stimulus_of (listed (cells_named all modules entities)) bytes ≡ Ok sections
+    → All (CanBeCompared all modules entities) sections
 sections_of_cells all modules entities bytes sections keep modules_run entities_run e =
     λ k d below.
     can_be_compared all modules entities (slice_index_or sections k d) keep modules_run entities_run
@@ -224,4 +255,5 @@ sections_of_cells all modules entities bytes sections keep modules_run entities_
 
 pub sections_can_be_compared : SectionsCanBeCompared
 sections_can_be_compared cells modules entities bytes sections modules_run entities_run e =
-    sections_of_cells (all_described cells) modules entities bytes sections (described_keep_rules cells) modules_run entities_run e
+    sections_of_cells (all_described cells) modules entities bytes sections (described_keep_rules cells) modules_run entities_run
+    e

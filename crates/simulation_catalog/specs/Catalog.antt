@@ -14,7 +14,8 @@ use Rattle.stimulus.specs.PortEntries.{NamedCells}
 use Rattle.simulation_catalog.specs.declared.numbers.ModelNumbers.{ModelNumbers}
 use Rattle.simulation_catalog.specs.declared.catalog.Simulated.{Simulated}
 use Rattle.simulation_catalog.specs.PinNames.{named_ports}
-use Rattle.simulation_catalog.specs.NamedModels.{NamedModels, named_models, module_names, lowered_names, verilog_number, vital_number}
+use Rattle.simulation_catalog.specs.NamedModels.{NamedModels, named_models, module_names, lowered_names, verilog_number}
+use Rattle.simulation_catalog.specs.NamedModels.{vital_number}
 use Rattle.simulation_catalog.specs.Standings.{standing_by, numbers_by}
 
 -- how an accepted cell stands whose VITAL model has this name
@@ -46,7 +47,8 @@ abbrev pub simulated_of : List CellEntry → List (FileModel VModule) → List (
 simulated_of cells modules entities = simulated_in (named_models modules entities) cells
 
 -- no two cells have one name, no two Verilog models, and no two VITAL models whatever the case of its letters
-pub record HaveOwnNames (cells : List CellEntry) (modules : List (FileModel VModule)) (entities : List (FileModel VEntity)) : Type 0 where
+pub record HaveOwnNames (cells : List CellEntry) (modules : List (FileModel VModule)) (entities : List (FileModel VEntity)) :
+    Type 0 where
   pub of_cells : AreDistinct (cell_names cells)
   pub of_modules : AreDistinct (module_names modules)
   pub of_entities : AreDistinct (lowered_names entities)

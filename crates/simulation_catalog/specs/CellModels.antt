@@ -1,5 +1,5 @@
--- The models of the accepted cells of a library in a language: that of the core of each cell, and that of its drivers where some of its
--- outputs may float. (That the drivers of a file are models of the file, behind the others, is this project's rule.)
+-- The models of the accepted cells of a library in a language: that of the core of each cell, and that of its drivers where some
+-- of its outputs may float. (That the drivers of a file are models of the file, behind the others, is this project's rule.)
 use Rattle.std.specs.Prelude.{ℕ, List, [], ◌∷◌, ◌++◌, map, if◌then◌else◌}
 use Rattle.driver_models.specs.declared.model.DriverModel.{DriverModel}
 use Rattle.driver_models.specs.Cores.{Core}
@@ -8,8 +8,8 @@ use Rattle.file_models.specs.declared.file_model.FileModel.{FileModel}
 use Rattle.file_models.specs.FileModels.{plain_model, driver_over}
 use Rattle.library_reader.specs.LibraryCells.{CellEntry, Accepted, Refused}
 
--- The models of a cell in a language, where the cell's VITAL model is called so: that of its core, and that of its drivers; and a model as
--- one that may be a core.
+-- The models of a cell in a language, where the cell's VITAL model is called so: that of its core, and that of its drivers; and a
+-- model as one that may be a core.
 pub record CellModels (M : Type 0) : Type 0 where
   pub core : DrivenData → List ℕ → M
   pub driver : DrivenData → List ℕ → DriverModel

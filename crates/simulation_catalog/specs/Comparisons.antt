@@ -1,5 +1,5 @@
--- The sections of a simulation as the report shows them: of each the cell's name, the lines of three traces and the comparison. (This
--- project's format; the traces are those of the models in the given files, whatever these hold.)
+-- The sections of a simulation as the report shows them: of each the cell's name, the lines of three traces and the comparison.
+-- (This project's format; the traces are those of the models in the given files, whatever these hold.)
 use Rattle.std.specs.Prelude.{ℕ, Bool, false, List, [], ◌++◌, Option, Some, None, is_some, slice_get}
 use Rattle.std.specs.List.{flat_map, list_any}
 use Rattle.cell_machine.specs.declared.changes.Change.{Change}
@@ -52,7 +52,8 @@ beside cell ports _ _ = None
 
 abbrev pub beside_numbers : NamedModels → DrivenData → Ports → Option ModelNumbers → Option Compared
 beside_numbers models cell ports None = None
-beside_numbers models cell ports (Some numbers) = beside cell ports (slice_get models.modules numbers.verilog) (slice_get models.entities numbers.vital)
+beside_numbers models cell ports (Some numbers) =
+    beside cell ports (slice_get models.modules numbers.verilog) (slice_get models.entities numbers.vital)
 
 abbrev pub beside_models : NamedModels → Option CellEntry → Option Compared
 beside_models models None = None

@@ -1,4 +1,5 @@
--- How a simulation ends whose stimulus has a bad line: the status, and the line that tells it. (This project's rules and formats.)
+-- How a simulation ends whose stimulus has a bad line: the status, and the line that tells it. (This project's rules and
+-- formats.)
 use Rattle.std.specs.Prelude.{ℕ, List, [], ◌++◌, codes, Option, Some, None, slice_get}
 use Rattle.std.specs.Option.{option_map_or}
 use Rattle.cell_reader.specs.declared.refusal.Refusal.{Refusal}
@@ -33,8 +34,8 @@ refused_line_by None = []
 refused_line_by (Some (Accepted cell entity)) = []
 refused_line_by (Some (Refused name refusal)) = refused_cell_line name refusal
 
--- The line on the first bad line of a stimulus, which has this number and cause: where a cell may not be given changes the line tells
--- this cell.
+-- The line on the first bad line of a stimulus, which has this number and cause: where a cell may not be given changes the line
+-- tells this cell.
 abbrev pub cause_line : List CellEntry → ℕ → Cause → List ℕ
 cause_line cells line (cause.RefusedCell number) = refused_line_by (slice_get cells number)
 cause_line cells line (cause.VerilogPorts number) = verilog_ports_line (name_at cells number)

@@ -1,5 +1,6 @@
 -- The models that are generated for the accepted cells of a library, beside these cells.
-use Rattle.std.specs.Prelude.{◌≡◌, ◌≢◌, ℕ, false, List, [], ◌++◌, codes, decimal, Result, Some, None, Ok, IfOk, IfErr, IsTrue, All, slice_get, if◌then◌else◌}
+use Rattle.std.specs.Prelude.{◌≡◌, ◌≢◌, ℕ, false, List, [], ◌++◌, codes, decimal, Result, Some, None, Ok, IfOk, IfErr, IsTrue}
+use Rattle.std.specs.Prelude.{All, slice_get, if◌then◌else◌}
 use Rattle.bool_functions.specs.NameList.{AreDistinct}
 use Rattle.cell_machine.specs.declared.changes.Change.{Change}
 use Rattle.cell_machine.specs.CellRules.{is_cell}
@@ -35,8 +36,8 @@ use Rattle.simulation_catalog.specs.Comparisons.{Compared, cell_machine, lines_o
 use Rattle.simulation_catalog.specs.FaultLines.{cause_stop}
 use Rattle.simulation_catalog.specs.Ends.{sections_outcome}
 
--- The name of the entity of a cell's core, where the VITAL model of the cell is called so: this, or where some outputs may float the
--- core's own, which VHDL text does not keep.
+-- The name of the entity of a cell's core, where the VITAL model of the cell is called so: this, or where some outputs may float
+-- the core's own, which VHDL text does not keep.
 abbrev pub core_entity_name : DrivenData → List ℕ → List ℕ
 core_entity_name cell entity = if may_float cell then codes "cell" ++ decimal cell.core.number else entity
 
@@ -122,7 +123,8 @@ AcceptedAreReady =
 
 -- The traces of a cell and of the models that stand for it are equal on these changes.
 pub record HasEqualTraces (cell : DrivenData) (entity : List ℕ) (cs : List Change) : Type 0 where
-  pub verilog : lines_along (machine_by module_machine (own_verilog cell entity)).line cs ≡ lines_along (cell_machine cell).line cs
+  pub verilog : lines_along (machine_by module_machine (own_verilog cell entity)).line cs ≡ lines_along
+      (cell_machine cell).line cs
   pub vital : lines_along (machine_by entity_machine (own_vital cell entity)).line cs ≡ lines_along (cell_machine cell).line cs
 
 -- So they are of each cell, some of whose outputs may float, for every list of changes of its inputs at times that rise strictly.
@@ -139,8 +141,10 @@ NoSectionDiffers =
     → stimulus_of (listed (cells_named cells (modules_of cells) (entities_of cells))) bytes ≡ Ok sections
     → any_differs cells (modules_of cells) (entities_of cells) sections ≡ false
 
--- The three traces of a section are equal, and its text says so: the cell's name, the lines of the traces, and that they are equal.
-pub record SaysEqual (cells : List CellEntry) (modules : List (FileModel VModule)) (entities : List (FileModel VEntity)) (section : Section) : Type 0 where
+-- The three traces of a section are equal, and its text says so: the cell's name, the lines of the traces, and that they are
+-- equal.
+pub record SaysEqual (cells : List CellEntry) (modules : List (FileModel VModule)) (entities : List (FileModel VEntity))
+    (section : Section) : Type 0 where
   pub compared : Compared
   pub is_compared : compared_at cells modules entities section.cell ≡ Some compared
   pub equal : first_unlike section.changes (lines_of compared) ≡ None
@@ -149,7 +153,8 @@ pub record SaysEqual (cells : List CellEntry) (modules : List (FileModel VModule
       ≡ heading_text compared.name ++ (compared_text compared.ports section.changes (lines_of compared) ++ verdict_text None)
 
 -- a run that comes to this at its stimulus does not end for want of a model, nor with traces that differ: each section says equal
-pub record EndsEqual (cells : List CellEntry) (modules : List (FileModel VModule)) (entities : List (FileModel VEntity)) (answer : Result (List Section) FileStop) : Type 0 where
+pub record EndsEqual (cells : List CellEntry) (modules : List (FileModel VModule)) (entities : List (FileModel VEntity))
+    (answer : Result (List Section) FileStop) : Type 0 where
   pub not_model : IfErr answer (λ stop. stop.status ≢ status.Model)
   pub not_differ : IfErr answer (λ stop. stop.status ≢ status.Differ)
   pub no_difference : IfOk answer (λ sections. any_differs cells modules entities sections ≡ false)
@@ -161,4 +166,5 @@ abbrev pub NeverModelOrDiffer : Type 0
 NeverModelOrDiffer =
     (cells : List CellEntry) (bytes : List ℕ)
     → All KeepsRules cells → HaveOwnModels cells
-    → EndsEqual cells (modules_of cells) (entities_of cells) (stimulus_answer (cause_stop cells) (cells_named cells (modules_of cells) (entities_of cells)) bytes)
+    → EndsEqual cells (modules_of cells) (entities_of cells)
+    (stimulus_answer (cause_stop cells) (cells_named cells (modules_of cells) (entities_of cells)) bytes)

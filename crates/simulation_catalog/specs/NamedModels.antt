@@ -1,6 +1,7 @@
--- The models of two files, and those of a cell among them. The Verilog model of a cell has the name and the ports that are written for the
--- cell in Verilog text, its VITAL model those that are written in VHDL text. Where outputs of the cell may float, these are the models of
--- its drivers. (This project's rules; IEEE 1364-2005, 3.7, and IEEE 1076-1993, 13.3.1, on when names are the same.)
+-- The models of two files, and those of a cell among them. The Verilog model of a cell has the name and the ports that are
+-- written for the cell in Verilog text, its VITAL model those that are written in VHDL text. Where outputs of the cell may float,
+-- these are the models of its drivers. (This project's rules; IEEE 1364-2005, 3.7, and IEEE 1076-1993, 13.3.1, on when names are
+-- the same.)
 use Rattle.std.specs.Prelude.{ℕ, Bool, false, List, map, slice_get, Option, Some, None, if◌then◌else◌}
 use Rattle.std.specs.Option.{option_map}
 use Rattle.bool_functions.specs.NameList.{number_of}
@@ -79,9 +80,11 @@ verilog_name cell =
 -- The number of the Verilog model of a cell, where it is there with the cell's ports.
 unfoldable pub verilog_number : NamedModels → DrivenData → Option ℕ
 verilog_number models cell =
-    with_ports Exact (verilog.ports_of (pins_of cell)) (module_ports models.modules) (number_of models.module_names (verilog_name cell))
+    with_ports Exact (verilog.ports_of (pins_of cell)) (module_ports models.modules)
+    (number_of models.module_names (verilog_name cell))
 
 -- The number of the VITAL model of a cell, which has this name, where it is there with the cell's ports.
 unfoldable pub vital_number : NamedModels → List ℕ → DrivenData → Option ℕ
 vital_number models entity cell =
-    with_ports AnyCase (vital.ports_of entity (pins_of cell)) (entity_ports models.entities) (number_of models.entity_names (lowered entity))
+    with_ports AnyCase (vital.ports_of entity (pins_of cell)) (entity_ports models.entities)
+    (number_of models.entity_names (lowered entity))

@@ -1,5 +1,5 @@
--- The ports of a cell by the names of its pins. Inputs are numbered among the input pins and outputs among the output pins, in their
--- order, as the cell's machine numbers them.
+-- The ports of a cell by the names of its pins. Inputs are numbered among the input pins and outputs among the output pins, in
+-- their order, as the cell's machine numbers them.
 use Rattle.std.specs.Prelude.{ℕ, Bool, not, ◌||◌, List, [], ◌∷◌, map, if◌then◌else◌}
 use Rattle.bool_functions.specs.NameList.{AreDistinct}
 use Rattle.cell_machine.specs.declared.pins.Pin.{Pin}

@@ -1,6 +1,6 @@
--- When a model has the ports that are written for a cell: as many, with their names and directions, in their order. Names of Verilog
--- are the same where they are byte for byte (IEEE 1364-2005, 3.7), names of VHDL whatever the case of their letters (IEEE 1076-1993,
--- 13.3.1).
+-- When a model has the ports that are written for a cell: as many, with their names and directions, in their order. Names of
+-- Verilog are the same where they are byte for byte (IEEE 1364-2005, 3.7), names of VHDL whatever the case of their letters (IEEE
+-- 1076-1993, 13.3.1).
 use Rattle.std.specs.Prelude.{ℕ, Bool, true, false, ◌&&◌, List, [], ◌∷◌}
 use Rattle.std.specs.Str.{bytes_eq, str_eq_ignore_ascii_case}
 use Rattle.udp_tables.specs.declared.models.VPort.{VPort}

@@ -31,9 +31,11 @@ pub record RunsByPorts {M : Type 0} (is_sound : M → Type 0) (machine : M → M
   pub inputs : length (input_names f.ports) ≡ f.driver.inputs
   pub outputs : length (output_names f.ports) ≡ f.driver.outputs
 
--- A section can be run on the cell with its number and on the models that stand for this cell: both models can be run, all three have
--- as many inputs and outputs as the cell has named ports, and the section's changes are of its inputs, at times that rise strictly.
-pub record CanBeCompared (cells : List CellEntry) (modules : List (FileModel VModule)) (entities : List (FileModel VEntity)) (section : Section) : Type 0 where
+-- A section can be run on the cell with its number and on the models that stand for this cell: both models can be run, all three
+-- have as many inputs and outputs as the cell has named ports, and the section's changes are of its inputs, at times that rise
+-- strictly.
+pub record CanBeCompared (cells : List CellEntry) (modules : List (FileModel VModule)) (entities : List (FileModel VEntity))
+    (section : Section) : Type 0 where
   pub cell : DrivenData
   pub entity_name : List ℕ
   pub ports : Ports
@@ -62,14 +64,16 @@ pub record CanBeCompared (cells : List CellEntry) (modules : List (FileModel VMo
 -- The sections of a stimulus that is read over the catalog of cells can be run so, where all models can be run.
 abbrev pub SectionsCanBeCompared : Type 0
 SectionsCanBeCompared =
-    (cells : List LibraryCell) (modules : List (FileModel VModule)) (entities : List (FileModel VEntity)) (bytes : List ℕ) (sections : List Section)
+    (cells : List LibraryCell) (modules : List (FileModel VModule)) (entities : List (FileModel VEntity)) (bytes : List ℕ)
+    (sections : List Section)
     → All (RunsByPorts modules_of.IsSound module_machine) modules → All (RunsByPorts entities_of.IsSound entity_machine) entities
     → stimulus_of (listed (cells_named (all_described cells) modules entities)) bytes ≡ Ok sections
     → All (CanBeCompared (all_described cells) modules entities) sections
 
 -- the cell with this number is accepted, with these data and with this name of its VITAL model
 abbrev pub HasData : List LibraryCell → ℕ → DrivenData → List ℕ → Type 0
-HasData cells number content entity = (cell : DrivenCell) × (slice_get cells number ≡ Some (kept.Accepted cell entity)) × (driven_data_of cell ≡ content)
+HasData cells number content entity = (cell : DrivenCell) × (slice_get cells number ≡ Some (kept.Accepted cell entity))
+    × (driven_data_of cell ≡ content)
 
 -- The accepted cell that a list of cells is described to have at a place is the one that stands there.
 abbrev pub DescribedAreCells : Type 0

@@ -4,12 +4,13 @@ ghost use Rattle.std.specs.Option.{option_copied, option_map, option_map_or};
 ghost use Rattle.text_io.specs.declared.slots.OutSlot.TheVariants.{Faults};
 ghost use Rattle.text_io.specs.Desk.{HasCause, WritesText};
 ghost use Rattle.library_reader.specs.LibraryCells.{described, all_described, name_of};
-ghost use Rattle.simulation_catalog.specs.FaultLines.{refused_cell_line, verilog_ports_line, vital_ports_line, refused_line_by, cause_line, cause_status as cause_status_of, cause_stop};
+ghost use Rattle.simulation_catalog.specs.FaultLines.{refused_cell_line, verilog_ports_line, vital_ports_line, refused_line_by};
+ghost use Rattle.simulation_catalog.specs.FaultLines.{cause_line, cause_status as cause_status_of, cause_stop};
 
 use cell_reader::Refusal;
-use run_outcome::{Status, ended};
 use library_reader::{LibraryCell, PrintedName, RefusalLine};
 use model_files::{BadLineStop, write_stimulus_fault};
+use run_outcome::{Status, ended};
 use stimulus::Cause;
 use text_io::{Bytes, Desk, Failed, OutSlot, parts, write_part, write_pieces};
 
@@ -51,7 +52,8 @@ fn write_cause<D: Desk>(
     line: usize,
     cause: Cause,
 ) -> Result<(), Failed>
-    ensures text { WritesText (D.state desk.old) (D.state desk.new) Faults (cause_line (all_described cells.now) line cause) result }
+    ensures text { WritesText (D.state desk.old) (D.state desk.new) Faults (cause_line (all_described cells.now) line cause)
+        result }
     ensures cause { HasCause (D.faults desk.old) (D.faults desk.new) result }
 {
     match cause {
@@ -81,7 +83,8 @@ fn name_of(cell: Option<&LibraryCell>) -> &[u8]
 /// Tells why a cell is refused; nothing of one that is not.
 #[tactic(auto, using(text_io::proofs::Wrote::desk_laws))]
 fn write_refused<D: Desk>(desk: &mut D, cell: Option<&LibraryCell>) -> Result<(), Failed>
-    ensures text { WritesText (D.state desk.old) (D.state desk.new) Faults (refused_line_by (option_map described (option_copied cell.entry))) result }
+    ensures text { WritesText (D.state desk.old) (D.state desk.new) Faults
+        (refused_line_by (option_map described (option_copied cell.entry))) result }
     ensures cause { HasCause (D.faults desk.old) (D.faults desk.new) result }
 {
     match cell {

@@ -73,7 +73,8 @@ fn simulated_in(
     files: &ModelFiles<'_>,
     cells: &[LibraryCell],
 ) -> Result<Simulated, AllocError>
-    ensures { IfOk result (λ simulated. AreDistinct (cell_names (all_described cells.now)) → simulated ≡ simulated_in (shown files.now) (all_described cells.now)) }
+    ensures { IfOk result (λ simulated. AreDistinct (cell_names (all_described cells.now))
+        → simulated ≡ simulated_in (shown files.now) (all_described cells.now)) }
 {
     let mut catalog = PortCatalog::new(alloc);
     let mut models = Items::new(alloc);
@@ -100,7 +101,8 @@ pub fn simulation_catalog(
     modules: &[FileModel<VModule>],
     entities: &[FileModel<VEntity>],
 ) -> Result<Simulated, AllocError>
-    ensures { IfOk result (λ simulated. HaveOwnNames (all_described cells.now) modules.now entities.now → simulated ≡ simulated_of (all_described cells.now) modules.now entities.now) }
+    ensures { IfOk result (λ simulated. HaveOwnNames (all_described cells.now) modules.now entities.now
+        → simulated ≡ simulated_of (all_described cells.now) modules.now entities.now) }
 {
     let files = ModelFiles {
         modules,

@@ -1,6 +1,7 @@
 //! Laws of the definitions, for the crates above. The functions do nothing.
 ghost use Rattle.simulation_catalog.specs.Sections.{SectionsCanBeCompared, DescribedAreCells};
-ghost use Rattle.simulation_catalog.specs.Generated.{DescribedKeepRules, AcceptedAreReady, OwnModelsShowTheSame, NoSectionDiffers, NeverModelOrDiffer};
+ghost use Rattle.simulation_catalog.specs.Generated.{DescribedKeepRules, AcceptedAreReady, OwnModelsShowTheSame};
+ghost use Rattle.simulation_catalog.specs.Generated.{NoSectionDiffers, NeverModelOrDiffer};
 
 /// Each section of a stimulus that is read over the catalog is on an accepted cell with a Verilog and a VITAL model that stand
 /// for it, and where all models can be run these three can be run on its changes: each has as many inputs and outputs as the cell

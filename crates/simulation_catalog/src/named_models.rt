@@ -2,7 +2,10 @@
 ghost use Rattle.std.specs.Prelude.{◌≡◌, IfOk};
 ghost use Rattle.bool_functions.specs.NameList.{AreDistinct};
 ghost use Rattle.three_state_cells.specs.DrivenCells.{driven_data_of};
-ghost use Rattle.simulation_catalog.specs.NamedModels.{verilog_name as verilog_name_of, module_names as module_names_of, lowered_names as lowered_names_of, shown, has_ports, module_ports, entity_ports, verilog_number as verilog_number_of, vital_number as vital_number_of};
+ghost use Rattle.simulation_catalog.specs.NamedModels.{verilog_name as verilog_name_of, module_names as module_names_of};
+ghost use Rattle.simulation_catalog.specs.NamedModels.{lowered_names as lowered_names_of, shown, has_ports, module_ports};
+ghost use Rattle.simulation_catalog.specs.NamedModels.{entity_ports, verilog_number as verilog_number_of};
+ghost use Rattle.simulation_catalog.specs.NamedModels.{vital_number as vital_number_of};
 ghost use Rattle.simulation_catalog.specs.declared.same_ports.Spelling.TheVariants as spelling;
 
 use crate::numbers::Found;
@@ -39,7 +42,8 @@ impl<'a> ModelFiles<'a> {
         entity: &[u8],
     ) -> Result<Found, AllocError>
         ensures verilog { IfOk result (λ found. found.verilog ≡ verilog_number_of (shown self.now) (driven_data_of cell.now)) }
-        ensures vital { IfOk result (λ found. found.vital ≡ vital_number_of (shown self.now) entity.now (driven_data_of cell.now)) }
+        ensures vital { IfOk result (λ found. found.vital ≡ vital_number_of (shown self.now) entity.now
+            (driven_data_of cell.now)) }
     {
         Ok(Found {
             verilog: self.verilog_number(alloc, cell)?,

@@ -1,6 +1,7 @@
 //! The names of a cell's ports.
 ghost use Rattle.std.specs.Prelude.{◌≡◌, IfOk};
-ghost use Rattle.simulation_catalog.specs.PinNames.{AreNamedApart, same_direction as same_direction_of, pin_names as pin_names_of, named_ports as named_ports_of};
+ghost use Rattle.simulation_catalog.specs.PinNames.{AreNamedApart, same_direction as same_direction_of};
+ghost use Rattle.simulation_catalog.specs.PinNames.{pin_names as pin_names_of, named_ports as named_ports_of};
 
 use bool_functions::Names;
 use cell_machine::{Direction, Pin};

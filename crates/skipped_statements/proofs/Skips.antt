@@ -1,5 +1,6 @@
 -- One turn of values and of statements that are gone past.
-use Rattle.std.proofs.Common.{◌≡◌, ◌≢◌, ℕ, zero, suc, ◌+◌, ◌-◌, ◌<◌, true, false, List, [], ◌∷◌, Some, None, Result, Ok, Err, refl, sym, ap, subst, ◌∙◌, arith}
+use Rattle.std.proofs.Common.{◌≡◌, ◌≢◌, ℕ, zero, suc, ◌+◌, ◌-◌, ◌<◌, true, false, List, [], ◌∷◌, Some, None, Result, Ok, Err}
+use Rattle.std.proofs.Common.{refl, sym, ap, subst, ◌∙◌, arith}
 use Rattle.liberty_text.specs.declared.token.Token.{Token}
 use Rattle.grammar_rules.specs.Rule.{Gives}
 use Rattle.grammar_rules.specs.Reading.{Outcome, repeat, read}
@@ -10,7 +11,8 @@ use Rattle.liberty_groups.specs.declared.reader.Place.{Place}
 use Rattle.liberty_groups.specs.declared.reader.Start.TheVariants as start
 use Rattle.liberty_groups.specs.Lexeme.{Lexeme, next_token, rest}
 use Rattle.liberty_groups.specs.Grammar.{goes_on, starts, next_start, Reads}
-use Rattle.skipped_statements.specs.Skipping.{Skipping, passed_at, skipped_more, skipped_statements, skipped_statement, skipped_body}
+use Rattle.skipped_statements.specs.Skipping.{Skipping, passed_at, skipped_more, skipped_statements, skipped_statement}
+use Rattle.skipped_statements.specs.Skipping.{skipped_body}
 
 less : (n i : ℕ) → i < n → n - i ≡ suc (n - (i + 1))
 less n i h = omega arith
@@ -22,7 +24,8 @@ some_is e = cc
 abbrev pub part_turns : Place → ℕ → List Lexeme → Outcome Lexeme Refusal (Unit {0})
 part_turns p n s = repeat (λ _. passed_at p) (λ (v : Unit {0}) (a : Unit {0}) r. read (Gives tt) r) n tt s
 
-part_suc : (p : Place) (n : ℕ) (s : List Lexeme) (t : Token) → next_token s ≡ Some t → goes_on p t ≡ true → part_turns p (suc n) s ≡ part_turns p n (rest s)
+part_suc : (p : Place) (n : ℕ) (s : List Lexeme) (t : Token) → next_token s ≡ Some t → goes_on p t ≡ true
+    → part_turns p (suc n) s ≡ part_turns p n (rest s)
 part_suc p n [] t e h = absurd cc
 part_suc p n (x ∷ s) t e h = let i : goes_on p x.token ≡ true = ap (goes_on p) (some_is e) ∙ h in rw i refl
 
@@ -30,7 +33,8 @@ pub part_turn : (p : Place) (n i : ℕ) (s : List Lexeme) (t : Token) → i < n 
     part_turns p (n - i) s ≡ part_turns p (n - (i + 1)) (rest s)
 part_turn p n i s t l e h = ap (λ (m : ℕ). part_turns p m s) (less n i l) ∙ part_suc p (n - (i + 1)) s t e h
 
-pub part_end : (p : Place) (n : ℕ) (s : List Lexeme) (t : Token) → next_token s ≡ Some t → goes_on p t ≡ false → part_turns p n s ≡ Ok (tt, s)
+pub part_end : (p : Place) (n : ℕ) (s : List Lexeme) (t : Token) → next_token s ≡ Some t → goes_on p t ≡ false
+    → part_turns p n s ≡ Ok (tt, s)
 part_end p zero s t e h = refl
 part_end p (suc n) [] t e h = refl
 part_end p (suc n) (x ∷ s) t e h = let i : goes_on p x.token ≡ false = ap (goes_on p) (some_is e) ∙ h in rw i refl
@@ -44,7 +48,8 @@ part_none p (suc n) (x ∷ s) e = absurd cc
 abbrev pub statement_turns : Skipping → ℕ → List Lexeme → Outcome Lexeme Refusal (Unit {0})
 statement_turns rule n s = repeat (λ _. starts) (λ u a r. read (skipped_more rule u a) r) n tt s
 
-empty_suc : (rule : Skipping) (n : ℕ) (s : List Lexeme) → next_start s ≡ start.Empty → statement_turns rule (suc n) s ≡ statement_turns rule n (rest s)
+empty_suc : (rule : Skipping) (n : ℕ) (s : List Lexeme) → next_start s ≡ start.Empty
+    → statement_turns rule (suc n) s ≡ statement_turns rule n (rest s)
 empty_suc rule n [] e = absurd cc
 empty_suc rule n (x ∷ s) e = rw e refl
 
@@ -57,7 +62,8 @@ named_suc : (rule : Skipping) (n : ℕ) (s r : List Lexeme) → next_start s ≡
 named_suc rule n [] r e h = absurd cc
 named_suc rule n (x ∷ s) r e h = rw (e, h) refl
 
-pub named_turn : (rule : Skipping) (n i : ℕ) (s r : List Lexeme) → i < n → next_start s ≡ start.Named → read rule (rest s) ≡ Ok (tt, r) →
+pub named_turn : (rule : Skipping) (n i : ℕ) (s r : List Lexeme) → i < n → next_start s ≡ start.Named
+    → read rule (rest s) ≡ Ok (tt, r) →
     statement_turns rule (n - i) s ≡ statement_turns rule (n - (i + 1)) r
 named_turn rule n i s r h e t = ap (λ (k : ℕ). statement_turns rule k s) (less n i h) ∙ named_suc rule (n - (i + 1)) s r e t
 

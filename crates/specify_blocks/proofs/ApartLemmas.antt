@@ -1,5 +1,6 @@
 -- No net of a generated instance stands twice among its terminals.
-use Rattle.std.proofs.Common.{◌≡◌, ℕ, ◌<◌, Bool, true, false, not, ◌||◌, List, [], ◌∷◌, ◌++◌, length, map, refl, sym, ap, ◌∙◌, subst, arith, IsTrue, Option, Some, None, slice_get, nat_eq}
+use Rattle.std.proofs.Common.{◌≡◌, ℕ, ◌<◌, Bool, true, false, not, ◌||◌, List, [], ◌∷◌, ◌++◌, length, map, refl, sym, ap, ◌∙◌}
+use Rattle.std.proofs.Common.{subst, arith, IsTrue, Option, Some, None, slice_get, nat_eq}
 use Rattle.std.specs.List.{list_any, list_all}
 use Rattle.std.specs.Option.{option_map_or}
 use Rattle.std.proofs.lemmas.List.Folds.{list_any-append}
@@ -27,7 +28,8 @@ less-apart : (a b : ℕ) → a < b → nat_eq a b ≡ false
 less-apart a b h = ne_eqb a b (λ e. omega (arith, e, h))
 
 -- nets that are given to ascending keys
-module _ {X : Type 0} (key : X → ℕ) (give : X → VNet) (ok : X → Bool) (differ : (x y : X) → IsTrue (ok x) → IsTrue (ok y) → key x < key y → same_net (give x) (give y) ≡ false) where
+module _ {X : Type 0} (key : X → ℕ) (give : X → VNet) (ok : X → Bool) (differ : (x y : X) → IsTrue (ok x) → IsTrue (ok y)
+    → key x < key y → same_net (give x) (give y) ≡ false) where
   none_above :
       (x : X) (ys : List X) → IsTrue (ok x) → IsTrue (list_all ok ys) → AllAbove (key x) (map key ys)
       → list_any (same_net (give x)) (map give ys) ≡ false
@@ -84,7 +86,8 @@ apart_sources pins groups support a h =
     apart_nets (source_name (length pins)) (source_net pins) (is_source pins groups) (source_differ pins groups) support a h
 
 -- no wire is the net of a pin
-pub wire_apart : (w : ℕ) (pins : List Pin) (support : List ℕ) → list_any (same_net (net.Wire w)) (map (pin_net pins) support) ≡ false
+pub wire_apart : (w : ℕ) (pins : List Pin) (support : List ℕ)
+    → list_any (same_net (net.Wire w)) (map (pin_net pins) support) ≡ false
 wire_apart w pins [] = refl
 wire_apart w pins (p ∷ support) = wire_apart w pins support
 
@@ -98,7 +101,8 @@ pub wire_apart_all :
     → list_any (same_net (net.Wire w)) (map (pin_net pins) support ++ notifier_nets b) ≡ false
 wire_apart_all w pins support b =
     list_any-append (same_net (net.Wire w)) (map (pin_net pins) support) (notifier_nets b)
-    ∙ or-false (list_any (same_net (net.Wire w)) (map (pin_net pins) support)) (list_any (same_net (net.Wire w)) (notifier_nets b))
+    ∙ or-false (list_any (same_net (net.Wire w)) (map (pin_net pins) support))
+    (list_any (same_net (net.Wire w)) (notifier_nets b))
     (wire_apart w pins support) (notified b (net.Wire w) refl)
 
 notifier_alone : (b : Bool) → IsTrue (are_apart (notifier_nets b))
@@ -115,7 +119,8 @@ apart_noted pins (p ∷ support) b h =
     let parts = and_parts (not (list_any (same_net this) others)) (are_apart others) h in
     and_from (not (list_any (same_net this) (others ++ notifier_nets b))) (are_apart (others ++ notifier_nets b))
     (ap not (list_any-append (same_net this) others (notifier_nets b)
-    ∙ or-false (list_any (same_net this) others) (list_any (same_net this) (notifier_nets b)) (turned (list_any (same_net this) others) parts.0) (notified b this refl)))
+    ∙ or-false (list_any (same_net this) others) (list_any (same_net this) (notifier_nets b))
+    (turned (list_any (same_net this) others) parts.0) (notified b this refl)))
     (apart_noted pins support b parts.1)
   where
     turned : (c : Bool) → IsTrue (not c) → c ≡ false
@@ -144,7 +149,8 @@ output_apart pins groups o (source.Pin p ∷ support) h k =
     let parts = and_parts (is_source pins groups (source.Pin p)) (list_all (is_source pins groups) support) k in
     let ends = output_port pins 1 o h in
     let starts = input_port pins 1 p parts.0 in
-    or-false (nat_eq (port_number pins o) (port_number pins p)) (list_any (same_net (pin_net pins o)) (map (source_net pins) support))
+    or-false (nat_eq (port_number pins o) (port_number pins p))
+    (list_any (same_net (pin_net pins o)) (map (source_net pins) support))
     (ne_eqb (port_number pins o) (port_number pins p)
     (λ e. both_ways (ports_from 1 pins) (port_number pins o) (port_number pins p) e ends starts))
     (output_apart pins groups o support h parts.1)

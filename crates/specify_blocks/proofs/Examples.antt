@@ -41,7 +41,14 @@ flip_flop =
             support = 0 ∷ 1 ∷ [];
           } ∷ [];
       outputs = record { pin = 2; function = node.Name 3; support = source.State 0 ∷ [] } ∷ [];
-      checks = record { kind = check_kind.Setup; first = record { pin = 1; edge = edge.Any }; second = record { pin = 0; edge = edge.Rise }; limit = 50; condition = None } ∷ [];
+      checks = record {
+        kind = check_kind.Setup;
+        first = record { pin = 1; edge = edge.Any };
+        second =
+            record { pin = 0; edge = edge.Rise };
+        limit = 50;
+        condition = None;
+      } ∷ [];
       arcs = record { from = 0; to = 2; rise = 100; fall = 120; condition = None } ∷ [];
     }
 
@@ -64,7 +71,14 @@ its-paths = refl
 
 its-checks :
     map (check_of flip_flop) flip_flop.checks
-    ≡ record { kind = check_kind.Setup; first = record { pin = 1; edge = edge.Any }; second = record { pin = 0; edge = edge.Rise }; limit = 50; condition = None } ∷ []
+    ≡ record {
+      kind = check_kind.Setup;
+      first = record { pin = 1; edge = edge.Any };
+      second =
+          record { pin = 0; edge = edge.Rise };
+      limit = 50;
+      condition = None;
+    } ∷ []
 unfolding flip_flop
 its-checks = refl
 

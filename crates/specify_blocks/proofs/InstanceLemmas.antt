@@ -1,5 +1,6 @@
 -- Which instances drive a net, and instances in order.
-use Rattle.std.proofs.Common.{◌≡◌, ℕ, zero, suc, ◌+◌, ◌<◌, ◌≤◌, Bool, true, false, ◌&&◌, ◌||◌, cond, List, [], ◌∷◌, ◌++◌, length, map, refl, sym, ap, ◌∙◌, subst, arith, append_assoc, IsTrue, Some, slice_get, nat_eq, if◌then◌else◌}
+use Rattle.std.proofs.Common.{◌≡◌, ℕ, zero, suc, ◌+◌, ◌<◌, ◌≤◌, Bool, true, false, ◌&&◌, ◌||◌, cond, List, [], ◌∷◌, ◌++◌, length}
+use Rattle.std.proofs.Common.{map, refl, sym, ap, ◌∙◌, subst, arith, append_assoc, IsTrue, Some, slice_get, nat_eq, if◌then◌else◌}
 use Rattle.std.specs.List.{list_any}
 use Rattle.std.proofs.lemmas.List.Sums.{sum_by-cons, sum_by-append}
 use Rattle.std.proofs.lemmas.List.{append-nil}
@@ -46,7 +47,8 @@ is_state-more m earlier more w h =
     ∙ or-left (is_state m earlier w) (is_state m more w) h
 
 -- instances that drive the wires from b on, in order
-module _ {X : Type 0} (make : ℕ → X → Instance) (b : ℕ) (drives : (k : ℕ) (x : X) → net_driven (make k x) ≡ net.Wire (b + k)) where
+module _ {X : Type 0} (make : ℕ → X → Instance) (b : ℕ) (drives : (k : ℕ) (x : X)
+    → net_driven (make k x) ≡ net.Wire (b + k)) where
   pub no_port : (k : ℕ) (xs : List X) (p : ℕ) → drivers (each_from make k xs) (net.Port p) ≡ 0
   no_port k [] p = refl
   no_port k (x ∷ xs) p =
@@ -54,7 +56,8 @@ module _ {X : Type 0} (make : ℕ → X → Instance) (b : ℕ) (drives : (k : �
       ap (λ n. cond (same_net n (net.Port p)) 1 0) (drives k x) in
       omega (arith, drivers-cons (make k x) (each_from make (k + 1) xs) (net.Port p), none, no_port (k + 1) xs p)
 
-  wire_count : (k : ℕ) (x : X) (w : ℕ) → ◌≡◌ {A = ℕ} (cond (same_net (net_driven (make k x)) (net.Wire w)) 1 0) (cond (nat_eq (b + k) w) 1 0)
+  wire_count : (k : ℕ) (x : X) (w : ℕ)
+      → ◌≡◌ {A = ℕ} (cond (same_net (net_driven (make k x)) (net.Wire w)) 1 0) (cond (nat_eq (b + k) w) 1 0)
   wire_count k x w = ap (λ n. cond (same_net n (net.Wire w)) 1 0) (drives k x)
 
   pub wire_before : (k : ℕ) (xs : List X) (w : ℕ) → w < b + k → drivers (each_from make k xs) (net.Wire w) ≡ 0
@@ -71,7 +74,8 @@ module _ {X : Type 0} (make : ℕ → X → Instance) (b : ℕ) (drives : (k : �
       let rest = wire_after (k + 1) xs w (omega arith) in
       omega (arith, drivers-cons (make k x) (each_from make (k + 1) xs) (net.Wire w), wire_count k x w, missed, rest)
 
-  pub wire_once : (k : ℕ) (xs : List X) (w : ℕ) → b + k ≤ w → w < b + k + length xs → drivers (each_from make k xs) (net.Wire w) ≡ 1
+  pub wire_once : (k : ℕ) (xs : List X) (w : ℕ) → b + k ≤ w → w < b + k + length xs
+      → drivers (each_from make k xs) (net.Wire w) ≡ 1
   wire_once k [] w h i = absurd (omega arith)
   wire_once k (x ∷ xs) w h i = by (nat_eq (b + k) w) refl (λ le below. wire_once (k + 1) xs w le below)
     where
@@ -100,18 +104,26 @@ output_net cell j output = by (has_sources output)
   where
     by :
         (b : Bool)
-        → net_driven (if b then instance.Primitive j (pin_net cell.pins output.pin) (map (source_net cell.pins) output.support) else instance.Constant (pin_net cell.pins output.pin) (value_of no_values output.function))
+        → net_driven (if b then instance.Primitive j (pin_net cell.pins output.pin) (map (source_net cell.pins) output.support)
+        else instance.Constant (pin_net cell.pins output.pin) (value_of no_values output.function))
         ≡ pin_net cell.pins output.pin
     by true = refl
     by false = refl
 
-pub no_wire : (cell : CellData) (j : ℕ) (outputs : List OutputPin) (w : ℕ) → drivers (output_instances cell j outputs) (net.Wire w) ≡ 0
+pub no_wire : (cell : CellData) (j : ℕ) (outputs : List OutputPin) (w : ℕ)
+    → drivers (output_instances cell j outputs) (net.Wire w) ≡ 0
 no_wire cell j [] w = refl
 no_wire cell j (output ∷ outputs) w =
     let none : ◌≡◌ {A = ℕ} (cond (same_net (net_driven (output_instance cell j output)) (net.Wire w)) 1 0) 0 =
     ap (λ n. cond (same_net n (net.Wire w)) 1 0) (output_net cell j output) in
     let rest = no_wire cell (after_output j output) outputs w in
-    omega (arith, drivers-cons (output_instance cell j output) (output_instances cell (after_output j output) outputs) (net.Wire w), none, rest)
+    omega (
+      arith,
+      drivers-cons (output_instance cell j output) (output_instances cell (after_output j output) outputs)
+          (net.Wire w),
+      none,
+      rest,
+    )
 
 pub port_hits :
     (cell : CellData) (j : ℕ) (outputs : List OutputPin) (q : ℕ)
@@ -119,7 +131,8 @@ pub port_hits :
     ≡ hits (port_number cell.pins) q (map (λ (output : OutputPin). output.pin) outputs)
 port_hits cell j [] q = refl
 port_hits cell j (output ∷ outputs) q =
-    let same : ◌≡◌ {A = ℕ} (cond (same_net (net_driven (output_instance cell j output)) (net.Port q)) 1 0) (cond (nat_eq (port_number cell.pins output.pin) q) 1 0) =
+    let same : ◌≡◌ {A = ℕ} (cond (same_net (net_driven (output_instance cell j output)) (net.Port q)) 1 0)
+    (cond (nat_eq (port_number cell.pins output.pin) q) 1 0) =
     ap (λ n. cond (same_net n (net.Port q)) 1 0) (output_net cell j output) in
     let rest = port_hits cell (after_output j output) outputs q in
     let others : List ℕ = map (λ (o : OutputPin). o.pin) outputs in
@@ -136,8 +149,11 @@ pub are-append :
     (m : VModule) (earlier xs ys : List Instance)
     → AreInstances m earlier xs → AreInstances m (earlier ++ xs) ys → AreInstances m earlier (xs ++ ys)
 are-append m earlier [] ys h k = subst (λ e. AreInstances m e ys) (append-nil earlier) k
-are-append m earlier (x ∷ xs) ys h k =
-    (h.0, are-append m (earlier ++ x ∷ []) xs ys h.1 (subst (λ e. AreInstances m e ys) (sym (append_assoc earlier (x ∷ []) xs)) k))
+are-append m earlier (x ∷ xs) ys h k = (
+  h.0,
+  are-append m (earlier ++ x ∷ []) xs ys h.1
+      (subst (λ e. AreInstances m e ys) (sym (append_assoc earlier (x ∷ []) xs)) k),
+)
 
 pub each_are :
     {X : Type 0} (m : VModule) (make : ℕ → X → Instance) (k : ℕ) (xs : List X) (earlier : List Instance)

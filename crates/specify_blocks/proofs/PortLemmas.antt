@@ -1,5 +1,6 @@
 -- The ports of a cell's pins, and their numbers.
-use Rattle.std.proofs.Common.{◌≡◌, ℕ, zero, suc, ◌+◌, ◌<◌, Bool, true, false, not, ◌||◌, cond, List, [], ◌∷◌, take, refl, sym, ap, ◌∙◌, subst, arith, IsTrue, slice_get, nat_eq, if◌then◌else◌}
+use Rattle.std.proofs.Common.{◌≡◌, ℕ, zero, suc, ◌+◌, ◌<◌, Bool, true, false, not, ◌||◌, cond, List, [], ◌∷◌, take, refl, sym, ap}
+use Rattle.std.proofs.Common.{◌∙◌, subst, arith, IsTrue, slice_get, nat_eq, if◌then◌else◌}
 use Rattle.std.specs.Prelude.{count_by}
 use Rattle.std.specs.Option.{option_map_or}
 use Rattle.std.proofs.lemmas.List.Sums.{sum_by-cons}
@@ -30,7 +31,8 @@ pub port_number-cons :
 port_number-cons pin pins p = sum_by-cons (λ x. cond (is_port x) 1 0) pin (take p pins)
 
 -- a test of pins that ports pass, and what the port of such a pin passes
-module _ (s : Pin → Bool) (t : VPort → Bool) (fits : (k : ℕ) (pin : Pin) → IsTrue (s pin) → IsTrue (is_port pin) × IsTrue (t (port_of k pin))) where
+module _ (s : Pin → Bool) (t : VPort → Bool) (fits : (k : ℕ) (pin : Pin) → IsTrue (s pin) → IsTrue (is_port pin)
+    × IsTrue (t (port_of k pin))) where
   at_port :
       (pins : List Pin) (k p : ℕ)
       → IsTrue (option_map_or s (slice_get pins p) false)
@@ -38,10 +40,12 @@ module _ (s : Pin → Bool) (t : VPort → Bool) (fits : (k : ℕ) (pin : Pin) �
   at_port [] k p h = absurd cc
   at_port (pin ∷ pins) k zero h =
       let port = fits k pin h in
-      subst (λ b. IsTrue (option_map_or t (slice_get (if b then port_of k pin ∷ ports_from (k + 1) pins else ports_from k pins) 0) false))
+      subst (λ b. IsTrue (option_map_or t (slice_get (if b then port_of k pin ∷ ports_from (k + 1) pins else ports_from k pins) 0)
+      false))
       (sym port.0) port.1
   at_port (pin ∷ pins) k (suc p) h =
-      subst (λ n. IsTrue (option_map_or t (slice_get (if is_port pin then port_of k pin ∷ ports_from (k + 1) pins else ports_from k pins) n) false))
+      subst (λ n. IsTrue (option_map_or t
+      (slice_get (if is_port pin then port_of k pin ∷ ports_from (k + 1) pins else ports_from k pins) n) false))
       (sym (port_number-cons pin pins p))
       (later k pin pins (port_number pins p) (is_port pin) (at_port pins (k + 1) p h) (at_port pins k p h))
     where
@@ -49,7 +53,8 @@ module _ (s : Pin → Bool) (t : VPort → Bool) (fits : (k : ℕ) (pin : Pin) �
           (k : ℕ) (pin : Pin) (pins : List Pin) (n : ℕ) (b : Bool)
           → IsTrue (option_map_or t (slice_get (ports_from (k + 1) pins) n) false)
           → IsTrue (option_map_or t (slice_get (ports_from k pins) n) false)
-          → IsTrue (option_map_or t (slice_get (if b then port_of k pin ∷ ports_from (k + 1) pins else ports_from k pins) (cond b 1 0 + n)) false)
+          → IsTrue (option_map_or t (slice_get (if b then port_of k pin ∷ ports_from (k + 1) pins else ports_from k pins)
+          (cond b 1 0 + n)) false)
       later k pin pins n true h i =
           let next : suc n ≡ 1 + n = omega arith in
           subst (λ m. IsTrue (option_map_or t (slice_get (port_of k pin ∷ ports_from (k + 1) pins) m) false)) next h
@@ -146,7 +151,8 @@ one-hit f off k j [] q h o = absurd cc
 one-hit f off k j (pin ∷ pins) q h o =
     by pin.direction refl q o (λ off j q n o. one-hit f off (k + 1) j pins q n o)
   where
-    numbered : (d : Direction) (step : ℕ) → pin.direction ≡ d → cond (is_input d || is_output d) 1 0 ≡ step → Numbers f (k + 1) (off + step) pins
+    numbered : (d : Direction) (step : ℕ) → pin.direction ≡ d → cond (is_input d || is_output d) 1 0 ≡ step
+        → Numbers f (k + 1) (off + step) pins
     numbered d step e s = Numbers-tail f k off pin pins step (ap (λ x. cond (is_input x || is_output x) 1 0) e ∙ s) h
 
     first : f k ≡ off
@@ -159,8 +165,10 @@ one-hit f off k j (pin ∷ pins) q h o =
 
     by :
         (d : Direction) → pin.direction ≡ d → (q : ℕ)
-        → IsTrue (is_output_port (if is_input d || is_output d then record { name = port_name j pin.name; input = is_input d } ∷ ports_from (j + 1) pins else ports_from j pins) q)
-        → ((off j q : ℕ) → Numbers f (k + 1) off pins → IsTrue (is_output_port (ports_from j pins) q) → hits f (off + q) (output_pins_from (k + 1) pins) ≡ 1)
+        → IsTrue (is_output_port (if is_input d || is_output d
+        then record { name = port_name j pin.name; input = is_input d } ∷ ports_from (j + 1) pins else ports_from j pins) q)
+        → ((off j q : ℕ) → Numbers f (k + 1) off pins → IsTrue (is_output_port (ports_from j pins) q)
+        → hits f (off + q) (output_pins_from (k + 1) pins) ≡ 1)
         → hits f (off + q) (if is_output d then k ∷ output_pins_from (k + 1) pins else output_pins_from (k + 1) pins) ≡ 1
     by direction.Input e zero o again = absurd cc
     by direction.Input e (suc q) o again =

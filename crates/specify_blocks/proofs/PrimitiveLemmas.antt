@@ -1,12 +1,14 @@
 -- The primitives of a cell's module by their numbers.
-use Rattle.std.proofs.Common.{◌≡◌, ℕ, zero, suc, ◌+◌, ◌<◌, ◌≤◌, Bool, true, false, List, [], ◌∷◌, ◌++◌, length, refl, ap, ◌∙◌, subst, arith, Some, slice_get, nat_lt, append_assoc, length-append, decimal}
+use Rattle.std.proofs.Common.{◌≡◌, ℕ, zero, suc, ◌+◌, ◌<◌, ◌≤◌, Bool, true, false, List, [], ◌∷◌, ◌++◌, length, refl, ap, ◌∙◌}
+use Rattle.std.proofs.Common.{subst, arith, Some, slice_get, nat_lt, append_assoc, length-append, decimal}
 use Rattle.std.proofs.lemmas.Bool.{ltb-true, ltb-false}
 use Rattle.udp_tables.specs.PortNames.{input_name, input_names}
 use Rattle.udp_tables.specs.Edges.{each_below}
 use Rattle.cell_machine.specs.CellData.{CellData}
 use Rattle.udp_tables.specs.CellPrimitives.{group_primitive, condition_primitive}
 use Rattle.specify_blocks.specs.Names.{numbered}
-use Rattle.specify_blocks.specs.Generated.{condition_count, group_primitives, condition_primitives, output_primitives, primitives_of}
+use Rattle.specify_blocks.specs.Generated.{condition_count, group_primitives, condition_primitives, output_primitives}
+use Rattle.specify_blocks.specs.Generated.{primitives_of}
 
 pub get-left : {X : Type 0} (xs ys : List X) (i : ℕ) → i < length xs → slice_get (xs ++ ys) i ≡ slice_get xs i
 get-left [] ys i h = absurd (omega arith)
@@ -73,7 +75,8 @@ module _ {X : Type 0} (f : ℕ → X) where
       ∙ append_assoc start (each_below (λ i. f i ∷ []) n) (f n ∷ [])
       ∙ ap (λ m. start ++ each_below (λ i. f i ∷ []) m) more
 
-pub group_primitive-at : (cell : CellData) (g : ℕ) → g < length cell.groups → slice_get (primitives_of cell) g ≡ Some (group_primitive cell g)
+pub group_primitive-at : (cell : CellData) (g : ℕ) → g < length cell.groups
+    → slice_get (primitives_of cell) g ≡ Some (group_primitive cell g)
 group_primitive-at cell g h =
     let long = below-length (group_primitive cell) (length cell.groups) in
     get-left (group_primitives cell) (condition_primitives cell ++ output_primitives cell 0 cell.outputs) g (omega (arith, long))
@@ -98,7 +101,8 @@ condition_primitive-at cell i h =
 
 pub output_primitive-at :
     (cell : CellData) (n : ℕ)
-    → slice_get (primitives_of cell) ((length cell.groups + condition_count cell) + n) ≡ slice_get (output_primitives cell 0 cell.outputs) n
+    → slice_get (primitives_of cell) ((length cell.groups + condition_count cell) + n) ≡ slice_get
+    (output_primitives cell 0 cell.outputs) n
 output_primitive-at cell n =
     let moved : (length cell.groups + condition_count cell) + n ≡ length cell.groups + (condition_count cell + n) = omega arith in
     ap (slice_get (primitives_of cell)) moved

@@ -1,5 +1,6 @@
 -- Specify blocks that are read: their paths and checks are sound, with numbers of at most 15 digits.
-use Rattle.std.proofs.Common.{◌≡◌, ℕ, Bool, true, false, nat_eq, if◌then◌else◌, IsTrue, List, [], Option, Some, None, is_some, refl, sym, subst, arith, codes}
+use Rattle.std.proofs.Common.{◌≡◌, ℕ, Bool, true, false, nat_eq, if◌then◌else◌, IsTrue, List, [], Option, Some, None, is_some}
+use Rattle.std.proofs.Common.{refl, sym, subst, arith, codes}
 use Rattle.std.specs.Prelude.{All}
 use Rattle.std.specs.Str.{bytes_eq}
 use Rattle.std.specs.List.{position}
@@ -21,7 +22,11 @@ use Rattle.specify_blocks.specs.Nets.{is_output_port, is_value}
 use Rattle.udp_tables.specs.Ports.{is_input_port}
 use Rattle.specify_blocks.specs.Sound.{is_gate, IsPath, is_enabling, IsCheck}
 use Rattle.grammar_reader.specs.Words.{is_this}
-use Rattle.specify_blocks.specs.VerilogBlocks.{a_number, kept, port_of, an_input, an_output, a_condition, if_gate, ifnone_gate, gate_by, path_gate, path, next_path, paths, edge_of, an_event, an_edge_event, condition_name, condition, check_end, ordered_check, turned_check, opposite, width_check, period_check, check_of_kind, check, next_check, checks, with_block, block, specify}
+use Rattle.specify_blocks.specs.VerilogBlocks.{a_number, kept, port_of, an_input, an_output, a_condition, if_gate, ifnone_gate}
+use Rattle.specify_blocks.specs.VerilogBlocks.{gate_by, path_gate, path, next_path, paths, edge_of, an_event, an_edge_event}
+use Rattle.specify_blocks.specs.VerilogBlocks.{condition_name, condition, check_end, ordered_check, turned_check, opposite}
+use Rattle.specify_blocks.specs.VerilogBlocks.{width_check, period_check, check_of_kind, check, next_check, checks, with_block}
+use Rattle.specify_blocks.specs.VerilogBlocks.{block, specify}
 use Rattle.specify_blocks.specs.WellFormed.{IsNumber, HasNumbers}
 use Rattle.specify_blocks.proofs.ReadNames.{IsSpelled, some_if, known_values, values, behind, surely}
 
@@ -42,15 +47,18 @@ kept_passes test (Some m) n e = let f = some_if (test m) m n e in subst (λ k. I
 
 an_input_port : (m : VModule) → Promises IsSpelled (an_input m) (λ p. IsTrue (is_input_port m.ports p))
 unfolding an_input
-an_input_port m = weaker (known_values (λ x. kept (is_input_port m.ports) (port_of m x))) (λ p f. kept_passes (is_input_port m.ports) (port_of m f.0) p f.1)
+an_input_port m = weaker (known_values (λ x. kept (is_input_port m.ports) (port_of m x)))
+    (λ p f. kept_passes (is_input_port m.ports) (port_of m f.0) p f.1)
 
 an_output_port : (m : VModule) → Promises IsSpelled (an_output m) (λ p. IsTrue (is_output_port m.ports p))
 unfolding an_output
-an_output_port m = weaker (known_values (λ x. kept (is_output_port m.ports) (port_of m x))) (λ p f. kept_passes (is_output_port m.ports) (port_of m f.0) p f.1)
+an_output_port m = weaker (known_values (λ x. kept (is_output_port m.ports) (port_of m x)))
+    (λ p f. kept_passes (is_output_port m.ports) (port_of m f.0) p f.1)
 
 a_value : (m : VModule) → Promises IsSpelled (a_condition m) (λ w. IsTrue (is_value m m.instances w))
 unfolding a_condition
-a_value m = weaker (known_values (λ x. kept (is_value m m.instances) (position (bytes_eq x) m.wires))) (λ w f. kept_passes (is_value m m.instances) (position (bytes_eq f.0) m.wires) w f.1)
+a_value m = weaker (known_values (λ x. kept (is_value m m.instances) (position (bytes_eq x) m.wires)))
+    (λ w f. kept_passes (is_value m m.instances) (position (bytes_eq f.0) m.wires) w f.1)
 
 -- Paths.
 
@@ -76,12 +84,17 @@ one_path m x =
     behind (λ a. in_turn (an_output_port m) (λ to ends.
     behind (λ b. behind (λ c. behind (λ d. in_turn numbers (λ rise r.
     behind (λ e. in_turn numbers (λ fall f.
-    behind (λ g. behind (λ h. gives (record { sound = record { starts = starts; ends = ends; gated = gated }; numbers = record { rise = r; fall = f } })))))))))))))
+    behind (λ g. behind (λ h. gives (record {
+      sound = record { starts = starts; ends = ends; gated = gated };
+      numbers =
+          record { rise = r; fall = f };
+    })))))))))))))
 
 all_paths : (m : VModule) → Promises IsSpelled (paths m) (All (IsToldPath m))
 unfolding paths next_path
 all_paths m =
-    many (λ k d h. absurd (omega arith)) (λ w x a q p e. in_turn (one_path m a) (λ path h. gives (All-push (IsToldPath m) w path q h)))
+    many (λ k d h. absurd (omega arith))
+    (λ w x a q p e. in_turn (one_path m a) (λ path h. gives (All-push (IsToldPath m) w path q h)))
 
 -- Checks.
 
@@ -100,7 +113,8 @@ record IsEdgeEvent (m : VModule) (e : Event) : Type 0 where
 opposite_edges : (x : List ℕ) (e : Edge) → edge_of x ≡ Some e → IsTrue (are_opposite e (opposite e))
 opposite_edges x e h = of_word (bytes_eq x (codes "posedge")) (bytes_eq x (codes "negedge")) e h
   where
-    of_word : (a b : Bool) (e : Edge) → (if a then Some edge.Rise else (if b then Some edge.Fall else None)) ≡ Some e → IsTrue (are_opposite e (opposite e))
+    of_word : (a b : Bool) (e : Edge) → (if a then Some edge.Rise else (if b then Some edge.Fall else None)) ≡ Some e
+        → IsTrue (are_opposite e (opposite e))
     of_word true b edge.Rise h = refl
     of_word true b edge.Fall h = absurd cc
     of_word true b edge.Any h = absurd cc
@@ -111,7 +125,8 @@ opposite_edges x e h = of_word (bytes_eq x (codes "posedge")) (bytes_eq x (codes
 
 edge_events : (m : VModule) → Promises IsSpelled (an_edge_event m) (IsEdgeEvent m)
 unfolding an_edge_event
-edge_events m = in_turn (values edge_of) (λ e f. in_turn (an_input_port m) (λ p h. gives (record { pin = h; edge = opposite_edges f.0 e f.1 })))
+edge_events m = in_turn (values edge_of)
+    (λ e f. in_turn (an_input_port m) (λ p h. gives (record { pin = h; edge = opposite_edges f.0 e f.1 })))
 
 conditions : (m : VModule) → Promises IsSpelled (condition m) (λ when. IsTrue (is_enabling m when))
 unfolding condition condition_name
@@ -124,7 +139,8 @@ there_is (Some name) x a e = refl
 ends : (m : VModule) → Promises IsSpelled (check_end m) (λ _. IsTrue (is_some m.notifier))
 unfolding check_end
 ends m =
-    behind (λ a. in_turn (known_values (is_this bytes_eq m.notifier)) (λ b f. behind (λ c. surely (λ d. there_is m.notifier f.0 b f.1))))
+    behind (λ a. in_turn (known_values (is_this bytes_eq m.notifier))
+    (λ b f. behind (λ c. surely (λ d. there_is m.notifier f.0 b f.1))))
 
 -- a check that a text can tell
 pub record IsToldCheck (m : VModule) (k : TimingCheck) : Type 0 where
@@ -132,7 +148,8 @@ pub record IsToldCheck (m : VModule) (k : TimingCheck) : Type 0 where
   pub number : IsNumber k.limit
 
 abbrev HasTwoEvents : CheckKind → Type 0
-HasTwoEvents kind = (m : VModule) (first second : Event) (limit : ℕ) (when : Option ℕ) → IsEvent m first → IsEvent m second → IsTrue (is_enabling m when) → IsTrue (is_some m.notifier) → IsNumber limit
+HasTwoEvents kind = (m : VModule) (first second : Event) (limit : ℕ) (when : Option ℕ) → IsEvent m first → IsEvent m second
+    → IsTrue (is_enabling m when) → IsTrue (is_some m.notifier) → IsNumber limit
     → IsToldCheck m (record { kind = kind; first = first; second = second; limit = limit; condition = when })
 
 ordered : (m : VModule) (kind : CheckKind) → HasTwoEvents kind → Promises IsSpelled (ordered_check kind m) (IsToldCheck m)
@@ -166,7 +183,8 @@ widths m =
       sound = record {
         first = f.pin;
         second = f.pin;
-        written = and_from (nat_eq first.pin first.pin) (are_opposite first.edge (opposite first.edge)) (same_pin first.pin) f.edge;
+        written = and_from (nat_eq first.pin first.pin) (are_opposite first.edge (opposite first.edge))
+            (same_pin first.pin) f.edge;
         enabled = w;
         notified = n;
       };
@@ -184,16 +202,43 @@ periods m =
     behind (λ b. in_turn numbers (λ limit l.
     in_turn (ends m) (λ c n.
     behind (λ d. gives (record {
-      sound = record { first = h; second = h; written = and_from (nat_eq p p) true (eq-eqb p p refl) refl; enabled = w; notified = n };
+      sound = record {
+        first = h;
+        second = h;
+        written = and_from (nat_eq p p) true (eq-eqb p p refl) refl;
+        enabled = w;
+        notified =
+            n;
+      };
       number = l;
     }))))))))
 
 kinds : (m : VModule) (kind : CheckKind) → Promises IsSpelled (check_of_kind m kind) (IsToldCheck m)
 unfolding check_of_kind
-kinds m check_kind.Setup = ordered m check_kind.Setup (λ m first second limit when f s w n l. record { sound = record { first = f; second = s; written = refl; enabled = w; notified = n }; number = l })
-kinds m check_kind.Hold = ordered m check_kind.Hold (λ m first second limit when f s w n l. record { sound = record { first = f; second = s; written = refl; enabled = w; notified = n }; number = l })
-kinds m check_kind.Recovery = ordered m check_kind.Recovery (λ m first second limit when f s w n l. record { sound = record { first = f; second = s; written = refl; enabled = w; notified = n }; number = l })
-kinds m check_kind.Removal = turned m check_kind.Removal (λ m first second limit when f s w n l. record { sound = record { first = f; second = s; written = refl; enabled = w; notified = n }; number = l })
+kinds m check_kind.Setup = ordered m check_kind.Setup
+    (λ m first second limit when f s w n l. record {
+      sound =
+          record { first = f; second = s; written = refl; enabled = w; notified = n };
+      number = l;
+    })
+kinds m check_kind.Hold = ordered m check_kind.Hold
+    (λ m first second limit when f s w n l. record {
+      sound =
+          record { first = f; second = s; written = refl; enabled = w; notified = n };
+      number = l;
+    })
+kinds m check_kind.Recovery = ordered m check_kind.Recovery
+    (λ m first second limit when f s w n l. record {
+      sound =
+          record { first = f; second = s; written = refl; enabled = w; notified = n };
+      number = l;
+    })
+kinds m check_kind.Removal = turned m check_kind.Removal
+    (λ m first second limit when f s w n l. record {
+      sound =
+          record { first = f; second = s; written = refl; enabled = w; notified = n };
+      number = l;
+    })
 kinds m check_kind.Width = widths m
 kinds m check_kind.Period = periods m
 

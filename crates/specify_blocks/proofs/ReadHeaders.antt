@@ -1,5 +1,6 @@
 -- Modules that are read: the names of their headers and declarations.
-use Rattle.std.proofs.Common.{◌≡◌, ℕ, suc, ◌+◌, ◌<◌, Bool, true, List, [], ◌∷◌, ◌++◌, length, drop, get_or, slice_set, inl, inr, Option, Some, None, refl, sym, ap, subst, ◌∙◌, arith, append_assoc}
+use Rattle.std.proofs.Common.{◌≡◌, ℕ, suc, ◌+◌, ◌<◌, Bool, true, List, [], ◌∷◌, ◌++◌, length, drop, get_or, slice_set, inl, inr}
+use Rattle.std.proofs.Common.{Option, Some, None, refl, sym, ap, subst, ◌∙◌, arith, append_assoc}
 use Rattle.std.specs.Str.{bytes_eq}
 use Rattle.std.specs.Option.{option_map}
 use Rattle.std.specs.List.{position_from}
@@ -14,9 +15,12 @@ use Rattle.udp_tables.specs.declared.models.VPort.{VPort}
 use Rattle.specify_blocks.specs.declared.model.VModule.{VModule}
 use Rattle.verilog_tokens.specs.Tokens.{is_name}
 use Rattle.udp_tables.specs.VerilogRules.{place_from}
-use Rattle.specify_blocks.specs.VerilogModules.{port_name, port_names, plain_port, input_port, next_port, more_ports, some_ports, header, Inputs, with_input, input_at, declared_input, declared_inputs, declared_wire, declared_wires, declared_notifier, notifier, declarations}
+use Rattle.specify_blocks.specs.VerilogModules.{port_name, port_names, plain_port, input_port, next_port, more_ports, some_ports}
+use Rattle.specify_blocks.specs.VerilogModules.{header, Inputs, with_input, input_at, declared_input, declared_inputs}
+use Rattle.specify_blocks.specs.VerilogModules.{declared_wire, declared_wires, declared_notifier, notifier, declarations}
 use Rattle.specify_blocks.specs.WellFormed.{register_names, inner_names}
-use Rattle.specify_blocks.proofs.ReadNames.{IsSpelled, AreNames, a_name, push_name, no_names, one_name, fits_same, some_if, new_names, known_values, behind}
+use Rattle.specify_blocks.proofs.ReadNames.{IsSpelled, AreNames, a_name, push_name, no_names, one_name, fits_same, some_if}
+use Rattle.specify_blocks.proofs.ReadNames.{new_names, known_values, behind}
 
 -- Headers.
 
@@ -39,7 +43,8 @@ any_ports =
     choice
     (λ x a p e.
     let f = some_if (is_name x) (Fits x) (Fits a) e in
-    subst (λ name. Promises IsSpelled (more_ports (plain_port name ∷ [])) AreNamed) (fits_same x a f.1) (all_ports (plain_port x ∷ []) (one_name x (a_name x p f.0))))
+    subst (λ name. Promises IsSpelled (more_ports (plain_port name ∷ [])) AreNamed) (fits_same x a f.1)
+    (all_ports (plain_port x ∷ []) (one_name x (a_name x p f.0))))
     (gives no_names)
 
 headers : Promises IsSpelled header AreNamed
@@ -72,29 +77,36 @@ mapped : {A B : Type 0} (f : A → B) (o : Option A) (b : B) → option_map f o 
 mapped f None b e = absurd cc
 mapped f (Some a) b e = (a, refl, cc)
 
-set_named : (x : List ℕ) (ports : List VPort) (from p : ℕ) → place_from (λ (port : VPort). bytes_eq x port.name) from ports ≡ Some p
+set_named : (x : List ℕ) (ports : List VPort) (from p : ℕ)
+    → place_from (λ (port : VPort). bytes_eq x port.name) from ports ≡ Some p
     → port_names (slice_set ports p (input_port x)) ≡ port_names ports
 set_named x ports from p e =
     let found = place_of (λ (port : VPort). bytes_eq x port.name) from (drop from ports) p e in
-    let at : get_or (drop from ports) found.0 (plain_port x) ≡ get_or ports (from + found.0) (plain_port x) = get_or-drop from ports found.0 (plain_port x) in
-    let named : x ≡ (get_or (drop from ports) found.0 (plain_port x)).name = (bytes_eq-Decides x (get_or (drop from ports) found.0 (plain_port x)).name).0 (found.3 (plain_port x)) in
+    let at : get_or (drop from ports) found.0 (plain_port x) ≡ get_or ports (from + found.0) (plain_port x) =
+    get_or-drop from ports found.0 (plain_port x) in
+    let named : x ≡ (get_or (drop from ports) found.0 (plain_port x)).name =
+    (bytes_eq-Decides x (get_or (drop from ports) found.0 (plain_port x)).name).0 (found.3 (plain_port x)) in
     map-set_same port_name ports p (input_port x) (plain_port x)
     (named ∙ ap port_name at ∙ ap (λ k. (get_or ports k (plain_port x)).name) (sym found.1))
 
-pub input_named : (found : Inputs) (x : List ℕ) (more : Inputs) → input_at found x ≡ Some more → port_names more.ports ≡ port_names found.ports
+pub input_named : (found : Inputs) (x : List ℕ) (more : Inputs) → input_at found x ≡ Some more
+    → port_names more.ports ≡ port_names found.ports
 input_named found x more e =
-    let place = mapped (with_input x found.ports) (place_from (λ (port : VPort). bytes_eq x port.name) found.behind found.ports) more e in
+    let place = mapped (with_input x found.ports) (place_from (λ (port : VPort). bytes_eq x port.name) found.behind found.ports)
+    more e in
     ap (λ (i : Inputs). port_names i.ports) (sym place.2) ∙ set_named x found.ports found.behind place.0 place.1
 
 abbrev pub HasNames : List VPort → Inputs → Type 0
 HasNames ports found = port_names found.ports ≡ port_names ports
 
-one_input : (ports : List VPort) (found : Inputs) → HasNames ports found → Promises IsSpelled (declared_input found) (HasNames ports)
+one_input : (ports : List VPort) (found : Inputs) → HasNames ports found
+    → Promises IsSpelled (declared_input found) (HasNames ports)
 unfolding declared_input
 one_input ports found h =
     in_turn (known_values (input_at found)) (λ more f. behind (λ a. gives (input_named found f.0 more f.1 ∙ h)))
 
-inputs : (ports : List VPort) (found : Inputs) → HasNames ports found → Promises IsSpelled (declared_inputs found) (HasNames ports)
+inputs : (ports : List VPort) (found : Inputs) → HasNames ports found
+    → Promises IsSpelled (declared_inputs found) (HasNames ports)
 unfolding declared_inputs
 inputs ports found h = many h (λ w x a q p e. one_input ports w q)
 
@@ -103,10 +115,13 @@ inputs ports found h = many h (λ w x a q p e. one_input ports w q)
 abbrev AreWires : List VPort → List (List ℕ) → Type 0
 AreWires ports wires = AreNames (port_names ports ++ wires)
 
-one_wire : (ports : List VPort) (wires : List (List ℕ)) → AreWires ports wires → Promises IsSpelled (declared_wire ports wires) (AreWires ports)
+one_wire : (ports : List VPort) (wires : List (List ℕ)) → AreWires ports wires
+    → Promises IsSpelled (declared_wire ports wires) (AreWires ports)
 unfolding declared_wire
 one_wire ports wires h =
-    in_turn (new_names (port_names ports ++ wires)) (λ name new. behind (λ a. gives (subst AreNames (append_assoc (port_names ports) wires (name ∷ [])) (push_name (port_names ports ++ wires) name h new))))
+    in_turn (new_names (port_names ports ++ wires))
+    (λ name new. behind (λ a. gives
+    (subst AreNames (append_assoc (port_names ports) wires (name ∷ [])) (push_name (port_names ports ++ wires) name h new))))
 
 all_wires : (ports : List VPort) → AreNamed ports → Promises IsSpelled (declared_wires ports) (AreWires ports)
 unfolding declared_wires
@@ -115,12 +130,15 @@ all_wires ports h = many (subst AreNames (sym (append-nil (port_names ports))) h
 abbrev AreInner : List VPort → List (List ℕ) → Option (List ℕ) → Type 0
 AreInner ports wires register = AreNames (port_names ports ++ wires ++ register_names register)
 
-one_notifier : (ports : List VPort) (wires : List (List ℕ)) → AreWires ports wires → Promises IsSpelled (declared_notifier ports wires) (AreInner ports wires)
+one_notifier : (ports : List VPort) (wires : List (List ℕ)) → AreWires ports wires
+    → Promises IsSpelled (declared_notifier ports wires) (AreInner ports wires)
 unfolding declared_notifier
 one_notifier ports wires h =
-    in_turn (new_names (port_names ports ++ wires)) (λ name new. behind (λ a. gives (push_name (port_names ports ++ wires) name h new)))
+    in_turn (new_names (port_names ports ++ wires))
+    (λ name new. behind (λ a. gives (push_name (port_names ports ++ wires) name h new)))
 
-notifiers : (ports : List VPort) (wires : List (List ℕ)) → AreWires ports wires → Promises IsSpelled (notifier ports wires) (AreInner ports wires)
+notifiers : (ports : List VPort) (wires : List (List ℕ)) → AreWires ports wires
+    → Promises IsSpelled (notifier ports wires) (AreInner ports wires)
 unfolding notifier
 notifiers ports wires h =
     choice (λ x a p e. one_notifier ports wires h)

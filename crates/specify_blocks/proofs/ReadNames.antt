@@ -1,5 +1,6 @@
 -- The tokens and the names that are read.
-use Rattle.std.proofs.Common.{◌≡◌, ℕ, Bool, true, false, not, ◌||◌, ◌==◌, if◌then◌else◌, IsTrue, List, [], ◌∷◌, ◌++◌, Option, refl, sym, ap, subst, arith}
+use Rattle.std.proofs.Common.{◌≡◌, ℕ, Bool, true, false, not, ◌||◌, ◌==◌, if◌then◌else◌, IsTrue, List, [], ◌∷◌, ◌++◌, Option}
+use Rattle.std.proofs.Common.{refl, sym, ap, subst, arith}
 use Rattle.std.specs.Prelude.{All}
 use Rattle.std.specs.Str.{bytes_eq}
 use Rattle.std.specs.Cmp.{IsEquivalence}
@@ -29,7 +30,11 @@ IsSpelled x = IsTrue (is_name x) → IsTrue (is_identifier x)
 
 pub a_name : (x : List ℕ) → IsSpelled x → IsTrue (is_name x) → IsName x
 a_name [] h e = absurd cc
-a_name (b ∷ bs) h e = record { identifier = h e; no_word = (and_parts (is_ascii_alphabetic b || b == 95) (not (is_verilog_word (b ∷ bs))) e).1 }
+a_name (b ∷ bs) h e = record {
+  identifier = h e;
+  no_word =
+      (and_parts (is_ascii_alphabetic b || b == 95) (not (is_verilog_word (b ∷ bs))) e).1;
+}
 
 pub fits_same : {A : Type 0} (x a : A) → ◌≡◌ {A = Verdict A Refusal} (Fits x) (Fits a) → x ≡ a
 fits_same x a e = cc
@@ -41,7 +46,8 @@ bytes_congr x y z e = ap (λ t. bytes_eq t z) ((bytes_eq-Decides x y).0 e)
 
 bytes_symm : (x y : List ℕ) → bytes_eq x y ≡ bytes_eq y x
 bytes_symm x y =
-    same_from_decides (bytes_eq x y) (bytes_eq y x) (bytes_eq-Decides x y) (λ e. sym ((bytes_eq-Decides y x).0 e), λ e. (bytes_eq-Decides y x).1 (sym e))
+    same_from_decides (bytes_eq x y) (bytes_eq y x) (bytes_eq-Decides x y)
+    (λ e. sym ((bytes_eq-Decides y x).0 e), λ e. (bytes_eq-Decides y x).1 (sym e))
 
 bytes_refl : (x : List ℕ) → bytes_eq x x ≡ true
 bytes_refl x = (bytes_eq-Decides x x).1 refl
@@ -103,7 +109,8 @@ goes_on true = gives refl
 goes_on false = token (λ x a p e. absurd cc)
 
 -- behind a part of which nothing is said
-pub behind : {A B : Type 0} {p : Grammar A} {g : A → Grammar B} {Q : B → Type 0} → ((a : A) → Promises IsSpelled (g a) Q) → Promises IsSpelled (r.Then p g) Q
+pub behind : {A B : Type 0} {p : Grammar A} {g : A → Grammar B} {Q : B → Type 0} → ((a : A) → Promises IsSpelled (g a) Q)
+    → Promises IsSpelled (r.Then p g) Q
 behind {p = p} more = in_turn (keeps IsSpelled p) (λ a _. more a)
 
 -- what each value has

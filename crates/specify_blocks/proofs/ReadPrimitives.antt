@@ -1,5 +1,7 @@
 -- Primitives that are read are well formed.
-use Rattle.std.proofs.Common.{◌≡◌, ℕ, suc, ◌+◌, ◌≤◌, Bool, true, false, not, ◌&&◌, ◌||◌, ◌==◌, nat_le, if◌then◌else◌, cond, IsTrue, List, [], ◌∷◌, ◌++◌, length, inl, inr, Option, Some, None, is_some, refl, sym, ap, subst, ◌∙◌, arith, codes, length-append}
+use Rattle.std.proofs.Common.{◌≡◌, ℕ, suc, ◌+◌, ◌≤◌, Bool, true, false, not, ◌&&◌, ◌||◌, ◌==◌, nat_le, if◌then◌else◌, cond}
+use Rattle.std.proofs.Common.{IsTrue, List, [], ◌∷◌, ◌++◌, length, inl, inr, Option, Some, None, is_some, refl, sym, ap, subst}
+use Rattle.std.proofs.Common.{◌∙◌, arith, codes, length-append}
 use Rattle.std.specs.Prelude.{All, count_by}
 use Rattle.std.specs.Option.{option_map}
 use Rattle.std.specs.List.{list_all}
@@ -21,10 +23,14 @@ use Rattle.std.specs.Str.{bytes_eq}
 use Rattle.grammar_reader.specs.declared.refusal.Refusal.{Refusal}
 use Rattle.grammar_reader.specs.declared.refusal.Refusal.TheVariants.{Syntax, TwoEdges, Width}
 use Rattle.udp_tables.specs.VerilogRules.{begins_where}
-use Rattle.udp_tables.specs.VerilogPrimitives.{Header, most_inputs, most_inputs_with_state, next_input, more_inputs, header, declared_state, register, level_by, change_by, next_by, symbol, begins_change, begins_entry, entry_by, entry_after, has_change, next_entry, more_entries, state_and_next, output_level, row_end, row, next_row, table, primitive}
+use Rattle.udp_tables.specs.VerilogPrimitives.{Header, most_inputs, most_inputs_with_state, next_input, more_inputs, header}
+use Rattle.udp_tables.specs.VerilogPrimitives.{declared_state, register, level_by, change_by, next_by, symbol, begins_change}
+use Rattle.udp_tables.specs.VerilogPrimitives.{begins_entry, entry_by, entry_after, has_change, next_entry, more_entries}
+use Rattle.udp_tables.specs.VerilogPrimitives.{state_and_next, output_level, row_end, row, next_row, table, primitive}
 use Rattle.specify_blocks.specs.Sound.{IsTable}
 use Rattle.specify_blocks.specs.WellFormed.{most_inputs_of, HasNoState, HasNoStates, IsWellFormedUdp}
-use Rattle.specify_blocks.proofs.ReadNames.{IsSpelled, IsNew, AreNames, push_name, one_name, fits_if, fits_where, some_if, new_names, any_names, values, where_holds, behind, surely, fits_same, fits_unless}
+use Rattle.specify_blocks.proofs.ReadNames.{IsSpelled, IsNew, AreNames, push_name, one_name, fits_if, fits_where, some_if}
+use Rattle.specify_blocks.proofs.ReadNames.{new_names, any_names, values, where_holds, behind, surely, fits_same, fits_unless}
 
 -- Headers.
 
@@ -33,7 +39,8 @@ record AreInputs (output : List ℕ) (inputs : List (List ℕ)) : Type 0 where
   names : AreNames (output ∷ inputs)
   some : 1 ≤ length inputs
 
-one_more : (output : List ℕ) (inputs : List (List ℕ)) → AreNames (output ∷ inputs) → Promises IsSpelled (next_input output inputs) (AreInputs output)
+one_more : (output : List ℕ) (inputs : List (List ℕ)) → AreNames (output ∷ inputs)
+    → Promises IsSpelled (next_input output inputs) (AreInputs output)
 unfolding next_input
 one_more output inputs h =
     in_turn (new_names (output ∷ inputs)) (λ x new. gives (record {
@@ -41,7 +48,8 @@ one_more output inputs h =
       some = omega (arith, length-append inputs (x ∷ []));
     }))
 
-all_inputs : (output : List ℕ) (inputs : List (List ℕ)) → AreInputs output inputs → Promises IsSpelled (more_inputs output inputs) (AreInputs output)
+all_inputs : (output : List ℕ) (inputs : List (List ℕ)) → AreInputs output inputs
+    → Promises IsSpelled (more_inputs output inputs) (AreInputs output)
 unfolding more_inputs
 all_inputs output inputs h = many h (λ found x a q p e. one_more output found q.names)
 
@@ -72,7 +80,9 @@ states : (h : Header) → Promises IsSpelled (register h) (MayHaveState (length 
 unfolding register declared_state
 states h =
     choice
-    (λ x a p e. behind (λ b. behind (λ c. gives (λ t. at_most (length h.inputs) most_inputs_with_state (begun_where (nat_le (length h.inputs) most_inputs_with_state) Width (codes "reg") x a e)))))
+    (λ x a p e. behind (λ b. behind (λ c. gives
+    (λ t. at_most (length h.inputs) most_inputs_with_state
+    (begun_where (nat_le (length h.inputs) most_inputs_with_state) Width (codes "reg") x a e)))))
     (gives (λ t. absurd cc))
 
 -- Entries.
@@ -86,12 +96,16 @@ neither : (a b : Bool) → (a || b) ≡ false → (a ≡ false) × (b ≡ false)
 neither true b e = absurd cc
 neither false b e = (refl, e)
 
-changes-cons : (e : Entry) (entries : List Entry) → count_by (λ e. not (is_level e)) (e ∷ entries) ≡ cond (not (is_level e)) 1 0 + count_by (λ e. not (is_level e)) entries
+changes-cons : (e : Entry) (entries : List Entry)
+    → count_by (λ e. not (is_level e)) (e ∷ entries) ≡ cond (not (is_level e)) 1 0 + count_by (λ e. not (is_level e)) entries
 changes-cons e entries = sum_by-cons (λ e. cond (not (is_level e)) 1 0) e entries
 
-changes-push : (entries : List Entry) (e : Entry) → count_by (λ e. not (is_level e)) (entries ++ e ∷ []) ≡ count_by (λ e. not (is_level e)) entries + cond (not (is_level e)) 1 0
+changes-push : (entries : List Entry) (e : Entry)
+    → count_by (λ e. not (is_level e)) (entries ++ e ∷ []) ≡ count_by (λ e. not (is_level e)) entries + cond
+    (not (is_level e)) 1 0
 changes-push entries e =
-    let split : count_by (λ e. not (is_level e)) (entries ++ e ∷ []) ≡ count_by (λ e. not (is_level e)) entries + count_by (λ e. not (is_level e)) (e ∷ []) =
+    let split : count_by (λ e. not (is_level e)) (entries ++ e ∷ []) ≡ count_by (λ e. not (is_level e)) entries + count_by
+    (λ e. not (is_level e)) (e ∷ []) =
     sum_by-append (λ e. cond (not (is_level e)) 1 0) entries (e ∷ []) in
     let one : count_by (λ e. not (is_level e)) (e ∷ []) ≡ cond (not (is_level e)) 1 0 + 0 = changes-cons e [] in
     omega (arith, split, one)
@@ -104,13 +118,16 @@ no_changes (e ∷ entries) h =
     let rest = no_changes entries parts.1 in
     omega (arith, changes-cons e entries, here, rest)
 
-push_level : (sequential : Bool) (entries : List Entry) (e : Entry) → AreEntries sequential entries → is_level e ≡ true → AreEntries sequential (entries ++ e ∷ [])
+push_level : (sequential : Bool) (entries : List Entry) (e : Entry) → AreEntries sequential entries → is_level e ≡ true
+    → AreEntries sequential (entries ++ e ∷ [])
 push_level true entries e h l =
     let here : ◌≡◌ {A = ℕ} (cond (not (is_level e)) 1 0) 0 = rw l refl in
     omega (arith, changes-push entries e, here, h)
-push_level false entries e h l = list_all-append is_level entries (e ∷ []) ∙ and_from (list_all is_level entries) (is_level e && true) h (rw l refl)
+push_level false entries e h l = list_all-append is_level entries (e ∷ [])
+    ∙ and_from (list_all is_level entries) (is_level e && true) h (rw l refl)
 
-push_change : (entries : List Entry) (e : Entry) → has_change entries ≡ false → is_level e ≡ false → AreEntries true (entries ++ e ∷ [])
+push_change : (entries : List Entry) (e : Entry) → has_change entries ≡ false → is_level e ≡ false
+    → AreEntries true (entries ++ e ∷ [])
 push_change entries e h l =
     let here : ◌≡◌ {A = ℕ} (cond (not (is_level e)) 1 0) 1 = rw l refl in
     omega (arith, changes-push entries e, here, no_changes entries h)
@@ -124,35 +141,44 @@ not_both true true h e = absurd cc
 not_both true false h e = absurd cc
 not_both false b h e = refl
 
-push_entry : (sequential : Bool) (entries : List Entry) (x : List ℕ) (e : Entry) → AreEntries sequential entries → FitsIn sequential x e
+push_entry : (sequential : Bool) (entries : List Entry) (x : List ℕ) (e : Entry) → AreEntries sequential entries
+    → FitsIn sequential x e
     → (has_change entries && begins_change x) ≡ false → AreEntries sequential (entries ++ e ∷ [])
 push_entry sequential entries x e h f g =
     elim (cases_Bool (is_level e)) [
       | inl l ↦ push_level sequential entries e h l
       | inr l ↦
           let parts = f l in
-          subst (λ t. AreEntries t (entries ++ e ∷ [])) (sym parts.0) (push_change entries e (not_both (has_change entries) (begins_change x) g parts.1) l)
+          subst (λ t. AreEntries t (entries ++ e ∷ [])) (sym parts.0)
+          (push_change entries e (not_both (has_change entries) (begins_change x) g parts.1) l)
     ]
 
-entry_parts : (sequential bracket : Bool) (l : Option Level) (c : Option Entry) → IsTrue (is_some l || sequential && (is_some c || bracket))
-    → Promises IsSpelled (entry_by (if is_some l then option_map entry.Level l else c)) (λ e. is_level e ≡ false → IsTrue sequential × IsTrue (is_some c || bracket))
+entry_parts : (sequential bracket : Bool) (l : Option Level) (c : Option Entry)
+    → IsTrue (is_some l || sequential && (is_some c || bracket))
+    → Promises IsSpelled (entry_by (if is_some l then option_map entry.Level l else c)) (λ e. is_level e ≡ false
+    → IsTrue sequential × IsTrue (is_some c || bracket))
 entry_parts sequential bracket (Some v) c h = gives (λ f. absurd cc)
 entry_parts sequential bracket None (Some e) h = gives (λ f. and_parts sequential true h)
 entry_parts sequential bracket None None h = surely (λ e f. and_parts sequential bracket h)
 
-entries_after : (sequential : Bool) (x : List ℕ) → IsTrue (begins_entry sequential x) → Promises IsSpelled (entry_after x) (FitsIn sequential x)
+entries_after : (sequential : Bool) (x : List ℕ) → IsTrue (begins_entry sequential x)
+    → Promises IsSpelled (entry_after x) (FitsIn sequential x)
 entries_after sequential x h = entry_parts sequential (bytes_eq x (codes "(")) (symbol level_by x) (symbol change_by x) h
 
-one_entry : (sequential : Bool) (entries : List Entry) (x : List ℕ) → AreEntries sequential entries → IsTrue (begins_entry sequential x) → (has_change entries && begins_change x) ≡ false
+one_entry : (sequential : Bool) (entries : List Entry) (x : List ℕ) → AreEntries sequential entries
+    → IsTrue (begins_entry sequential x) → (has_change entries && begins_change x) ≡ false
     → Promises IsSpelled (next_entry entries x) (AreEntries sequential)
 unfolding next_entry
-one_entry sequential entries x h begins g = in_turn (entries_after sequential x begins) (λ e f. gives (push_entry sequential entries x e h f g))
+one_entry sequential entries x h begins g =
+    in_turn (entries_after sequential x begins) (λ e f. gives (push_entry sequential entries x e h f g))
 
-all_entries : (sequential : Bool) (entries : List Entry) → AreEntries sequential entries → Promises IsSpelled (more_entries sequential entries) (AreEntries sequential)
+all_entries : (sequential : Bool) (entries : List Entry) → AreEntries sequential entries
+    → Promises IsSpelled (more_entries sequential entries) (AreEntries sequential)
 unfolding more_entries
 all_entries sequential entries h =
     many h (λ w x a q p e.
-    let begun = some_if (begins_entry sequential x) (if has_change w && begins_change x then Foul TwoEdges x else Fits x) (Fits a) e in
+    let begun = some_if (begins_entry sequential x) (if has_change w && begins_change x then Foul TwoEdges x else Fits x)
+    (Fits a) e in
     let fits = fits_unless (has_change w && begins_change x) TwoEdges x a begun.1 in
     subst (λ y. Promises IsSpelled (next_entry w y) (AreEntries sequential)) fits.1 (one_entry sequential w x q begun.0 fits.0))
 
@@ -163,7 +189,9 @@ record IsRowOf (sequential : Bool) (n : ℕ) (row : UdpRow) : Type 0 where
   kinds : AreEntries sequential row.inputs
   stateless : sequential ≡ false → HasNoState row
 
-pick : (p q r : Bool) → (if p then Some next.Zero else (if q then Some next.One else (if r then Some next.Unknown else (if false then Some next.Keep else None)))) ≡ Some next.Keep → ⊥
+pick : (p q r : Bool) → (if p then Some next.Zero
+    else (if q then Some next.One else (if r then Some next.Unknown else (if false then Some next.Keep else None)))) ≡ Some
+    next.Keep → ⊥
 pick true q r e = absurd cc
 pick false true r e = absurd cc
 pick false false true e = absurd cc
@@ -174,10 +202,12 @@ keeps_nothing [] e = absurd cc
 keeps_nothing (b ∷ []) e = pick (b == 48) (b == 49) (b == 120 || b == 88) e
 keeps_nothing (b ∷ c ∷ bs) e = absurd cc
 
-row_ends : (sequential : Bool) (n : ℕ) (entries : List Entry) → length entries ≡ n → AreEntries sequential entries → Promises IsSpelled (row_end sequential entries) (IsRowOf sequential n)
+row_ends : (sequential : Bool) (n : ℕ) (entries : List Entry) → length entries ≡ n → AreEntries sequential entries
+    → Promises IsSpelled (row_end sequential entries) (IsRowOf sequential n)
 unfolding state_and_next output_level
 row_ends true n entries h k =
-    behind (λ state. behind (λ a. behind (λ b. behind (λ c. gives (record { entries = h; kinds = k; stateless = λ f. absurd cc })))))
+    behind (λ state. behind (λ a. behind
+    (λ b. behind (λ c. gives (record { entries = h; kinds = k; stateless = λ f. absurd cc })))))
 row_ends false n entries h k =
     in_turn (values (symbol (next_by false))) (λ found f. behind (λ c. gives (record {
       entries = h;
@@ -185,7 +215,8 @@ row_ends false n entries h k =
       stateless = λ s. record { state = refl; next = λ same. keeps_nothing f.0 (f.1 ∙ ap Some same) };
     })))
 
-one_row : (sequential : Bool) (n : ℕ) (x : List ℕ) → IsTrue (begins_entry sequential x) → Promises IsSpelled (row sequential n x) (IsRowOf sequential n)
+one_row : (sequential : Bool) (n : ℕ) (x : List ℕ) → IsTrue (begins_entry sequential x)
+    → Promises IsSpelled (row sequential n x) (IsRowOf sequential n)
 unfolding row
 one_row sequential n x begins =
     in_turn (one_entry sequential [] x (none sequential) begins refl) (λ first one.
@@ -201,7 +232,8 @@ record AreRows (sequential : Bool) (n : ℕ) (rows : List UdpRow) : Type 0 where
   all : All (IsRowOf sequential n) rows
   some : 1 ≤ length rows
 
-another_row : (sequential : Bool) (n : ℕ) (rows : List UdpRow) (x : List ℕ) → All (IsRowOf sequential n) rows → IsTrue (begins_entry sequential x)
+another_row : (sequential : Bool) (n : ℕ) (rows : List UdpRow) (x : List ℕ) → All (IsRowOf sequential n) rows
+    → IsTrue (begins_entry sequential x)
     → Promises IsSpelled (next_row sequential n rows x) (AreRows sequential n)
 unfolding next_row
 another_row sequential n rows x h begins =
@@ -213,11 +245,13 @@ another_row sequential n rows x h begins =
 tables : (sequential : Bool) (n : ℕ) → Promises IsSpelled (table sequential n) (AreRows sequential n)
 unfolding table
 tables sequential n =
-    behind (λ a. in_turn (token (λ x y p e. let f = fits_if (begins_entry sequential x) (Fits x) Syntax y e in subst (λ t. IsTrue (begins_entry sequential t)) (fits_same x y f.1) f.0)) (λ x begins.
+    behind (λ a. in_turn (token (λ x y p e. let f = fits_if (begins_entry sequential x) (Fits x) Syntax y e
+    in subst (λ t. IsTrue (begins_entry sequential t)) (fits_same x y f.1) f.0)) (λ x begins.
     in_turn (another_row sequential n [] x (λ k d h. absurd (omega arith)) begins) (λ first one.
     in_turn (many one (λ w x y q p e.
     let f = some_if (begins_entry sequential x) (Fits x) (Fits y) e in
-    subst (λ t. Promises IsSpelled (next_row sequential n w t) (AreRows sequential n)) (fits_same x y f.1) (another_row sequential n w x q.all f.0))) (λ rows all.
+    subst (λ t. Promises IsSpelled (next_row sequential n w t) (AreRows sequential n)) (fits_same x y f.1)
+    (another_row sequential n w x q.all f.0))) (λ rows all.
     behind (λ b. gives all)))))
 
 -- Primitives.
@@ -230,7 +264,8 @@ table_of : (sequential : Bool) (udp : Udp) → All (IsRowOf sequential (length u
 table_of true udp all = record { entries = λ k d h. (all k d h).entries; changes = λ k d h. (all k d h).kinds }
 table_of false udp all = record { entries = λ k d h. (all k d h).entries; levels = λ k d h. (all k d h).kinds }
 
-stateless_of : (sequential : Bool) (udp : Udp) → All (IsRowOf sequential (length udp.inputs)) udp.rows → HasNoStates sequential udp
+stateless_of : (sequential : Bool) (udp : Udp) → All (IsRowOf sequential (length udp.inputs)) udp.rows
+    → HasNoStates sequential udp
 stateless_of true udp all = tt
 stateless_of false udp all = λ k d h. (all k d h).stateless refl
 

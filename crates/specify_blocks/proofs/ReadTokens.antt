@@ -1,5 +1,6 @@
 -- The tokens of a text that begin as names are whole identifiers.
-use Rattle.std.proofs.Common.{◌≡◌, ℕ, suc, ◌+◌, Bool, true, false, not, ◌&&◌, ◌||◌, ◌==◌, nat_eq, if◌then◌else◌, List, [], ◌∷◌, take, inl, inr, refl, subst, arith, codes}
+use Rattle.std.proofs.Common.{◌≡◌, ℕ, suc, ◌+◌, Bool, true, false, not, ◌&&◌, ◌||◌, ◌==◌, nat_eq, if◌then◌else◌, List, [], ◌∷◌}
+use Rattle.std.proofs.Common.{take, inl, inr, refl, subst, arith, codes}
 use Rattle.std.specs.List.{AllByRecursion, list_all, list_any, prefix_len}
 use Rattle.std.specs.Char.{is_ascii_alphabetic, is_ascii_digit}
 use Rattle.std.specs.Int.{is_in_range}
@@ -8,12 +9,14 @@ use Rattle.std.proofs.lemmas.Bool.Decides.{nat_tests}
 use Rattle.verilog_tokens.specs.Kept.{is_name_byte}
 use Rattle.verilog_tokens.specs.Words.{is_verilog_word}
 use Rattle.lexer.proofs.EachToken.{each_token}
-use Rattle.verilog_tokens.specs.Tokens.{is_one_of, is_symbol, is_mark, sign_length, number_length, word_length, begins_word, token_length, lexis}
+use Rattle.verilog_tokens.specs.Tokens.{is_one_of, is_symbol, is_mark, sign_length, number_length, word_length, begins_word}
+use Rattle.verilog_tokens.specs.Tokens.{token_length, lexis}
 use Rattle.specify_blocks.specs.VerilogText.{text_tokens}
 use Rattle.specify_blocks.proofs.ReadNames.{IsSpelled}
 
 -- the first bytes of which a test holds are name bytes, where the test says so
-prefix_named : (test : ℕ → Bool) → ((b : ℕ) → test b ≡ true → is_name_byte b ≡ true) → (bs : List ℕ) → list_all is_name_byte (take (prefix_len test bs) bs) ≡ true
+prefix_named : (test : ℕ → Bool) → ((b : ℕ) → test b ≡ true → is_name_byte b ≡ true) → (bs : List ℕ)
+    → list_all is_name_byte (take (prefix_len test bs) bs) ≡ true
 prefix_named test h [] = refl
 prefix_named test h (b ∷ bs) = elim (cases_Bool (test b)) [
   | inl t ↦
@@ -37,7 +40,9 @@ letter_named b e = of_letter (is_in_range 48 57 b) (is_in_range 65 90 b) (is_in_
 word_named : (b n : ℕ) (bs : List ℕ) → word_length (b ∷ bs) ≡ suc n → list_all is_name_byte (take n bs) ≡ true
 word_named b n bs e = by_first (is_one_of (codes "$`") b) n bs e
   where
-    by_first : (first : Bool) (n : ℕ) (bs : List ℕ) → (if first then 1 + prefix_len is_ascii_alphabetic bs else 1 + prefix_len is_name_byte bs) ≡ suc n → list_all is_name_byte (take n bs) ≡ true
+    by_first : (first : Bool) (n : ℕ) (bs : List ℕ)
+        → (if first then 1 + prefix_len is_ascii_alphabetic bs else 1 + prefix_len is_name_byte bs) ≡ suc n
+        → list_all is_name_byte (take n bs) ≡ true
     by_first true n bs e =
         let same : prefix_len is_ascii_alphabetic bs ≡ n = omega (arith, e) in
         subst (λ k. list_all is_name_byte (take k bs) ≡ true) same (prefix_named is_ascii_alphabetic letter_named bs)
@@ -56,14 +61,19 @@ flipped : (b : ℕ) → (b == 95) ≡ nat_eq 95 b
 flipped b = grind (arith, nat_tests)
 
 no_name : (b : ℕ) → begins_word b ≡ false → (is_ascii_alphabetic b || b == 95) ≡ true → ⊥
-no_name b h e = no_start (is_ascii_alphabetic b) (nat_eq 95 b) (b == 95) (list_any (λ c. nat_eq c b) (36 ∷ 96 ∷ [])) h e (flipped b)
+no_name b h e = no_start (is_ascii_alphabetic b) (nat_eq 95 b) (b == 95) (list_any (λ c. nat_eq c b) (36 ∷ 96 ∷ [])) h e
+    (flipped b)
 
 -- the rest of a token that begins as a name
-rest_named : (symbol mark word digit : Bool) (b n : ℕ) (bs : List ℕ) → begins_word b ≡ word → (is_ascii_alphabetic b || b == 95) ≡ true
-    → (if symbol then 1 else (if mark then 1 else (if word then word_length (b ∷ bs) else (if digit then number_length (b ∷ bs) else sign_length (b ∷ bs))))) ≡ suc n
+rest_named : (symbol mark word digit : Bool) (b n : ℕ) (bs : List ℕ) → begins_word b ≡ word
+    → (is_ascii_alphabetic b || b == 95) ≡ true
+    → (if symbol then 1 else (if mark then 1
+    else (if word then word_length (b ∷ bs) else (if digit then number_length (b ∷ bs) else sign_length (b ∷ bs))))) ≡ suc n
     → list_all is_name_byte (take n bs) ≡ true
-rest_named true mark word digit b n bs h f e = let none : 0 ≡ n = omega (arith, e) in subst (λ k. list_all is_name_byte (take k bs) ≡ true) none refl
-rest_named false true word digit b n bs h f e = let none : 0 ≡ n = omega (arith, e) in subst (λ k. list_all is_name_byte (take k bs) ≡ true) none refl
+rest_named true mark word digit b n bs h f e = let none : 0 ≡ n = omega (arith, e)
+    in subst (λ k. list_all is_name_byte (take k bs) ≡ true) none refl
+rest_named false true word digit b n bs h f e = let none : 0 ≡ n = omega (arith, e)
+    in subst (λ k. list_all is_name_byte (take k bs) ≡ true) none refl
 rest_named false false true digit b n bs h f e = word_named b n bs e
 rest_named false false false digit b n bs h f e = absurd (no_name b h f)
 

@@ -1,6 +1,7 @@
 -- Verilog texts with faults, and what they are by computing.
 use Rattle.std.proofs.Common.{◌≡◌, ℕ, List, [], ◌∷◌, ◌++◌, codes, refl}
-use Rattle.udp_tables.specs.declared.models.ModelFault.TheVariants.{Lexical, Syntax, Twice, TwoEdges, Undefined, Undriven, Unequal, Width}
+use Rattle.udp_tables.specs.declared.models.ModelFault.TheVariants.{Lexical, Syntax, Twice, TwoEdges, Undefined, Undriven}
+use Rattle.udp_tables.specs.declared.models.ModelFault.TheVariants.{Unequal, Width}
 use Rattle.udp_tables.proofs.FaultCases.{at, behind, AreFaults}
 use Rattle.verilog_tokens.specs.Words.{verilog_words, is_verilog_word}
 use Rattle.udp_tables.specs.VerilogPrimitives as udp
@@ -15,7 +16,8 @@ behind-prelude = codes "`timescale 1ps/1ps\n"
 
 -- the prelude and an inverter
 abbrev behind-inverter : List ℕ
-behind-inverter = behind-prelude ++ codes "primitive inv (q, a);\n  output q;\n  input a;\n  table\n    0 : 1;\n    1 : 0;\n  endtable\nendprimitive\n"
+behind-inverter = behind-prelude ++ codes
+    "primitive inv (q, a);\n  output q;\n  input a;\n  table\n    0 : 1;\n    1 : 0;\n  endtable\nendprimitive\n"
 
 -- a primitive without a state up to its rows, with one input and with two
 abbrev rows-of-one : List ℕ
@@ -35,9 +37,11 @@ rows-of-two-with-state = behind-prelude ++ codes "primitive p (q, a, b);\n  outp
 abbrev in-module : List ℕ
 in-module = behind-inverter ++ codes "module M (A, Y);\n  input A;\n  output Y;\n"
 
--- a module with the inputs C and D, the output Q, the wire s and the register n up to its instances, behind a flip-flop and an inverter
+-- a module with the inputs C and D, the output Q, the wire s and the register n up to its instances, behind a flip-flop and an
+-- inverter
 abbrev in-keeper : List ℕ
-in-keeper = behind-prelude ++ codes "primitive keep (q, c, d, n);\n  output q;\n  reg q;\n  input c;\n  input d;\n  input n;\n  table\n    (01) 1 ? : ? : 1;\n  endtable\nendprimitive\nprimitive inv (q, a);\n  output q;\n  input a;\n  table\n    0 : 1;\n    1 : 0;\n  endtable\nendprimitive\nmodule M (C, D, Q);\n  input C;\n  input D;\n  output Q;\n  wire s;\n  reg n;\n"
+in-keeper = behind-prelude ++ codes
+    "primitive keep (q, c, d, n);\n  output q;\n  reg q;\n  input c;\n  input d;\n  input n;\n  table\n    (01) 1 ? : ? : 1;\n  endtable\nendprimitive\nprimitive inv (q, a);\n  output q;\n  input a;\n  table\n    0 : 1;\n    1 : 0;\n  endtable\nendprimitive\nmodule M (C, D, Q);\n  input C;\n  input D;\n  output Q;\n  wire s;\n  reg n;\n"
 
 -- the module of one input with its instances, up to the paths and checks of its specify block
 abbrev in-block : List ℕ
@@ -153,5 +157,15 @@ faults : AreFaults verilog_text (
     ∷ at "module M (A, Y); input A; output Y; inv (Y, A); endmodule ?" Lexical 58 ∷ []
     )
     )
-unfolding verilog_words is_verilog_word verilog_text text.file text.prelude text.designs text.one_module text.next_primitive text.more_primitives text.next_module text.primitives_and_module udp.primitive udp.table udp.row udp.state_and_next udp.output_level udp.pair udp.declared_inputs udp.declared_input udp.register udp.declared_state udp.declared_output udp.header udp.next_input udp.more_inputs udp.next_entry udp.more_entries udp.next_row m.header m.next_port m.more_ports m.some_ports m.declared_inputs m.declared_wires m.notifier m.driven_terminal m.feeding_terminal m.next_input m.more_inputs m.instances m.declared_input m.declared_output m.declared_outputs m.declared_wire m.declared_notifier m.declarations m.call m.constant block.a_number block.an_input block.an_output block.a_condition block.path_gate block.next_path block.paths block.any_edge block.condition block.same_condition block.same_number block.check_of_kind block.next_check block.checks block.specify block.if_gate block.ifnone_gate block.path block.an_event block.an_edge_event block.condition_name block.check_end block.ordered_check block.turned_check block.width_check block.second_period block.period_check block.check block.block
+unfolding verilog_words is_verilog_word verilog_text text.file text.prelude text.designs text.one_module text.next_primitive
+    text.more_primitives text.next_module text.primitives_and_module udp.primitive udp.table udp.row udp.state_and_next
+    udp.output_level udp.pair udp.declared_inputs udp.declared_input udp.register udp.declared_state udp.declared_output
+    udp.header udp.next_input udp.more_inputs udp.next_entry udp.more_entries udp.next_row m.header m.next_port m.more_ports
+    m.some_ports m.declared_inputs m.declared_wires m.notifier m.driven_terminal m.feeding_terminal m.next_input m.more_inputs
+    m.instances m.declared_input m.declared_output m.declared_outputs m.declared_wire m.declared_notifier m.declarations m.call
+    m.constant block.a_number block.an_input block.an_output block.a_condition block.path_gate block.next_path block.paths
+    block.any_edge block.condition block.same_condition block.same_number block.check_of_kind block.next_check block.checks
+    block.specify block.if_gate block.ifnone_gate block.path block.an_event block.an_edge_event block.condition_name
+    block.check_end block.ordered_check block.turned_check block.width_check block.second_period block.period_check block.check
+    block.block
 faults = refl

@@ -32,7 +32,8 @@ row : Level → List Entry → Next → UdpRow
 row state inputs next = record { inputs = inputs; state = state; next = next }
 
 primitive : List ℕ → List (List ℕ) → Bool → List UdpRow → Udp
-primitive name inputs sequential rows = record { name = name; output = codes "q"; inputs = inputs; sequential = sequential; rows = rows }
+primitive name inputs sequential rows =
+    record { name = name; output = codes "q"; inputs = inputs; sequential = sequential; rows = rows }
 
 state-primitive : Udp
 state-primitive =
@@ -52,13 +53,18 @@ state-primitive =
 
 output-primitive : Udp
 output-primitive =
-    primitive (codes "lib_1_2") (codes "i1" ∷ []) false (level-row (entry.Level level.One ∷ []) next.One ∷ level-row (entry.Level level.Zero ∷ []) next.Zero ∷ [])
+    primitive (codes "lib_1_2") (codes "i1" ∷ []) false
+    (level-row (entry.Level level.One ∷ []) next.One ∷ level-row (entry.Level level.Zero ∷ []) next.Zero ∷ [])
 
 flip-flop : VModule
 flip-flop =
     record {
       name = codes "DFFT";
-      ports = record { name = codes "CK"; input = true } ∷ record { name = codes "D"; input = true } ∷ record { name = codes "Q"; input = false } ∷ [];
+      ports = record { name = codes "CK"; input = true } ∷ record { name = codes "D"; input = true } ∷ record {
+        name =
+            codes "Q";
+        input = false;
+      } ∷ [];
       wires = codes "lib_s1" ∷ [];
       notifier = Some (codes "lib_n");
       udps = state-primitive ∷ output-primitive ∷ [];
@@ -66,12 +72,30 @@ flip-flop =
           instance.Primitive 0 (net.Wire 0) (net.Port 0 ∷ net.Port 1 ∷ net.Notifier ∷ [])
           ∷ instance.Primitive 1 (net.Port 2) (net.Wire 0 ∷ []) ∷ [];
       paths = record { from = 0; to = 2; rise = 100; fall = 120; gate = gate.Always } ∷ [];
-      checks = record { kind = check_kind.Setup; first = record { pin = 1; edge = edge.Any }; second = record { pin = 0; edge = edge.Rise }; limit = 50; condition = None } ∷ [];
+      checks = record {
+        kind = check_kind.Setup;
+        first = record { pin = 1; edge = edge.Any };
+        second =
+            record { pin = 0; edge = edge.Rise };
+        limit = 50;
+        condition = None;
+      } ∷ [];
     }
 
 -- A flip-flop with its rows in plain form, and its text.
-its-text : Reads (codes "`timescale 1ps/1ps\nprimitive lib_1_1 (q, i1, i2, i3);\n  output q;\n  reg q;\n  input i1;\n  input i2;\n  input i3;\n  table\n    ? ? * : ? : x;\n    (01) 1 ? : ? : 1;\n    (1?) ? ? : 1 : 1;\n    (?0) ? ? : 1 : 1;\n    * 1 ? : 1 : 1;\n    (01) 0 ? : ? : 0;\n    (1?) ? ? : 0 : 0;\n    (?0) ? ? : 0 : 0;\n    * 0 ? : 0 : 0;\n    ? * ? : 1 : 1;\n    ? * ? : 0 : 0;\n  endtable\nendprimitive\nprimitive lib_1_2 (q, i1);\n  output q;\n  input i1;\n  table\n    1 : 1;\n    0 : 0;\n  endtable\nendprimitive\nmodule DFFT (CK, D, Q);\n  input CK;\n  input D;\n  output Q;\n  wire lib_s1;\n  reg lib_n;\n  lib_1_1 (lib_s1, CK, D, lib_n);\n  lib_1_2 (Q, lib_s1);\n  specify\n    (CK => Q) = (100, 120);\n    $setup(D, posedge CK, 50, lib_n);\n  endspecify\nendmodule\n") (flip-flop ∷ [])
-unfolding verilog_words is_verilog_word verilog_text text.file text.prelude text.designs text.one_module text.next_primitive text.more_primitives text.next_module text.primitives_and_module udp.primitive udp.table udp.row udp.state_and_next udp.output_level udp.pair udp.declared_inputs udp.declared_input udp.register udp.declared_state udp.declared_output udp.header udp.next_input udp.more_inputs udp.next_entry udp.more_entries udp.next_row m.header m.next_port m.more_ports m.some_ports m.declared_inputs m.declared_wires m.notifier m.driven_terminal m.feeding_terminal m.next_input m.more_inputs m.instances m.declared_input m.declared_output m.declared_outputs m.declared_wire m.declared_notifier m.declarations m.call m.constant block.a_number block.an_input block.an_output block.a_condition block.path_gate block.next_path block.paths block.any_edge block.condition block.same_condition block.same_number block.check_of_kind block.next_check block.checks block.specify block.if_gate block.ifnone_gate block.path block.an_event block.an_edge_event block.condition_name block.check_end block.ordered_check block.turned_check block.width_check block.second_period block.period_check block.check block.block state-primitive output-primitive flip-flop primitive row level-row
+its-text : Reads (codes "`timescale 1ps/1ps\nprimitive lib_1_1 (q, i1, i2, i3);\n  output q;\n  reg q;\n  input i1;\n  input i2;\n  input i3;\n  table\n    ? ? * : ? : x;\n    (01) 1 ? : ? : 1;\n    (1?) ? ? : 1 : 1;\n    (?0) ? ? : 1 : 1;\n    * 1 ? : 1 : 1;\n    (01) 0 ? : ? : 0;\n    (1?) ? ? : 0 : 0;\n    (?0) ? ? : 0 : 0;\n    * 0 ? : 0 : 0;\n    ? * ? : 1 : 1;\n    ? * ? : 0 : 0;\n  endtable\nendprimitive\nprimitive lib_1_2 (q, i1);\n  output q;\n  input i1;\n  table\n    1 : 1;\n    0 : 0;\n  endtable\nendprimitive\nmodule DFFT (CK, D, Q);\n  input CK;\n  input D;\n  output Q;\n  wire lib_s1;\n  reg lib_n;\n  lib_1_1 (lib_s1, CK, D, lib_n);\n  lib_1_2 (Q, lib_s1);\n  specify\n    (CK => Q) = (100, 120);\n    $setup(D, posedge CK, 50, lib_n);\n  endspecify\nendmodule\n")
+    (flip-flop ∷ [])
+unfolding verilog_words is_verilog_word verilog_text text.file text.prelude text.designs text.one_module text.next_primitive
+    text.more_primitives text.next_module text.primitives_and_module udp.primitive udp.table udp.row udp.state_and_next
+    udp.output_level udp.pair udp.declared_inputs udp.declared_input udp.register udp.declared_state udp.declared_output
+    udp.header udp.next_input udp.more_inputs udp.next_entry udp.more_entries udp.next_row m.header m.next_port m.more_ports
+    m.some_ports m.declared_inputs m.declared_wires m.notifier m.driven_terminal m.feeding_terminal m.next_input m.more_inputs
+    m.instances m.declared_input m.declared_output m.declared_outputs m.declared_wire m.declared_notifier m.declarations m.call
+    m.constant block.a_number block.an_input block.an_output block.a_condition block.path_gate block.next_path block.paths
+    block.any_edge block.condition block.same_condition block.same_number block.check_of_kind block.next_check block.checks
+    block.specify block.if_gate block.ifnone_gate block.path block.an_event block.an_edge_event block.condition_name
+    block.check_end block.ordered_check block.turned_check block.width_check block.second_period block.period_check block.check
+    block.block state-primitive output-primitive flip-flop primitive row level-row
 its-text = refl
 
 abbrev plain : List ℕ → VModule
@@ -95,16 +119,31 @@ abbrev dense : Udp
 dense =
     primitive (codes "p") (codes "a" ∷ codes "b" ∷ codes "c" ∷ []) true (
     row level.One (entry.Level level.Zero ∷ entry.Level level.One ∷ entry.Level level.Any ∷ []) next.One
-    ∷ row level.Any (entry.Level level.Unknown ∷ entry.Pair level.Zero level.Unknown ∷ entry.Level level.Binary ∷ []) next.Keep ∷ []
+    ∷ row level.Any (entry.Level level.Unknown ∷ entry.Pair level.Zero level.Unknown ∷ entry.Level level.Binary ∷ []) next.Keep
+    ∷ []
     )
 
--- No module; modules without ports; ports declared in another order than the header's, an empty specify block, a primitive that no
--- instance names; and tokens with nothing between them, with blanks and with comments.
+-- No module; modules without ports; ports declared in another order than the header's, an empty specify block, a primitive that
+-- no instance names; and tokens with nothing between them, with blanks and with comments.
 small-texts :
     Reads (codes "`timescale 1ps/1ps\n") []
-    × Reads (codes "`timescale 1ps/1ps\nmodule M (); endmodule module N (); endmodule") (plain (codes "M") ∷ plain (codes "N") ∷ [])
-    × Reads (codes "`timescale 1ps/1ps\nmodule T (B, A); input A; output B; buf (B, 1'b1); specify endspecify endmodule") (tied [] ∷ [])
-    × Reads (codes "`timescale 1ps/1ps primitive p(q,a,b,c);output q;reg q;input a;input b;input c;table 01?:1:1;X(0x)B:?:-;endtable endprimitive module T(B,A);input A;output B;buf(B,1'b1);endmodule") (tied (dense ∷ []) ∷ [])
-    × Reads (codes "`timescale/* * / **/1ps/1ps//\nmodule\tT ( B//, C\n,A);input A/**/;output B;buf(B,1'b1);endmodule// the end") (tied [] ∷ [])
-unfolding verilog_words is_verilog_word verilog_text text.file text.prelude text.designs text.one_module text.next_primitive text.more_primitives text.next_module text.primitives_and_module udp.primitive udp.table udp.row udp.state_and_next udp.output_level udp.pair udp.declared_inputs udp.declared_input udp.register udp.declared_state udp.declared_output udp.header udp.next_input udp.more_inputs udp.next_entry udp.more_entries udp.next_row m.header m.next_port m.more_ports m.some_ports m.declared_inputs m.declared_wires m.notifier m.driven_terminal m.feeding_terminal m.next_input m.more_inputs m.instances m.declared_input m.declared_output m.declared_outputs m.declared_wire m.declared_notifier m.declarations m.call m.constant block.a_number block.an_input block.an_output block.a_condition block.path_gate block.next_path block.paths block.any_edge block.condition block.same_condition block.same_number block.check_of_kind block.next_check block.checks block.specify block.if_gate block.ifnone_gate block.path block.an_event block.an_edge_event block.condition_name block.check_end block.ordered_check block.turned_check block.width_check block.second_period block.period_check block.check block.block primitive row
+    × Reads (codes "`timescale 1ps/1ps\nmodule M (); endmodule module N (); endmodule")
+    (plain (codes "M") ∷ plain (codes "N") ∷ [])
+    × Reads (codes "`timescale 1ps/1ps\nmodule T (B, A); input A; output B; buf (B, 1'b1); specify endspecify endmodule")
+    (tied [] ∷ [])
+    × Reads (codes "`timescale 1ps/1ps primitive p(q,a,b,c);output q;reg q;input a;input b;input c;table 01?:1:1;X(0x)B:?:-;endtable endprimitive module T(B,A);input A;output B;buf(B,1'b1);endmodule")
+    (tied (dense ∷ []) ∷ [])
+    × Reads (codes "`timescale/* * / **/1ps/1ps//\nmodule\tT ( B//, C\n,A);input A/**/;output B;buf(B,1'b1);endmodule// the end")
+    (tied [] ∷ [])
+unfolding verilog_words is_verilog_word verilog_text text.file text.prelude text.designs text.one_module text.next_primitive
+    text.more_primitives text.next_module text.primitives_and_module udp.primitive udp.table udp.row udp.state_and_next
+    udp.output_level udp.pair udp.declared_inputs udp.declared_input udp.register udp.declared_state udp.declared_output
+    udp.header udp.next_input udp.more_inputs udp.next_entry udp.more_entries udp.next_row m.header m.next_port m.more_ports
+    m.some_ports m.declared_inputs m.declared_wires m.notifier m.driven_terminal m.feeding_terminal m.next_input m.more_inputs
+    m.instances m.declared_input m.declared_output m.declared_outputs m.declared_wire m.declared_notifier m.declarations m.call
+    m.constant block.a_number block.an_input block.an_output block.a_condition block.path_gate block.next_path block.paths
+    block.any_edge block.condition block.same_condition block.same_number block.check_of_kind block.next_check block.checks
+    block.specify block.if_gate block.ifnone_gate block.path block.an_event block.an_edge_event block.condition_name
+    block.check_end block.ordered_check block.turned_check block.width_check block.second_period block.period_check block.check
+    block.block primitive row
 small-texts = (refl, refl, refl, refl, refl)

@@ -1,5 +1,6 @@
 -- The nets of a module and what drives them. (IEEE 1364-2005, clauses 8 and 12; the restrictions are this project's.)
-use Rattle.std.specs.Prelude.{ℕ, Bool, true, false, not, ◌&&◌, List, [], ◌∷◌, nat_eq, nat_lt, length, count_by, slice_get, is_some}
+use Rattle.std.specs.Prelude.{ℕ, Bool, true, false, not, ◌&&◌, List, [], ◌∷◌, nat_eq, nat_lt, length, count_by, slice_get}
+use Rattle.std.specs.Prelude.{is_some}
 use Rattle.std.specs.List.{list_any}
 use Rattle.std.specs.Option.{option_map_or}
 use Rattle.udp_tables.specs.declared.table.Udp.{Udp}

@@ -1,7 +1,8 @@
 -- When a module is sound: each number and each net names a thing that its place allows, each row has the length of its table,
 -- and each wire and output is driven once. (IEEE 1364-2005, clauses 8, 12, 14 and 15; the restrictions on places are this
 -- project's.)
-use Rattle.std.specs.Prelude.{◌≡◌, ℕ, Bool, true, false, ◌&&◌, All, ⊤, List, [], ◌∷◌, ◌++◌, Option, Some, None, nat_eq, length, slice_get, is_some, IsTrue, if◌then◌else◌}
+use Rattle.std.specs.Prelude.{◌≡◌, ℕ, Bool, true, false, ◌&&◌, All, ⊤, List, [], ◌∷◌, ◌++◌, Option, Some, None, nat_eq, length}
+use Rattle.std.specs.Prelude.{slice_get, is_some, IsTrue, if◌then◌else◌}
 use Rattle.std.specs.List.{list_all}
 use Rattle.cell_machine.specs.declared.checks.CheckKind.{CheckKind}
 use Rattle.cell_machine.specs.declared.checks.CheckKind.TheVariants as check_kind
@@ -17,7 +18,8 @@ use Rattle.specify_blocks.specs.declared.model.Gate.TheVariants as gate
 use Rattle.specify_blocks.specs.declared.model.VPath.{VPath}
 use Rattle.udp_tables.specs.declared.timing_checks.TimingCheck.{TimingCheck}
 use Rattle.specify_blocks.specs.declared.model.VModule.{VModule}
-use Rattle.specify_blocks.specs.Nets.{are_apart, is_output_port, is_driven, holds_state, is_value, feeds_state, feeds_value, drivers}
+use Rattle.specify_blocks.specs.Nets.{are_apart, is_output_port, is_driven, holds_state, is_value, feeds_state, feeds_value}
+use Rattle.specify_blocks.specs.Nets.{drivers}
 use Rattle.udp_tables.specs.Ports.{is_input_port}
 
 -- The table of a primitive with a state, or of one without. Each row has an entry for each input. In one with a state at most

@@ -1,5 +1,6 @@
 -- The grammar of specify blocks in Verilog text: paths and timing checks. (IEEE 1364-2005, 14.1 to 14.3, 15.2 and 15.3, and A.7.)
-use Rattle.std.specs.Prelude.{ℕ, Bool, true, false, ◌||◌, ◌==◌, if◌then◌else◌, List, [], ◌∷◌, ◌++◌, slice_get, Option, Some, None, codes}
+use Rattle.std.specs.Prelude.{ℕ, Bool, true, false, ◌||◌, ◌==◌, if◌then◌else◌, List, [], ◌∷◌, ◌++◌, slice_get, Option, Some, None}
+use Rattle.std.specs.Prelude.{codes}
 use Rattle.std.specs.List.{position}
 use Rattle.std.specs.Option.{option_map}
 use Rattle.std.specs.Str.{bytes_eq}
@@ -77,8 +78,8 @@ gate_by m false false = r.Gives gate.Always
 unfoldable pub path_gate : VModule → List ℕ → Grammar Gate
 path_gate m x = gate_by m (bytes_eq x (codes "if")) (bytes_eq x (codes "ifnone"))
 
--- [ "if" "(" NAME ")" | "ifnone" ] "(" NAME "=>" NAME ")" "=" "(" NUM "," NUM ")" ";" behind its first token: a parallel path from an
--- input to an output, with the delays of a rise and of a fall (14.2.1, 14.3.1)
+-- [ "if" "(" NAME ")" | "ifnone" ] "(" NAME "=>" NAME ")" "=" "(" NUM "," NUM ")" ";" behind its first token: a parallel path
+-- from an input to an output, with the delays of a rise and of a fall (14.2.1, 14.3.1)
 unfoldable pub path : VModule → List ℕ → Grammar VPath
 path m x = do
   when ← path_gate m x
@@ -143,8 +144,8 @@ check_end m = do
   _ ← expect (codes ")")
   expect (codes ";")
 
--- EVENT "," EVENT [ "&&&" NAME ] "," NUM "," NAME ")" ";" behind "(": first the earlier event, then the later one (15.2.1, 15.2.2,
--- 15.2.5)
+-- EVENT "," EVENT [ "&&&" NAME ] "," NUM "," NAME ")" ";" behind "(": first the earlier event, then the later one (15.2.1,
+-- 15.2.2, 15.2.5)
 unfoldable pub ordered_check : CheckKind → VModule → Grammar TimingCheck
 ordered_check kind m = do
   first ← an_event m
@@ -174,7 +175,8 @@ opposite edge.Any = edge.Any
 opposite edge.Rise = edge.Fall
 opposite edge.Fall = edge.Rise
 
--- EVENT [ "&&&" NAME ] "," NUM "," "0" "," NAME ")" ";" behind "(": the event with which a pulse begins; its threshold is 0 (15.3.4)
+-- EVENT [ "&&&" NAME ] "," NUM "," "0" "," NAME ")" ";" behind "(": the event with which a pulse begins; its threshold is 0
+-- (15.3.4)
 unfoldable pub width_check : VModule → Grammar TimingCheck
 width_check m = do
   first ← an_edge_event m

@@ -1,6 +1,7 @@
--- The grammar of modules in Verilog text: their headers, declarations and instances. (IEEE 1364-2005, 7.1, gates, 8.6, instances of
--- primitives, 12.1 and 12.3, modules and their ports, and A.1 to A.3.)
-use Rattle.std.specs.Prelude.{ℕ, ◌+◌, Bool, true, false, not, ◌==◌, nat_lt, if◌then◌else◌, List, [], ◌∷◌, ◌++◌, length, map, slice_get, slice_set, Option, Some, None, is_some, codes}
+-- The grammar of modules in Verilog text: their headers, declarations and instances. (IEEE 1364-2005, 7.1, gates, 8.6, instances
+-- of primitives, 12.1 and 12.3, modules and their ports, and A.1 to A.3.)
+use Rattle.std.specs.Prelude.{ℕ, ◌+◌, Bool, true, false, not, ◌==◌, nat_lt, if◌then◌else◌, List, [], ◌∷◌, ◌++◌, length, map}
+use Rattle.std.specs.Prelude.{slice_get, slice_set, Option, Some, None, is_some, codes}
 use Rattle.std.specs.List.{list_any, list_all, position}
 use Rattle.std.specs.Option.{option_map, option_map_or}
 use Rattle.std.specs.Str.{bytes_eq}
@@ -71,7 +72,8 @@ with_input name ports p = record { ports = slice_set ports p (input_port name); 
 
 -- the next place of this name in the header, declared an input
 abbrev pub input_at : Inputs → List ℕ → Option Inputs
-input_at found x = option_map (with_input x found.ports) (place_from (λ (port : VPort). bytes_eq x port.name) found.behind found.ports)
+input_at found x = option_map (with_input x found.ports)
+    (place_from (λ (port : VPort). bytes_eq x port.name) found.behind found.ports)
 
 -- NAME ";" behind "input": a name of the header behind the last one that was declared an input
 unfoldable pub declared_input : Inputs → Grammar Inputs
@@ -139,7 +141,17 @@ declarations name udps = do
   _ ← declared_outputs found.ports
   wires ← declared_wires found.ports
   register ← notifier found.ports wires
-  r.Gives (record { name = name; ports = found.ports; wires = wires; notifier = register; udps = udps; instances = []; paths = []; checks = [] })
+  r.Gives (record {
+    name = name;
+    ports = found.ports;
+    wires = wires;
+    notifier = register;
+    udps = udps;
+    instances = [];
+    paths =
+        [];
+    checks = [];
+  })
 
 -- the net of a name among the wires, and else the register
 abbrev pub other_net : VModule → List ℕ → Option ℕ → Option VNet
@@ -157,7 +169,8 @@ net_of m x = net_by m x (position (λ (port : VPort). bytes_eq x port.name) m.po
 -- what a terminal of an instance says of a net: it is allowed here, and is not taken already
 abbrev pub terminal_by : (VNet → Bool) → (VNet → Bool) → Option VNet → Verdict VNet Refusal
 terminal_by is_allowed is_taken None = Misfit Undefined
-terminal_by is_allowed is_taken (Some n) = if is_allowed n then (if is_taken n then Foul Twice n else Fits n) else Misfit Undefined
+terminal_by is_allowed is_taken (Some n) = if is_allowed n then (if is_taken n then Foul Twice n else Fits n)
+    else Misfit Undefined
 
 abbrev pub terminal : VModule → (VNet → Bool) → (VNet → Bool) → Grammar VNet
 terminal m is_allowed is_taken = named (λ x. terminal_by is_allowed is_taken (net_of m x))

@@ -1,5 +1,5 @@
--- Verilog text: the modules that its bytes are, or its fault. (IEEE 1364-2005, A.1, source text, and 19.8, `timescale; the subset is this
--- project's.)
+-- Verilog text: the modules that its bytes are, or its fault. (IEEE 1364-2005, A.1, source text, and 19.8, `timescale; the subset
+-- is this project's.)
 use Rattle.std.specs.Prelude.{◌≡◌, ◌↔◌, ℕ, Bool, true, false, ◌||◌, List, [], ◌∷◌, ◌++◌, Option, Result, Ok, Err, codes}
 use Rattle.std.specs.Str.{bytes_eq}
 use Rattle.grammar_rules.specs.Rule as r
@@ -28,7 +28,12 @@ abbrev pub nothing : Before
 nothing = record { modules = []; names = []; udps = [] }
 
 abbrev pub with_primitive : Before → Udp → Before
-with_primitive before udp = record { modules = before.modules; names = before.names ++ udp.name ∷ []; udps = before.udps ++ udp ∷ [] }
+with_primitive before udp = record {
+  modules = before.modules;
+  names = before.names ++ udp.name ∷ [];
+  udps =
+      before.udps ++ udp ∷ [];
+}
 
 abbrev pub with_module : Before → VModule → Before
 with_module before m = record { modules = before.modules ++ m ∷ []; names = before.names ++ m.name ∷ []; udps = [] }

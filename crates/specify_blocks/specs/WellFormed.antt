@@ -1,6 +1,7 @@
 -- When a list of modules is one of a Verilog text of this project's subset. (IEEE 1364-2005, 3.7, identifiers, 3.12, name spaces,
 -- 8.1, primitives, 12.1 and 12.3, modules and their ports; the limits are this project's.)
-use Rattle.std.specs.Prelude.{◌≡◌, ℕ, ◌<◌, ◌≤◌, ◌^◌, Bool, true, false, not, IsTrue, All, List, [], ◌∷◌, ◌++◌, length, map, flat_map, Option, Some, None}
+use Rattle.std.specs.Prelude.{◌≡◌, ℕ, ◌<◌, ◌≤◌, ◌^◌, Bool, true, false, not, IsTrue, All, List, [], ◌∷◌, ◌++◌, length, map}
+use Rattle.std.specs.Prelude.{flat_map, Option, Some, None}
 use Rattle.std.specs.List.{IsDistinct}
 use Rattle.std.specs.Str.{bytes_eq}
 use Rattle.verilog_tokens.specs.Kept.{is_identifier}

@@ -4,7 +4,8 @@ ghost use Rattle.bool_functions.specs.Tree.{name_bound};
 ghost use Rattle.cell_machine.specs.CellData.{data_of};
 ghost use Rattle.udp_tables.specs.Conditions.{conditions_of};
 ghost use Rattle.udp_tables.specs.CellPrimitives.{has_sources};
-ghost use Rattle.specify_blocks.specs.Generated.{each_from, group_instance, condition_wire, condition_instance, output_instance, output_instances, instances_of};
+ghost use Rattle.specify_blocks.specs.Generated.{each_from, group_instance, condition_wire, condition_instance, output_instance};
+ghost use Rattle.specify_blocks.specs.Generated.{output_instances, instances_of};
 
 use crate::model::{Instance, VNet};
 use crate::nets::{add_notifier, pin_net, pin_nets, source_nets};
@@ -67,7 +68,8 @@ fn add_conditions(
     cell: &Cell,
     conditions: &[&Function],
 ) -> Result<(), AllocError>
-    ensures { OnOk result (instances.new ≡ instances.old ++ each_from (condition_instance (data_of cell.now)) 0 (map (λ f. f.now) conditions.now)) }
+    ensures { OnOk result (instances.new ≡ instances.old
+        ++ each_from (condition_instance (data_of cell.now)) 0 (map (λ f. f.now) conditions.now)) }
 {
     for (i, condition) in conditions.iter().enumerate() {
         instances.push(condition_instance(alloc, cell, i, condition)?)?;

@@ -1,5 +1,6 @@
 -- Values at 64 points at once.
-use Rattle.std.proofs.Common.{◌≡◌, ◌≢◌, ℕ, zero, suc, ◌+◌, ◌%◌, ◌<◌, min, max, Bool, true, false, not, ◌&&◌, ◌||◌, cond, nat_eq, bit_and, List, [], ◌∷◌, length, drop, get_or, Option, Some, None, refl, sym, ap, ◌∙◌, arith}
+use Rattle.std.proofs.Common.{◌≡◌, ◌≢◌, ℕ, zero, suc, ◌+◌, ◌%◌, ◌<◌, min, max, Bool, true, false, not, ◌&&◌, ◌||◌, cond, nat_eq}
+use Rattle.std.proofs.Common.{bit_and, List, [], ◌∷◌, length, drop, get_or, Option, Some, None, refl, sym, ap, ◌∙◌, arith}
 use Rattle.std.specs.Prelude.{bit_or, bit_xor}
 use Rattle.std.specs.Int.{bit_at}
 use Rattle.std.proofs.lemmas.Nat.Bits.{bit_at_and, bit_at_or, bit_at_xor, bit_at_ones, bit_at-zero, bit_at-lt}
@@ -71,7 +72,8 @@ and_assoc true a b = refl
 and_assoc false a b = refl
 
 -- no point is left: none matches
-pub none_left : (k points : ℕ) (p m : Bool) → lane k points ≡ (p && m) → points ≡ 0 → (rest : Bool) → lane k 0 ≡ (p && (m && rest))
+pub none_left : (k points : ℕ) (p m : Bool) → lane k points ≡ (p && m) → points ≡ 0 → (rest : Bool)
+    → lane k 0 ≡ (p && (m && rest))
 none_left k points p m is none rest =
     lane_none k ∙ ap (λ b. b && rest) (sym (lane_none k) ∙ ap (lane k) (sym none) ∙ is) ∙ and_assoc p m rest
 
@@ -111,7 +113,8 @@ none_found true s z true g later h = absurd cc
 none_found true s z false g later h = refl
 
 -- where no point is undecided nothing more is found
-pub all_found : (k : ℕ) (words : StepWords) (later : Option Bool) → words.undecided ≡ 0 → found_at k words None ≡ found_at k words later
+pub all_found : (k : ℕ) (words : StepWords) (later : Option Bool) → words.undecided ≡ 0
+    → found_at k words None ≡ found_at k words later
 all_found k words later none =
     let found : lane k words.undecided ≡ false = ap (lane k) none ∙ lane_none k in
     rw found refl
@@ -131,4 +134,5 @@ pub row_turn :
 row_turn node before after state rows i row within is =
     let e : drop i rows ≡ row ∷ drop (i + 1) rows = drop_more rows i row within ∙ ap (λ r. r ∷ drop (i + 1) rows) (sym is) in
     rw e
-    (choose (row_matches node before after state row) (row_gives node state) row (row_of (drop (i + 1) rows) node before after state))
+    (choose (row_matches node before after state row) (row_gives node state) row
+    (row_of (drop (i + 1) rows) node before after state))

@@ -18,7 +18,8 @@ after_at k inputs = map (λ (words : InputWords). lane k words.after) inputs
 -- What is found at point k: where it is open nothing as yet, so what is found later; else 1, 0 or that it is not known.
 abbrev pub found_at : ℕ → StepWords → Option Bool → Option Bool
 found_at k words later =
-    (if lane k words.undecided then later else (if lane k words.ones then Some true else (if lane k words.zeros then Some false else None)))
+    (if lane k words.undecided then later
+    else (if lane k words.ones then Some true else (if lane k words.zeros then Some false else None)))
 
 -- whether this next state is known to be 1, and to be 0
 abbrev pub is_one : Option Bool → Bool

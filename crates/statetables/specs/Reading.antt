@@ -1,4 +1,5 @@
-use Rattle.std.specs.Prelude.{◌≡◌, ℕ, ◌+◌, Bool, ◌&&◌, ◌||◌, ◌==◌, true, false, List, [], ◌∷◌, ◌++◌, length, map, Option, Some, None, Result, Ok, Err, ok_or, if◌then◌else◌}
+use Rattle.std.specs.Prelude.{◌≡◌, ℕ, ◌+◌, Bool, ◌&&◌, ◌||◌, ◌==◌, true, false, List, [], ◌∷◌, ◌++◌, length, map, Option, Some}
+use Rattle.std.specs.Prelude.{None, Result, Ok, Err, ok_or, if◌then◌else◌}
 use Rattle.std.specs.List.{list_any}
 use Rattle.statetables.specs.declared.fault.TableFault.{TableFault}
 use Rattle.statetables.specs.declared.fault.TableFault.TheVariants as fault
@@ -19,7 +20,8 @@ and_then (Err e) next = Err e
 
 -- The symbols that the words of a part stand for, in a row of this number, where the first word stands in this column:
 -- the fault is that of the first word that stands for none.
-abbrev pub symbols_of : {S : Type 0} → (List ℕ → Option (Written S)) → ℕ → ℕ → List (List ℕ) → Result (List (Written S)) TableFault
+abbrev pub symbols_of : {S : Type 0} → (List ℕ → Option (Written S)) → ℕ → ℕ → List (List ℕ)
+    → Result (List (Written S)) TableFault
 symbols_of of_word row column [] = Ok []
 symbols_of of_word row column (word ∷ words) =
     and_then (ok_or (of_word word) (fault.BadSymbol row column)) (λ symbol.
@@ -42,7 +44,12 @@ has_halves row = list_any is_halved row.inputs || list_any is_halved row.current
 
 -- The row of all first halves, or of all second ones.
 abbrev pub half_row : Half → WrittenRow → TableRow
-half_row half row = record { inputs = map (half_of half) row.inputs; current = map (half_of half) row.current; next = map (half_of half) row.next }
+half_row half row = record {
+  inputs = map (half_of half) row.inputs;
+  current = map (half_of half) row.current;
+  next =
+      map (half_of half) row.next;
+}
 
 -- The rows that a written row stands for: two where a symbol is halved, the first with each first half and the second
 -- with each second half, else one. (This project's rule.)
@@ -57,7 +64,8 @@ pub record RowWords : Type 0 where
 
 -- The words of a row with these parts: none where there are not three.
 abbrev pub row_words : List (List ℕ) → Option RowWords
-row_words (inputs ∷ current ∷ next ∷ []) = Some (record { inputs = words_of inputs; current = words_of current; next = words_of next })
+row_words (inputs ∷ current ∷ next ∷ []) =
+    Some (record { inputs = words_of inputs; current = words_of current; next = words_of next })
 row_words parts = None
 
 -- Whether a row has a word for each of so many inputs and, in both other parts, for each of so many nodes.

@@ -112,7 +112,8 @@ impl NextSymbol {
 /// Those of some points at which each input matches its symbol.
 fn matched(symbols: &[InSymbol], inputs: &[InputWords], points: u64) -> u64
     requires { length symbols.now ≡ length inputs.now }
-    ensures { (k : ℕ) → lane k result ≡ (lane k points && inputs_match symbols.now (before_at k inputs.now) (after_at k inputs.now)) }
+    ensures { (k : ℕ) → lane k result ≡ (lane k points
+        && inputs_match symbols.now (before_at k inputs.now) (after_at k inputs.now)) }
 {
     let (Some((symbol, symbols)), Some((input, inputs))) = (
         symbols.split_first(),
@@ -130,7 +131,8 @@ fn matched(symbols: &[InSymbol], inputs: &[InputWords], points: u64) -> u64
 impl TableRow {
     /// Those of some points at which the columns of the inputs match.
     fn columns_among(&self, points: u64, inputs: &[InputWords]) -> u64
-        ensures { (k : ℕ) → lane k result ≡ (lane k points && inputs_match self.now.inputs (before_at k inputs.now) (after_at k inputs.now)) }
+        ensures { (k : ℕ) → lane k result ≡ (lane k points
+            && inputs_match self.now.inputs (before_at k inputs.now) (after_at k inputs.now)) }
     {
         let symbols = self.inputs.as_slice();
         if symbols.len() != inputs.len() {
@@ -141,7 +143,8 @@ impl TableRow {
 
     /// Those of some points at which the row matches for a node.
     fn among(&self, points: u64, node: usize, inputs: &[InputWords], states: u64) -> u64
-        ensures { (k : ℕ) → lane k result ≡ (lane k points && row_matches node (before_at k inputs.now) (after_at k inputs.now) (lane k states) self.now) }
+        ensures { (k : ℕ) → lane k result ≡ (lane k points && row_matches node (before_at k inputs.now) (after_at k inputs.now)
+            (lane k states) self.now) }
     {
         let points = self.columns_among(points, inputs);
         if points == 0 {
@@ -188,7 +191,10 @@ impl StepWords {
 
     /// What is found with one more row.
     fn with_row(self, row: &TableRow, node: usize, inputs: &[InputWords], states: u64) -> StepWords
-        ensures { (k : ℕ) (later : Option Bool) → found_at k result later ≡ found_at k self (if row_matches node (before_at k inputs.now) (after_at k inputs.now) (lane k states) row.now then row_gives node (lane k states) row.now else later) }
+        ensures { (k : ℕ) (later : Option Bool)
+            → found_at k result later ≡ found_at k self
+            (if row_matches node (before_at k inputs.now) (after_at k inputs.now) (lane k states) row.now
+            then row_gives node (lane k states) row.now else later) }
     {
         let points = row.among(self.undecided, node, inputs, states);
         if points == 0 {
@@ -229,7 +235,8 @@ impl StateTable {
     /// each what `step` answers there, None where the table has no such node or another number of inputs. A row is looked
     /// at by the points that no row before it matched, and none is once there are no such points. It takes no memory.
     pub fn step_words(&self, node: usize, inputs: &[InputWords], states: u64) -> StepWords
-        ensures { (k : ℕ) → k < 64 → found_at k result None ≡ table_step self.now node (before_at k inputs.now) (after_at k inputs.now) (lane k states) }
+        ensures { (k : ℕ) → k < 64 → found_at k result None ≡ table_step self.now node (before_at k inputs.now)
+            (after_at k inputs.now) (lane k states) }
     {
         let mut words = StepWords::new();
         for row in self.rows.as_slice() {

@@ -1,7 +1,8 @@
 //! Reading the text of a table.
 ghost use Rattle.std.specs.Prelude.{◌≡◌, ◌+◌, ◌<◌, ◌^◌, length, map, IfOk, vec_len};
 ghost use Rattle.std.specs.Option.{option_map};
-ghost use Rattle.statetables.specs.Reading.{symbols_of, row_symbols, row_words as row_words_of, has_widths, rows_of_row, read_rows as read_rows_of, table_of, Gives};
+ghost use Rattle.statetables.specs.Reading.{symbols_of, row_symbols, row_words as row_words_of, has_widths, rows_of_row};
+ghost use Rattle.statetables.specs.Reading.{read_rows as read_rows_of, table_of, Gives};
 ghost use Rattle.statetables.specs.Step.{IsRectangular};
 ghost use Rattle.statetables.specs.Shown.{shown};
 

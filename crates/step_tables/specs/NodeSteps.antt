@@ -1,5 +1,6 @@
 -- The next states of a node of a state table at the points of its support, 64 at a time.
-use Rattle.std.specs.Prelude.{◌≡◌, ℕ, ◌+◌, ◌*◌, ◌<◌, ◌≤◌, ◌^◌, Bool, false, List, length, map, slice_get, slice_index_or, Option, Some, None}
+use Rattle.std.specs.Prelude.{◌≡◌, ℕ, ◌+◌, ◌*◌, ◌<◌, ◌≤◌, ◌^◌, Bool, false, List, length, map, slice_get, slice_index_or, Option}
+use Rattle.std.specs.Prelude.{Some, None}
 use Rattle.trit_cubes.specs.Filling.{number}
 use Rattle.trit_cubes.specs.Sets.{point_of}
 use Rattle.statetables.specs.declared.table.StateTable.{StateTable}

@@ -21,7 +21,8 @@ pub fn values_from(
     requires few { length support.now ≤ 8 }
     requires start { start ≤ 192 }
     ensures len { IfOk result (λ values. length values.items ≡ 64) }
-    ensures values { IfOk result (λ values. (k : ℕ) → k < 64 → slice_index_or values.items k [] ≡ turned_values support.now place (start + k)) }
+    ensures values { IfOk result (λ values. (k : ℕ) → k < 64
+        → slice_index_or values.items k [] ≡ turned_values support.now place (start + k)) }
 {
     let mut values = Vec::with_capacity(alloc, POINTS)?;
     for k in 0..POINTS {

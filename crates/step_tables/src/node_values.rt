@@ -44,7 +44,8 @@ fn step_words(
 ) -> Result<StepWords, AllocError>
     requires few { length node.support.now ≤ 8 }
     requires start { start ≤ 192 }
-    ensures { IfOk result (TellFrom (next_at node.entry.table.now node.entry.node node.entry.inputs.now node.entry.support.now place state) start) }
+    ensures { IfOk result (TellFrom (next_at node.entry.table.now node.entry.node node.entry.inputs.now node.entry.support.now
+        place state) start) }
 {
     let before = values_from(alloc, node.support, place, start)?;
     let after = values_from(alloc, node.support, node.support.len(), start)?;
@@ -63,7 +64,9 @@ fn all_words(
     state: bool,
 ) -> Result<Vec<StepWords>, AllocError>
     requires { length node.support.now ≤ 8 }
-    ensures { IfOk result (λ words. TellAll (next_at node.entry.table.now node.entry.node node.entry.inputs.now node.entry.support.now place state) (length node.entry.support.now) words.items) }
+    ensures { IfOk result (λ words. TellAll
+        (next_at node.entry.table.now node.entry.node node.entry.inputs.now node.entry.support.now place state)
+        (length node.entry.support.now) words.items) }
 {
     let count = word_count(node.support.len());
     let mut words = Vec::with_capacity(alloc, count)?;
@@ -95,7 +98,8 @@ fn trit_or_unknown(next: Option<bool>) -> Trit
 
 /// What these words tell at a point.
 fn told_at(words: &[StepWords], point: &[bool]) -> Trit
-    ensures { (next : ℕ → Option Bool) → TellAll next (length point.now) words.now → length point.now ≤ 8 → result ≡ trit_or_unknown_of (next (number point.now)) }
+    ensures { (next : ℕ → Option Bool) → TellAll next (length point.now) words.now → length point.now ≤ 8
+        → result ≡ trit_or_unknown_of (next (number point.now)) }
 {
     if point.len() > 8 {
         return Trit::Unknown;
@@ -111,7 +115,9 @@ pub fn node_values(
     state: bool,
 ) -> Result<Vec<Trit>, AllocError>
     requires { length node.support.now ≤ 8 }
-    ensures { IfOk result (λ values. AreValuesOf (length node.entry.support.now) (turned_step (node_step node.entry.table.now node.entry.node node.entry.inputs.now node.entry.support.now) place state) values.items) }
+    ensures { IfOk result (λ values. AreValuesOf (length node.entry.support.now)
+        (turned_step (node_step node.entry.table.now node.entry.node node.entry.inputs.now node.entry.support.now) place state)
+        values.items) }
 {
     let words = all_words(alloc, node, place, state)?;
     let places = node.support.len();

@@ -41,7 +41,8 @@ pub struct StepTable<'a> {
 /// The step of a group at a change of a place to a point.
 fn step_to(cell: &Cell, group: usize, place: usize, state: bool, after: &[bool]) -> Trit
     requires { group < length cell.now.groups }
-    ensures { length after.now ≡ length (support_at (data_of cell.now) group) → result ≡ turned_step (step_at (data_of cell.now) group) place state after.now }
+    ensures { length after.now ≡ length (support_at (data_of cell.now) group)
+        → result ≡ turned_step (step_at (data_of cell.now) group) place state after.now }
 {
     let pins = cell.group(group).support.len();
     if after.len() != pins {
@@ -60,7 +61,8 @@ fn values_from(
     state: bool,
 ) -> Result<Vec<Trit>, AllocError>
     requires { group < length cell.now.groups }
-    ensures { IfOk result (λ values. AreValuesOf (length (support_at (data_of cell.now) group)) (turned_step (step_at (data_of cell.now) group) place state) values.items) }
+    ensures { IfOk result (λ values. AreValuesOf (length (support_at (data_of cell.now) group))
+        (turned_step (step_at (data_of cell.now) group) place state) values.items) }
 {
     let entry = cell.group(group);
     match &entry.kind {
@@ -92,7 +94,8 @@ fn stepped_values(
     state: bool,
 ) -> Result<Vec<Trit>, AllocError>
     requires { group < length cell.now.groups }
-    ensures { IfOk result (λ values. AreValuesOf (length (support_at (data_of cell.now) group)) (turned_step (step_at (data_of cell.now) group) place state) values.items) }
+    ensures { IfOk result (λ values. AreValuesOf (length (support_at (data_of cell.now) group))
+        (turned_step (step_at (data_of cell.now) group) place state) values.items) }
 {
     let pins = cell.group(group).support.len();
     let values = values_of(
@@ -122,7 +125,8 @@ fn state_values(
 fn all_values(alloc: Global, cell: &Cell, group: usize) -> Result<Items<StateValues>, AllocError>
     requires { group < length cell.now.groups }
     ensures each { IfOk result (λ values. length values ≡ suc (length (support_at (data_of cell.now) group))) }
-    ensures are { IfOk result (λ values. (p : ℕ) (v : ValuesOf) → slice_get values p ≡ Some v → AreSteps (length (support_at (data_of cell.now) group)) (step_at (data_of cell.now) group) p v) }
+    ensures are { IfOk result (λ values. (p : ℕ) (v : ValuesOf) → slice_get values p ≡ Some v
+        → AreSteps (length (support_at (data_of cell.now) group)) (step_at (data_of cell.now) group) p v) }
 {
     let mut values = Items::new(alloc);
     for place in 0..cell.group(group).support.len() + 1 {
@@ -177,7 +181,8 @@ impl<'a> StepTable<'a> {
     fn from_both(&self, place: usize, after: &[bool]) -> Trit
         requires place { place ≤ length (support_at (data_of self.now.cell.now) self.now.group) }
         requires after { length after.now ≡ length (support_at (data_of self.now.cell.now) self.now.group) }
-        ensures { result ≡ both_steps (step_at (data_of self.now.cell.now) self.now.group) after.now (turned_point place after.now) }
+        ensures { result ≡ both_steps (step_at (data_of self.now.cell.now) self.now.group) after.now
+            (turned_point place after.now) }
     {
         let zero = self.turned(place, after, false);
         zero.agreed(self.turned(place, after, true))

@@ -24,11 +24,13 @@ reports_print n (x ∷ xs) (y ∷ ys) e =
     let p = and_parts (same_fact x y) (same_reports xs ys) e in
     λ i. report_text n (same_fact-is x y p.0 i) ++ reports_print (n + 1) xs ys p.1 i
 
-line_prints : (tag : ℕ) (change : Option Change) (inputs outputs : List (List ℕ)) (one other : DriveLine) → same_line one other ≡ true
+line_prints : (tag : ℕ) (change : Option Change) (inputs outputs : List (List ℕ)) (one other : DriveLine)
+    → same_line one other ≡ true
     → drive_line_text tag change inputs outputs one ≡ drive_line_text tag change inputs outputs other
 unfolding drive_line_text
 line_prints tag change inputs outputs one other e =
-    let p = and_parts (same_values one.values other.values) (same_delays one.delays other.delays && same_reports one.reports other.reports) e in
+    let p = and_parts (same_values one.values other.values)
+    (same_delays one.delays other.delays && same_reports one.reports other.reports) e in
     let q = and_parts (same_delays one.delays other.delays) (same_reports one.reports other.reports) p.1 in
     let values = values-are one.values other.values p.0 in
     let delays = delays-are one.delays other.delays q.0 in
@@ -47,6 +49,7 @@ alike_print change ports lines e =
 
 -- the tag is the first byte
 pub tagged_anew : (was tag : ℕ) (change : Option Change) (inputs outputs : List (List ℕ)) (line : DriveLine) (old new : List ℕ)
-    → old ≡ drive_line_text was change inputs outputs line → new ≡ slice_set old 0 tag → new ≡ drive_line_text tag change inputs outputs line
+    → old ≡ drive_line_text was change inputs outputs line → new ≡ slice_set old 0 tag
+    → new ≡ drive_line_text tag change inputs outputs line
 unfolding drive_line_text
 tagged_anew was tag change inputs outputs line old new made anew = anew ∙ ap (λ text. slice_set text 0 tag) made

@@ -1,25 +1,29 @@
 -- Traces compared line by line.
-use Rattle.std.proofs.Common.{◌≡◌, ℕ, ◌+◌, Bool, true, false, ◌&&◌, if◌then◌else◌, List, [], ◌∷◌, length, drop, Option, Some, None, refl, sym, ap, subst, ◌∙◌, arith}
+use Rattle.std.proofs.Common.{◌≡◌, ℕ, ◌+◌, Bool, true, false, ◌&&◌, if◌then◌else◌, List, [], ◌∷◌, length, drop, Option, Some}
+use Rattle.std.proofs.Common.{None, refl, sym, ap, subst, ◌∙◌, arith}
 use Rattle.std.proofs.lemmas.Bool.{and_parts, and_from, eqb-true, eq-eqb}
 use Rattle.cell_machine.specs.declared.changes.Change.{Change}
 use Rattle.cell_machine.specs.History.{IsProperFrom}
 use Rattle.stimulus.specs.declared.drives.Drive.{Drive}
 use Rattle.stimulus.specs.declared.drives.Drive.TheVariants.{Zero, One, Unknown, Floating}
 use Rattle.stimulus.specs.DriveLines.{same_drive, DriveLine, lines_after, lines_along, DriveMachine, IsSized}
-use Rattle.stimulus.specs.Differences.{same_values, same_delay, same_delays, same_fact, same_reports, same_line, difference_from, first_difference, NoDifferenceIsEqual}
+use Rattle.stimulus.specs.Differences.{same_values, same_delay, same_delays, same_fact, same_reports, same_line, difference_from}
+use Rattle.stimulus.specs.Differences.{first_difference, NoDifferenceIsEqual}
 
 -- Two simulators that stand after one history. The changes that are left go on from there, and the first difference of their
 -- lines is that of the whole traces.
-pub record Alike (left right : List Change → Type 0) (one other : List Change → DriveLine) (n number : ℕ) (rest : List Change) (found : Option ℕ) : Type 0 where
+pub record Alike (left right : List Change → Type 0) (one other : List Change → DriveLine) (n number : ℕ) (rest : List Change)
+    (found : Option ℕ) : Type 0 where
   pub history : List Change
   pub left_stands : left history
   pub right_stands : right history
   pub proper : IsProperFrom n history rest
   pub later : difference_from number (lines_after one history rest) (lines_after other history rest) ≡ found
 
--- Whatever the histories of two simulators, what is left of two lists of their lines from this place on decides whether these are the
--- same.
-abbrev pub RestDecides : {A : Type 0} → (List A → List A → Bool) → (left right : List Change → Type 0) → (one other : List Change → List A) → ℕ → Type 0
+-- Whatever the histories of two simulators, what is left of two lists of their lines from this place on decides whether these are
+-- the same.
+abbrev pub RestDecides : {A : Type 0} → (List A → List A → Bool) → (left right : List Change → Type 0)
+    → (one other : List Change → List A) → ℕ → Type 0
 RestDecides same_lists left right one other place =
     (h k : List Change) → left h → right k → same_lists (drop place (one h)) (drop place (other k)) ≡ same_lists (one h) (other k)
 
@@ -45,7 +49,8 @@ pub values-are : (xs ys : List Drive) → same_values xs ys ≡ true → xs ≡ 
 values-are [] [] e = refl
 values-are [] (y ∷ ys) e = absurd cc
 values-are (x ∷ xs) [] e = absurd cc
-values-are (x ∷ xs) (y ∷ ys) e = let p = and_parts (same_drive x y) (same_values xs ys) e in cons_path x y xs ys (same_drive-is x y p.0) (values-are xs ys p.1)
+values-are (x ∷ xs) (y ∷ ys) e = let p = and_parts (same_drive x y) (same_values xs ys) e
+    in cons_path x y xs ys (same_drive-is x y p.0) (values-are xs ys p.1)
 
 values-self : (xs : List Drive) → same_values xs xs ≡ true
 values-self [] = refl
@@ -64,7 +69,8 @@ pub delays-are : (xs ys : List (Option ℕ)) → same_delays xs ys ≡ true → 
 delays-are [] [] e = refl
 delays-are [] (y ∷ ys) e = absurd cc
 delays-are (x ∷ xs) [] e = absurd cc
-delays-are (x ∷ xs) (y ∷ ys) e = let p = and_parts (same_delay x y) (same_delays xs ys) e in cons_path x y xs ys (delay-is x y p.0) (delays-are xs ys p.1)
+delays-are (x ∷ xs) (y ∷ ys) e = let p = and_parts (same_delay x y) (same_delays xs ys) e
+    in cons_path x y xs ys (delay-is x y p.0) (delays-are xs ys p.1)
 
 delays-self : (xs : List (Option ℕ)) → same_delays xs xs ≡ true
 delays-self [] = refl
@@ -103,7 +109,8 @@ line-is l r e h =
 
 pub line-self : (l : DriveLine) → same_line l l ≡ true
 line-self l =
-    and_from (same_values l.values l.values) (same_delays l.delays l.delays && same_reports l.reports l.reports) (values-self l.values)
+    and_from (same_values l.values l.values) (same_delays l.delays l.delays && same_reports l.reports l.reports)
+    (values-self l.values)
     (and_from (same_delays l.delays l.delays) (same_reports l.reports l.reports) (delays-self l.delays) (reports-self l.reports))
 
 no_other : (n : ℕ) (ls : List DriveLine) → difference_from n ls ls ≡ None
@@ -115,10 +122,12 @@ none_here true n later e = (refl, e)
 none_here false n later e = absurd cc
 
 rest-is : (m n : DriveMachine) (number : ℕ) (h cs : List Change) → IsSized m → IsSized n → m.checks ≡ n.checks
-    → difference_from number (lines_after m.line h cs) (lines_after n.line h cs) ≡ None → lines_after m.line h cs ≡ lines_after n.line h cs
+    → difference_from number (lines_after m.line h cs) (lines_after n.line h cs) ≡ None
+    → lines_after m.line h cs ≡ lines_after n.line h cs
 rest-is m n number h [] sm sn checks e = refl
 rest-is m n number h (c ∷ cs) sm sn checks e =
-    let p = none_here (same_line (m.line (c ∷ h)) (n.line (c ∷ h))) number (difference_from (number + 1) (lines_after m.line (c ∷ h) cs) (lines_after n.line (c ∷ h) cs)) e in
+    let p = none_here (same_line (m.line (c ∷ h)) (n.line (c ∷ h))) number
+    (difference_from (number + 1) (lines_after m.line (c ∷ h) cs) (lines_after n.line (c ∷ h) cs)) e in
     cons_path (m.line (c ∷ h)) (n.line (c ∷ h)) (lines_after m.line (c ∷ h) cs) (lines_after n.line (c ∷ h) cs)
     (line-is (m.line (c ∷ h)) (n.line (c ∷ h)) (sm.reports (c ∷ h) ∙ checks ∙ sym (sn.reports (c ∷ h))) p.0)
     (rest-is m n (number + 1) (c ∷ h) cs sm sn checks p.1)
@@ -126,7 +135,8 @@ rest-is m n number h (c ∷ cs) sm sn checks e =
 pub no_difference : NoDifferenceIsEqual
 no_difference m n cs sm sn outputs checks = (
   λ e.
-      let p = none_here (same_line (m.line []) (n.line [])) 0 (difference_from 1 (lines_after m.line [] cs) (lines_after n.line [] cs)) e in
+      let p = none_here (same_line (m.line []) (n.line [])) 0
+      (difference_from 1 (lines_after m.line [] cs) (lines_after n.line [] cs)) e in
       cons_path (m.line []) (n.line []) (lines_after m.line [] cs) (lines_after n.line [] cs)
       (line-is (m.line []) (n.line []) (sm.reports [] ∙ checks ∙ sym (sn.reports [])) p.0) (rest-is m n 1 [] cs sm sn checks p.1),
   λ e. subst (λ ls. first_difference (lines_along m.line cs) ls ≡ None) e (no_other 0 (lines_along m.line cs)),

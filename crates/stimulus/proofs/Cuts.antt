@@ -1,5 +1,6 @@
 -- How a text that is cut at each byte of a kind begins.
-use Rattle.std.proofs.Common.{◌≡◌, ℕ, suc, ◌+◌, ◌≤◌, Bool, true, false, not, cond, nat_lt, List, [], ◌∷◌, length, take, drop, filter, get_or, Some, None, position, refl, sym, ap, subst, ◌∙◌, arith, drop-cons}
+use Rattle.std.proofs.Common.{◌≡◌, ℕ, suc, ◌+◌, ◌≤◌, Bool, true, false, not, cond, nat_lt, List, [], ◌∷◌, length, take, drop}
+use Rattle.std.proofs.Common.{filter, get_or, Some, None, position, refl, sym, ap, subst, ◌∙◌, arith, drop-cons}
 use Rattle.std.proofs.Math.ListN.{drop_of_length-le}
 use Rattle.std.proofs.lemmas.List.Splits.{slice_split_first, slice_split-cons_yes}
 use Rattle.std.proofs.lemmas.List.Quantifiers.{position-Some}
@@ -20,19 +21,24 @@ drop_on : {X : Type 0} (x : X) (xs : List X) (n : ℕ) → drop (1 + n) (x ∷ x
 drop_on x xs n = let e : 1 + n ≡ suc n = omega arith in rw e refl
 
 -- The first part goes up to the first byte of the kind, or to the end.
-parted : {X : Type 0} (p : X → Bool) (xs : List X) → slice_split p xs ≡ take (position_or_len p xs) xs ∷ others p (drop (position_or_len p xs) xs)
+parted : {X : Type 0} (p : X → Bool) (xs : List X)
+    → slice_split p xs ≡ take (position_or_len p xs) xs ∷ others p (drop (position_or_len p xs) xs)
 parted p [] = refl
 parted {X} p (x ∷ xs) =
-    elim (p x) as (λ b. cond b ([] ∷ slice_split p xs) (onto_first x (slice_split p xs)) ≡ take (cond (not b) (1 + position_or_len p xs) 0) (x ∷ xs) ∷ others p (drop (cond (not b) (1 + position_or_len p xs) 0) (x ∷ xs))) [
+    elim (p x) as (λ b. cond b ([] ∷ slice_split p xs) (onto_first x (slice_split p xs)) ≡ take
+    (cond (not b) (1 + position_or_len p xs) 0) (x ∷ xs) ∷ others p
+    (drop (cond (not b) (1 + position_or_len p xs) 0) (x ∷ xs))) [
       | true ↦ refl
-      | false ↦ ap (onto_first x) (parted p xs) ∙ sym (rw (take_on x xs (position_or_len p xs), drop_on x xs (position_or_len p xs)) refl)
+      | false ↦ ap (onto_first x) (parted p xs)
+          ∙ sym (rw (take_on x xs (position_or_len p xs), drop_on x xs (position_or_len p xs)) refl)
     ]
 
 -- where no byte is of the kind, the text is the one part
 unsplit : {X : Type 0} (p : X → Bool) (xs : List X) → length xs ≤ position_or_len p xs → slice_split p xs ≡ xs ∷ []
 unsplit p [] h = refl
 unsplit p (x ∷ xs) h =
-    elim (p x) as (λ b. length (x ∷ xs) ≤ cond (not b) (1 + position_or_len p xs) 0 → cond b ([] ∷ slice_split p xs) (onto_first x (slice_split p xs)) ≡ (x ∷ xs) ∷ []) [
+    elim (p x) as (λ b. length (x ∷ xs) ≤ cond (not b) (1 + position_or_len p xs) 0
+    → cond b ([] ∷ slice_split p xs) (onto_first x (slice_split p xs)) ≡ (x ∷ xs) ∷ []) [
       | true ↦ λ g. absurd (omega (arith, g))
       | false ↦ λ g. ap (onto_first x) (unsplit p xs (omega (arith, g)))
     ] h
@@ -45,10 +51,12 @@ chosen_none : (b : Bool) (n : ℕ) → cond b (Some n) None ≡ None → b ≡ f
 chosen_none true n e = absurd cc
 chosen_none false n e = refl
 
-split_found : (p : ℕ → Bool) (xs : List ℕ) (i : ℕ) → position p xs ≡ Some i → slice_split p xs ≡ take i xs ∷ slice_split p (drop (i + 1) xs)
+split_found : (p : ℕ → Bool) (xs : List ℕ) (i : ℕ) → position p xs ≡ Some i
+    → slice_split p xs ≡ take i xs ∷ slice_split p (drop (i + 1) xs)
 split_found p xs i e =
     let (below, here) = chosen_some (nat_lt (position_or_len p xs) (length xs)) (position_or_len p xs) i e in
-    subst (λ n. slice_split p xs ≡ take n xs ∷ slice_split p (drop (n + 1) xs)) here (slice_split_first p xs 0 (ltb-true (position_or_len p xs) (length xs) below))
+    subst (λ n. slice_split p xs ≡ take n xs ∷ slice_split p (drop (n + 1) xs)) here
+    (slice_split_first p xs 0 (ltb-true (position_or_len p xs) (length xs) below))
 
 split_nowhere : (p : ℕ → Bool) (xs : List ℕ) → position p xs ≡ None → slice_split p xs ≡ xs ∷ []
 split_nowhere p xs e =
@@ -57,11 +65,13 @@ split_nowhere p xs e =
     unsplit p xs le
 
 -- a line that ends with a line feed, ahead of the others
-pub ended_on : (line text : List ℕ) → ended (line ∷ slice_split is_line_feed text) ≡ without_return line ∷ ended (slice_split is_line_feed text)
+pub ended_on : (line text : List ℕ)
+    → ended (line ∷ slice_split is_line_feed text) ≡ without_return line ∷ ended (slice_split is_line_feed text)
 ended_on line text =
     subst (λ parts. ended (line ∷ parts) ≡ without_return line ∷ ended parts) (sym (parted is_line_feed text)) refl
 
-pub line_found : (text : List ℕ) (i : ℕ) → position is_line_feed text ≡ Some i → lines_of text ≡ without_return (take i text) ∷ lines_of (drop (i + 1) text)
+pub line_found : (text : List ℕ) (i : ℕ) → position is_line_feed text ≡ Some i
+    → lines_of text ≡ without_return (take i text) ∷ lines_of (drop (i + 1) text)
 line_found text i e = ap ended (split_found is_line_feed text i e) ∙ ended_on (take i text) (drop (i + 1) text)
 
 pub last_line : (text : List ℕ) → position is_line_feed text ≡ None → lines_of text ≡ text ∷ []
@@ -82,21 +92,26 @@ skipped (x ∷ xs) =
     ] refl
 
 -- the words behind the first part
-rest_words : (text : List ℕ) → filter is_word (others is_blank (drop (position_or_len is_blank text) text)) ≡ words_of (drop (position_or_len is_blank text) text)
+rest_words : (text : List ℕ) → filter is_word (others is_blank (drop (position_or_len is_blank text) text)) ≡ words_of
+    (drop (position_or_len is_blank text) text)
 rest_words [] = refl
 rest_words (x ∷ xs) =
     let n : ℕ = position_or_len is_blank xs in
     let behind : ℕ → List (List ℕ) = λ m. filter is_word (others is_blank (drop m (x ∷ xs))) in
-    elim (is_blank x) as (λ b. is_blank x ≡ b → behind (cond (not b) (1 + n) 0) ≡ words_of (drop (cond (not b) (1 + n) 0) (x ∷ xs))) [
+    elim (is_blank x) as (λ b. is_blank x ≡ b
+    → behind (cond (not b) (1 + n) 0) ≡ words_of (drop (cond (not b) (1 + n) 0) (x ∷ xs))) [
       | true ↦ λ e. sym (words_on_blank x xs e)
       | false ↦ λ e. subst (λ rest. filter is_word (others is_blank rest) ≡ words_of rest) (sym (drop_on x xs n)) (rest_words xs)
     ] refl
 
-kept : (word : List ℕ) (words : List (List ℕ)) (x : ℕ) (xs : List ℕ) → word ≡ x ∷ xs → filter is_word (word ∷ words) ≡ word ∷ filter is_word words
+kept : (word : List ℕ) (words : List (List ℕ)) (x : ℕ) (xs : List ℕ) → word ≡ x ∷ xs
+    → filter is_word (word ∷ words) ≡ word ∷ filter is_word words
 kept word words x xs e = subst (λ v. filter is_word (v ∷ words) ≡ v ∷ filter is_word words) (sym e) refl
 
 -- a text that begins with no blank begins with a word, up to the first blank
-word_at : (x : ℕ) (xs : List ℕ) → is_blank x ≡ false → words_of (x ∷ xs) ≡ take (position_or_len is_blank (x ∷ xs)) (x ∷ xs) ∷ words_of (drop (position_or_len is_blank (x ∷ xs)) (x ∷ xs))
+word_at : (x : ℕ) (xs : List ℕ) → is_blank x ≡ false
+    → words_of (x ∷ xs) ≡ take (position_or_len is_blank (x ∷ xs)) (x ∷ xs) ∷ words_of
+    (drop (position_or_len is_blank (x ∷ xs)) (x ∷ xs))
 word_at x xs e =
     let n : ℕ = position_or_len is_blank xs in
     let m : ℕ = position_or_len is_blank (x ∷ xs) in
@@ -138,14 +153,19 @@ no_word text e =
     let le : length text ≤ position_or_len p text = grind (arith, nat_tests, f) in
     skipped text ∙ ap words_of (drop_of_length-le text le)
 
-pub word_found : (text word : List ℕ) (start end : ℕ) → position (λ b. not (is_blank b)) text ≡ Some start → word ≡ drop start text → position is_blank word ≡ Some end → words_of text ≡ take end word ∷ words_of (drop end word)
+pub word_found : (text word : List ℕ) (start end : ℕ) → position (λ b. not (is_blank b)) text ≡ Some start
+    → word ≡ drop start text → position is_blank word ≡ Some end → words_of text ≡ take end word ∷ words_of (drop end word)
 word_found text word start end e w f =
     let b = begins text start e in
     let same : word ≡ b.x ∷ b.xs = w ∙ b.is in
-    let (below, here) = chosen_some (nat_lt (position_or_len is_blank word) (length word)) (position_or_len is_blank word) end f in
-    b.words ∙ ap words_of (sym same) ∙ subst (λ v. words_of v ≡ take (position_or_len is_blank v) v ∷ words_of (drop (position_or_len is_blank v) v)) (sym same) (word_at b.x b.xs b.solid) ∙ ap (λ n. take n word ∷ words_of (drop n word)) here
+    let (below, here) = chosen_some (nat_lt (position_or_len is_blank word) (length word)) (position_or_len is_blank word) end f
+    in
+    b.words ∙ ap words_of (sym same)
+    ∙ subst (λ v. words_of v ≡ take (position_or_len is_blank v) v ∷ words_of (drop (position_or_len is_blank v) v))
+    (sym same) (word_at b.x b.xs b.solid) ∙ ap (λ n. take n word ∷ words_of (drop n word)) here
 
-pub last_word : (text word : List ℕ) (start : ℕ) → position (λ b. not (is_blank b)) text ≡ Some start → word ≡ drop start text → position is_blank word ≡ None → words_of text ≡ word ∷ []
+pub last_word : (text word : List ℕ) (start : ℕ) → position (λ b. not (is_blank b)) text ≡ Some start → word ≡ drop start text
+    → position is_blank word ≡ None → words_of text ≡ word ∷ []
 last_word text word start e w f =
     let b = begins text start e in
     let same : word ≡ b.x ∷ b.xs = w ∙ b.is in

@@ -15,7 +15,8 @@ drive_lines_after line h [] = refl
 drive_lines_after line h (c ∷ cs) = ap (λ lines. drive_line (line (c ∷ h)) ∷ lines) (drive_lines_after line (c ∷ h) cs)
 
 -- on any function of histories
-pub drive_lines : (line : List Change → Line) (cs : List Change) → lines_along (λ h. drive_line (line h)) cs ≡ map drive_line (trace line cs)
+pub drive_lines : (line : List Change → Line) (cs : List Change)
+    → lines_along (λ h. drive_line (line h)) cs ≡ map drive_line (trace line cs)
 drive_lines line cs = ap (λ lines. drive_line (line []) ∷ lines) (drive_lines_after line [] cs)
 
 pub drive_lines_show_traces : DriveLinesShowTraces
@@ -57,6 +58,7 @@ same_lines one other cs e = drive_lines one cs ∙ ap (map drive_line) e ∙ sym
 
 pub equal_lines_are_equal_traces : EqualLinesAreEqualTraces
 equal_lines_are_equal_traces one other cs = (
-  λ e. sym (lines_back (trace one.line cs)) ∙ ap (map line_of) (sym (drive_lines one.line cs) ∙ e ∙ drive_lines other.line cs) ∙ lines_back (trace other.line cs),
+  λ e. sym (lines_back (trace one.line cs)) ∙ ap (map line_of) (sym (drive_lines one.line cs) ∙ e ∙ drive_lines other.line cs)
+      ∙ lines_back (trace other.line cs),
   same_lines one.line other.line cs,
 )

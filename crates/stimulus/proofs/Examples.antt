@@ -13,7 +13,8 @@ use Rattle.stimulus.specs.TraceLine.{drive_line_text, line_text, change_text, ou
 -- an inverter and a cell with two inputs, a refused cell, and two without models; a second cell of the inverter's name
 cells : Listing
 cells = record {
-  cells = (codes "INV", ready 0) ∷ (codes "TB", refused 1) ∷ (codes "BUF", verilog_ports 2) ∷ (codes "OR", vital_ports 3) ∷ (codes "INV", refused 4) ∷ [];
+  cells = (codes "INV", ready 0) ∷ (codes "TB", refused 1) ∷ (codes "BUF", verilog_ports 2) ∷ (codes "OR", vital_ports 3)
+      ∷ (codes "INV", refused 4) ∷ [];
   pins = λ (cell : ℕ). (codes "A", input 0) ∷ (codes "Y", output) ∷ (codes "A", output) ∷ [];
 }
 
@@ -40,7 +41,9 @@ empty : stimulus_of cells [] ≡ Ok []
 empty = refl
 
 -- a section starts its cell anew, so times begin anew; a time may be 0 and have leading zeros
-two_sections : stimulus_of cells (codes "# two\ncell INV\r\n0 A X\n010 A 1\n\ncell INV\n7\tA 0") ≡ Ok (record { cell = 0; changes = record { at = 0; pin = 0; to = Unknown } ∷ record { at = 10; pin = 0; to = One } ∷ [] } ∷ record { cell = 0; changes = record { at = 7; pin = 0; to = Zero } ∷ [] } ∷ [])
+two_sections : stimulus_of cells (codes "# two\ncell INV\r\n0 A X\n010 A 1\n\ncell INV\n7\tA 0") ≡ Ok
+    (record { cell = 0; changes = record { at = 0; pin = 0; to = Unknown } ∷ record { at = 10; pin = 0; to = One } ∷ [] } ∷ record
+    { cell = 0; changes = record { at = 7; pin = 0; to = Zero } ∷ [] } ∷ [])
 unfolding cells
 two_sections = refl
 
@@ -74,22 +77,27 @@ unfolding cells
 bad_changes = refl
 
 -- lines of traces: a start, a value that changed at once, a value with a report, and one that changed later with a report
-start_line : line_text 76 None [] (codes "Y" ∷ []) (record { values = One ∷ []; delays = None ∷ []; reports = [] }) ≡ codes "L start : Y=1\n"
+start_line : line_text 76 None [] (codes "Y" ∷ []) (record { values = One ∷ []; delays = None ∷ []; reports = [] }) ≡ codes
+    "L start : Y=1\n"
 unfolding drive_line_text output_text
 start_line = refl
 
-at_once : line_text 76 (Some (record { at = 10; pin = 1; to = One })) (codes "B" ∷ codes "C" ∷ []) (codes "Q" ∷ codes "QN" ∷ []) (record { values = Zero ∷ Unknown ∷ []; delays = Some 0 ∷ None ∷ []; reports = [] }) ≡ codes "L 10 C 1 : Q=0@0 QN=x\n"
+at_once : line_text 76 (Some (record { at = 10; pin = 1; to = One })) (codes "B" ∷ codes "C" ∷ []) (codes "Q" ∷ codes "QN" ∷ [])
+    (record { values = Zero ∷ Unknown ∷ []; delays = Some 0 ∷ None ∷ []; reports = [] }) ≡ codes "L 10 C 1 : Q=0@0 QN=x\n"
 unfolding digits drive_line_text change_text output_text
 at_once = refl
 
-reported : line_text 86 (Some (record { at = 120; pin = 0; to = Unknown })) (codes "CK" ∷ []) (codes "Q" ∷ []) (record { values = Zero ∷ []; delays = None ∷ []; reports = true ∷ false ∷ true ∷ [] }) ≡ codes "V 120 CK x : Q=0 !1 !3\n"
+reported : line_text 86 (Some (record { at = 120; pin = 0; to = Unknown })) (codes "CK" ∷ []) (codes "Q" ∷ [])
+    (record { values = Zero ∷ []; delays = None ∷ []; reports = true ∷ false ∷ true ∷ [] }) ≡ codes "V 120 CK x : Q=0 !1 !3\n"
 unfolding digits drive_line_text change_text output_text report_text
 reported = refl
 
-later : line_text 72 (Some (record { at = 150; pin = 0; to = One })) (codes "CK" ∷ []) (codes "Q" ∷ []) (record { values = Unknown ∷ []; delays = Some 120 ∷ []; reports = true ∷ [] }) ≡ codes "H 150 CK 1 : Q=x@120 !1\n"
+later : line_text 72 (Some (record { at = 150; pin = 0; to = One })) (codes "CK" ∷ []) (codes "Q" ∷ [])
+    (record { values = Unknown ∷ []; delays = Some 120 ∷ []; reports = true ∷ [] }) ≡ codes "H 150 CK 1 : Q=x@120 !1\n"
 unfolding digits drive_line_text change_text output_text report_text
 later = refl
 
-floats : drive_line_text 76 (Some (record { at = 6; pin = 0; to = One })) (codes "A" ∷ []) (codes "Y" ∷ []) (record { values = drive.Floating ∷ []; delays = Some 0 ∷ []; reports = [] }) ≡ codes "L 6 A 1 : Y=z@0\n"
+floats : drive_line_text 76 (Some (record { at = 6; pin = 0; to = One })) (codes "A" ∷ []) (codes "Y" ∷ [])
+    (record { values = drive.Floating ∷ []; delays = Some 0 ∷ []; reports = [] }) ≡ codes "L 6 A 1 : Y=z@0\n"
 unfolding digits drive_line_text change_text output_text
 floats = refl

@@ -26,7 +26,8 @@ use Rattle.stimulus.specs.Text.{lines_of}
 use Rattle.stimulus.specs.Laws.{HasInputs, IsSectionOf, SectionsAreProper}
 
 -- what two steps give was given by the second, of what the first gave
-both_given : {A B E : Type 0} (first : Result A E) (next : A → Result B E) (b : B) → and_then first next ≡ Ok b → (a : A) × ((first ≡ Ok a) × (next a ≡ Ok b))
+both_given : {A B E : Type 0} (first : Result A E) (next : A → Result B E) (b : B) → and_then first next ≡ Ok b → (a : A)
+    × ((first ≡ Ok a) × (next a ≡ Ok b))
 both_given (Ok a) next b e = (a, (refl, e))
 both_given (Err f) next b e = absurd cc
 
@@ -56,7 +57,8 @@ MaySay listing context Nothing = Unit {0}
 MaySay listing context (Begins cell) = (name : List ℕ) × (cell_found listing name ≡ cells.Cell cell)
 MaySay listing context (Changes change) = IsChangeOf listing context change
 
-may_begin : (listing : Listing) (context : Context) (name : List ℕ) (found : CellFound) (said : Said) → cell_found listing name ≡ found → begun found ≡ Ok said → MaySay listing context said
+may_begin : (listing : Listing) (context : Context) (name : List ℕ) (found : CellFound) (said : Said)
+    → cell_found listing name ≡ found → begun found ≡ Ok said → MaySay listing context said
 unfolding MaySay
 may_begin listing context name (cells.Cell cell) said is e =
     let same : Begins cell ≡ said = cc in subst (MaySay listing context) same (name, is)
@@ -70,12 +72,15 @@ input_found (pins.Input number) pin e = let same : number ≡ pin = cc in ap pin
 input_found pins.Output pin e = absurd cc
 input_found pins.Unknown pin e = absurd cc
 
-may_change : (listing : Listing) (context : Context) (time pin value : List ℕ) (said : Said) → changed listing context time pin value ≡ Ok said → MaySay listing context said
+may_change : (listing : Listing) (context : Context) (time pin value : List ℕ) (said : Said)
+    → changed listing context time pin value ≡ Ok said → MaySay listing context said
 unfolding MaySay
 may_change listing context time pin value said e =
     let (cell, (c, e1)) = both_given (ok_or context.cell cause.Form) _ said e in
     let (at, (t, e2)) = both_given (ok_or (time_of time) cause.Form) _ said e1 in
-    let e3 : and_then (input_of (pin_found listing cell pin)) (λ number. and_then (ok_or (value_of value) cause.Value) (λ to. changed_at context at number to)) ≡ Ok said = not_refused (nat_le MAX_CHANGES context.changes) cause.Count _ said e2 in
+    let e3 : and_then (input_of (pin_found listing cell pin))
+    (λ number. and_then (ok_or (value_of value) cause.Value) (λ to. changed_at context at number to)) ≡ Ok said =
+    not_refused (nat_le MAX_CHANGES context.changes) cause.Count _ said e2 in
     let (number, (p, e4)) = both_given (input_of (pin_found listing cell pin)) _ said e3 in
     let (to, (v, e5)) = both_given (ok_or (value_of value) cause.Value) _ said e4 in
     let (later, same) = allowed_if (is_later at context.last) cause.Time _ said e5 in
@@ -88,7 +93,8 @@ may_change listing context time pin value said e =
     } in
     subst (MaySay listing context) same is
 
-may_say_as : (listing : Listing) (context : Context) (written : Written) (said : Said) → judged_as listing context written ≡ Ok said → MaySay listing context said
+may_say_as : (listing : Listing) (context : Context) (written : Written) (said : Said)
+    → judged_as listing context written ≡ Ok said → MaySay listing context said
 unfolding MaySay
 may_say_as listing context no_words said e = let same : Nothing ≡ said = cc in subst (MaySay listing context) same tt
 may_say_as listing context (section_line name) said e = may_begin listing context name (cell_found listing name) said refl e
@@ -120,12 +126,14 @@ CellHasInputs listing (Some cell) n = HasInputs listing cell n
 -- what lines say makes proper sections, and the changes ahead go on properly from the section's history
 record AreProper (listing : Listing) (context : Context) (all : List Said) : Type 0 where
   sections : All (IsSectionOf listing) (sections_of all)
-  ahead : (n : ℕ) (h : List Change) → CellHasInputs listing context.cell n → EndsAt context.last h → IsProperFrom n h (changes_ahead all)
+  ahead : (n : ℕ) (h : List Change) → CellHasInputs listing context.cell n → EndsAt context.last h
+      → IsProperFrom n h (changes_ahead all)
 
 nothing_more : (listing : Listing) (context : Context) → AreProper listing context []
 nothing_more listing context = record { sections = All-nil (IsSectionOf listing); ahead = λ n h i l. tt }
 
-one_more : (listing : Listing) (context : Context) (said : Said) (more : List Said) → MaySay listing context said → AreProper listing (after context said) more → AreProper listing context (said ∷ more)
+one_more : (listing : Listing) (context : Context) (said : Said) (more : List Said) → MaySay listing context said
+    → AreProper listing (after context said) more → AreProper listing context (said ∷ more)
 unfolding MaySay EndsAt CellHasInputs
 one_more listing context Nothing more may rest = record { sections = rest.sections; ahead = rest.ahead }
 one_more listing context (Begins cell) more may rest = record {
@@ -141,11 +149,14 @@ one_more listing context (Changes change) more may rest = record {
   );
 }
 
-all_proper : (listing : Listing) (number : ℕ) (context : Context) (lines : List (List ℕ)) (all : List Said) → all_said listing number context lines ≡ Ok all → AreProper listing context all
-all_proper listing number context [] all e = let same : [] ≡ all = cc in subst (AreProper listing context) same (nothing_more listing context)
+all_proper : (listing : Listing) (number : ℕ) (context : Context) (lines : List (List ℕ)) (all : List Said)
+    → all_said listing number context lines ≡ Ok all → AreProper listing context all
+all_proper listing number context [] all e = let same : [] ≡ all = cc
+    in subst (AreProper listing context) same (nothing_more listing context)
 all_proper listing number context (line ∷ lines) all e =
     let (said, (s, e1)) = both_given (at_line number (judged listing context line)) _ all e in
-    let (more, (m, e2)) = both_given (all_said listing (number + 1) (after context said) lines) (λ more. Ok (said ∷ more)) all e1 in
+    let (more, (m, e2)) = both_given (all_said listing (number + 1) (after context said) lines) (λ more. Ok (said ∷ more)) all e1
+    in
     let same : said ∷ more ≡ all = cc in
     subst (AreProper listing context) same (one_more listing context said more
     (may_say_as listing context (written_in line) said (at_line_ok number (judged listing context line) said s))

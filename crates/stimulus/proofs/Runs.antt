@@ -1,5 +1,7 @@
 -- The lines of a run, put one behind another as the simulator takes the changes.
-use Rattle.std.proofs.Common.{◌≡◌, ℕ, ◌+◌, Bool, true, false, if◌then◌else◌, ◌<◌, ◌≤◌, List, [], ◌∷◌, ◌++◌, get_or, take, drop, length, All, Option, Some, None, Result, Ok, Err, IsErr, OnOk, flat_map, refl, sym, ◌∙◌, ap, subst, append_assoc}
+use Rattle.std.proofs.Common.{◌≡◌, ℕ, ◌+◌, Bool, true, false, if◌then◌else◌, ◌<◌, ◌≤◌, List, [], ◌∷◌, ◌++◌, get_or, take, drop}
+use Rattle.std.proofs.Common.{length, All, Option, Some, None, Result, Ok, Err, IsErr, OnOk, flat_map, refl, sym, ◌∙◌, ap, subst}
+use Rattle.std.proofs.Common.{append_assoc}
 use Rattle.std.proofs.lemmas.List.{append-nil, drop_more, drop_all}
 use Rattle.std.proofs.lemmas.List.Elements.{All-get_or}
 use Rattle.text_io.specs.declared.outside.Failed.{Failed}
@@ -15,7 +17,8 @@ use Rattle.stimulus.specs.declared.ports.Ports.{Ports}
 use Rattle.stimulus.specs.DriveLines.{DriveLine, lines_after, lines_along}
 use Rattle.stimulus.specs.TraceLine.{drive_line_text}
 use Rattle.stimulus.specs.TraceText.{change_texts, trace_text}
-use Rattle.stimulus.specs.Comparison.{Lines, lines_text, are_alike, compared_texts, compared_text, first_of, unlike_from, first_unlike}
+use Rattle.stimulus.specs.Comparison.{Lines, lines_text, are_alike, compared_texts, compared_text, first_of, unlike_from}
+use Rattle.stimulus.specs.Comparison.{first_unlike}
 use Rattle.stimulus.specs.Writes.{WritesTrace, PutsTrace}
 
 -- a call that stops before anything is put
@@ -31,7 +34,8 @@ texts_from shown h (c ∷ cs) = shown (c ∷ h) ++ texts_from shown (c ∷ h) cs
 
 -- How far a run has come. The simulators stand after a history, the rest of the changes goes on from there, and the text so
 -- far, of which some waits, makes with that of the rest the whole text.
-pub record Going (stands : List Change → Type 0) (shown : List Change → List ℕ) (n : ℕ) (s now : DeskState) (held : List ℕ) (rest : List Change) (whole : List ℕ) : Type 0 where
+pub record Going (stands : List Change → Type 0) (shown : List Change → List ℕ) (n : ℕ) (s now : DeskState) (held : List ℕ)
+    (rest : List Change) (whole : List ℕ) : Type 0 where
   pub history : List Change
   pub standing : stands history
   pub proper : IsProperFrom n history rest
@@ -40,8 +44,10 @@ pub record Going (stands : List Change → Type 0) (shown : List Change → List
   pub joined : done ++ texts_from shown history rest ≡ whole
 
 -- the run has begun: the text of the start was put
-pub begins : (stands : List Change → Type 0) (shown : List Change → List ℕ) (n : ℕ) (s now : DeskState) (held : List ℕ) (changes : List Change) (whole : List ℕ)
-    → stands [] → IsProperFrom n [] changes → Gathers s now Report [] (shown []) held → shown [] ++ texts_from shown [] changes ≡ whole
+pub begins : (stands : List Change → Type 0) (shown : List Change → List ℕ) (n : ℕ) (s now : DeskState) (held : List ℕ)
+    (changes : List Change) (whole : List ℕ)
+    → stands [] → IsProperFrom n [] changes → Gathers s now Report [] (shown []) held
+    → shown [] ++ texts_from shown [] changes ≡ whole
     → Going stands shown n s now held changes whole
 begins stands shown n s now held changes whole start proper put same =
     record { history = []; standing = start; proper = proper; done = shown []; gathered = put; joined = same }
@@ -50,7 +56,8 @@ next_is : (xs : List Change) (i : ℕ) (x : Change) → i < length xs → x ≡ 
 next_is xs i x below is = drop_more xs i x below ∙ ap (λ y. y ∷ drop (i + 1) xs) (sym is)
 
 -- the next change was given, and its text put
-pub goes_on : (stands later : List Change → Type 0) (shown : List Change → List ℕ) (n : ℕ) (s now next : DeskState) (held after : List ℕ) (xs : List Change) (i : ℕ) (x : Change) (whole : List ℕ)
+pub goes_on : (stands later : List Change → Type 0) (shown : List Change → List ℕ) (n : ℕ) (s now next : DeskState)
+    (held after : List ℕ) (xs : List Change) (i : ℕ) (x : Change) (whole : List ℕ)
     → i < length xs → x ≡ get_or xs i x → ((h : List Change) → stands h → later (x ∷ h))
     → Going stands shown n s now held (drop i xs) whole
     → ((h : List Change) → later (x ∷ h) → Gathers now next Report held (shown (x ∷ h)) after)
@@ -71,7 +78,9 @@ goes_on stands later shown n s now next held after xs i x whole below is steps g
     }
 
 -- the next change was given, and its text not put whole
-pub stops_in : {S T : Type 0} (stands later : List Change → Type 0) (shown : List Change → List ℕ) (n : ℕ) (s now next : DeskState) (held after : List ℕ) (xs : List Change) (i : ℕ) (x : Change) (whole : List ℕ) (y : Stop) (r : Result T Stop)
+pub stops_in : {S T : Type 0} (stands later : List Change → Type 0) (shown : List Change
+    → List ℕ) (n : ℕ) (s now next : DeskState) (held after : List ℕ) (xs : List Change) (i : ℕ) (x : Change) (whole : List ℕ)
+    (y : Stop) (r : Result T Stop)
     → i < length xs → x ≡ get_or xs i x → ((h : List Change) → stands h → later (x ∷ h))
     → Going stands shown n s now held (drop i xs) whole
     → ((h : List Change) → later (x ∷ h) → PutsTrace {T = S} now next held (shown (x ∷ h)) after (Err y))
@@ -80,17 +89,22 @@ stops_in stands later shown n s now next held after xs i x whole y (Ok z) below 
 stops_in stands later shown n s now next held after xs i x whole y (Err z) below is steps g put e =
     let text = shown (x ∷ g.history) in
     let more = texts_from shown (x ∷ g.history) (drop (i + 1) xs) in
-    let joined : g.done ++ (text ++ more) ≡ whole = ap (λ ys. g.done ++ texts_from shown g.history ys) (sym (next_is xs i x below is)) ∙ g.joined in
+    let joined : g.done ++ (text ++ more) ≡ whole =
+    ap (λ ys. g.done ++ texts_from shown g.history ys) (sym (next_is xs i x below is)) ∙ g.joined in
     let failed : StopsWithin now next Report (held ++ text) = (put g.history (steps g.history g.standing)).part in
-    let stopped : StopsWithin s next Report (g.done ++ text) = Gathers-stops s now next Report [] held g.done text g.gathered failed in
+    let stopped : StopsWithin s next Report (g.done ++ text) =
+    Gathers-stops s now next Report [] held g.done text g.gathered failed in
     let part : StopsWithin s next Report (g.done ++ (text ++ more)) = StopsWithin-more s next Report g.done text more stopped in
     record { whole = tt; part = subst (StopsWithin s next Report) joined part }
 
 -- all is put, and what waits is written
-pub flushed : {S : Type 0} (stands : List Change → Type 0) (shown : List Change → List ℕ) (n : ℕ) (s now next : DeskState) (held : List ℕ) (xs : List Change) (i : ℕ) (whole : List ℕ) (r : Result S Failed)
-    → length xs ≤ i → Going stands shown n s now held (drop i xs) whole → WritesText now next Report held r → WritesText s next Report whole r
+pub flushed : {S : Type 0} (stands : List Change → Type 0) (shown : List Change → List ℕ) (n : ℕ) (s now next : DeskState)
+    (held : List ℕ) (xs : List Change) (i : ℕ) (whole : List ℕ) (r : Result S Failed)
+    → length xs ≤ i → Going stands shown n s now held (drop i xs) whole → WritesText now next Report held r
+    → WritesText s next Report whole r
 flushed stands shown n s now next held xs i whole r over g w =
-    let joined : g.done ≡ whole = sym (append-nil g.done) ∙ (ap (λ ys. g.done ++ texts_from shown g.history ys) (sym (drop_all i xs over)) ∙ g.joined) in
+    let joined : g.done ≡ whole = sym (append-nil g.done)
+    ∙ (ap (λ ys. g.done ++ texts_from shown g.history ys) (sym (drop_all i xs over)) ∙ g.joined) in
     subst (λ t. WritesText s next Report t r) joined (flushes s now next Report held g.done r g.gathered w)
 
 -- What waits, and what is written of it.
@@ -133,23 +147,28 @@ newest (c ∷ h) = Some c
 abbrev pub one_shown : ℕ → Ports → (List Change → DriveLine) → List Change → List ℕ
 one_shown tag ports line h = drive_line_text tag (newest h) ports.inputs ports.outputs (line h)
 
-change_texts-are : (tag : ℕ) (ports : Ports) (line : List Change → DriveLine) (h cs : List Change) → texts_from (one_shown tag ports line) h cs ≡ change_texts tag ports cs (lines_after line h cs)
+change_texts-are : (tag : ℕ) (ports : Ports) (line : List Change → DriveLine) (h cs : List Change)
+    → texts_from (one_shown tag ports line) h cs ≡ change_texts tag ports cs (lines_after line h cs)
 change_texts-are tag ports line h [] = refl
 change_texts-are tag ports line h (c ∷ cs) =
-    ap (λ t. drive_line_text tag (Some c) ports.inputs ports.outputs (line (c ∷ h)) ++ t) (change_texts-are tag ports line (c ∷ h) cs)
+    ap (λ t. drive_line_text tag (Some c) ports.inputs ports.outputs (line (c ∷ h)) ++ t)
+    (change_texts-are tag ports line (c ∷ h) cs)
 
 pub trace_text-is : (tag : ℕ) (ports : Ports) (line : List Change → DriveLine) (cs : List Change)
     → one_shown tag ports line [] ++ texts_from (one_shown tag ports line) [] cs ≡ trace_text tag ports cs (lines_along line cs)
-trace_text-is tag ports line cs = ap (λ t. drive_line_text tag None ports.inputs ports.outputs (line []) ++ t) (change_texts-are tag ports line [] cs)
+trace_text-is tag ports line cs =
+    ap (λ t. drive_line_text tag None ports.inputs ports.outputs (line []) ++ t) (change_texts-are tag ports line [] cs)
 
 -- The text of three simulators.
 
 abbrev pub three_shown : Ports → (List Change → Lines) → List Change → List ℕ
 three_shown ports lines h = lines_text (newest h) ports (lines h)
 
-compared_texts-are : (ports : Ports) (lines : List Change → Lines) (h cs : List Change) → texts_from (three_shown ports lines) h cs ≡ compared_texts ports cs (lines_after lines h cs)
+compared_texts-are : (ports : Ports) (lines : List Change → Lines) (h cs : List Change)
+    → texts_from (three_shown ports lines) h cs ≡ compared_texts ports cs (lines_after lines h cs)
 compared_texts-are ports lines h [] = refl
-compared_texts-are ports lines h (c ∷ cs) = ap (λ t. lines_text (Some c) ports (lines (c ∷ h)) ++ t) (compared_texts-are ports lines (c ∷ h) cs)
+compared_texts-are ports lines h (c ∷ cs) =
+    ap (λ t. lines_text (Some c) ports (lines (c ∷ h)) ++ t) (compared_texts-are ports lines (c ∷ h) cs)
 
 pub compared_text-is : (ports : Ports) (lines : List Change → Lines) (cs : List Change)
     → three_shown ports lines [] ++ texts_from (three_shown ports lines) [] cs ≡ compared_text ports cs lines
@@ -160,7 +179,8 @@ abbrev pub or_later : Option ℕ → Option ℕ → Option ℕ
 or_later (Some first) later = Some first
 or_later None later = later
 
-pub first_step : (alike : Bool) (first : Option ℕ) (number : ℕ) (later : Option ℕ) → or_later (first_of alike first number) later ≡ or_later first (if alike then later else Some number)
+pub first_step : (alike : Bool) (first : Option ℕ) (number : ℕ) (later : Option ℕ)
+    → or_later (first_of alike first number) later ≡ or_later first (if alike then later else Some number)
 first_step true (Some first) number later = refl
 first_step false (Some first) number later = refl
 first_step true None number later = refl
@@ -173,11 +193,14 @@ pub record Stand (liberty verilog vital : List Change → Type 0) (h : List Chan
   pub of_vital : vital h
 
 -- How far a run of three has come: as one, and the first number so far, or else that in the rest, is that of the whole.
-pub record Comparing (stands : List Change → Type 0) (ports : Ports) (lines : List Change → Lines) (n : ℕ) (s now : DeskState) (held : List ℕ) (changes rest : List Change) (first : Option ℕ) (number : ℕ) : Type 0 where
+pub record Comparing (stands : List Change → Type 0) (ports : Ports) (lines : List Change → Lines) (n : ℕ) (s now : DeskState)
+    (held : List ℕ) (changes rest : List Change) (first : Option ℕ) (number : ℕ) : Type 0 where
   pub going : Going stands (three_shown ports lines) n s now held rest (compared_text ports changes lines)
   pub found : or_later first (unlike_from number (lines_after lines going.history rest)) ≡ first_unlike changes lines
 
-pub compares : (stands later : List Change → Type 0) (ports : Ports) (lines : List Change → Lines) (n : ℕ) (s now next : DeskState) (held after : List ℕ) (xs : List Change) (i : ℕ) (x : Change) (first : Option ℕ) (number : ℕ) (alike : Bool)
+pub compares : (stands later : List Change → Type 0) (ports : Ports) (lines : List Change
+    → Lines) (n : ℕ) (s now next : DeskState) (held after : List ℕ) (xs : List Change) (i : ℕ) (x : Change) (first : Option ℕ)
+    (number : ℕ) (alike : Bool)
     → i < length xs → x ≡ get_or xs i x → ((h : List Change) → stands h → later (x ∷ h))
     → Comparing stands ports lines n s now held xs (drop i xs) first number
     → ((h : List Change) → later (x ∷ h) → Gathers now next Report held (three_shown ports lines (x ∷ h)) after)
@@ -189,34 +212,53 @@ compares stands later ports lines n s now next held after xs i x first number al
     let h = c.going.history in
     let here : alike ≡ are_alike (lines (x ∷ h)) = shows h (steps h c.going.standing) in
     record {
-      going = goes_on stands later (three_shown ports lines) n s now next held after xs i x (compared_text ports xs lines) below is steps c.going put;
+      going = goes_on stands later (three_shown ports lines) n s now next held after xs i x (compared_text ports xs lines) below
+          is steps c.going put;
       found = first_step alike first number (unlike_from (number + 1) (lines_after lines (x ∷ h) (drop (i + 1) xs)))
-          ∙ (ap (λ b. or_later first (if b then unlike_from (number + 1) (lines_after lines (x ∷ h) (drop (i + 1) xs)) else Some number)) here
+          ∙ (ap (λ b. or_later first (if b then unlike_from (number + 1) (lines_after lines (x ∷ h) (drop (i + 1) xs))
+          else Some number)) here
           ∙ (ap (λ ys. or_later first (unlike_from number (lines_after lines h ys))) (sym rest) ∙ c.found));
     }
 
 -- the run of three has begun: the text of the start was put
-pub compares_first : (stands : List Change → Type 0) (ports : Ports) (lines : List Change → Lines) (n : ℕ) (s now : DeskState) (held : List ℕ) (cs : List Change) (first : Option ℕ) (alike : Bool)
-    → stands [] → IsProperFrom n [] cs → Gathers s now Report [] (three_shown ports lines []) held → first ≡ first_of alike None 0 → alike ≡ are_alike (lines [])
+pub compares_first : (stands : List Change → Type 0) (ports : Ports) (lines : List Change → Lines) (n : ℕ) (s now : DeskState)
+    (held : List ℕ) (cs : List Change) (first : Option ℕ) (alike : Bool)
+    → stands [] → IsProperFrom n [] cs → Gathers s now Report [] (three_shown ports lines []) held → first ≡ first_of alike None 0
+    → alike ≡ are_alike (lines [])
     → Comparing stands ports lines n s now held cs cs first 1
 compares_first stands ports lines n s now held cs first alike start proper put e a = record {
-  going = record { history = []; standing = start; proper = proper; done = three_shown ports lines []; gathered = put; joined = compared_text-is ports lines cs };
+  going = record {
+    history = [];
+    standing = start;
+    proper = proper;
+    done = three_shown ports lines [];
+    gathered = put;
+    joined =
+        compared_text-is ports lines cs;
+  };
   found = ap (λ f. or_later f (unlike_from 1 (lines_after lines [] cs))) e
-      ∙ (first_step alike None 0 (unlike_from 1 (lines_after lines [] cs)) ∙ ap (λ b. or_later None (if b then unlike_from 1 (lines_after lines [] cs) else Some 0)) a);
+      ∙ (first_step alike None 0 (unlike_from 1 (lines_after lines [] cs))
+      ∙ ap (λ b. or_later None (if b then unlike_from 1 (lines_after lines [] cs) else Some 0)) a);
 }
 
 -- what is put and shown, where the machines stay the same
-pub one_put : {S : Type 0} (later : List Change → Type 0) (tag : ℕ) (ports : Ports) (line shown : List Change → DriveLine) (now next : DeskState) (held after : List ℕ) (x : Change) (r : Result S Stop)
-    → shown ≡ line → ((h : List Change) → later h → PutsTrace now next held (drive_line_text tag (Some x) ports.inputs ports.outputs (shown h)) after r)
+pub one_put : {S : Type 0} (later : List Change → Type 0) (tag : ℕ) (ports : Ports) (line shown : List Change
+    → DriveLine) (now next : DeskState) (held after : List ℕ) (x : Change) (r : Result S Stop)
+    → shown ≡ line → ((h : List Change) → later h
+    → PutsTrace now next held (drive_line_text tag (Some x) ports.inputs ports.outputs (shown h)) after r)
     → (h : List Change) → later (x ∷ h) → PutsTrace now next held (one_shown tag ports line (x ∷ h)) after r
 one_put later tag ports line shown now next held after x r same put h s =
-    subst (λ l. PutsTrace now next held (drive_line_text tag (Some x) ports.inputs ports.outputs (l (x ∷ h))) after r) same (put (x ∷ h) s)
+    subst (λ l. PutsTrace now next held (drive_line_text tag (Some x) ports.inputs ports.outputs (l (x ∷ h))) after r) same
+    (put (x ∷ h) s)
 
-pub three_put : {S : Type 0} (liberty verilog vital : List Change → Type 0) (ports : Ports) (lines shown : List Change → Lines) (now next : DeskState) (held after : List ℕ) (x : Change) (r : Result S Stop)
-    → shown ≡ lines → ((h : List Change) → liberty h → verilog h → vital h → PutsTrace now next held (lines_text (Some x) ports (shown h)) after r)
+pub three_put : {S : Type 0} (liberty verilog vital : List Change → Type 0) (ports : Ports) (lines shown : List Change
+    → Lines) (now next : DeskState) (held after : List ℕ) (x : Change) (r : Result S Stop)
+    → shown ≡ lines → ((h : List Change) → liberty h → verilog h → vital h
+    → PutsTrace now next held (lines_text (Some x) ports (shown h)) after r)
     → (h : List Change) → Stand liberty verilog vital (x ∷ h) → PutsTrace now next held (three_shown ports lines (x ∷ h)) after r
 three_put liberty verilog vital ports lines shown now next held after x r same put h s =
-    subst (λ l. PutsTrace now next held (lines_text (Some x) ports (l (x ∷ h))) after r) same (put (x ∷ h) s.of_liberty s.of_verilog s.of_vital)
+    subst (λ l. PutsTrace now next held (lines_text (Some x) ports (l (x ∷ h))) after r) same
+    (put (x ∷ h) s.of_liberty s.of_verilog s.of_vital)
 
 pub three_alike : (liberty verilog vital : List Change → Type 0) (lines shown : List Change → Lines) (x : Change) (b : Bool)
     → shown ≡ lines → ((h : List Change) → liberty h → verilog h → vital h → b ≡ are_alike (shown h))
@@ -232,30 +274,47 @@ written_part s next text y (Err z) w e =
     record { whole = tt; part = record { part = w.part.0; front = w.part.1; state = w.part.2 } }
 
 -- behind one text that was appended, a call that appends another
-pub behind : {T : Type 0} (s t u : DeskState) (a b : List ℕ) (r : Result T Stop) → t ≡ wrote s Report a → WritesTrace t u b r → WritesTrace s u (a ++ b) r
+pub behind : {T : Type 0} (s t u : DeskState) (a b : List ℕ) (r : Result T Stop) → t ≡ wrote s Report a → WritesTrace t u b r
+    → WritesTrace s u (a ++ b) r
 behind s t u a b (Ok x) e w = record { whole = wrote_more s t u Report a b e w.whole; part = tt }
 behind s t u a b (Err y) e w = record {
   whole = tt;
-  part = record { part = a ++ w.part.part; front = IsPrefix-append a w.part.part b w.part.front; state = wrote_more s t u Report a w.part.part e w.part.state };
+  part = record {
+    part = a ++ w.part.part;
+    front = IsPrefix-append a w.part.part b w.part.front;
+    state =
+        wrote_more s t u Report a w.part.part e w.part.state;
+  };
 }
 
 -- a stop within the first of two texts
-pub stops_before : {S T : Type 0} (s t : DeskState) (a b : List ℕ) (y : Failed) (r : Result T Stop) → WritesText {T = S} s t Report a (Err y) → IsErr r
+pub stops_before : {S T : Type 0} (s t : DeskState) (a b : List ℕ) (y : Failed) (r : Result T Stop)
+    → WritesText {T = S} s t Report a (Err y) → IsErr r
     → WritesTrace s t (a ++ b) r
 stops_before s t a b y (Ok x) w e = absurd cc
 stops_before s t a b y (Err z) w e =
     record { whole = tt; part = record { part = w.part.0; front = IsPrefix-front w.part.0 a b w.part.1; state = w.part.2 } }
 
 -- a stop within the first of two texts, after some of it
-pub trace_stops : {S T : Type 0} (s t : DeskState) (a b : List ℕ) (y : Stop) (r : Result T Stop) → WritesTrace {T = S} s t a (Err y) → IsErr r → WritesTrace s t (a ++ b) r
+pub trace_stops : {S T : Type 0} (s t : DeskState) (a b : List ℕ) (y : Stop) (r : Result T Stop)
+    → WritesTrace {T = S} s t a (Err y) → IsErr r → WritesTrace s t (a ++ b) r
 trace_stops s t a b y (Ok x) w e = absurd cc
 trace_stops s t a b y (Err z) w e =
-    record { whole = tt; part = record { part = w.part.part; front = IsPrefix-front w.part.part a b w.part.front; state = w.part.state } }
+    record {
+      whole = tt;
+      part = record {
+        part = w.part.part;
+        front = IsPrefix-front w.part.part a b w.part.front;
+        state =
+            w.part.state;
+      };
+    }
 
 -- a call that appends nothing and stops
 pub appends_nothing : {T : Type 0} (s : DeskState) (text : List ℕ) (r : Result T Stop) → IsErr r → WritesTrace s s text r
 appends_nothing s text (Ok x) e = absurd cc
-appends_nothing s text (Err y) e = record { whole = tt; part = record { part = []; front = (text, refl); state = sym (wrote-nil s Report) } }
+appends_nothing s text (Err y) e =
+    record { whole = tt; part = record { part = []; front = (text, refl); state = sym (wrote-nil s Report) } }
 
 -- Texts of items, appended one behind another.
 
@@ -264,8 +323,10 @@ pub holds_next : {X : Type 0} (P : X → Type 0) (xs : List X) (i : ℕ) (x : X)
 holds_next P xs i x all h is = subst P (sym is) (All-get_or P xs i x h all)
 
 -- a stop within the text of an item
-pub part_of_item : {X S T : Type 0} (f : X → List ℕ) (xs : List X) (i : ℕ) (x : X) (s now new : DeskState) (y : Stop) (r : Result T Stop)
-    → i < length xs → x ≡ get_or xs i x → now ≡ wrote s Report (flat_map f (take i xs)) → WritesTrace {T = S} now new (f x) (Err y) → IsErr r
+pub part_of_item : {X S T : Type 0} (f : X → List ℕ) (xs : List X) (i : ℕ) (x : X) (s now new : DeskState) (y : Stop)
+    (r : Result T Stop)
+    → i < length xs → x ≡ get_or xs i x → now ≡ wrote s Report (flat_map f (take i xs))
+    → WritesTrace {T = S} now new (f x) (Err y) → IsErr r
     → WritesTrace s new (flat_map f xs) r
 part_of_item f xs i x s now new y r h is before item e =
     subst (λ text. WritesTrace s new text r) (sym (flat_map-split f xs i x h is))

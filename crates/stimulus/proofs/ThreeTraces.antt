@@ -33,14 +33,16 @@ none_from liberty verilog vital n h (c ∷ cs) e f =
     (one_line (liberty (c ∷ h)) (verilog (c ∷ h)) (vital (c ∷ h)) here here_too)
     ∙ none_from liberty verilog vital (n + 1) (c ∷ h) cs more more_too
 
-pub none_unlike : (liberty verilog vital : List Change → DriveLine) (cs : List Change) → lines_along verilog cs ≡ lines_along liberty cs → lines_along vital cs ≡ lines_along liberty cs
+pub none_unlike : (liberty verilog vital : List Change → DriveLine) (cs : List Change)
+    → lines_along verilog cs ≡ lines_along liberty cs → lines_along vital cs ≡ lines_along liberty cs
     → first_unlike cs (shown liberty verilog vital) ≡ None
 none_unlike liberty verilog vital cs e f =
     let here : verilog [] ≡ liberty [] = cc in
     let here_too : vital [] ≡ liberty [] = cc in
     let more : lines_after verilog [] cs ≡ lines_after liberty [] cs = cc in
     let more_too : lines_after vital [] cs ≡ lines_after liberty [] cs = cc in
-    ap (λ b. if b then unlike_from 1 (lines_after (shown liberty verilog vital) [] cs) else Some 0) (one_line (liberty []) (verilog []) (vital []) here here_too)
+    ap (λ b. if b then unlike_from 1 (lines_after (shown liberty verilog vital) [] cs) else Some 0)
+    (one_line (liberty []) (verilog []) (vital []) here here_too)
     ∙ none_from liberty verilog vital 1 [] cs more more_too
 
 -- Where no lines differ the traces are equal.
@@ -49,25 +51,31 @@ none_unlike liberty verilog vital cs e f =
 abbrev AsMany : (one other : List Change → DriveLine) → Type 0
 AsMany one other = (h : List Change) → length (one h).reports ≡ length (other h).reports
 
-both_lines : (liberty verilog vital : DriveLine) → length liberty.reports ≡ length verilog.reports → length liberty.reports ≡ length vital.reports
+both_lines : (liberty verilog vital : DriveLine) → length liberty.reports ≡ length verilog.reports
+    → length liberty.reports ≡ length vital.reports
     → are_alike (record { liberty = liberty; verilog = verilog; vital = vital }) ≡ true → (liberty ≡ verilog) × (liberty ≡ vital)
 both_lines liberty verilog vital e f h =
-    let both = and_parts (same_line liberty verilog) (same_line liberty vital) h in (line-is liberty verilog e both.0, line-is liberty vital f both.1)
+    let both = and_parts (same_line liberty verilog) (same_line liberty vital) h
+    in (line-is liberty verilog e both.0, line-is liberty vital f both.1)
 
-equal_from : (liberty verilog vital : List Change → DriveLine) (n : ℕ) (h cs : List Change) → AsMany liberty verilog → AsMany liberty vital
+equal_from : (liberty verilog vital : List Change → DriveLine) (n : ℕ) (h cs : List Change) → AsMany liberty verilog
+    → AsMany liberty vital
     → unlike_from n (lines_after (shown liberty verilog vital) h cs) ≡ None
     → (lines_after liberty h cs ≡ lines_after verilog h cs) × (lines_after liberty h cs ≡ lines_after vital h cs)
 equal_from liberty verilog vital n h [] v w e = (refl, refl)
 equal_from liberty verilog vital n h (c ∷ cs) v w e =
-    let p = none_here (are_alike (shown liberty verilog vital (c ∷ h))) n (unlike_from (n + 1) (lines_after (shown liberty verilog vital) (c ∷ h) cs)) e in
+    let p = none_here (are_alike (shown liberty verilog vital (c ∷ h))) n
+    (unlike_from (n + 1) (lines_after (shown liberty verilog vital) (c ∷ h) cs)) e in
     let here = both_lines (liberty (c ∷ h)) (verilog (c ∷ h)) (vital (c ∷ h)) (v (c ∷ h)) (w (c ∷ h)) p.0 in
     let more = equal_from liberty verilog vital (n + 1) (c ∷ h) cs v w p.1 in
     (cons_path _ _ _ _ here.0 more.0, cons_path _ _ _ _ here.1 more.1)
 
 all_equal : (liberty verilog vital : List Change → DriveLine) (cs : List Change) → AsMany liberty verilog → AsMany liberty vital
-    → first_unlike cs (shown liberty verilog vital) ≡ None → (lines_along liberty cs ≡ lines_along verilog cs) × (lines_along liberty cs ≡ lines_along vital cs)
+    → first_unlike cs (shown liberty verilog vital) ≡ None → (lines_along liberty cs ≡ lines_along verilog cs)
+    × (lines_along liberty cs ≡ lines_along vital cs)
 all_equal liberty verilog vital cs v w e =
-    let p = none_here (are_alike (shown liberty verilog vital [])) 0 (unlike_from 1 (lines_after (shown liberty verilog vital) [] cs)) e in
+    let p = none_here (are_alike (shown liberty verilog vital [])) 0
+    (unlike_from 1 (lines_after (shown liberty verilog vital) [] cs)) e in
     let here = both_lines (liberty []) (verilog []) (vital []) (v []) (w []) p.0 in
     let more = equal_from liberty verilog vital 1 [] cs v w p.1 in
     (cons_path _ _ _ _ here.0 more.0, cons_path _ _ _ _ here.1 more.1)
@@ -77,6 +85,7 @@ as_many m n sm sn e h = sm.reports h ∙ e ∙ sym (sn.reports h)
 
 pub none_unlike_is_equal : NoneUnlikeIsEqual
 none_unlike_is_equal liberty verilog vital cs sl sv sh verilog_checks vital_checks = (
-  λ e. all_equal liberty.line verilog.line vital.line cs (as_many liberty verilog sl sv verilog_checks) (as_many liberty vital sl sh vital_checks) e,
+  λ e. all_equal liberty.line verilog.line vital.line cs (as_many liberty verilog sl sv verilog_checks)
+      (as_many liberty vital sl sh vital_checks) e,
   λ p. none_unlike liberty.line verilog.line vital.line cs (sym p.0) (sym p.1),
 )

@@ -1,5 +1,6 @@
 -- The parts of a line of a trace.
-use Rattle.std.proofs.Common.{◌≡◌, ℕ, suc, ◌+◌, ◌<◌, List, [], ◌∷◌, ◌++◌, length, drop, get_or, sym, ap, ◌∙◌, add-one, arith, drop-cons, append_assoc}
+use Rattle.std.proofs.Common.{◌≡◌, ℕ, suc, ◌+◌, ◌<◌, List, [], ◌∷◌, ◌++◌, length, drop, get_or, sym, ap, ◌∙◌, add-one, arith}
+use Rattle.std.proofs.Common.{drop-cons, append_assoc}
 use Rattle.std.specs.Prelude.{Option, Some, None, slice_get}
 use Rattle.std.proofs.lemmas.Option.{get_or_from_slice_get}
 use Rattle.cell_machine.specs.declared.changes.Change.{Change}
@@ -9,28 +10,35 @@ use Rattle.stimulus.specs.DriveLines.{DriveLine}
 use Rattle.stimulus.specs.TraceLine.{head_text, output_text, outputs_text, reports_text, drive_line_text}
 
 -- an entry and those behind it
-drop_at : {A : Type 0} (xs : List A) (place : ℕ) (x d : A) → place < length xs → x ≡ get_or xs place d → drop place xs ≡ x ∷ drop (place + 1) xs
+drop_at : {A : Type 0} (xs : List A) (place : ℕ) (x d : A) → place < length xs → x ≡ get_or xs place d
+    → drop place xs ≡ x ∷ drop (place + 1) xs
 drop_at xs place x d h e = rw (add-one) (drop-cons xs place d h ∙ ap (λ y. y ∷ drop (suc place) xs) (sym e))
 
 -- the outputs from a place on: the one there, and those behind it
-pub outputs_at : (names : List (List ℕ)) (values : List Drive) (delays : List (Option ℕ)) (place : ℕ) (name : List ℕ) (value : Drive) (delay : Option ℕ)
+pub outputs_at : (names : List (List ℕ)) (values : List Drive) (delays : List (Option ℕ)) (place : ℕ) (name : List ℕ)
+    (value : Drive) (delay : Option ℕ)
     → place < length names → length values ≡ length names → length delays ≡ length names
     → slice_get names place ≡ Some name → value ≡ get_or values place Unknown → delay ≡ get_or delays place None
-    → outputs_text (drop place names) (drop place values) (drop place delays) ≡ output_text name value delay ++ outputs_text (drop (place + 1) names) (drop (place + 1) values) (drop (place + 1) delays)
+    → outputs_text (drop place names) (drop place values) (drop place delays) ≡ output_text name value delay
+    ++ outputs_text (drop (place + 1) names) (drop (place + 1) values) (drop (place + 1) delays)
 outputs_at names values delays place name value delay h lv ld n v d =
     let hv : place < length values = omega arith in
     let hd : place < length delays = omega arith in
-    let en : drop place names ≡ name ∷ drop (place + 1) names = drop_at names place name [] h (sym (get_or_from_slice_get names place name [] n)) in
+    let en : drop place names ≡ name ∷ drop (place + 1) names =
+    drop_at names place name [] h (sym (get_or_from_slice_get names place name [] n)) in
     let ev : drop place values ≡ value ∷ drop (place + 1) values = drop_at values place value Unknown hv v in
     let ed : drop place delays ≡ delay ∷ drop (place + 1) delays = drop_at delays place delay None hd d in
     λ i. outputs_text (en i) (ev i) (ed i)
 
 -- a text that grows by the first of what is left
-pub grown : (text more piece rest all whole : List ℕ) → more ≡ text ++ piece → all ≡ piece ++ rest → text ++ all ≡ whole → more ++ rest ≡ whole
-grown text more piece rest all whole e s h = ap (λ t. t ++ rest) e ∙ append_assoc text piece rest ∙ ap (λ t. text ++ t) (sym s) ∙ h
+pub grown : (text more piece rest all whole : List ℕ) → more ≡ text ++ piece → all ≡ piece ++ rest → text ++ all ≡ whole
+    → more ++ rest ≡ whole
+grown text more piece rest all whole e s h = ap (λ t. t ++ rest) e ∙ append_assoc text piece rest ∙ ap (λ t. text ++ t) (sym s)
+    ∙ h
 
 -- a text with a line behind it, from the line's parts
-pub put_together : (text : List ℕ) (tag : ℕ) (change : Option Change) (inputs outputs : List (List ℕ)) (line : DriveLine) (t1 t2 t3 t4 t5 : List ℕ)
+pub put_together : (text : List ℕ) (tag : ℕ) (change : Option Change) (inputs outputs : List (List ℕ)) (line : DriveLine)
+    (t1 t2 t3 t4 t5 : List ℕ)
     → t1 ≡ text ++ tag ∷ []
     → t2 ≡ t1 ++ head_text inputs change
     → t3 ≡ t2 ++ outputs_text outputs line.values line.delays
@@ -44,7 +52,8 @@ put_together text tag change inputs outputs line t1 t2 t3 t4 t5 e1 e2 e3 e4 e5 =
     let c : List ℕ = reports_text 1 line.reports in
     let d : List ℕ = tag ∷ [] in
     e5 ∙ ap (λ t. t ++ 10 ∷ []) (e4 ∙ ap (λ t. t ++ c) (e3 ∙ ap (λ t. t ++ b) (e2 ∙ ap (λ t. t ++ a) e1)))
-    ∙ append_assoc (((text ++ d) ++ a) ++ b) c (10 ∷ []) ∙ append_assoc ((text ++ d) ++ a) b (c ++ 10 ∷ []) ∙ append_assoc (text ++ d) a (b ++ (c ++ 10 ∷ []))
+    ∙ append_assoc (((text ++ d) ++ a) ++ b) c (10 ∷ []) ∙ append_assoc ((text ++ d) ++ a) b (c ++ 10 ∷ [])
+    ∙ append_assoc (text ++ d) a (b ++ (c ++ 10 ∷ []))
     ∙ append_assoc text d (a ++ (b ++ (c ++ 10 ∷ [])))
 
 -- a text that was empty is what was put behind it

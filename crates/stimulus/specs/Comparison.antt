@@ -1,6 +1,7 @@
 -- A section of three simulators, as the report shows it: of a cell, of its Verilog module and of its VITAL entity (this project's
 -- format).
-use Rattle.std.specs.Prelude.{◌≡◌, ◌↔◌, ℕ, ◌+◌, Bool, true, false, ◌&&◌, List, [], ◌∷◌, ◌++◌, length, codes, decimal, Option, Some, None, if◌then◌else◌}
+use Rattle.std.specs.Prelude.{◌≡◌, ◌↔◌, ℕ, ◌+◌, Bool, true, false, ◌&&◌, List, [], ◌∷◌, ◌++◌, length, codes, decimal, Option}
+use Rattle.std.specs.Prelude.{Some, None, if◌then◌else◌}
 use Rattle.cell_machine.specs.declared.changes.Change.{Change}
 use Rattle.stimulus.specs.declared.ports.Ports.{Ports}
 use Rattle.stimulus.specs.DriveLines.{DriveLine, lines_after, lines_along, DriveMachine, IsSized}
@@ -34,7 +35,8 @@ pub record HavePorts (ports : Ports) (liberty verilog vital : DriveMachine) : Ty
 unfoldable pub lines_text : Option Change → Ports → Lines → List ℕ
 lines_text change ports lines =
     drive_line_text 76 change ports.inputs ports.outputs lines.liberty
-    ++ (drive_line_text 86 change ports.inputs ports.outputs lines.verilog ++ drive_line_text 72 change ports.inputs ports.outputs lines.vital)
+    ++ (drive_line_text 86 change ports.inputs ports.outputs lines.verilog
+    ++ drive_line_text 72 change ports.inputs ports.outputs lines.vital)
 
 -- no two of the three lines differ: the first one is that of each other
 abbrev pub are_alike : Lines → Bool
@@ -47,7 +49,8 @@ compared_texts ports _ _ = []
 
 -- the lines of the start and on each change
 abbrev pub compared_text : Ports → List Change → (List Change → Lines) → List ℕ
-compared_text ports changes lines = lines_text None ports (lines []) ++ compared_texts ports changes (lines_after lines [] changes)
+compared_text ports changes lines = lines_text None ports (lines [])
+    ++ compared_texts ports changes (lines_after lines [] changes)
 
 -- the first number so far, and else this one where the three are not alike
 abbrev pub first_of : Bool → Option ℕ → ℕ → Option ℕ

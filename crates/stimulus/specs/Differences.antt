@@ -1,6 +1,7 @@
 -- Where the traces of two simulators differ. What a line shows is compared: each output's value and delay, and which checks
 -- report. (This project's rule.)
-use Rattle.std.specs.Prelude.{◌≡◌, ◌↔◌, ℕ, ◌+◌, Bool, true, false, not, ◌&&◌, nat_eq, List, [], ◌∷◌, Option, Some, None, if◌then◌else◌}
+use Rattle.std.specs.Prelude.{◌≡◌, ◌↔◌, ℕ, ◌+◌, Bool, true, false, not, ◌&&◌, nat_eq, List, [], ◌∷◌, Option, Some, None}
+use Rattle.std.specs.Prelude.{if◌then◌else◌}
 use Rattle.cell_machine.specs.declared.changes.Change.{Change}
 use Rattle.stimulus.specs.declared.drives.Drive.{Drive}
 use Rattle.stimulus.specs.DriveLines.{same_drive, DriveLine, lines_along, DriveMachine, IsSized}
@@ -34,7 +35,8 @@ same_reports (x ∷ xs) (y ∷ ys) = same_fact x y && same_reports xs ys
 
 -- two lines show the same
 abbrev pub same_line : DriveLine → DriveLine → Bool
-same_line one other = same_values one.values other.values && (same_delays one.delays other.delays && same_reports one.reports other.reports)
+same_line one other = same_values one.values other.values
+    && (same_delays one.delays other.delays && same_reports one.reports other.reports)
 
 -- the number of the first two lines that show something else, where the first ones have this number
 abbrev pub difference_from : ℕ → List DriveLine → List DriveLine → Option ℕ

@@ -27,13 +27,16 @@ pub record IsSectionOf (listing : Listing) (section : Section) : Type 0 where
 
 -- the sections of a stimulus that is read are such
 abbrev pub SectionsAreProper : Type 0
-SectionsAreProper = (listing : Listing) (bytes : List ℕ) (sections : List Section) → stimulus_of listing bytes ≡ Ok sections → All (IsSectionOf listing) sections
+SectionsAreProper = (listing : Listing) (bytes : List ℕ) (sections : List Section) → stimulus_of listing bytes ≡ Ok sections
+    → All (IsSectionOf listing) sections
 
 -- what a catalog of ports names as an input is one of its cell
 abbrev pub PortsAreInputs : Type 0
-PortsAreInputs = (named : NamedCells) (cell : ℕ) (ports : Ports) → slice_get named.cells cell ≡ Some ports → HasInputs (listed named) cell (length ports.inputs)
+PortsAreInputs = (named : NamedCells) (cell : ℕ) (ports : Ports) → slice_get named.cells cell ≡ Some ports
+    → HasInputs (listed named) cell (length ports.inputs)
 
--- where a cause names a cell by its number, the listing answered it to some name, as one that may not be given changes for this cause
+-- where a cause names a cell by its number, the listing answered it to some name, as one that may not be given changes for this
+-- cause
 abbrev pub NamesAnAnswer : Listing → Cause → Type 0
 NamesAnAnswer listing (cause.RefusedCell number) = (name : List ℕ) × (cell_found listing name ≡ cells.Refused number)
 NamesAnAnswer listing (cause.VerilogPorts number) = (name : List ℕ) × (cell_found listing name ≡ cells.VerilogPorts number)
@@ -43,7 +46,8 @@ NamesAnAnswer listing why = Unit {0}
 -- a cell that the cause of a stimulus's first bad line names is such
 abbrev pub CausesNameAnswers : Type 0
 CausesNameAnswers =
-    (listing : Listing) (bytes : List ℕ) (line : ℕ) (why : Cause) → stimulus_of listing bytes ≡ Err (fault.Line line why) → NamesAnAnswer listing why
+    (listing : Listing) (bytes : List ℕ) (line : ℕ) (why : Cause) → stimulus_of listing bytes ≡ Err (fault.Line line why)
+    → NamesAnAnswer listing why
 
 -- What is printed along changes of a machine whose outputs are never z: its trace, line by line.
 abbrev pub DriveLinesShowTraces : Type 0
@@ -54,4 +58,5 @@ DriveLinesShowTraces =
 abbrev pub EqualLinesAreEqualTraces : Type 0
 EqualLinesAreEqualTraces =
     (one other : Machine) (cs : List Change)
-    → (lines_along (drive_machine one).line cs ≡ lines_along (drive_machine other).line cs) ↔ (trace one.line cs ≡ trace other.line cs)
+    → (lines_along (drive_machine one).line cs ≡ lines_along (drive_machine other).line cs)
+    ↔ (trace one.line cs ≡ trace other.line cs)

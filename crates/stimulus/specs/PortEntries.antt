@@ -15,7 +15,8 @@ entry_of_cell number standing.VitalPorts = vital_ports number
 
 -- the cells by their names, of which the first has this number
 abbrev pub cell_entries : ℕ → List (List ℕ) → List Ports → List (List ℕ × CellEntry)
-cell_entries number (name ∷ names) (cell ∷ cells) = (name, entry_of_cell number cell.standing) ∷ cell_entries (number + 1) names cells
+cell_entries number (name ∷ names) (cell ∷ cells) =
+    (name, entry_of_cell number cell.standing) ∷ cell_entries (number + 1) names cells
 cell_entries number _ _ = []
 
 -- the inputs by their names, of which the first has this number
@@ -37,11 +38,16 @@ pub record NamedCells : Type 0 where
   pub cells : List Ports
 
 abbrev pub listed : NamedCells → Listing
-listed named = record { cells = cell_entries 0 named.names named.cells; pins = λ (number : ℕ). port_entries (slice_get named.cells number) }
+listed named = record {
+  cells = cell_entries 0 named.names named.cells;
+  pins =
+      λ (number : ℕ). port_entries (slice_get named.cells number);
+}
 
 -- what adding a cell answers: its number where its name is new and it goes last, nothing where the name is there and all
 -- stays
 abbrev pub AddsCell : NamedCells → List ℕ → Ports → Option ℕ → NamedCells → Type 0
 AddsCell old name cell (Some number) new =
-    (number_of old.names name ≡ None) × (number ≡ length old.cells) × (new ≡ record { names = old.names ++ name ∷ []; cells = old.cells ++ cell ∷ [] })
+    (number_of old.names name ≡ None) × (number ≡ length old.cells)
+    × (new ≡ record { names = old.names ++ name ∷ []; cells = old.cells ++ cell ∷ [] })
 AddsCell old name cell None new = ((number_of old.names name ≡ None) → ⊥) × (new ≡ old)

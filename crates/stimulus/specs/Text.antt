@@ -1,5 +1,6 @@
 -- The lines of a stimulus and their words (this project's format).
-use Rattle.std.specs.Prelude.{ℕ, ◌-◌, Bool, ◌||◌, ◌==◌, true, false, List, [], ◌∷◌, length, take, filter, slice_index, if◌then◌else◌}
+use Rattle.std.specs.Prelude.{ℕ, ◌-◌, Bool, ◌||◌, ◌==◌, true, false, List, [], ◌∷◌, length, take, filter, slice_index}
+use Rattle.std.specs.Prelude.{if◌then◌else◌}
 use Rattle.std.specs.List.{slice_split}
 
 -- words are separated by spaces and tabs

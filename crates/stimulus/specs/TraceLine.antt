@@ -21,7 +21,8 @@ name_at names number = option_map_or (λ (name : List ℕ). name) (slice_get nam
 -- a change: its time in picoseconds, its input and its value
 unfoldable pub change_text : List (List ℕ) → Change → List ℕ
 change_text inputs change =
-    codes " " ++ (decimal change.at ++ (codes " " ++ (name_at inputs change.pin ++ (codes " " ++ (value_text (drive_of change.to) ++ codes " :")))))
+    codes " " ++ (decimal change.at ++ (codes " "
+    ++ (name_at inputs change.pin ++ (codes " " ++ (value_text (drive_of change.to) ++ codes " :")))))
 
 -- what the line is on: the start or a change
 abbrev pub head_text : List (List ℕ) → Option Change → List ℕ
@@ -55,7 +56,8 @@ reports_text number (reported ∷ more) = report_text number reported ++ reports
 -- The line: the tag, what it is on, the outputs and the reports, and a line feed.
 unfoldable pub drive_line_text : ℕ → Option Change → List (List ℕ) → List (List ℕ) → DriveLine → List ℕ
 drive_line_text tag change inputs outputs line =
-    (tag ∷ []) ++ (head_text inputs change ++ (outputs_text outputs line.values line.delays ++ (reports_text 1 line.reports ++ codes "\n")))
+    (tag ∷ []) ++ (head_text inputs change
+    ++ (outputs_text outputs line.values line.delays ++ (reports_text 1 line.reports ++ codes "\n")))
 
 -- the same of a line of values
 abbrev pub line_text : ℕ → Option Change → List (List ℕ) → List (List ℕ) → Line → List ℕ

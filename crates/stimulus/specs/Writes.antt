@@ -10,7 +10,8 @@ use Rattle.stimulus.specs.declared.ports.Ports.{Ports}
 use Rattle.stimulus.specs.DriveLines.{DriveMachine}
 
 -- Such a simulator at its start can be given the changes, and the ports name its inputs and its outputs.
-pub record CanBegin (ports : Ports) (machine : DriveMachine) (stands : List Change → Type 0) (changes : List Change) : Type 0 where
+pub record CanBegin (ports : Ports) (machine : DriveMachine) (stands : List Change → Type 0) (changes : List Change) :
+    Type 0 where
   pub inputs : length ports.inputs ≡ machine.inputs
   pub outputs : length ports.outputs ≡ machine.outputs
   pub start : stands []

@@ -5,15 +5,16 @@ ghost use Rattle.cell_machine.specs.declared.changes.Change.{Change as ChangeOf}
 ghost use Rattle.cell_machine.specs.History.{IsProperFrom, ComesAfter};
 ghost use Rattle.text_io.specs.declared.slots.OutSlot.TheVariants.{Report};
 ghost use Rattle.text_io.specs.Desk.{WritesText, HasCause, StopsWithCause};
-ghost use Rattle.stimulus.specs.Comparison.{three_lines, all_show, HavePorts, are_alike, lines_text, compared_text, first_of, first_unlike, verdict_text, NoneUnlikeIsEqual};
+ghost use Rattle.stimulus.specs.Comparison.{three_lines, all_show, HavePorts, are_alike, lines_text, compared_text, first_of};
+ghost use Rattle.stimulus.specs.Comparison.{first_unlike, verdict_text, NoneUnlikeIsEqual};
 ghost use Rattle.stimulus.specs.Writes.{WritesTrace, PutsTrace};
 
 use crate::differences::same_line;
 use crate::printing::write_full;
+use crate::{Ports, TraceSim, append_trace_line};
 use cell_machine::Change;
 use itoa::Buffer;
 use std::alloc::{AllocError, Global};
-use crate::{Ports, TraceSim, append_trace_line};
 use text_io::{Desk, Failed, OutSlot, Stop, write_pieces, write_whole};
 
 /// Simulators of a cell, of its Verilog module and of its VITAL entity.
@@ -30,7 +31,9 @@ impl<L: TraceSim, V: TraceSim, H: TraceSim> Three<L, V, H> {
         requires liberty_pin { change.now.pin < (L.machine self.old.liberty).inputs }
         requires verilog_pin { change.now.pin < (V.machine self.old.verilog).inputs }
         requires vital_pin { change.now.pin < (H.machine self.old.vital).inputs }
-        requires time { (h : List ChangeOf) × (L.stands self.old.liberty h × (V.stands self.old.verilog h × (H.stands self.old.vital h × ComesAfter change.now.at h))) }
+        requires time { (h : List ChangeOf)
+            × (L.stands self.old.liberty h
+            × (V.stands self.old.verilog h × (H.stands self.old.vital h × ComesAfter change.now.at h))) }
         ensures liberty_machine { L.machine self.new.liberty ≡ L.machine self.old.liberty }
         ensures verilog_machine { V.machine self.new.verilog ≡ V.machine self.old.verilog }
         ensures vital_machine { H.machine self.new.vital ≡ H.machine self.old.vital }
@@ -47,7 +50,9 @@ impl<L: TraceSim, V: TraceSim, H: TraceSim> Three<L, V, H> {
     fn are_alike(&self) -> bool
         requires verilog { (L.machine self.now.liberty).outputs ≡ (V.machine self.now.verilog).outputs }
         requires vital { (L.machine self.now.liberty).outputs ≡ (H.machine self.now.vital).outputs }
-        ensures { (h : List ChangeOf) → L.stands self.now.liberty h → V.stands self.now.verilog h → H.stands self.now.vital h → result ≡ are_alike (three_lines (L.machine self.now.liberty) (V.machine self.now.verilog) (H.machine self.now.vital) h) }
+        ensures { (h : List ChangeOf) → L.stands self.now.liberty h → V.stands self.now.verilog h → H.stands self.now.vital h
+            → result ≡ are_alike (three_lines (L.machine self.now.liberty) (V.machine self.now.verilog)
+            (H.machine self.now.vital) h) }
     {
         same_line(&self.liberty, &self.verilog) && same_line(&self.liberty, &self.vital)
     }
@@ -71,8 +76,11 @@ pub fn write_comparison<D: Desk, L: TraceSim, V: TraceSim, H: TraceSim>(
     requires verilog { V.stands three.old.verilog [] }
     requires vital { H.stands three.old.vital [] }
     requires proper { IsProperFrom (length ports.now.inputs) [] changes.now }
-    ensures text { WritesTrace (D.state desk.old) (D.state desk.new) (compared_text ports.now changes.now (three_lines (L.machine three.old.liberty) (V.machine three.old.verilog) (H.machine three.old.vital))) result }
-    ensures first { IfOk result (λ first. first ≡ first_unlike changes.now (three_lines (L.machine three.old.liberty) (V.machine three.old.verilog) (H.machine three.old.vital))) }
+    ensures text { WritesTrace (D.state desk.old) (D.state desk.new)
+        (compared_text ports.now changes.now
+        (three_lines (L.machine three.old.liberty) (V.machine three.old.verilog) (H.machine three.old.vital))) result }
+    ensures first { IfOk result (λ first. first ≡ first_unlike changes.now
+        (three_lines (L.machine three.old.liberty) (V.machine three.old.verilog) (H.machine three.old.vital))) }
     ensures cause { StopsWithCause (D.faults desk.old) (D.faults desk.new) result }
 {
     let mut waiting = Vec::new(alloc);
@@ -113,8 +121,14 @@ fn put_lines<D: Desk, L: TraceSim, V: TraceSim, H: TraceSim>(
 ) -> Result<bool, Stop>
     requires ports { HavePorts ports.now (L.machine three.now.liberty) (V.machine three.now.verilog) (H.machine three.now.vital) }
     requires pin { IfSome change (λ change. change.now.pin < length ports.now.inputs) }
-    ensures text { (h : List ChangeOf) → L.stands three.now.liberty h → V.stands three.now.verilog h → H.stands three.now.vital h → PutsTrace (D.state desk.old) (D.state desk.new) waiting.old.items (lines_text (option_copied change.entry) ports.now (three_lines (L.machine three.now.liberty) (V.machine three.now.verilog) (H.machine three.now.vital) h)) waiting.new.items result }
-    ensures alike { IfOk result (λ alike. (h : List ChangeOf) → L.stands three.now.liberty h → V.stands three.now.verilog h → H.stands three.now.vital h → alike ≡ are_alike (three_lines (L.machine three.now.liberty) (V.machine three.now.verilog) (H.machine three.now.vital) h)) }
+    ensures text { (h : List ChangeOf) → L.stands three.now.liberty h → V.stands three.now.verilog h → H.stands three.now.vital h
+        → PutsTrace (D.state desk.old) (D.state desk.new) waiting.old.items
+        (lines_text (option_copied change.entry) ports.now
+        (three_lines (L.machine three.now.liberty) (V.machine three.now.verilog) (H.machine three.now.vital) h)) waiting.new.items
+        result }
+    ensures alike { IfOk result (λ alike. (h : List ChangeOf) → L.stands three.now.liberty h → V.stands three.now.verilog h
+        → H.stands three.now.vital h → alike ≡ are_alike
+        (three_lines (L.machine three.now.liberty) (V.machine three.now.verilog) (H.machine three.now.vital) h)) }
     ensures cause { StopsWithCause (D.faults desk.old) (D.faults desk.new) result }
 {
     let alike = three.are_alike();
@@ -134,8 +148,13 @@ fn append_lines<L: TraceSim, V: TraceSim, H: TraceSim>(
 ) -> Result<(), AllocError>
     requires ports { HavePorts ports.now (L.machine three.now.liberty) (V.machine three.now.verilog) (H.machine three.now.vital) }
     requires pin { IfSome change (λ change. change.now.pin < length ports.now.inputs) }
-    requires alike { (h : List ChangeOf) → L.stands three.now.liberty h → V.stands three.now.verilog h → H.stands three.now.vital h → alike ≡ are_alike (three_lines (L.machine three.now.liberty) (V.machine three.now.verilog) (H.machine three.now.vital) h) }
-    ensures { OnOk result ((h : List ChangeOf) → L.stands three.now.liberty h → V.stands three.now.verilog h → H.stands three.now.vital h → waiting.new.items ≡ waiting.old.items ++ lines_text (option_copied change.entry) ports.now (three_lines (L.machine three.now.liberty) (V.machine three.now.verilog) (H.machine three.now.vital) h)) }
+    requires alike { (h : List ChangeOf) → L.stands three.now.liberty h → V.stands three.now.verilog h
+        → H.stands three.now.vital h → alike ≡ are_alike
+        (three_lines (L.machine three.now.liberty) (V.machine three.now.verilog) (H.machine three.now.vital) h) }
+    ensures { OnOk result ((h : List ChangeOf) → L.stands three.now.liberty h → V.stands three.now.verilog h
+        → H.stands three.now.vital h → waiting.new.items ≡ waiting.old.items
+        ++ lines_text (option_copied change.entry) ports.now
+        (three_lines (L.machine three.now.liberty) (V.machine three.now.verilog) (H.machine three.now.vital) h)) }
 {
     if alike {
         return append_common_line(waiting, text, change, ports, &three.liberty);
@@ -155,7 +174,9 @@ fn append_common_line<S: TraceSim>(
     requires inputs { length ports.now.inputs ≡ (S.machine sim.now).inputs }
     requires outputs { length ports.now.outputs ≡ (S.machine sim.now).outputs }
     requires pin { IfSome change (λ change. change.now.pin < (S.machine sim.now).inputs) }
-    ensures { OnOk result ((h : List ChangeOf) → S.stands sim.now h → waiting.new.items ≡ waiting.old.items ++ lines_text (option_copied change.entry) ports.now (all_show ((S.machine sim.now).line h))) }
+    ensures { OnOk result ((h : List ChangeOf) → S.stands sim.now h
+        → waiting.new.items ≡ waiting.old.items
+        ++ lines_text (option_copied change.entry) ports.now (all_show ((S.machine sim.now).line h))) }
 {
     text.clear();
     append_trace_line(text, b'L', change, &ports.inputs, &ports.outputs, sim)?;
@@ -187,7 +208,10 @@ fn append_own_lines<L: TraceSim, V: TraceSim, H: TraceSim>(
 ) -> Result<(), AllocError>
     requires ports { HavePorts ports.now (L.machine three.now.liberty) (V.machine three.now.verilog) (H.machine three.now.vital) }
     requires pin { IfSome change (λ change. change.now.pin < length ports.now.inputs) }
-    ensures { OnOk result ((h : List ChangeOf) → L.stands three.now.liberty h → V.stands three.now.verilog h → H.stands three.now.vital h → waiting.new.items ≡ waiting.old.items ++ lines_text (option_copied change.entry) ports.now (three_lines (L.machine three.now.liberty) (V.machine three.now.verilog) (H.machine three.now.vital) h)) }
+    ensures { OnOk result ((h : List ChangeOf) → L.stands three.now.liberty h → V.stands three.now.verilog h
+        → H.stands three.now.vital h → waiting.new.items ≡ waiting.old.items
+        ++ lines_text (option_copied change.entry) ports.now
+        (three_lines (L.machine three.now.liberty) (V.machine three.now.verilog) (H.machine three.now.vital) h)) }
 {
     let inputs = &ports.inputs;
     let outputs = &ports.outputs;

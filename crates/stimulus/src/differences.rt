@@ -3,10 +3,13 @@ ghost use Rattle.std.specs.Prelude.{◌≡◌, [], List, slice_index_or, false};
 ghost use Rattle.cell_machine.specs.declared.changes.Change.{Change as ChangeOf};
 ghost use Rattle.cell_machine.specs.History.{IsProperFrom};
 ghost use Rattle.stimulus.specs.DriveLines.{same_drive as same_drive_of, lines_along};
-ghost use Rattle.stimulus.specs.Differences.{same_delay as same_delay_of, same_fact as same_fact_of, same_values as same_values_of, same_delays as same_delays_of, same_reports as same_reports_of, same_line as same_line_of, first_difference as first_difference_of, NoDifferenceIsEqual};
+ghost use Rattle.stimulus.specs.Differences.{same_delay as same_delay_of, same_fact as same_fact_of};
+ghost use Rattle.stimulus.specs.Differences.{same_values as same_values_of, same_delays as same_delays_of};
+ghost use Rattle.stimulus.specs.Differences.{same_reports as same_reports_of, same_line as same_line_of};
+ghost use Rattle.stimulus.specs.Differences.{first_difference as first_difference_of, NoDifferenceIsEqual};
 
-use cell_machine::Change;
 use crate::{Drive, TraceSim};
+use cell_machine::Change;
 
 /// Gives the changes to two simulators that stand at their starts, and answers the number of the first change, from 1, after
 /// which they show something else: 0 where they do so at their starts, and nothing where they never do. What they show is
@@ -24,7 +27,8 @@ pub fn first_difference<A: TraceSim, B: TraceSim>(
     requires left { A.stands left.old [] }
     requires right { B.stands right.old [] }
     requires proper { IsProperFrom (A.machine left.old).inputs [] changes.now }
-    ensures { result ≡ first_difference_of (lines_along (A.machine left.old).line changes.now) (lines_along (B.machine right.old).line changes.now) }
+    ensures { result ≡ first_difference_of (lines_along (A.machine left.old).line changes.now)
+        (lines_along (B.machine right.old).line changes.now) }
 {
     if !same_line(left, right) {
         return Some(0);
@@ -44,7 +48,8 @@ pub fn first_difference<A: TraceSim, B: TraceSim>(
 /// Whether two simulators with as many outputs show the same.
 pub fn same_line<A: TraceSim, B: TraceSim>(left: &A, right: &B) -> bool
     requires { (A.machine left.now).outputs ≡ (B.machine right.now).outputs }
-    ensures { (g h : List ChangeOf) → A.stands left.now g → B.stands right.now h → result ≡ same_line_of ((A.machine left.now).line g) ((B.machine right.now).line h) }
+    ensures { (g h : List ChangeOf) → A.stands left.now g → B.stands right.now h
+        → result ≡ same_line_of ((A.machine left.now).line g) ((B.machine right.now).line h) }
 {
     same_values(left, right) && same_delays(left, right) && same_reports(left, right)
 }
@@ -52,7 +57,8 @@ pub fn same_line<A: TraceSim, B: TraceSim>(left: &A, right: &B) -> bool
 /// Whether the outputs have the same values.
 fn same_values<A: TraceSim, B: TraceSim>(left: &A, right: &B) -> bool
     requires { (A.machine left.now).outputs ≡ (B.machine right.now).outputs }
-    ensures { (g h : List ChangeOf) → A.stands left.now g → B.stands right.now h → result ≡ same_values_of ((A.machine left.now).line g).values ((B.machine right.now).line h).values }
+    ensures { (g h : List ChangeOf) → A.stands left.now g → B.stands right.now h
+        → result ≡ same_values_of ((A.machine left.now).line g).values ((B.machine right.now).line h).values }
 {
     for place in 0..left.outputs() {
         if !same_drive(left.value(place), right.value(place)) {
@@ -72,7 +78,8 @@ fn same_drive(one: Drive, other: Drive) -> bool
 /// Whether the outputs have the same delays.
 fn same_delays<A: TraceSim, B: TraceSim>(left: &A, right: &B) -> bool
     requires { (A.machine left.now).outputs ≡ (B.machine right.now).outputs }
-    ensures { (g h : List ChangeOf) → A.stands left.now g → B.stands right.now h → result ≡ same_delays_of ((A.machine left.now).line g).delays ((B.machine right.now).line h).delays }
+    ensures { (g h : List ChangeOf) → A.stands left.now g → B.stands right.now h
+        → result ≡ same_delays_of ((A.machine left.now).line g).delays ((B.machine right.now).line h).delays }
 {
     for place in 0..left.outputs() {
         if !same_delay(left.delay(place), right.delay(place)) {
@@ -95,7 +102,8 @@ fn same_delay(one: Option<u64>, other: Option<u64>) -> bool
 
 /// Whether the same checks report.
 fn same_reports<A: TraceSim, B: TraceSim>(left: &A, right: &B) -> bool
-    ensures { (g h : List ChangeOf) → A.stands left.now g → B.stands right.now h → result ≡ same_reports_of ((A.machine left.now).line g).reports ((B.machine right.now).line h).reports }
+    ensures { (g h : List ChangeOf) → A.stands left.now g → B.stands right.now h
+        → result ≡ same_reports_of ((A.machine left.now).line g).reports ((B.machine right.now).line h).reports }
 {
     for check in 0..left.checks().max(right.checks()) {
         if !same_fact(reports(left, check), reports(right, check)) {
@@ -114,7 +122,8 @@ fn same_fact(one: bool, other: bool) -> bool
 
 /// Whether there is a check with this number, and it reports.
 fn reports<S: TraceSim>(sim: &S, check: usize) -> bool
-    ensures { (h : List ChangeOf) → S.stands sim.now h → result ≡ slice_index_or ((S.machine sim.now).line h).reports check false }
+    ensures { (h : List ChangeOf) → S.stands sim.now h
+        → result ≡ slice_index_or ((S.machine sim.now).line h).reports check false }
 {
     check < sim.checks() && sim.reported(check)
 }

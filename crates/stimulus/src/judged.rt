@@ -1,7 +1,8 @@
 //! What a line says, after the lines before it.
 ghost use Rattle.std.specs.Prelude.{◌≡◌};
 ghost use Rattle.stimulus.specs.Written.{shown};
-ghost use Rattle.stimulus.specs.Judged.{judged_as, begun as begun_of, changed as changed_of, input_of as input_of_answer, value_of as value_of_word, is_later as is_later_of};
+ghost use Rattle.stimulus.specs.Judged.{judged_as, begun as begun_of, changed as changed_of, input_of as input_of_answer};
+ghost use Rattle.stimulus.specs.Judged.{value_of as value_of_word, is_later as is_later_of};
 
 use crate::catalog::{Catalog, CellFound, PinFound};
 use crate::context::{Context, Said};

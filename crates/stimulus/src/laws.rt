@@ -1,5 +1,6 @@
 //! Laws of the definitions, for the crates above.
-ghost use Rattle.stimulus.specs.Laws.{DriveLinesShowTraces, EqualLinesAreEqualTraces, SectionsAreProper, PortsAreInputs, CausesNameAnswers};
+ghost use Rattle.stimulus.specs.Laws.{DriveLinesShowTraces, EqualLinesAreEqualTraces, SectionsAreProper, PortsAreInputs};
+ghost use Rattle.stimulus.specs.Laws.{CausesNameAnswers};
 
 /// The law that each section of a stimulus that is read is of a cell that the catalog names, with changes of the cell's
 /// inputs at times that rise strictly. So what `read_stimulus` answers meets what the simulators require.

@@ -1,6 +1,7 @@
 //! A stimulus cut into lines, and a line cut into words.
 ghost use Rattle.std.specs.Prelude.{◌≡◌, ◌<◌, [], ◌∷◌, length, not, position, MatchOption, IfSome};
-ghost use Rattle.stimulus.specs.Text.{is_blank as is_blank_of, is_line_feed as is_line_feed_of, without_return as without_return_of, lines_of, words_of};
+ghost use Rattle.stimulus.specs.Text.{is_blank as is_blank_of, is_line_feed as is_line_feed_of};
+ghost use Rattle.stimulus.specs.Text.{without_return as without_return_of, lines_of, words_of};
 
 /// Whether a byte is a space or a tab.
 fn is_blank(byte: u8) -> bool
@@ -49,7 +50,8 @@ fn word_end(text: &[u8]) -> Option<usize>
 
 /// The first line of a text, and what stands behind its line feed: nothing where the text has none.
 pub(crate) fn first_line(text: &[u8]) -> (&[u8], Option<&[u8]>)
-    ensures line { MatchOption result.1 (lines_of text.now ≡ result.0.now ∷ []) (λ rest. lines_of text.now ≡ result.0.now ∷ lines_of rest.now) }
+    ensures line { MatchOption result.1 (lines_of text.now ≡ result.0.now ∷ [])
+        (λ rest. lines_of text.now ≡ result.0.now ∷ lines_of rest.now) }
     ensures shorter { IfSome result.1 (λ rest. length rest.now < length text.now) }
 {
     match line_end(text) {

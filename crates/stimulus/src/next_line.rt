@@ -61,7 +61,8 @@ fn plain_line(text: &[u8]) -> Option<(Written<'_>, &[u8])>
 
 /// What is written in the first line of a text, and what stands behind its line feed: nothing where the text has none.
 pub(crate) fn next_line(text: &[u8]) -> (Written<'_>, Option<&[u8]>)
-    ensures line { MatchOption result.1 (lines_of text.now ≡ first_line_of text.now ∷ []) (λ rest. lines_of text.now ≡ first_line_of text.now ∷ lines_of rest.now) }
+    ensures line { MatchOption result.1 (lines_of text.now ≡ first_line_of text.now ∷ [])
+        (λ rest. lines_of text.now ≡ first_line_of text.now ∷ lines_of rest.now) }
     ensures shorter { IfSome result.1 (λ rest. length rest.now < length text.now) }
     ensures written { shown result.0 ≡ written_in_of (first_line_of text.now) }
 {
@@ -73,7 +74,8 @@ pub(crate) fn next_line(text: &[u8]) -> (Written<'_>, Option<&[u8]>)
 
 /// The same, of a line of any form.
 fn any_line(text: &[u8]) -> (Written<'_>, Option<&[u8]>)
-    ensures line { MatchOption result.1 (lines_of text.now ≡ first_line_of text.now ∷ []) (λ rest. lines_of text.now ≡ first_line_of text.now ∷ lines_of rest.now) }
+    ensures line { MatchOption result.1 (lines_of text.now ≡ first_line_of text.now ∷ [])
+        (λ rest. lines_of text.now ≡ first_line_of text.now ∷ lines_of rest.now) }
     ensures shorter { IfSome result.1 (λ rest. length rest.now < length text.now) }
     ensures written { shown result.0 ≡ written_in_of (first_line_of text.now) }
 {

@@ -123,7 +123,8 @@ impl PortCatalog {
 
     /// What is answered to the name of the cell with this number.
     fn found(&self, number: usize) -> CellFound
-        ensures { result ≡ cell_answer (option_map (λ cell. entry_of_cell number cell.standing) (slice_get self.now.cells number)) }
+        ensures { result ≡ cell_answer (option_map (λ cell. entry_of_cell number cell.standing)
+            (slice_get self.now.cells number)) }
     {
         match self.cells.get(number) {
             Some(ports) => ports.standing.answer(number),

@@ -10,9 +10,9 @@ ghost use Rattle.stimulus.specs.TraceLine.{drive_line_text};
 ghost use Rattle.stimulus.specs.TraceText.{trace_text};
 ghost use Rattle.stimulus.specs.Writes.{CanBegin, WritesTrace, PutsTrace};
 
+use crate::{Ports, TraceSim, append_trace_line};
 use cell_machine::Change;
 use std::alloc::Global;
-use crate::{Ports, TraceSim, append_trace_line};
 use text_io::{Desk, Failed, OutSlot, Stop, write_whole};
 
 /// How many bytes of the report wait before they are written.
@@ -32,7 +32,8 @@ pub(crate) fn write_trace<D: Desk, S: TraceSim>(
     changes: &[Change],
 ) -> Result<(), Stop>
     requires { CanBegin ports.now (S.machine sim.old) (S.stands sim.old) changes.now }
-    ensures text { WritesTrace (D.state desk.old) (D.state desk.new) (trace_text tag ports.now changes.now (lines_along (S.machine sim.old).line changes.now)) result }
+    ensures text { WritesTrace (D.state desk.old) (D.state desk.new)
+        (trace_text tag ports.now changes.now (lines_along (S.machine sim.old).line changes.now)) result }
     ensures cause { StopsWithCause (D.faults desk.old) (D.faults desk.new) result }
 {
     let mut waiting = Vec::new(alloc);
@@ -57,7 +58,10 @@ fn put_line<D: Desk, S: TraceSim>(
     requires inputs { length ports.now.inputs ≡ (S.machine sim.now).inputs }
     requires outputs { length ports.now.outputs ≡ (S.machine sim.now).outputs }
     requires pin { IfSome change (λ change. change.now.pin < (S.machine sim.now).inputs) }
-    ensures text { (h : List ChangeOf) → S.stands sim.now h → PutsTrace (D.state desk.old) (D.state desk.new) waiting.old.items (drive_line_text tag (option_copied change.entry) ports.now.inputs ports.now.outputs ((S.machine sim.now).line h)) waiting.new.items result }
+    ensures text { (h : List ChangeOf) → S.stands sim.now h
+        → PutsTrace (D.state desk.old) (D.state desk.new) waiting.old.items
+        (drive_line_text tag (option_copied change.entry) ports.now.inputs ports.now.outputs ((S.machine sim.now).line h))
+        waiting.new.items result }
     ensures cause { StopsWithCause (D.faults desk.old) (D.faults desk.new) result }
 {
     append_trace_line(waiting, tag, change, &ports.inputs, &ports.outputs, sim)?;

@@ -8,9 +8,9 @@ ghost use Rattle.stimulus.specs.Writes.{WritesTrace};
 
 use crate::heading::write_heading;
 use crate::printing::write_trace;
+use crate::{Ports, TraceSim};
 use cell_machine::Change;
 use std::alloc::Global;
-use crate::{Ports, TraceSim};
 use text_io::{Desk, Stop};
 
 /// Appends to the report the section of a cell with this name that one simulator runs: the line `cell` and the name, and then
@@ -28,7 +28,9 @@ pub fn write_section<D: Desk, S: TraceSim>(
     requires outputs { length ports.now.outputs ≡ (S.machine sim.old).outputs }
     requires start { S.stands sim.old [] }
     requires proper { IsProperFrom (S.machine sim.old).inputs [] changes.now }
-    ensures text { WritesTrace (D.state desk.old) (D.state desk.new) (heading_text name.now ++ trace_text tag ports.now changes.now (lines_along (S.machine sim.old).line changes.now)) result }
+    ensures text { WritesTrace (D.state desk.old) (D.state desk.new)
+        (heading_text name.now ++ trace_text tag ports.now changes.now (lines_along (S.machine sim.old).line changes.now))
+        result }
     ensures cause { StopsWithCause (D.faults desk.old) (D.faults desk.new) result }
 {
     write_heading(desk, name)?;

@@ -40,7 +40,9 @@ impl Sections {
 
     /// The sections after a further line, which says this.
     pub(crate) fn take(&mut self, alloc: Global, said: Said) -> Result<(), AllocError>
-        ensures { OnOk result ((more : List SaidOf) → gathered self.new.ended.items self.new.current more ≡ gathered self.old.ended.items self.old.current (said ∷ more)) }
+        ensures { OnOk result ((more : List SaidOf)
+            → gathered self.new.ended.items self.new.current more ≡ gathered self.old.ended.items self.old.current
+            (said ∷ more)) }
     {
         match said {
             Said::Nothing => Ok(()),
@@ -51,7 +53,9 @@ impl Sections {
 
     /// Ends the open section and begins one.
     fn begin(&mut self, alloc: Global, cell: usize) -> Result<(), AllocError>
-        ensures { OnOk result ((more : List SaidOf) → gathered self.new.ended.items self.new.current more ≡ gathered self.old.ended.items self.old.current (Said.Begins cell ∷ more)) }
+        ensures { OnOk result ((more : List SaidOf)
+            → gathered self.new.ended.items self.new.current more ≡ gathered self.old.ended.items self.old.current
+            (Said.Begins cell ∷ more)) }
     {
         let next = Section {
             cell,
@@ -65,7 +69,9 @@ impl Sections {
 
     /// Adds a change to the open section.
     fn change(&mut self, change: Change) -> Result<(), AllocError>
-        ensures { OnOk result ((more : List SaidOf) → gathered self.new.ended.items self.new.current more ≡ gathered self.old.ended.items self.old.current (Said.Changes change ∷ more)) }
+        ensures { OnOk result ((more : List SaidOf)
+            → gathered self.new.ended.items self.new.current more ≡ gathered self.old.ended.items self.old.current
+            (Said.Changes change ∷ more)) }
     {
         match &mut self.current {
             Some(section) => section.changes.push(change),

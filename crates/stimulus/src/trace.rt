@@ -2,7 +2,8 @@
 ghost use Rattle.std.specs.Prelude.{◌≡◌, ◌+◌, ◌<◌, ◌≤◌, ◌^◌, ◌++◌, List, [], ◌∷◌, length, codes, IfOk, IfSome, OnOk};
 ghost use Rattle.std.specs.Option.{option_copied};
 ghost use Rattle.cell_machine.specs.declared.changes.Change.{Change as ChangeOf};
-ghost use Rattle.stimulus.specs.TraceLine.{value_text, head_text, change_text, output_text, outputs_text, delay_text, report_text, reports_text, drive_line_text};
+ghost use Rattle.stimulus.specs.TraceLine.{value_text, head_text, change_text, output_text, outputs_text, delay_text};
+ghost use Rattle.stimulus.specs.TraceLine.{report_text, reports_text, drive_line_text};
 
 use crate::drives::Drive;
 use crate::trace_sim::TraceSim;
@@ -30,7 +31,8 @@ pub fn trace_line<S: TraceSim>(
     requires inputs { length inputs.now ≡ (S.machine sim.now).inputs }
     requires outputs { length outputs.now ≡ (S.machine sim.now).outputs }
     requires pin { IfSome change (λ change. change.now.pin < (S.machine sim.now).inputs) }
-    ensures { IfOk result (λ text. (h : List ChangeOf) → S.stands sim.now h → text.items ≡ drive_line_text tag (option_copied change.entry) inputs.now outputs.now ((S.machine sim.now).line h)) }
+    ensures { IfOk result (λ text. (h : List ChangeOf) → S.stands sim.now h
+        → text.items ≡ drive_line_text tag (option_copied change.entry) inputs.now outputs.now ((S.machine sim.now).line h)) }
 {
     let mut text = Vec::new(alloc);
     append_trace_line(&mut text, tag, change, inputs, outputs, sim)?;
@@ -50,7 +52,9 @@ pub fn append_trace_line<S: TraceSim>(
     requires inputs { length inputs.now ≡ (S.machine sim.now).inputs }
     requires outputs { length outputs.now ≡ (S.machine sim.now).outputs }
     requires pin { IfSome change (λ change. change.now.pin < (S.machine sim.now).inputs) }
-    ensures { OnOk result ((h : List ChangeOf) → S.stands sim.now h → text.new.items ≡ text.old.items ++ drive_line_text tag (option_copied change.entry) inputs.now outputs.now ((S.machine sim.now).line h)) }
+    ensures { OnOk result ((h : List ChangeOf) → S.stands sim.now h
+        → text.new.items ≡ text.old.items ++ drive_line_text tag (option_copied change.entry) inputs.now outputs.now
+        ((S.machine sim.now).line h)) }
 {
     text.reserve(ROOM)?;
     text.push(tag)?;
@@ -112,7 +116,9 @@ fn value_letter(value: Drive) -> u8
 /// The outputs, in order.
 fn push_outputs<S: TraceSim>(text: &mut Vec<u8>, names: &Names, sim: &S) -> Result<(), AllocError>
     requires { length names.now ≡ (S.machine sim.now).outputs }
-    ensures { OnOk result ((h : List ChangeOf) → S.stands sim.now h → text.new.items ≡ text.old.items ++ outputs_text names.now ((S.machine sim.now).line h).values ((S.machine sim.now).line h).delays) }
+    ensures { OnOk result ((h : List ChangeOf) → S.stands sim.now h
+        → text.new.items ≡ text.old.items ++ outputs_text names.now ((S.machine sim.now).line h).values
+        ((S.machine sim.now).line h).delays) }
 {
     for place in 0..names.len() {
         push_output(text, names.name(place), sim.value(place), sim.delay(place))?;
@@ -150,7 +156,8 @@ fn push_delay(text: &mut Vec<u8>, delay: Option<u64>) -> Result<(), AllocError>
 
 /// The checks that reported.
 fn push_reports<S: TraceSim>(text: &mut Vec<u8>, sim: &S) -> Result<(), AllocError>
-    ensures { OnOk result ((h : List ChangeOf) → S.stands sim.now h → text.new.items ≡ text.old.items ++ reports_text 1 ((S.machine sim.now).line h).reports) }
+    ensures { OnOk result ((h : List ChangeOf) → S.stands sim.now h
+        → text.new.items ≡ text.old.items ++ reports_text 1 ((S.machine sim.now).line h).reports) }
 {
     for check in 0..sim.checks() {
         push_report(text, check + 1, sim.reported(check))?;

@@ -52,7 +52,8 @@ pub trait TraceSim {
     /// What an output shows.
     fn value(&self, place: usize) -> Drive
         requires { place < (machine self.now).outputs }
-        ensures { (h : List Change) → stands self.now h → result ≡ slice_index_or ((machine self.now).line h).values place drive.Unknown };
+        ensures { (h : List Change) → stands self.now h
+            → result ≡ slice_index_or ((machine self.now).line h).values place drive.Unknown };
 
     /// The delay of an output in picoseconds, there exactly where the output changed at the last change.
     fn delay(&self, place: usize) -> Option<u64>
@@ -62,7 +63,8 @@ pub trait TraceSim {
     /// Whether a check reported at the last change.
     fn reported(&self, check: usize) -> bool
         requires { check < (machine self.now).checks }
-        ensures { (h : List Change) → stands self.now h → result ≡ slice_index_or ((machine self.now).line h).reports check false };
+        ensures { (h : List Change) → stands self.now h
+            → result ≡ slice_index_or ((machine self.now).line h).reports check false };
 
     /// Each line has an entry for each output and each check.
     ghost sized: { (s : Self) → IsSized (machine s) };

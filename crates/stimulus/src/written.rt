@@ -1,7 +1,8 @@
 //! What is written in a line.
 ghost use Rattle.std.specs.Prelude.{◌≡◌};
 ghost use Rattle.stimulus.specs.Text.{words_of};
-ghost use Rattle.stimulus.specs.Written.{written_in as written_in_of, written_words as written_words_of, written_pair as written_pair_of, shown};
+ghost use Rattle.stimulus.specs.Written.{written_in as written_in_of, written_words as written_words_of};
+ghost use Rattle.stimulus.specs.Written.{written_pair as written_pair_of, shown};
 
 use crate::lines::first_word;
 

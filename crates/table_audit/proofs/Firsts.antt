@@ -36,7 +36,8 @@ done f i n h = ap (λ k. first_difference (flat_map f (range_with_len i k))) (no
 -- all lists of m values by their numbers
 pub lists-from :
     (f : List Trit → List Difference) (n m count : ℕ) → count ≡ 3 ^ n → n ≡ m
-    → first_difference (flat_map (λ k. f (list_numbered n k)) (range_with_len 0 (count - 0))) ≡ first_difference (flat_map f (cubes_of m))
+    → first_difference (flat_map (λ k. f (list_numbered n k)) (range_with_len 0 (count - 0))) ≡ first_difference
+    (flat_map f (cubes_of m))
 lists-from f n m count is same =
     let all : count - 0 ≡ 3 ^ n = omega (arith, is) in
     ap first_difference
@@ -47,7 +48,8 @@ lists-from f n m count is same =
 
 pub values-from :
     (f : List Trit → Difference) (n m count : ℕ) → count ≡ 3 ^ n → n ≡ m
-    → first_difference (flat_map (λ k. f (list_numbered n k) ∷ []) (range_with_len 0 (count - 0))) ≡ first_difference (map f (cubes_of m))
+    → first_difference (flat_map (λ k. f (list_numbered n k) ∷ []) (range_with_len 0 (count - 0))) ≡ first_difference
+    (map f (cubes_of m))
 values-from f n m count is same =
     lists-from (λ values. f values ∷ []) n m count is same ∙ ap first_difference (flat_map_single f (cubes_of m))
 

@@ -1,5 +1,6 @@
 -- The conditions of checks and paths, and what the shape of a module gives for their wires.
-use Rattle.std.proofs.Common.{◌≡◌, ℕ, zero, suc, ◌<◌, ◌≤◌, Bool, List, ◌∷◌, [], not, ◌&&◌, length, Option, None, Some, slice_get, slice_index_or, nat_lt, nat_le, IsTrue, refl, sym, ap, ◌∙◌, arith, leb-true}
+use Rattle.std.proofs.Common.{◌≡◌, ℕ, zero, suc, ◌<◌, ◌≤◌, Bool, List, ◌∷◌, [], not, ◌&&◌, length, Option, None, Some, slice_get}
+use Rattle.std.proofs.Common.{slice_index_or, nat_lt, nat_le, IsTrue, refl, sym, ap, ◌∙◌, arith, leb-true}
 use Rattle.std.specs.List.{list_all}
 use Rattle.std.proofs.lemmas.Bool.{and_parts}
 use Rattle.bool_functions.specs.declared.tree.Node.{Node}
@@ -45,7 +46,8 @@ check_gating_is d m i k t e f =
 
 pub path_gating_is :
     (d : CellData) (m : VModule) (i : ℕ) (arc : Arc) (path : VPath)
-    → slice_get d.arcs i ≡ Some arc → slice_get m.paths i ≡ Some path → path_gating d m i ≡ gating arc.condition (gate_wire path.gate)
+    → slice_get d.arcs i ≡ Some arc → slice_get m.paths i ≡ Some path
+    → path_gating d m i ≡ gating arc.condition (gate_wire path.gate)
 path_gating_is d m i arc path e f =
     λ j. gating_of (λ (arc : Arc). arc.condition) (λ (path : VPath). gate_wire path.gate) (e j) (f j)
 
@@ -75,7 +77,8 @@ pub path_gating_past :
     (d : CellData) (m : VModule) (i : ℕ) (arc : Arc)
     → slice_get d.arcs i ≡ Some arc → slice_get m.paths i ≡ None → path_gating d m i ≡ gating arc.condition None
 path_gating_past d m i arc e f =
-    (λ j. gating_of (λ (arc : Arc). arc.condition) (λ (path : VPath). gate_wire path.gate) (e j) (f j)) ∙ sym (no-wire arc.condition)
+    (λ j. gating_of (λ (arc : Arc). arc.condition) (λ (path : VPath). gate_wire path.gate) (e j) (f j))
+    ∙ sym (no-wire arc.condition)
 
 -- the wires of a module of the cell's shape stand for the conditions
 pub check_fed : (d : CellData) (m : VModule) (i : ℕ) → HasShape d m → IsTrue (feeds_gating d m (check_gating d m i))

@@ -1,5 +1,6 @@
 -- All lists of trits of one length are those with the numbers from 0 on.
-use Rattle.std.proofs.Common.{◌≡◌, ℕ, zero, suc, ◌+◌, ◌-◌, ◌*◌, ◌/◌, ◌%◌, ◌^◌, ◌<◌, ◌≤◌, List, [], ◌∷◌, ◌++◌, map, refl, sym, ◌∙◌, ap, arith, add_assoc, zero-add, append_assoc, subst, Bool, length, take, drop}
+use Rattle.std.proofs.Common.{◌≡◌, ℕ, zero, suc, ◌+◌, ◌-◌, ◌*◌, ◌/◌, ◌%◌, ◌^◌, ◌<◌, ◌≤◌, List, [], ◌∷◌, ◌++◌, map, refl, sym, ◌∙◌}
+use Rattle.std.proofs.Common.{ap, arith, add_assoc, zero-add, append_assoc, subst, Bool, length, take, drop}
 use Rattle.std.proofs.Math.Nat.{pow-succ', one-le-pow, pow-le-pow_right}
 use Rattle.std.proofs.lemmas.Nat.{div-mul-add, mod-mul-add}
 use Rattle.std.proofs.lemmas.Simd.{map-map}
@@ -24,7 +25,8 @@ range-append a zero m = let none : 0 + m ≡ m = zero-add m in let from : a ≡ 
 range-append a (suc n) m =
     let more : suc n + m ≡ suc (n + m) = omega arith in
     let from : a + 1 + n ≡ a + suc n = omega arith in
-    ap (range_with_len a) more ∙ ap (λ ks. a ∷ ks) (range-append (a + 1) n m ∙ ap (λ k. range_with_len (a + 1) n ++ range_with_len k m) from)
+    ap (range_with_len a) more ∙ ap (λ ks. a ∷ ks)
+    (range-append (a + 1) n m ∙ ap (λ k. range_with_len (a + 1) n ++ range_with_len k m) from)
 
 map-append : {X Y : Type 0} (f : X → Y) (xs ys : List X) → map f (xs ++ ys) ≡ map f xs ++ map f ys
 map-append f [] ys = refl
@@ -36,7 +38,8 @@ map-shift f a b (suc n) =
     ap (λ xs. f (a + b) ∷ xs) (ap (λ k. map f (range_with_len k n)) (add_assoc a b 1) ∙ map-shift f a (b + 1) n)
 
 map-below :
-    {X : Type 0} (f g : ℕ → X) (a n : ℕ) → ((k : ℕ) → k < a + n → f k ≡ g k) → map f (range_with_len a n) ≡ map g (range_with_len a n)
+    {X : Type 0} (f g : ℕ → X) (a n : ℕ) → ((k : ℕ) → k < a + n → f k ≡ g k)
+    → map f (range_with_len a n) ≡ map g (range_with_len a n)
 map-below f g a zero h = refl
 map-below f g a (suc n) h =
     (λ i. h a (omega arith) i ∷ map-below f g (a + 1) n (λ k l. h k (omega (arith, l))) i)
@@ -69,12 +72,14 @@ cubes-numbered (suc n) =
     let frees : map numbered (range_with_len (whole + whole) whole) ≡ map (λ c. Unknown ∷ c) (cubes_of n)
     = ap (λ k. map numbered (range_with_len k whole)) (omega arith) ∙ part n 2 Unknown refl (cubes-numbered n) in
     let split : map numbered (range_with_len 0 (whole + (whole + whole)))
-    ≡ map numbered (range_with_len 0 whole) ++ (map numbered (range_with_len whole whole) ++ map numbered (range_with_len (whole + whole) whole))
+    ≡ map numbered (range_with_len 0 whole)
+    ++ (map numbered (range_with_len whole whole) ++ map numbered (range_with_len (whole + whole) whole))
     = ap (map numbered) (range-append 0 whole (whole + whole)
     ∙ ap (λ k. range_with_len 0 whole ++ range_with_len k (whole + whole)) (zero-add whole)
     ∙ ap (λ ks. range_with_len 0 whole ++ ks) (range-append whole whole whole))
     ∙ map-append numbered (range_with_len 0 whole) (range_with_len whole whole ++ range_with_len (whole + whole) whole)
-    ∙ ap (λ xs. map numbered (range_with_len 0 whole) ++ xs) (map-append numbered (range_with_len whole whole) (range_with_len (whole + whole) whole)) in
+    ∙ ap (λ xs. map numbered (range_with_len 0 whole) ++ xs)
+    (map-append numbered (range_with_len whole whole) (range_with_len (whole + whole) whole)) in
     append_assoc (map (λ c. Zero ∷ c) (cubes_of n)) (map (λ c. One ∷ c) (cubes_of n)) (map (λ c. Unknown ∷ c) (cubes_of n))
     ∙ sym (ap (λ k. map numbered (range_with_len 0 k)) (three-more n)
     ∙ split

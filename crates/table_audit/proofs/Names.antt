@@ -1,5 +1,7 @@
 -- The names of a condition are those below a bound that stand in its text.
-use Rattle.std.proofs.Common.{◌≡◌, ℕ, zero, suc, ◌+◌, ◌-◌, ◌<◌, ◌≤◌, ◌==◌, Bool, true, false, ◌||◌, cond, List, [], ◌∷◌, ◌++◌, length, filter, slice_index, Contains, IsTrue, ◌↔◌, ◌⊎◌, inl, inr, refl, sym, ◌∙◌, ap, subst, arith, eq-eqb, append_assoc, append-nil}
+use Rattle.std.proofs.Common.{◌≡◌, ℕ, zero, suc, ◌+◌, ◌-◌, ◌<◌, ◌≤◌, ◌==◌, Bool, true, false, ◌||◌, cond, List, [], ◌∷◌, ◌++◌}
+use Rattle.std.proofs.Common.{length, filter, slice_index, Contains, IsTrue, ◌↔◌, ◌⊎◌, inl, inr, refl, sym, ◌∙◌, ap, subst, arith}
+use Rattle.std.proofs.Common.{eq-eqb, append_assoc, append-nil}
 use Rattle.std.specs.List.{range_with_len}
 use Rattle.std.specs.List.Sorted.{IsStrictlyIncreasing}
 use Rattle.std.proofs.lemmas.Bool.{cases_lt, ne_eqb}
@@ -44,7 +46,8 @@ filter-above :
 filter-above x xs a zero l = refl
 filter-above x xs a (suc n) l =
     let apart : (x == a) ≡ false = ne_eqb x a (λ e. omega (arith, e, l)) in
-    λ i. cond (apart i || has xs a) (a ∷ filter-above x xs (a + 1) n (omega (arith, l)) i) (filter-above x xs (a + 1) n (omega (arith, l)) i)
+    λ i. cond (apart i || has xs a) (a ∷ filter-above x xs (a + 1) n (omega (arith, l)) i)
+    (filter-above x xs (a + 1) n (omega (arith, l)) i)
 
 -- the entries of a list that a number is below
 above-has : (a : ℕ) (xs : List ℕ) (y : ℕ) → AllAbove a xs → Contains xs y → a + 1 ≤ y
@@ -63,13 +66,16 @@ here-or-later :
     → filter (has (x ∷ xs)) (range_with_len a (suc n)) ≡ x ∷ xs
 here-or-later x xs a n rest (inl below) least up later here =
     let apart : has (x ∷ xs) a ≡ false = not-there a (x ∷ xs) (below, above-trans a x xs below up) in
-    ap (λ b. cond b (a ∷ filter (has (x ∷ xs)) (range_with_len (a + 1) n)) (filter (has (x ∷ xs)) (range_with_len (a + 1) n))) apart
+    ap (λ b. cond b (a ∷ filter (has (x ∷ xs)) (range_with_len (a + 1) n)) (filter (has (x ∷ xs)) (range_with_len (a + 1) n)))
+    apart
     ∙ later below
 here-or-later x xs a n rest (inr most) least up later here =
     let is : x ≡ a = omega (arith, most, least) in
     let there : has (x ∷ xs) a ≡ true = ap (λ b. b || has xs a) (eq-eqb x a is) in
-    let others : filter (has (x ∷ xs)) (range_with_len (a + 1) n) ≡ xs = filter-above x xs (a + 1) n (omega (arith, is)) ∙ here is in
-    ap (λ b. cond b (a ∷ filter (has (x ∷ xs)) (range_with_len (a + 1) n)) (filter (has (x ∷ xs)) (range_with_len (a + 1) n))) there
+    let others : filter (has (x ∷ xs)) (range_with_len (a + 1) n) ≡ xs = filter-above x xs (a + 1) n (omega (arith, is)) ∙ here is
+    in
+    ap (λ b. cond b (a ∷ filter (has (x ∷ xs)) (range_with_len (a + 1) n)) (filter (has (x ∷ xs)) (range_with_len (a + 1) n)))
+    there
     ∙ (λ i. sym is i ∷ others i)
 
 among-range :

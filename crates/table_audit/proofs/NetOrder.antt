@@ -1,5 +1,6 @@
 -- Values by where the nets of one list stand among those of another.
-use Rattle.std.proofs.Common.{◌≡◌, ℕ, zero, suc, ◌≤◌, Bool, true, false, List, [], ◌∷◌, map, length, Option, None, Some, unwrap_or, position, slice_get, slice_set, slice_index_or, refl, sym, ◌∙◌, ap, arith}
+use Rattle.std.proofs.Common.{◌≡◌, ℕ, zero, suc, ◌≤◌, Bool, true, false, List, [], ◌∷◌, map, length, Option, None, Some}
+use Rattle.std.proofs.Common.{unwrap_or, position, slice_get, slice_set, slice_index_or, refl, sym, ◌∙◌, ap, arith}
 use Rattle.std.specs.Option.{option_map_or}
 use Rattle.std.proofs.lemmas.List.{length-append}
 use Rattle.trit_cubes.specs.declared.trits.Trit.{Trit}

@@ -1,5 +1,6 @@
 -- Where a search of a list that is put together finds nothing.
-use Rattle.std.proofs.Common.{◌≡◌, ℕ, zero, suc, ◌+◌, ◌<◌, ◌≤◌, Bool, true, false, cond, List, [], ◌∷◌, ◌++◌, map, find, flat_map, length, Option, None, Some, refl, sym, ◌∙◌, ap, subst, arith, ◌⊎◌, inl, inr, slice_get}
+use Rattle.std.proofs.Common.{◌≡◌, ℕ, zero, suc, ◌+◌, ◌<◌, ◌≤◌, Bool, true, false, cond, List, [], ◌∷◌, ◌++◌, map, find, flat_map}
+use Rattle.std.proofs.Common.{length, Option, None, Some, refl, sym, ◌∙◌, ap, subst, arith, ◌⊎◌, inl, inr, slice_get}
 use Rattle.std.specs.List.{range_with_len}
 use Rattle.std.specs.Option.{option_or}
 use Rattle.std.proofs.lemmas.Bool.{cases_lt}
@@ -28,7 +29,8 @@ pub none-cons : {X : Type 0} (p : X → Bool) (x : X) (xs : List X) → p x ≡ 
 none-cons p x xs h k = ap (λ b. cond b (Some x) (find p xs)) h ∙ k
 
 -- none in two lists
-pub append-none : {X : Type 0} (p : X → Bool) (xs ys : List X) → find p (xs ++ ys) ≡ None → (find p xs ≡ None) × (find p ys ≡ None)
+pub append-none : {X : Type 0} (p : X → Bool) (xs ys : List X) → find p (xs ++ ys) ≡ None → (find p xs ≡ None)
+    × (find p ys ≡ None)
 append-none p xs ys h = or-none (find p xs) (find p ys) (sym (find-append p xs ys) ∙ h)
 
 pub none-append : {X : Type 0} (p : X → Bool) (xs ys : List X) → find p xs ≡ None → find p ys ≡ None → find p (xs ++ ys) ≡ None
@@ -63,7 +65,8 @@ none-map p f (y ∷ ys) h = none-cons p (f y) (map f ys) (h y (inl refl)) (none-
 range-first : (a k : ℕ) → a ≤ k → (a ≡ k) ⊎ (a + 1 ≤ k)
 range-first a k l = elim (cases_lt a k) [ inl below ↦ inr (omega (arith, below)) | inr least ↦ inl (omega (arith, least, l)) ]
 
-in-range-by : (a n k : ℕ) → (a ≡ k) ⊎ (a + 1 ≤ k) → (a + 1 ≤ k → Among k (range_with_len (a + 1) n)) → Among k (range_with_len a (suc n))
+in-range-by : (a n k : ℕ) → (a ≡ k) ⊎ (a + 1 ≤ k) → (a + 1 ≤ k → Among k (range_with_len (a + 1) n))
+    → Among k (range_with_len a (suc n))
 in-range-by a n k (inl e) rest = inl e
 in-range-by a n k (inr more) rest = inr (rest more)
 

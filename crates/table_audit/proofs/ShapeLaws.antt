@@ -1,5 +1,6 @@
 -- No question on the shape fails exactly where the module has the cell's shape.
-use Rattle.std.proofs.Common.{◌≡◌, ℕ, zero, suc, ◌<◌, Bool, true, false, not, List, [], ◌∷◌, find, length, Option, None, Some, slice_get, nat_eq, refl, sym, ◌∙◌, ap, subst, arith, eqb-true, eq-eqb, inl, inr}
+use Rattle.std.proofs.Common.{◌≡◌, ℕ, zero, suc, ◌<◌, Bool, true, false, not, List, [], ◌∷◌, find, length, Option, None, Some}
+use Rattle.std.proofs.Common.{slice_get, nat_eq, refl, sym, ◌∙◌, ap, subst, arith, eqb-true, eq-eqb, inl, inr}
 use Rattle.std.specs.List.{list_any, range_with_len}
 use Rattle.std.proofs.lemmas.Bool.{true≢false, and_parts, and_from}
 use Rattle.trit_cubes.proofs.ListLemmas.{Among}
@@ -21,9 +22,13 @@ use Rattle.specify_blocks.specs.Generated.{is_conditional}
 use Rattle.table_audit.specs.declared.verdicts.ShapePart.{ShapePart}
 use Rattle.table_audit.specs.declared.verdicts.ShapePart.TheVariants as part
 use Rattle.table_audit.specs.Terminals.{sequential_instances}
-use Rattle.table_audit.specs.Shape.{cell_inputs, port_inputs, same_bit, same_bits, both, both_or_neither, same_kind, same_edge, same_event, same_check, gated_by, same_path, Gating, gate_wire, gating_of, check_gating, path_gating, feeds_condition, feeds_gating, number_holds, part_count, part_holds, asked_of, asked, asked_once, tests_of, all_parts, shape_tests, is_amiss, first_amiss}
+use Rattle.table_audit.specs.Shape.{cell_inputs, port_inputs, same_bit, same_bits, both, both_or_neither, same_kind, same_edge}
+use Rattle.table_audit.specs.Shape.{same_event, same_check, gated_by, same_path, Gating, gate_wire, gating_of, check_gating}
+use Rattle.table_audit.specs.Shape.{path_gating, feeds_condition, feeds_gating, number_holds, part_count, part_holds, asked_of}
+use Rattle.table_audit.specs.Shape.{asked, asked_once, tests_of, all_parts, shape_tests, is_amiss, first_amiss}
 use Rattle.table_audit.specs.Matches.{SameCheck, SamePath, HasShape}
-use Rattle.table_audit.proofs.Searches.{cons-none, none-cons, flat-none, none-flat, map-none, none-map, in-range, range-in, get-below}
+use Rattle.table_audit.proofs.Searches.{cons-none, none-cons, flat-none, none-flat, map-none, none-map, in-range, range-in}
+use Rattle.table_audit.proofs.Searches.{get-below}
 
 holds-from : (b : Bool) → not b ≡ false → b ≡ true
 holds-from true h = refl
@@ -38,7 +43,8 @@ asked-none :
     → (k : ℕ) → k < part_count d p → part_holds d m p k ≡ true
 asked-none d m p h k l =
     holds-from (part_holds d m p k)
-    (map-none is_amiss (asked_of d m p) (range_with_len 0 (part_count d p)) h k (in-range 0 (part_count d p) k (omega arith) (omega (arith, l))))
+    (map-none is_amiss (asked_of d m p) (range_with_len 0 (part_count d p)) h k
+    (in-range 0 (part_count d p) k (omega arith) (omega (arith, l))))
 
 none-asked :
     (d : CellData) (m : VModule) (p : ShapePart) → ((k : ℕ) → k < part_count d p → part_holds d m p k ≡ true)
@@ -135,7 +141,8 @@ path-same d arc path h =
     let one = and_parts (nat_eq path.from (port_number d.pins arc.from)) _ h in
     let two = and_parts (nat_eq path.to (port_number d.pins arc.to)) _ one.1 in
     let three = and_parts (nat_eq path.rise arc.rise) _ two.1 in
-    let four = and_parts (nat_eq path.fall arc.fall) (gated_by (list_any (is_conditional arc) d.arcs) arc.condition path.gate) three.1 in
+    let four = and_parts (nat_eq path.fall arc.fall) (gated_by (list_any (is_conditional arc) d.arcs) arc.condition path.gate)
+    three.1 in
     record {
       from = eqb-true path.from (port_number d.pins arc.from) one.0;
       to = eqb-true path.to (port_number d.pins arc.to) two.0;
@@ -149,7 +156,8 @@ same-paths d arc path h =
     and_from (nat_eq path.from (port_number d.pins arc.from)) _ (eq-eqb path.from (port_number d.pins arc.from) h.from)
     (and_from (nat_eq path.to (port_number d.pins arc.to)) _ (eq-eqb path.to (port_number d.pins arc.to) h.to)
     (and_from (nat_eq path.rise arc.rise) _ (eq-eqb path.rise arc.rise h.rise)
-    (and_from (nat_eq path.fall arc.fall) (gated_by (list_any (is_conditional arc) d.arcs) arc.condition path.gate) (eq-eqb path.fall arc.fall h.fall) h.gate)))
+    (and_from (nat_eq path.fall arc.fall) (gated_by (list_any (is_conditional arc) d.arcs) arc.condition path.gate)
+    (eq-eqb path.fall arc.fall h.fall) h.gate)))
 
 -- entries at one place
 both-at :
@@ -179,10 +187,12 @@ gating-below condition wire [] o i u e = absurd cc
 gating-below condition wire (x ∷ xs) o zero u e = omega arith
 gating-below condition wire (x ∷ xs) o (suc i) u e = omega (arith, gating-below condition wire xs o i u e)
 
-feeds-at : (d : CellData) (m : VModule) (o : Option Gating) (u : Gating) → feeds_gating d m o ≡ true → o ≡ Some u → feeds_condition d m u ≡ true
+feeds-at : (d : CellData) (m : VModule) (o : Option Gating) (u : Gating) → feeds_gating d m o ≡ true → o ≡ Some u
+    → feeds_condition d m u ≡ true
 feeds-at d m o u h e = sym (ap (feeds_gating d m) e) ∙ h
 
-pub at-feeds : (d : CellData) (m : VModule) (o : Option Gating) → ((u : Gating) → o ≡ Some u → feeds_condition d m u ≡ true) → feeds_gating d m o ≡ true
+pub at-feeds : (d : CellData) (m : VModule) (o : Option Gating) → ((u : Gating) → o ≡ Some u → feeds_condition d m u ≡ true)
+    → feeds_gating d m o ≡ true
 at-feeds d m None h = refl
 at-feeds d m (Some u) h = h u refl
 
@@ -201,7 +211,8 @@ none-of-part :
     (d : CellData) (m : VModule) (p : ShapePart) → first_amiss (shape_tests d m) ≡ None
     → (number_holds d m p ≡ true) × (find is_amiss (asked d m p) ≡ None)
 none-of-part d m p h =
-    let parts = cons-none is_amiss (asked_once d m p) (asked d m p) (flat-none is_amiss (tests_of d m) all_parts h p (in-parts p)) in
+    let parts = cons-none is_amiss (asked_once d m p) (asked d m p) (flat-none is_amiss (tests_of d m) all_parts h p (in-parts p))
+    in
     (holds-from (number_holds d m p) parts.0, parts.1)
 
 pub shape-from : (d : CellData) (m : VModule) → first_amiss (shape_tests d m) ≡ None → HasShape d m
@@ -227,7 +238,8 @@ shape-from d m h =
       path_inputs = λ i u e.
           feeds-at d m (path_gating d m i) u
           (asked-none d m part.PathInputs (none-of-part d m part.PathInputs h).1 i
-          (gating-below (λ (arc : Arc). arc.condition) (λ (path : VPath). gate_wire path.gate) d.arcs (slice_get m.paths i) i u e)) e;
+          (gating-below (λ (arc : Arc). arc.condition) (λ (path : VPath). gate_wire path.gate) d.arcs
+          (slice_get m.paths i) i u e)) e;
       outputs = asked-none d m part.Outputs (none-of-part d m part.Outputs h).1;
     }
 
@@ -242,7 +254,8 @@ numbers-hold d m s part.CheckInputs = refl
 numbers-hold d m s part.PathInputs = refl
 numbers-hold d m s part.Outputs = refl
 
-parts-hold : (d : CellData) (m : VModule) → HasShape d m → (p : ShapePart) (k : ℕ) → k < part_count d p → part_holds d m p k ≡ true
+parts-hold : (d : CellData) (m : VModule) → HasShape d m → (p : ShapePart) (k : ℕ) → k < part_count d p
+    → part_holds d m p k ≡ true
 parts-hold d m s part.Ports k l = refl
 parts-hold d m s part.States k l = refl
 parts-hold d m s part.StateInputs k l = s.state_inputs k l

@@ -1,5 +1,6 @@
 -- What soundness gives for the instances that stand for parts of a cell.
-use Rattle.std.proofs.Common.{◌≡◌, ℕ, zero, suc, Bool, true, false, not, ◌&&◌, cond, List, [], ◌∷◌, ◌++◌, length, filter, find, Some, slice_get, nat_eq, IsTrue, refl, sym, ◌∙◌, ap, subst, arith, eqb-true}
+use Rattle.std.proofs.Common.{◌≡◌, ℕ, zero, suc, Bool, true, false, not, ◌&&◌, cond, List, [], ◌∷◌, ◌++◌, length, filter, find}
+use Rattle.std.proofs.Common.{Some, slice_get, nat_eq, IsTrue, refl, sym, ◌∙◌, ap, subst, arith, eqb-true}
 use Rattle.std.specs.List.{All, list_all}
 use Rattle.std.specs.Option.{option_map_or}
 use Rattle.std.proofs.lemmas.Bool.{true≢false, and_parts}
@@ -13,7 +14,8 @@ use Rattle.specify_blocks.specs.declared.model.Instance.TheVariants as instance
 use Rattle.specify_blocks.specs.declared.model.VModule.{VModule}
 use Rattle.specify_blocks.specs.Nets.{same_net, net_driven, has_state, is_sequential}
 use Rattle.specify_blocks.specs.Sound.{IsTable, IsInstance, AreInstances, IsSound}
-use Rattle.table_audit.specs.Terminals.{sequential_instances, driving, StandsIn, nets_feeding, is_among, same_nets, group_nets, stands_for, drives_value}
+use Rattle.table_audit.specs.Terminals.{sequential_instances, driving, StandsIn, nets_feeding, is_among, same_nets, group_nets}
+use Rattle.table_audit.specs.Terminals.{stands_for, drives_value}
 use Rattle.table_audit.specs.Shape.{feeds_group}
 
 -- an entry of a list of instances that passes a test
@@ -55,7 +57,8 @@ driving-stands m n i sound e = found m (λ i. same_net (net_driven i) n) [] m.in
 -- as many nets feed an instance as those that it stands for
 same-count : (ms ns : List VNet) → IsTrue (same_nets ms ns) → length ms ≡ length ns
 same-count ms ns h =
-    eqb-true (length ms) (length ns) (and_parts (nat_eq (length ms) (length ns)) (list_all (is_among ns) ms && list_all (is_among ms) ns) h).0
+    eqb-true (length ms) (length ns)
+    (and_parts (nat_eq (length ms) (length ns)) (list_all (is_among ns) ms && list_all (is_among ms) ns) h).0
 
 standing :
     (m : VModule) (nets : List VNet) (i : Instance)

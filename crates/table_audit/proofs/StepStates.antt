@@ -51,4 +51,5 @@ note-ignored d g r h = record { same_next = λ note s values long. by (has_notif
         → looked_up r (noted b note values) s ≡ looked_up r (noted b Unknown values) s
     by false note s values long = refl
     by true note s values long =
-        h.same_next (values ++ note ∷ []) (values ++ Unknown ∷ []) s (λ k out. apart-last values note Unknown k (λ e. out (e ∙ long)))
+        h.same_next (values ++ note ∷ []) (values ++ Unknown ∷ []) s
+        (λ k out. apart-last values note Unknown k (λ e. out (e ∙ long)))

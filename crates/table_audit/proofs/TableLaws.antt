@@ -1,5 +1,7 @@
 -- No argument gives two values exactly where the tables give the cell's values.
-use Rattle.std.proofs.Common.{◌≡◌, ◌≢◌, ℕ, zero, suc, ◌+◌, ◌<◌, Bool, true, false, not, cond, List, [], ◌∷◌, ◌++◌, map, find, length, Option, None, Some, slice_index_or, slice_get, if◌then◌else◌, refl, sym, ◌∙◌, ap, subst, arith, inl, inr}
+use Rattle.std.proofs.Common.{◌≡◌, ◌≢◌, ℕ, zero, suc, ◌+◌, ◌<◌, Bool, true, false, not, cond, List, [], ◌∷◌, ◌++◌, map, find}
+use Rattle.std.proofs.Common.{length, Option, None, Some, slice_index_or, slice_get, if◌then◌else◌, refl, sym, ◌∙◌, ap, subst}
+use Rattle.std.proofs.Common.{arith, inl, inr}
 use Rattle.std.specs.List.{range_with_len}
 use Rattle.std.proofs.lemmas.Bool.{true≢false}
 use Rattle.trit_cubes.specs.declared.trits.Trit.{Trit}
@@ -21,7 +23,12 @@ use Rattle.specify_blocks.specs.declared.model.VModule.{VModule}
 use Rattle.table_audit.specs.declared.verdicts.AuditPart.{AuditPart}
 use Rattle.table_audit.specs.declared.verdicts.AuditPart.TheVariants as part
 use Rattle.table_audit.specs.Shape.{Gating, gate_wire, check_gating, path_gating}
-use Rattle.table_audit.specs.Tables.{group_next, place_net, cell_step, model_step, cell_forced, model_notified, cell_condition, model_condition, cell_output, model_output, all_trits, notes, notes_before, note_after, changes_at, step_compared, steps_by_note, steps_by_state, steps_where_changed, steps_by_list, steps_by_old, steps_compared, note_compared, notes_by_list, notes_by_old, notes_compared, value_compared, conditions_compared, compared_count, compared_at, part_compared, compared_parts, compared, is_unlike, first_difference}
+use Rattle.table_audit.specs.Tables.{group_next, place_net, cell_step, model_step, cell_forced, model_notified, cell_condition}
+use Rattle.table_audit.specs.Tables.{model_condition, cell_output, model_output, all_trits, notes, notes_before, note_after}
+use Rattle.table_audit.specs.Tables.{changes_at, step_compared, steps_by_note, steps_by_state, steps_where_changed, steps_by_list}
+use Rattle.table_audit.specs.Tables.{steps_by_old, steps_compared, note_compared, notes_by_list, notes_by_old, notes_compared}
+use Rattle.table_audit.specs.Tables.{value_compared, conditions_compared, compared_count, compared_at, part_compared}
+use Rattle.table_audit.specs.Tables.{compared_parts, compared, is_unlike, first_difference}
 use Rattle.table_audit.specs.Matches.{HasValues}
 use Rattle.table_audit.proofs.Searches.{flat-none, none-flat, map-none, none-map, in-range, range-in, in-trits, in-trits-from-x}
 use Rattle.table_audit.proofs.ShapeLaws.{gating-below}
@@ -32,15 +39,18 @@ all-lists zero [] e = inl refl
 all-lists zero (t ∷ c) e = absurd (omega arith)
 all-lists (suc n) [] e = absurd (omega arith)
 all-lists (suc n) (Zero ∷ c) e =
-    append-among_left (Zero ∷ c) (map (λ d. Zero ∷ d) (cubes_of n) ++ map (λ d. One ∷ d) (cubes_of n)) (map (λ d. Unknown ∷ d) (cubes_of n))
+    append-among_left (Zero ∷ c) (map (λ d. Zero ∷ d) (cubes_of n) ++ map (λ d. One ∷ d) (cubes_of n))
+    (map (λ d. Unknown ∷ d) (cubes_of n))
     (append-among_left (Zero ∷ c) (map (λ d. Zero ∷ d) (cubes_of n)) (map (λ d. One ∷ d) (cubes_of n))
     (map-among (λ d. Zero ∷ d) c (cubes_of n) (all-lists n c (omega arith))))
 all-lists (suc n) (One ∷ c) e =
-    append-among_left (One ∷ c) (map (λ d. Zero ∷ d) (cubes_of n) ++ map (λ d. One ∷ d) (cubes_of n)) (map (λ d. Unknown ∷ d) (cubes_of n))
+    append-among_left (One ∷ c) (map (λ d. Zero ∷ d) (cubes_of n) ++ map (λ d. One ∷ d) (cubes_of n))
+    (map (λ d. Unknown ∷ d) (cubes_of n))
     (append-among_right (One ∷ c) (map (λ d. Zero ∷ d) (cubes_of n)) (map (λ d. One ∷ d) (cubes_of n))
     (map-among (λ d. One ∷ d) c (cubes_of n) (all-lists n c (omega arith))))
 all-lists (suc n) (Unknown ∷ c) e =
-    append-among_right (Unknown ∷ c) (map (λ d. Zero ∷ d) (cubes_of n) ++ map (λ d. One ∷ d) (cubes_of n)) (map (λ d. Unknown ∷ d) (cubes_of n))
+    append-among_right (Unknown ∷ c) (map (λ d. Zero ∷ d) (cubes_of n) ++ map (λ d. One ∷ d) (cubes_of n))
+    (map (λ d. Unknown ∷ d) (cubes_of n))
     (map-among (λ d. Unknown ∷ d) c (cubes_of n) (all-lists n c (omega arith)))
 
 -- values that are not unlike
@@ -72,7 +82,8 @@ likeness cell model h = ap not (subst (λ x. same cell x ≡ true) (sym h) (same
 
 -- a place that changes
 changes : (p : ℕ) (old : Trit) (values : List Trit) → old ≢ slice_index_or values p Unknown → changes_at p old values ≡ true
-changes p old values h = by (same old (slice_index_or values p Unknown)) (λ e. h (same-are old (slice_index_or values p Unknown) e))
+changes p old values h = by (same old (slice_index_or values p Unknown))
+    (λ e. h (same-are old (slice_index_or values p Unknown) e))
   where
     by : (b : Bool) → (b ≡ true → ⊥) → not b ≡ true
     by true k = absurd (k refl)
@@ -126,7 +137,8 @@ pub states-agree :
     → ((note s : Trit) → model_step d m g p old values note s ≡ cell_step d g p old values s)
     → find is_unlike (steps_by_state d m g p old values) ≡ None
 states-agree d m g p old values h =
-    none-flat is_unlike (steps_by_note d m g p old values) all_trits (λ s a. compared-notes d m g p old values s (λ note. h note s))
+    none-flat is_unlike (steps_by_note d m g p old values) all_trits
+    (λ s a. compared-notes d m g p old values s (λ note. h note s))
 
 steps-from :
     (d : CellData) (m : VModule) (g : ℕ) → find is_unlike (steps_compared d m g) ≡ None
@@ -135,11 +147,14 @@ steps-from :
     → model_step d m g p old values note s ≡ cell_step d g p old values s
 steps-from d m g h p old values note s long inside apart =
     let n = length (support_at d g) in
-    let at_place = flat-none is_unlike (steps_by_old d m g) (range_with_len 0 n) h p (in-range 0 n p (omega arith) (omega (arith, inside, long))) in
+    let at_place = flat-none is_unlike (steps_by_old d m g) (range_with_len 0 n) h p
+    (in-range 0 n p (omega arith) (omega (arith, inside, long))) in
     let at_old = flat-none is_unlike (steps_by_list d m g p) all_trits at_place old (in-trits old) in
     let at_list = flat-none is_unlike (steps_where_changed d m g p old) (cubes_of n) at_old values (all-lists n values long) in
-    let at_change = guarded is_unlike (changes_at p old values) (steps_by_state d m g p old values) at_list (changes p old values apart) in
-    every-note d m g p old values s (has_notifier d) refl (flat-none is_unlike (steps_by_note d m g p old values) all_trits at_change s (in-trits s)) note
+    let at_change = guarded is_unlike (changes_at p old values) (steps_by_state d m g p old values) at_list
+    (changes p old values apart) in
+    every-note d m g p old values s (has_notifier d) refl
+    (flat-none is_unlike (steps_by_note d m g p old values) all_trits at_change s (in-trits s)) note
 
 from-steps :
     (d : CellData) (m : VModule) (g : ℕ)
@@ -179,7 +194,8 @@ from-notes d m g h =
     none-flat is_unlike (notes_by_old d m g) notes_before (λ old at_old.
     none-flat is_unlike (notes_by_list d m g old) (cubes_of n) (λ values at_list.
     none-map is_unlike (note_compared d m g old values) all_trits (λ s at_state.
-    likeness (cell_forced d g values) (model_notified d m g old (note_after old) values s) (h old values s (cubes_of-length n values at_list)))))
+    likeness (cell_forced d g values) (model_notified d m g old (note_after old) values s)
+    (h old values s (cubes_of-length n values at_list)))))
 
 values-from :
     (p : AuditPart) (number n : ℕ) (of_cell of_model : List Trit → Trit)
@@ -200,7 +216,8 @@ from-values p number n of_cell of_model h =
 gating-from :
     (d : CellData) (m : VModule) (p : AuditPart) (number : ℕ) (o : Option Gating) (u : Gating)
     → find is_unlike (conditions_compared d m p number o) ≡ None → o ≡ Some u
-    → (values : List Trit) → length values ≡ length (support_of u.condition) → model_condition d m u values ≡ cell_condition u.condition values
+    → (values : List Trit) → length values ≡ length (support_of u.condition)
+    → model_condition d m u values ≡ cell_condition u.condition values
 gating-from d m p number o u h e =
     values-from p number (length (support_of u.condition)) (cell_condition u.condition) (model_condition d m u)
     (subst (λ x. find is_unlike (conditions_compared d m p number x) ≡ None) e h)
@@ -212,14 +229,17 @@ from-gating :
     → find is_unlike (conditions_compared d m p number o) ≡ None
 from-gating d m p number None h = refl
 from-gating d m p number (Some u) h =
-    from-values p number (length (support_of u.condition)) (cell_condition u.condition) (model_condition d m u) (λ values. h u values refl)
+    from-values p number (length (support_of u.condition)) (cell_condition u.condition) (model_condition d m u)
+    (λ values. h u values refl)
 
 -- the numbers of checks and arcs with conditions
 check-below : (d : CellData) (m : VModule) (i : ℕ) (u : Gating) → check_gating d m i ≡ Some u → i < length d.checks
-check-below d m i u e = gating-below (λ (k : Check). k.condition) (λ (k : TimingCheck). k.condition) d.checks (slice_get m.checks i) i u e
+check-below d m i u e = gating-below (λ (k : Check). k.condition) (λ (k : TimingCheck). k.condition) d.checks
+    (slice_get m.checks i) i u e
 
 path-below : (d : CellData) (m : VModule) (i : ℕ) (u : Gating) → path_gating d m i ≡ Some u → i < length d.arcs
-path-below d m i u e = gating-below (λ (arc : Arc). arc.condition) (λ (path : VPath). gate_wire path.gate) d.arcs (slice_get m.paths i) i u e
+path-below d m i u e = gating-below (λ (arc : Arc). arc.condition) (λ (path : VPath). gate_wire path.gate) d.arcs
+    (slice_get m.paths i) i u e
 
 -- the groups whose changes of the register are compared
 below-notified : (b : Bool) (n k : ℕ) → k < (if b then n else 0) → (b ≡ true) × (k < n)
@@ -246,7 +266,8 @@ tables-from d m h =
           steps-from d m g (none-of-part d m h part.State (inl refl) g inside) p old values note s;
       forces = λ g old values s has inside.
           notes-from d m g
-          (none-of-part d m h part.Notifier (inr (inl refl)) g (subst (λ b. g < (if b then length d.groups else 0)) (sym has) inside))
+          (none-of-part d m h part.Notifier (inr (inl refl)) g
+          (subst (λ b. g < (if b then length d.groups else 0)) (sym has) inside))
           old values s;
       checks = λ i u values e.
           gating-from d m part.Check (i + 1) (check_gating d m i) u

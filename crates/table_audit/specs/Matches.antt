@@ -16,8 +16,10 @@ use Rattle.specify_blocks.specs.declared.model.VPath.{VPath}
 use Rattle.specify_blocks.specs.declared.model.VModule.{VModule}
 use Rattle.specify_blocks.specs.Generated.{is_conditional}
 use Rattle.table_audit.specs.Terminals.{sequential_instances}
-use Rattle.table_audit.specs.Shape.{cell_inputs, port_inputs, feeds_group, both_or_neither, gated_by, Gating, check_gating, path_gating, feeds_condition, feeds_output}
-use Rattle.table_audit.specs.Tables.{note_after, cell_step, model_step, cell_forced, model_notified, cell_condition, model_condition, cell_output, model_output}
+use Rattle.table_audit.specs.Shape.{cell_inputs, port_inputs, feeds_group, both_or_neither, gated_by, Gating, check_gating}
+use Rattle.table_audit.specs.Shape.{path_gating, feeds_condition, feeds_output}
+use Rattle.table_audit.specs.Tables.{note_after, cell_step, model_step, cell_forced, model_notified, cell_condition}
+use Rattle.table_audit.specs.Tables.{model_condition, cell_output, model_output}
 
 -- A timing check of a module is this one of a cell with these pins: of its kind, with its events and its limit, and with a
 -- condition exactly where that has one.

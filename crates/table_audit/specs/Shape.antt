@@ -1,5 +1,6 @@
 -- Whether the parts of a module are those of a cell, apart from the values of its tables.
-use Rattle.std.specs.Prelude.{⊤, ℕ, ◌+◌, ◌≤◌, Bool, true, false, not, ◌&&◌, List, [], ◌∷◌, length, map, filter, find, flat_map, nat_eq, Option, Some, None, slice_get}
+use Rattle.std.specs.Prelude.{⊤, ℕ, ◌+◌, ◌≤◌, Bool, true, false, not, ◌&&◌, List, [], ◌∷◌, length, map, filter, find, flat_map}
+use Rattle.std.specs.Prelude.{nat_eq, Option, Some, None, slice_get}
 use Rattle.std.specs.List.{list_any, range_with_len}
 use Rattle.std.specs.Option.{option_map_or}
 use Rattle.bool_functions.specs.declared.tree.Node.{Node}
@@ -28,7 +29,8 @@ use Rattle.specify_blocks.specs.Generated.{pin_net, is_conditional}
 use Rattle.table_audit.specs.declared.shape.ShapeTest.{ShapeTest}
 use Rattle.table_audit.specs.declared.verdicts.ShapePart.{ShapePart}
 use Rattle.table_audit.specs.declared.verdicts.ShapePart.TheVariants as part
-use Rattle.table_audit.specs.Terminals.{sequential_instances, nets_feeding, same_nets, group_nets, condition_nets, output_nets, drives_value}
+use Rattle.table_audit.specs.Terminals.{sequential_instances, nets_feeding, same_nets, group_nets, condition_nets, output_nets}
+use Rattle.table_audit.specs.Terminals.{drives_value}
 
 -- which ports are inputs: those of a cell's models, which are its input and output pins in their order, and those of a module
 abbrev pub cell_inputs : CellData → List Bool
@@ -212,7 +214,8 @@ tests_of d m p = asked_once d m p ∷ asked d m p
 -- All questions on the shape, in the order in which they are asked.
 abbrev pub all_parts : List ShapePart
 all_parts =
-    part.Ports ∷ part.States ∷ part.StateInputs ∷ part.Checks ∷ part.Paths ∷ part.CheckInputs ∷ part.PathInputs ∷ part.Outputs ∷ []
+    part.Ports ∷ part.States ∷ part.StateInputs ∷ part.Checks ∷ part.Paths ∷ part.CheckInputs ∷ part.PathInputs ∷ part.Outputs
+    ∷ []
 
 abbrev pub shape_tests : CellData → VModule → List ShapeTest
 shape_tests d m = flat_map (tests_of d m) all_parts

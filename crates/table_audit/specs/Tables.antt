@@ -1,6 +1,7 @@
 -- What the tables of a module and the functions of a cell give for the same arguments, and all arguments in the order in which
 -- they are compared. (What a table gives: IEEE 1364-2005, clause 8. The arguments and their order are this project's rule.)
-use Rattle.std.specs.Prelude.{ℕ, ◌+◌, Bool, true, false, not, List, [], ◌∷◌, length, map, flat_map, find, position, Option, Some, None, unwrap_or, slice_get, slice_set, slice_index_or, if◌then◌else◌}
+use Rattle.std.specs.Prelude.{ℕ, ◌+◌, Bool, true, false, not, List, [], ◌∷◌, length, map, flat_map, find, position, Option, Some}
+use Rattle.std.specs.Prelude.{None, unwrap_or, slice_get, slice_set, slice_index_or, if◌then◌else◌}
 use Rattle.std.specs.List.{range_with_len}
 use Rattle.std.specs.Option.{option_map_or}
 use Rattle.trit_cubes.specs.declared.trits.Trit.{Trit}
@@ -201,7 +202,8 @@ value_compared p number of_cell of_model values =
 abbrev pub conditions_compared : CellData → VModule → AuditPart → ℕ → Option Gating → List Difference
 conditions_compared d m p number None = []
 conditions_compared d m p number (Some u) =
-    map (value_compared p number (cell_condition u.condition) (model_condition d m u)) (cubes_of (length (support_of u.condition)))
+    map (value_compared p number (cell_condition u.condition) (model_condition d m u))
+    (cubes_of (length (support_of u.condition)))
 
 -- All values of output o, by those of its support.
 abbrev pub outputs_compared : CellData → VModule → ℕ → List Difference

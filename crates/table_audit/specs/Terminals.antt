@@ -1,6 +1,7 @@
 -- Which nets and instances of a module stand for the parts of a cell. Ports stand for pins, and the instances of primitives
 -- with a state, in their order, for the groups (this project's rule; IEEE 1364-2005, clauses 8 and 12).
-use Rattle.std.specs.Prelude.{ℕ, Bool, true, false, not, ◌&&◌, List, [], ◌∷◌, ◌++◌, length, map, filter, find, nat_eq, Option, slice_get}
+use Rattle.std.specs.Prelude.{ℕ, Bool, true, false, not, ◌&&◌, List, [], ◌∷◌, ◌++◌, length, map, filter, find, nat_eq, Option}
+use Rattle.std.specs.Prelude.{slice_get}
 use Rattle.std.specs.List.{list_all, list_any}
 use Rattle.std.specs.Option.{option_map_or}
 use Rattle.bool_functions.specs.declared.tree.Node.{Node}

@@ -80,7 +80,8 @@ fn edge_value(cell: &Cell, group: usize, place: usize, point: &[bool]) -> Trit
 fn edge_value_at(cell: &Cell, group: usize, place: usize, point: &[bool]) -> Trit
     requires group { group < length cell.now.groups }
     requires place { place < length (support_at (data_of cell.now) group) }
-    ensures { length point.now ≡ suc (suc (length (support_at (data_of cell.now) group))) → result ≡ edge_value (step_at (data_of cell.now) group) place point.now }
+    ensures { length point.now ≡ suc (suc (length (support_at (data_of cell.now) group)))
+        → result ≡ edge_value (step_at (data_of cell.now) group) place point.now }
 {
     let pins = cell.group(group).support.len();
     if point.len() != pins + 2 {
@@ -146,7 +147,8 @@ pub(crate) struct PinChange<'a> {
 fn change_places(change: PinChange<'_>, state: Trit) -> Few<Trit, 10>
     requires place { change.place < length change.values.now }
     requires few { length change.values.now ≤ 8 }
-    ensures { result ≡ change.entry.old ∷ slice_index_or change.entry.values.now change.entry.place trit.Unknown ∷ without change.entry.place change.entry.values.now ++ state ∷ [] }
+    ensures { result ≡ change.entry.old ∷ slice_index_or change.entry.values.now change.entry.place trit.Unknown ∷ without
+        change.entry.place change.entry.values.now ++ state ∷ [] }
 {
     let mut places = Few::new(Trit::Unknown);
     places.push(change.old);
@@ -179,7 +181,8 @@ pub(crate) fn step_values(cell: &Cell, group: usize, change: PinChange<'_>) -> N
     requires place { change.place < length change.values.now }
     requires few { length change.values.now ≤ 8 }
     requires steps { AreSteps (data_of cell.now) group change.place change.steps.now }
-    ensures { result ≡ next_states (cell_step (data_of cell.now) group change.entry.place change.entry.old change.entry.values.now) }
+    ensures { result ≡ next_states (cell_step (data_of cell.now) group change.entry.place change.entry.old
+        change.entry.values.now) }
 {
     let zero = step_value(cell, group, change, Trit::Zero);
     let one = step_value(cell, group, change, Trit::One);
@@ -217,7 +220,8 @@ pub(crate) fn condition_value(condition: &Function, names: &[usize], values: &[T
 /// The value of an output at a point of its support.
 fn output_at_point(cell: &Cell, output: usize, point: &[bool]) -> Trit
     requires { output < length cell.now.outputs }
-    ensures { length point.now ≡ length (sources_at (data_of cell.now) output) → result ≡ output_value_at (data_of cell.now) output point.now }
+    ensures { length point.now ≡ length (sources_at (data_of cell.now) output)
+        → result ≡ output_value_at (data_of cell.now) output point.now }
 {
     if point.len() != cell.output_pin(output).support.len() {
         return Trit::Unknown;

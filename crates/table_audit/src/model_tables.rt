@@ -147,7 +147,8 @@ impl<'a> NetRows<'a> {
         requires sound { IsSound model.now }
         requires stands { StandsIn model.now instance.now }
         requires few { length (nets_feeding instance.now) ≤ 10 }
-        ensures { (values : List Trit) (s : Trit) → length values ≤ 10 → looked_up result values s ≡ next_by model.now nets.now values changed old s instance.now }
+        ensures { (values : List Trit) (s : Trit) → length values ≤ 10
+            → looked_up result values s ≡ next_by model.now nets.now values changed old s instance.now }
     {
         NetRows {
             order: order_of(nets, nets_feeding(instance)),

@@ -46,7 +46,8 @@ pub(crate) fn values_at<F: Fn(&[bool]) -> Trit>(places: usize, function: &F) -> 
 pub(crate) fn resolved<F: Fn(&[bool]) -> Trit>(places: &[Trit], function: &F) -> Trit
     requires callable { F.IsAlwaysCallable function.now }
     requires few { length places.now ≤ 10 }
-    ensures { (f : List Bool → Trit) → Gives (λ p t. FnReturnsAt F.Fn function.now p t) (length places.now) f → result ≡ res f places.now }
+    ensures { (f : List Bool → Trit) → Gives (λ p t. FnReturnsAt F.Fn function.now p t) (length places.now) f
+        → result ≡ res f places.now }
 {
     let count = places.len();
     resolve(

@@ -6,7 +6,9 @@ ghost use Rattle.cell_machine.specs.CellData.{data_of};
 ghost use Rattle.udp_tables.specs.declared.models.VPort.{VPort};
 ghost use Rattle.udp_tables.specs.Ports.{is_port};
 ghost use Rattle.specify_blocks.specs.Generated.{is_conditional};
-ghost use Rattle.table_audit.specs.Shape.{same_bit, same_bits, feeds_group, both_or_neither, same_kind, same_edge, same_event, same_check, same_check_at, gated_by, same_path, same_path_at, gate_wire, feeds_output, number_holds, part_count, part_holds, asked, tests_of, shape_tests, first_amiss};
+ghost use Rattle.table_audit.specs.Shape.{same_bit, same_bits, feeds_group, both_or_neither, same_kind, same_edge, same_event};
+ghost use Rattle.table_audit.specs.Shape.{same_check, same_check_at, gated_by, same_path, same_path_at, gate_wire, feeds_output};
+ghost use Rattle.table_audit.specs.Shape.{number_holds, part_count, part_holds, asked, tests_of, shape_tests, first_amiss};
 
 use crate::condition_wires::{of_check, of_path};
 use crate::supports::feeds_gating;

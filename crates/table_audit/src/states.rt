@@ -7,7 +7,10 @@ ghost use Rattle.specify_blocks.specs.declared.model.VNet.TheVariants as net;
 ghost use Rattle.specify_blocks.specs.Sound.{IsSound};
 ghost use Rattle.table_audit.specs.Terminals.{group_nets};
 ghost use Rattle.table_audit.specs.Shape.{feeds_group};
-ghost use Rattle.table_audit.specs.Tables.{place_net, cell_step, model_step, cell_forced, note_after, notes, step_compared, steps_by_note, steps_by_state, steps_where_changed, steps_by_list, steps_by_old, steps_compared, note_compared, notes_by_list, notes_by_old, notes_compared, first_difference};
+ghost use Rattle.table_audit.specs.Tables.{place_net, cell_step, model_step, cell_forced, note_after, notes, step_compared};
+ghost use Rattle.table_audit.specs.Tables.{steps_by_note, steps_by_state, steps_where_changed, steps_by_list, steps_by_old};
+ghost use Rattle.table_audit.specs.Tables.{steps_compared, note_compared, notes_by_list, notes_by_old, notes_compared};
+ghost use Rattle.table_audit.specs.Tables.{first_difference};
 ghost use Rattle.table_audit.specs.LookUps.{AreSteps, AreForces, LooksUp, IgnoresNote};
 ghost use Rattle.table_audit.specs.Lists.{trit_before};
 
@@ -139,9 +142,11 @@ impl<'a> GroupTables<'a> {
     /// The next state by the module at a change of a pin.
     #[tactic(auto, using(crate::proofs::NetOrder::noted_few))]
     fn model_step(&self, change: PinChange<'_>, note: Trit, state: Trit) -> Trit
-        requires rows { LooksUp (data_of self.now.cell.now) self.now.model.now self.now.group (place_net (data_of self.now.cell.now) self.now.group change.place) change.old change.rows.now }
+        requires rows { LooksUp (data_of self.now.cell.now) self.now.model.now self.now.group
+            (place_net (data_of self.now.cell.now) self.now.group change.place) change.old change.rows.now }
         requires values { length change.values.now ≡ length (support_at (data_of self.now.cell.now) self.now.group) }
-        ensures { result ≡ model_step (data_of self.now.cell.now) self.now.model.now self.now.group change.entry.place change.entry.old change.entry.values.now note state }
+        ensures { result ≡ model_step (data_of self.now.cell.now) self.now.model.now self.now.group change.entry.place
+            change.entry.old change.entry.values.now note state }
     {
         let _few = self.pins();
         let values = noted(has_notifier(self.cell), note, change.values);
@@ -156,11 +161,15 @@ impl<'a> GroupTables<'a> {
         note: Option<Trit>,
         of_cell: Trit,
     ) -> Option<Difference>
-        requires rows { LooksUp (data_of self.now.cell.now) self.now.model.now self.now.group (place_net (data_of self.now.cell.now) self.now.group change.place) change.old change.rows.now }
+        requires rows { LooksUp (data_of self.now.cell.now) self.now.model.now self.now.group
+            (place_net (data_of self.now.cell.now) self.now.group change.place) change.old change.rows.now }
         requires place { change.place < length change.values.now }
         requires values { length change.values.now ≡ length (support_at (data_of self.now.cell.now) self.now.group) }
-        requires of_cell { of_cell ≡ cell_step (data_of self.now.cell.now) self.now.group change.place change.old change.values.now state }
-        ensures { result ≡ first_difference (step_compared (data_of self.now.cell.now) self.now.model.now self.now.group change.entry.place change.entry.old change.entry.values.now state note ∷ []) }
+        requires of_cell { of_cell ≡ cell_step (data_of self.now.cell.now) self.now.group change.place change.old
+            change.values.now state }
+        ensures { result ≡ first_difference
+            (step_compared (data_of self.now.cell.now) self.now.model.now self.now.group change.entry.place change.entry.old
+            change.entry.values.now state note ∷ []) }
     {
         let _few = self.pins();
         let of_model = self.model_step(change, note.unwrap_or(Trit::Unknown), state);
@@ -182,11 +191,14 @@ impl<'a> GroupTables<'a> {
 
     /// The first difference at a change of a pin from one state, over the values of the register.
     fn over_notes(&self, change: PinChange<'_>, state: Trit) -> Option<Difference>
-        requires rows { LooksUp (data_of self.now.cell.now) self.now.model.now self.now.group (place_net (data_of self.now.cell.now) self.now.group change.place) change.old change.rows.now }
+        requires rows { LooksUp (data_of self.now.cell.now) self.now.model.now self.now.group
+            (place_net (data_of self.now.cell.now) self.now.group change.place) change.old change.rows.now }
         requires place { change.place < length change.values.now }
         requires values { length change.values.now ≡ length (support_at (data_of self.now.cell.now) self.now.group) }
         requires steps { AreSteps (data_of self.now.cell.now) self.now.group change.place change.steps.now }
-        ensures { result ≡ first_difference (steps_by_note (data_of self.now.cell.now) self.now.model.now self.now.group change.entry.place change.entry.old change.entry.values.now state) }
+        ensures { result ≡ first_difference
+            (steps_by_note (data_of self.now.cell.now) self.now.model.now self.now.group change.entry.place change.entry.old
+            change.entry.values.now state) }
     {
         let _few = self.pins();
         let of_cell = step_value(self.cell, self.group, change, state);
@@ -204,11 +216,15 @@ impl<'a> GroupTables<'a> {
         state: Trit,
         of_cell: Trit,
     ) -> Option<Difference>
-        requires rows { LooksUp (data_of self.now.cell.now) self.now.model.now self.now.group (place_net (data_of self.now.cell.now) self.now.group change.place) change.old change.rows.now }
+        requires rows { LooksUp (data_of self.now.cell.now) self.now.model.now self.now.group
+            (place_net (data_of self.now.cell.now) self.now.group change.place) change.old change.rows.now }
         requires place { change.place < length change.values.now }
         requires values { length change.values.now ≡ length (support_at (data_of self.now.cell.now) self.now.group) }
-        requires of_cell { of_cell ≡ cell_step (data_of self.now.cell.now) self.now.group change.place change.old change.values.now state }
-        ensures { result ≡ first_difference (map (step_compared (data_of self.now.cell.now) self.now.model.now self.now.group change.entry.place change.entry.old change.entry.values.now state) (notes true)) }
+        requires of_cell { of_cell ≡ cell_step (data_of self.now.cell.now) self.now.group change.place change.old
+            change.values.now state }
+        ensures { result ≡ first_difference
+            (map (step_compared (data_of self.now.cell.now) self.now.model.now self.now.group change.entry.place change.entry.old
+            change.entry.values.now state) (notes true)) }
     {
         for k in 0..3 {
             let note = Some(trit_numbered(k));
@@ -222,11 +238,14 @@ impl<'a> GroupTables<'a> {
     /// The first difference at a change of a pin, over the states.
     #[tactic(auto, using(crate::proofs::Firsts::turn, crate::proofs::Firsts::done))]
     fn over_states(&self, change: PinChange<'_>) -> Option<Difference>
-        requires rows { LooksUp (data_of self.now.cell.now) self.now.model.now self.now.group (place_net (data_of self.now.cell.now) self.now.group change.place) change.old change.rows.now }
+        requires rows { LooksUp (data_of self.now.cell.now) self.now.model.now self.now.group
+            (place_net (data_of self.now.cell.now) self.now.group change.place) change.old change.rows.now }
         requires place { change.place < length change.values.now }
         requires values { length change.values.now ≡ length (support_at (data_of self.now.cell.now) self.now.group) }
         requires steps { AreSteps (data_of self.now.cell.now) self.now.group change.place change.steps.now }
-        ensures { result ≡ first_difference (steps_by_state (data_of self.now.cell.now) self.now.model.now self.now.group change.entry.place change.entry.old change.entry.values.now) }
+        ensures { result ≡ first_difference
+            (steps_by_state (data_of self.now.cell.now) self.now.model.now self.now.group change.entry.place change.entry.old
+            change.entry.values.now) }
     {
         for k in 0..3 {
             if let Some(found) = self.over_notes(change, trit_numbered(k)) {
@@ -246,12 +265,15 @@ impl<'a> GroupTables<'a> {
     /// Whether it is known, without a look at the values of the register one by one, that the module gives what the cell gives at
     /// a change of a pin.
     fn agrees(&self, change: PinChange<'_>) -> bool
-        requires rows { LooksUp (data_of self.now.cell.now) self.now.model.now self.now.group (place_net (data_of self.now.cell.now) self.now.group change.place) change.old change.rows.now }
+        requires rows { LooksUp (data_of self.now.cell.now) self.now.model.now self.now.group
+            (place_net (data_of self.now.cell.now) self.now.group change.place) change.old change.rows.now }
         requires place { change.place < length change.values.now }
         requires values { length change.values.now ≡ length (support_at (data_of self.now.cell.now) self.now.group) }
         requires steps { AreSteps (data_of self.now.cell.now) self.now.group change.place change.steps.now }
         requires note { change.ignores_note ≡ true → IgnoresNote (data_of self.now.cell.now) self.now.group change.rows.now }
-        ensures { result ≡ true → first_difference (steps_by_state (data_of self.now.cell.now) self.now.model.now self.now.group change.entry.place change.entry.old change.entry.values.now) ≡ None }
+        ensures { result ≡ true → first_difference
+            (steps_by_state (data_of self.now.cell.now) self.now.model.now self.now.group change.entry.place change.entry.old
+            change.entry.values.now) ≡ None }
     {
         let _few = self.pins();
         if !change.ignores_note {
@@ -264,12 +286,15 @@ impl<'a> GroupTables<'a> {
 
     /// The first difference at a change of a pin, none where the pin has the value that it had.
     fn where_changed(&self, change: PinChange<'_>) -> Option<Difference>
-        requires rows { LooksUp (data_of self.now.cell.now) self.now.model.now self.now.group (place_net (data_of self.now.cell.now) self.now.group change.place) change.old change.rows.now }
+        requires rows { LooksUp (data_of self.now.cell.now) self.now.model.now self.now.group
+            (place_net (data_of self.now.cell.now) self.now.group change.place) change.old change.rows.now }
         requires place { change.place < length change.values.now }
         requires values { length change.values.now ≡ length (support_at (data_of self.now.cell.now) self.now.group) }
         requires steps { AreSteps (data_of self.now.cell.now) self.now.group change.place change.steps.now }
         requires note { change.ignores_note ≡ true → IgnoresNote (data_of self.now.cell.now) self.now.group change.rows.now }
-        ensures { result ≡ first_difference (steps_where_changed (data_of self.now.cell.now) self.now.model.now self.now.group change.entry.place change.entry.old change.entry.values.now) }
+        ensures { result ≡ first_difference
+            (steps_where_changed (data_of self.now.cell.now) self.now.model.now self.now.group change.entry.place change.entry.old
+            change.entry.values.now) }
     {
         let place = change.place;
         let value = change.values[place];
@@ -285,7 +310,8 @@ impl<'a> GroupTables<'a> {
         requires sound { IsSound self.now.model.now }
         requires steps { AreSteps (data_of self.now.cell.now) self.now.group place steps.now }
         requires place { place < length (support_at (data_of self.now.cell.now) self.now.group) }
-        ensures { result ≡ first_difference (steps_by_list (data_of self.now.cell.now) self.now.model.now self.now.group place old) }
+        ensures { result ≡ first_difference
+            (steps_by_list (data_of self.now.cell.now) self.now.model.now self.now.group place old) }
     {
         let pins = self.pins();
         let rows = self.rows_at(self.place_net(place), old);
@@ -350,10 +376,12 @@ impl<'a> GroupTables<'a> {
         state: Trit,
         of_cell: Trit,
     ) -> Option<Difference>
-        requires rows { LooksUp (data_of self.now.cell.now) self.now.model.now self.now.group net.Notifier change.old change.rows.now }
+        requires rows { LooksUp (data_of self.now.cell.now) self.now.model.now self.now.group net.Notifier change.old
+            change.rows.now }
         requires values { length values.now ≡ length (support_at (data_of self.now.cell.now) self.now.group) }
         requires of_cell { of_cell ≡ cell_forced (data_of self.now.cell.now) self.now.group values.now }
-        ensures { result ≡ first_difference (note_compared (data_of self.now.cell.now) self.now.model.now self.now.group change.entry.old values.now state ∷ []) }
+        ensures { result ≡ first_difference
+            (note_compared (data_of self.now.cell.now) self.now.model.now self.now.group change.entry.old values.now state ∷ []) }
     {
         let _few = self.pins();
         let note = note_after(change.old);
@@ -378,10 +406,12 @@ impl<'a> GroupTables<'a> {
     /// The first difference at a change of the register, over the states.
     #[tactic(auto, using(crate::proofs::Firsts::turn, crate::proofs::Firsts::done))]
     fn notes_by_list(&self, change: NoteChange<'_>, values: &[Trit]) -> Option<Difference>
-        requires rows { LooksUp (data_of self.now.cell.now) self.now.model.now self.now.group net.Notifier change.old change.rows.now }
+        requires rows { LooksUp (data_of self.now.cell.now) self.now.model.now self.now.group net.Notifier change.old
+            change.rows.now }
         requires forces { AreForces (data_of self.now.cell.now) self.now.group change.forces.now }
         requires values { length values.now ≡ length (support_at (data_of self.now.cell.now) self.now.group) }
-        ensures { result ≡ first_difference (notes_by_list (data_of self.now.cell.now) self.now.model.now self.now.group change.entry.old values.now) }
+        ensures { result ≡ first_difference
+            (notes_by_list (data_of self.now.cell.now) self.now.model.now self.now.group change.entry.old values.now) }
     {
         let of_cell = forced_by(self.cell, self.group, change.forces, values);
         for k in 0..3 {

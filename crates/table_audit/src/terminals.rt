@@ -5,7 +5,8 @@ ghost use Rattle.cell_machine.specs.CellData.{data_of};
 ghost use Rattle.udp_tables.specs.CellPrimitives.{has_notifier};
 ghost use Rattle.specify_blocks.specs.Nets.{has_state, is_sequential};
 ghost use Rattle.specify_blocks.specs.Generated.{pin_net};
-ghost use Rattle.table_audit.specs.Terminals.{sequential_instances, driving, is_among, same_nets, group_nets, state_net, source_net, output_nets, nets_feeding, stands_for, drives_value};
+ghost use Rattle.table_audit.specs.Terminals.{sequential_instances, driving, is_among, same_nets, group_nets, state_net};
+ghost use Rattle.table_audit.specs.Terminals.{source_net, output_nets, nets_feeding, stands_for, drives_value};
 ghost use Rattle.table_audit.specs.Shape.{output_net};
 
 use cell_machine::{Cell, Few, Pin, Source};

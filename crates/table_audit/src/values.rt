@@ -8,7 +8,8 @@ ghost use Rattle.cell_machine.specs.CellTrace.{sources_at};
 ghost use Rattle.specify_blocks.specs.Sound.{IsSound};
 ghost use Rattle.table_audit.specs.Terminals.{condition_nets};
 ghost use Rattle.table_audit.specs.Shape.{HasFewNames, gating, feeds_condition, feeds_gating, feeds_output};
-ghost use Rattle.table_audit.specs.Tables.{value_compared, cell_condition, model_condition, conditions_compared, outputs_compared, first_difference};
+ghost use Rattle.table_audit.specs.Tables.{value_compared, cell_condition, model_condition, conditions_compared};
+ghost use Rattle.table_audit.specs.Tables.{outputs_compared, first_difference};
 
 use crate::cell_values::{condition_value, output_value};
 use crate::condition_wires::ConditionWire;
@@ -102,7 +103,8 @@ impl<'a> ConditionTables<'a> {
     /// What the module gives for these values of the names.
     fn of_model(&self, values: &[Trit]) -> Trit
         requires { IsSound self.now.model.now }
-        ensures { result ≡ model_condition (data_of self.now.cell.now) self.now.model.now (record { condition = self.now.condition.now; wire = self.now.wire }) values.now }
+        ensures { result ≡ model_condition (data_of self.now.cell.now) self.now.model.now
+            (record { condition = self.now.condition.now; wire = self.now.wire }) values.now }
     {
         driven_value(
             self.model,
@@ -124,7 +126,9 @@ impl<'a> ConditionTables<'a> {
     #[tactic(auto, using(crate::proofs::Firsts::turn, crate::proofs::Firsts::done))]
     fn first(&self, part: AuditPart, number: usize) -> Option<Difference>
         requires { IsSound self.now.model.now }
-        ensures { result ≡ first_difference (conditions_compared (data_of self.now.cell.now) self.now.model.now part number (Some (record { condition = self.now.condition.now; wire = self.now.wire }))) }
+        ensures { result ≡ first_difference
+            (conditions_compared (data_of self.now.cell.now) self.now.model.now part number
+            (Some (record { condition = self.now.condition.now; wire = self.now.wire }))) }
     {
         let places = self.places();
         let count = list_count(places);
@@ -158,7 +162,8 @@ pub(crate) fn of_condition(
     requires bounded { IsBounded of.condition.now }
     requires few { HasFewNames of.condition.now }
     requires fed { IsTrue (feeds_gating (data_of cell.now) model.now (gating of.condition.now of.wire)) }
-    ensures { result ≡ first_difference (conditions_compared (data_of cell.now) model.now part number (gating of.entry.condition.now of.entry.wire)) }
+    ensures { result ≡ first_difference
+        (conditions_compared (data_of cell.now) model.now part number (gating of.entry.condition.now of.entry.wire)) }
 {
     let (Some(condition), Some(wire)) = (of.condition, of.wire) else {
         return None;

@@ -32,7 +32,8 @@ option_map-same f same None = refl
 option_map-same f same (Some x) = ap Some (same x)
 
 -- one change, and then another
-pub option_map-twice : {X : Type 0} (f g h : X → X) → ((x : X) → g (f x) ≡ h x) → (known : Option X) → option_map g (option_map f known) ≡ option_map h known
+pub option_map-twice : {X : Type 0} (f g h : X → X) → ((x : X) → g (f x) ≡ h x) → (known : Option X)
+    → option_map g (option_map f known) ≡ option_map h known
 option_map-twice f g h both None = refl
 option_map-twice f g h both (Some x) = ap Some (both x)
 
@@ -49,12 +50,14 @@ put_slot-same each (Output Faults) (Output Faults) = refl
 put_slot-same each _ _ = refl
 
 -- an input slot's value put there
-pub put_in-same : {X : Type 0} (each : InSlot → X) (slot other : InSlot) (value : X) → value ≡ each slot → put_in each slot value other ≡ each other
+pub put_in-same : {X : Type 0} (each : InSlot → X) (slot other : InSlot) (value : X) → value ≡ each slot
+    → put_in each slot value other ≡ each other
 put_in-same each slot other value e =
     ap (λ x. put_in each slot x other) e ∙ put_slot-same (by_side each (λ _. each slot)) (Input slot) (Input other)
 
 -- an output slot's value put there
-pub put_out-same : {X : Type 0} (each : OutSlot → X) (slot other : OutSlot) (value : X) → value ≡ each slot → put_out each slot value other ≡ each other
+pub put_out-same : {X : Type 0} (each : OutSlot → X) (slot other : OutSlot) (value : X) → value ≡ each slot
+    → put_out each slot value other ≡ each other
 put_out-same each slot other value e =
     ap (λ x. put_out each slot x other) e ∙ put_slot-same (by_side (λ _. each slot) each) (Output slot) (Output other)
 
@@ -63,15 +66,19 @@ if_self : {X : Type 0} (n : ℕ) (x y : X) → (if nat_eq n n then x else y) ≡
 if_self n x y = ap (λ b. if b then x else y) (eq-eqb n n refl)
 
 -- what was put at a place is there
-pub put_at-there : {S X : Type 0} (number : S → ℕ) (each : S → X) (place : S) (value : X) → put_at number each place value place ≡ value
+pub put_at-there : {S X : Type 0} (number : S → ℕ) (each : S → X) (place : S) (value : X)
+    → put_at number each place value place ≡ value
 put_at-there number each place value = if_self (number place) value (each place)
 
 -- what is told at a place, changed twice
-pub put_at-twice : {S C : Type 0} (number : S → ℕ) (f g h : C → C) → ((x : C) → g (f x) ≡ h x) → (each : S → Option C) (place other : S)
-    → put_at number (put_at number each place (option_map f (each place))) place (option_map g (put_at number each place (option_map f (each place)) place)) other
+pub put_at-twice : {S C : Type 0} (number : S → ℕ) (f g h : C → C) → ((x : C) → g (f x) ≡ h x)
+    → (each : S → Option C) (place other : S)
+    → put_at number (put_at number each place (option_map f (each place))) place
+    (option_map g (put_at number each place (option_map f (each place)) place)) other
     ≡ put_at number each place (option_map h (each place)) other
 put_at-twice number f g h both each place other =
     let first = option_map f (each place) in
     let second = option_map g (put_at number each place first place) in
-    let now : second ≡ option_map h (each place) = ap (option_map g) (put_at-there number each place first) ∙ option_map-twice f g h both (each place) in
+    let now : second ≡ option_map h (each place) = ap (option_map g) (put_at-there number each place first)
+    ∙ option_map-twice f g h both (each place) in
     if_again (nat_eq (number place) (number other)) second first (each other) ∙ ap (λ v. put_at number each place v other) now

@@ -21,7 +21,10 @@ took-zero s slot = took-same s slot 0 (option_map-same (drop 0) (λ left. refl) 
 -- some bytes read, and then some more
 pub took-took : (s : DeskState) (slot : InSlot) (a b : ℕ) → took (took s slot a) slot b ≡ took s slot (a + b)
 unfolding took
-took-took s slot a b = λ i. record s { left = λ t. put_at-twice (λ x. slot_number (Input x)) (drop a) (drop b) (drop (a + b)) (drop-drop b a) s.left slot t i }
+took-took s slot a b = λ i. record s {
+  left =
+      λ t. put_at-twice (λ x. slot_number (Input x)) (drop a) (drop b) (drop (a + b)) (drop-drop b a) s.left slot t i;
+}
 
 -- what is left after a read
 pub left-took : (s : DeskState) (slot : InSlot) (n : ℕ) → (took s slot n).left slot ≡ option_map (drop n) (s.left slot)
@@ -33,13 +36,16 @@ pub is_bound-took : (s : DeskState) (slot : InSlot) (n : ℕ) (other : Slot) →
 unfolding took
 is_bound-took s slot n other = refl
 
-pub bound_still : (s now : DeskState) (slot : InSlot) (n : ℕ) (other : Slot) → now ≡ took s slot n → IsTrue (is_bound s other) → IsTrue (is_bound now other)
+pub bound_still : (s now : DeskState) (slot : InSlot) (n : ℕ) (other : Slot) → now ≡ took s slot n → IsTrue (is_bound s other)
+    → IsTrue (is_bound now other)
 bound_still s now slot n other e h = rw (e, is_bound-took s slot n other) h
 
 -- some bytes, and then some more
-pub took_more : (s now next : DeskState) (slot : InSlot) (a b : ℕ) → now ≡ took s slot a → next ≡ took now slot b → next ≡ took s slot (a + b)
+pub took_more : (s now next : DeskState) (slot : InSlot) (a b : ℕ) → now ≡ took s slot a → next ≡ took now slot b
+    → next ≡ took s slot (a + b)
 took_more s now next slot a b first second = second ∙ ap (λ t. took t slot b) first ∙ took-took s slot a b
 
 -- what is left after some bytes were read
-pub left_after : (s now : DeskState) (slot : InSlot) (n : ℕ) → now ≡ took s slot n → now.left slot ≡ option_map (drop n) (s.left slot)
+pub left_after : (s now : DeskState) (slot : InSlot) (n : ℕ) → now ≡ took s slot n
+    → now.left slot ≡ option_map (drop n) (s.left slot)
 left_after s now slot n e = ap (λ t. t.left slot) e ∙ left-took s slot n

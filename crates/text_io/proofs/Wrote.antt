@@ -1,5 +1,6 @@
 -- Laws of appending to a slot, for every proof that writes.
-use Rattle.std.proofs.Common.{◌≡◌, ℕ, ◌+◌, ◌-◌, ◌<◌, ◌≤◌, List, [], ◌∷◌, ◌++◌, get_or, take, drop, length, Result, Ok, Err, refl, sym, ◌∙◌, ap, IsTrue, IsErr, append_assoc}
+use Rattle.std.proofs.Common.{◌≡◌, ℕ, ◌+◌, ◌-◌, ◌<◌, ◌≤◌, List, [], ◌∷◌, ◌++◌, get_or, take, drop, length, Result, Ok, Err, refl}
+use Rattle.std.proofs.Common.{sym, ◌∙◌, ap, IsTrue, IsErr, append_assoc}
 use Rattle.std.specs.Option.{option_map}
 use Rattle.std.specs.List.{flat_map}
 use Rattle.std.proofs.lemmas.List.{append-nil, take_more, take_rest, take-append-drop, drop_more, take_all}
@@ -14,7 +15,8 @@ use Rattle.text_io.specs.Desk.{DeskState, is_bound, wrote, IsPrefix, WritesText}
 use Rattle.text_io.proofs.PutLemmas.{option_map-same, put_out-same, put_at-twice}
 
 -- nothing known changes where what is written stays as it is
-pub wrote-same : (s : DeskState) (slot : OutSlot) (text : List ℕ) → option_map (λ before. before ++ text) (s.written slot) ≡ s.written slot → wrote s slot text ≡ s
+pub wrote-same : (s : DeskState) (slot : OutSlot) (text : List ℕ)
+    → option_map (λ before. before ++ text) (s.written slot) ≡ s.written slot → wrote s slot text ≡ s
 unfolding wrote
 wrote-same s slot text same =
     λ i. record s { written = λ t. put_out-same s.written slot t (option_map (λ before. before ++ text) (s.written slot)) same i }
@@ -27,20 +29,24 @@ wrote-nil s slot = wrote-same s slot [] (option_map-same (λ before. before ++ [
 pub wrote-wrote : (s : DeskState) (slot : OutSlot) (a b : List ℕ) → wrote (wrote s slot a) slot b ≡ wrote s slot (a ++ b)
 unfolding wrote
 wrote-wrote s slot a b = λ i. record s {
-  written = λ t. put_at-twice (λ x. slot_number (Output x)) (λ before. before ++ a) (λ before. before ++ b) (λ before. before ++ (a ++ b)) (λ before. append_assoc before a b) s.written slot t i;
+  written = λ t. put_at-twice (λ x. slot_number (Output x)) (λ before. before ++ a) (λ before. before ++ b)
+      (λ before. before ++ (a ++ b)) (λ before. append_assoc before a b) s.written slot t i;
 }
 
 -- what is bound stays bound
-pub is_bound-wrote : (s : DeskState) (slot : OutSlot) (text : List ℕ) (other : Slot) → is_bound (wrote s slot text) other ≡ is_bound s other
+pub is_bound-wrote : (s : DeskState) (slot : OutSlot) (text : List ℕ) (other : Slot)
+    → is_bound (wrote s slot text) other ≡ is_bound s other
 unfolding wrote
 is_bound-wrote s slot text other = refl
 
 -- a slot that was bound is so after more was appended to another slot or to itself
-pub still_bound : (s now : DeskState) (slot : OutSlot) (text : List ℕ) (other : Slot) → now ≡ wrote s slot text → IsTrue (is_bound s other) → IsTrue (is_bound now other)
+pub still_bound : (s now : DeskState) (slot : OutSlot) (text : List ℕ) (other : Slot) → now ≡ wrote s slot text
+    → IsTrue (is_bound s other) → IsTrue (is_bound now other)
 still_bound s now slot text other e h = rw (e, is_bound-wrote s slot text other) h
 
 -- a text, and then more
-pub wrote_more : (s now next : DeskState) (slot : OutSlot) (a b : List ℕ) → now ≡ wrote s slot a → next ≡ wrote now slot b → next ≡ wrote s slot (a ++ b)
+pub wrote_more : (s now next : DeskState) (slot : OutSlot) (a b : List ℕ) → now ≡ wrote s slot a → next ≡ wrote now slot b
+    → next ≡ wrote s slot (a ++ b)
 wrote_more s now next slot a b first second = second ∙ ap (λ t. wrote t slot b) first ∙ wrote-wrote s slot a b
 
 -- a front of a list is a prefix of it
@@ -73,7 +79,8 @@ goes_on old now new slot a b (Err y) e w = record {
 -- a fault within the first of two texts
 pub stops : {S T : Type 0} (old new : DeskState) (slot : OutSlot) (a b : List ℕ) (y : Failed) (r : Result T Failed)
     → WritesText {T = S} old new slot a (Err y) → IsErr r → WritesText old new slot (a ++ b) r
-stops old new slot a b y r w e = WritesText-stopped old new slot (a ++ b) w.part.0 r e (IsPrefix-front w.part.0 a b w.part.1) w.part.2
+stops old new slot a b y r w e = WritesText-stopped old new slot (a ++ b) w.part.0 r e (IsPrefix-front w.part.0 a b w.part.1)
+    w.part.2
 
 -- one more part of a list, taken from what is left of it
 pub take_part : (done n : ℕ) (xs : List ℕ) → take done xs ++ take n (take (length xs - done) (drop done xs)) ≡ take (done + n) xs
@@ -84,13 +91,15 @@ pub flat_map-split : {X : Type 0} (f : X → List ℕ) (xs : List X) (i : ℕ) (
     → flat_map f xs ≡ flat_map f (take i xs) ++ (f x ++ flat_map f (drop (i + 1) xs))
 flat_map-split f xs i x h e =
     let rest = ap (flat_map f) (drop_more xs i x h) ∙ ap (λ y. f y ++ flat_map f (drop (i + 1) xs)) (sym e) in
-    ap (flat_map f) (sym (take-append-drop i xs)) ∙ flat_map-append f (take i xs) (drop i xs) ∙ ap (λ t. flat_map f (take i xs) ++ t) rest
+    ap (flat_map f) (sym (take-append-drop i xs)) ∙ flat_map-append f (take i xs) (drop i xs)
+    ∙ ap (λ t. flat_map f (take i xs) ++ t) rest
 
 -- the texts of one item more
 pub flat_map-take_more : {X : Type 0} (f : X → List ℕ) (xs : List X) (i : ℕ) (x : X) → i < length xs → x ≡ get_or xs i x
     → flat_map f (take i xs) ++ f x ≡ flat_map f (take (i + 1) xs)
 flat_map-take_more f xs i x h e =
-    let last = ap (λ t. flat_map f (take i xs) ++ t) (sym (append-nil (f x))) ∙ ap (λ y. flat_map f (take i xs) ++ (f y ++ [])) e in
+    let last = ap (λ t. flat_map f (take i xs) ++ t) (sym (append-nil (f x))) ∙ ap (λ y. flat_map f (take i xs) ++ (f y ++ [])) e
+    in
     last ∙ sym (ap (flat_map f) (take_more xs i x h) ∙ flat_map-append f (take i xs) (get_or xs i x ∷ []))
 
 -- a turn of a loop that writes an item's text
@@ -101,8 +110,10 @@ wrote_item_as f xs i x s now next slot h e before item =
     wrote_more s now next slot (flat_map f (take i xs)) (f x) before item ∙ ap (wrote s slot) (flat_map-take_more f xs i x h e)
 
 -- a fault within an item's text
-pub part_of_item_as : {X S T : Type 0} (f : X → List ℕ) (xs : List X) (i : ℕ) (x : X) (s now new : DeskState) (slot : OutSlot) (y : Failed) (r : Result T Failed)
-    → i < length xs → x ≡ get_or xs i x → now ≡ wrote s slot (flat_map f (take i xs)) → WritesText {T = S} now new slot (f x) (Err y) → IsErr r
+pub part_of_item_as : {X S T : Type 0} (f : X → List ℕ) (xs : List X) (i : ℕ) (x : X) (s now new : DeskState) (slot : OutSlot)
+    (y : Failed) (r : Result T Failed)
+    → i < length xs → x ≡ get_or xs i x → now ≡ wrote s slot (flat_map f (take i xs))
+    → WritesText {T = S} now new slot (f x) (Err y) → IsErr r
     → WritesText s new slot (flat_map f xs) r
 part_of_item_as f xs i x s now new slot y r h e before item failed =
     rw (flat_map-split f xs i x h e)

@@ -1,5 +1,6 @@
 -- What is known of a desk at a moment, and how a call changes it. This project's rule.
-use Rattle.std.specs.Prelude.{◌≡◌, ℕ, ◌+◌, ◌-◌, ◌^◌, ◌≤◌, min, Bool, true, ◌||◌, List, [], ◌∷◌, ◌++◌, drop, Option, Some, None, Result, Ok, Err, IfSome, OnOk, OnErr, slice_get, if◌then◌else◌}
+use Rattle.std.specs.Prelude.{◌≡◌, ℕ, ◌+◌, ◌-◌, ◌^◌, ◌≤◌, min, Bool, true, ◌||◌, List, [], ◌∷◌, ◌++◌, drop, Option, Some, None}
+use Rattle.std.specs.Prelude.{Result, Ok, Err, IfSome, OnOk, OnErr, slice_get, if◌then◌else◌}
 use Rattle.std.specs.Option.{option_map, option_and_then}
 use Rattle.std.specs.Str.{bytes_eq}
 use Rattle.text_io.specs.declared.outside.Failed.{Failed}
@@ -46,7 +47,11 @@ opened s slot bytes =
 -- after the slot was bound to a file that is now empty
 unfoldable pub created : DeskState → OutSlot → DeskState
 created s slot =
-    record s { bound = put_slot s.bound (Output slot) true; written = put_out s.written slot (option_map (λ _. []) (s.written slot)) }
+    record s {
+      bound = put_slot s.bound (Output slot) true;
+      written =
+          put_out s.written slot (option_map (λ _. []) (s.written slot));
+    }
 
 -- after this many bytes were read
 unfoldable pub took : DeskState → InSlot → ℕ → DeskState
@@ -92,6 +97,7 @@ IsPrefix part whole = (rest : List ℕ) × (part ++ rest ≡ whole)
 
 -- after a call that appends this text to a slot: on `Ok` all of it was appended, on `Failed` a prefix of it, and
 -- nothing else changed
-pub record WritesText {T : Type 0} (old new : DeskState) (slot : OutSlot) (text : List ℕ) (result : Result T Failed) : Type 0 where
+pub record WritesText {T : Type 0} (old new : DeskState) (slot : OutSlot) (text : List ℕ) (result : Result T Failed) :
+    Type 0 where
   pub whole : OnOk result (new ≡ wrote old slot text)
   pub part : OnErr result ((part : List ℕ) × IsPrefix part text × (new ≡ wrote old slot part))

@@ -23,7 +23,8 @@ untold words = record { words = words; folder = None; bound = λ _. false; left 
 
 -- what is known of this desk
 abbrev pub file_state : FileDesk → DeskState
-file_state d = reads_files (map string_bytes d.words.items) (λ slot. is_some (input_of d.inputs slot)) (λ slot. is_some (output_of d.outputs slot))
+file_state d = reads_files (map string_bytes d.words.items) (λ slot. is_some (input_of d.inputs slot))
+    (λ slot. is_some (output_of d.outputs slot))
 
 -- how many calls of this desk failed, up to 2^64 - 1
 abbrev pub file_faults : FileDesk → ℕ

@@ -18,6 +18,7 @@ pub record StopsWithin (old new : DeskState) (slot : OutSlot) (text : List ℕ) 
 
 -- After a call that puts a text behind the bytes that wait: on `Ok` some of them were written, and the others wait; on
 -- `Failed` a prefix of all was written. Nothing else changed.
-pub record PutsText {T : Type 0} (old new : DeskState) (slot : OutSlot) (before text after : List ℕ) (result : Result T Failed) : Type 0 where
+pub record PutsText {T : Type 0} (old new : DeskState) (slot : OutSlot) (before text after : List ℕ) (result : Result T Failed) :
+    Type 0 where
   pub whole : OnOk result (Gathers old new slot before text after)
   pub part : OnErr result (StopsWithin old new slot (before ++ text))

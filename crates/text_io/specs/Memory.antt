@@ -1,5 +1,6 @@
 -- What callers see of a desk over memory.
-use Rattle.std.specs.Prelude.{◌≡◌, ℕ, ◌+◌, ◌-◌, ◌^◌, Bool, false, List, [], map, length, min, Option, Some, None, is_some, is_none, nat_eq, string_bytes, slice_get, unwrap_or, if◌then◌else◌}
+use Rattle.std.specs.Prelude.{◌≡◌, ℕ, ◌+◌, ◌-◌, ◌^◌, Bool, false, List, [], map, length, min, Option, Some, None, is_some}
+use Rattle.std.specs.Prelude.{is_none, nat_eq, string_bytes, slice_get, unwrap_or, if◌then◌else◌}
 use Rattle.std.specs.List.{list_any}
 use Rattle.std.specs.Option.{option_and_then}
 use Rattle.text_io.specs.declared.memory.MemoryDesk.{MemoryDesk}
@@ -32,7 +33,8 @@ left_at folder None = []
 left_at folder (Some place) = rest_of folder place
 
 -- a desk that reads from a folder in memory
-unfoldable pub reads_memory : List (List ℕ) → Folder → (InSlot → Option Place) → (OutSlot → Bool) → (OutSlot → Option (List ℕ)) → DeskState
+unfoldable pub reads_memory : List (List ℕ) → Folder → (InSlot → Option Place) → (OutSlot → Bool) → (OutSlot → Option (List ℕ))
+    → DeskState
 reads_memory words folder places created written = record {
   words = words;
   folder = Some folder;
@@ -44,7 +46,8 @@ reads_memory words folder places created written = record {
 -- what callers see of this desk
 abbrev pub memory_of : MemoryDesk → MemoryState
 memory_of d = record {
-  desk = reads_memory (map string_bytes d.words.items) (folder_of d.folder.items) (input_of d.places) (output_of d.created) (λ slot. Some (bytes_in d.sinks slot));
+  desk = reads_memory (map string_bytes d.words.items) (folder_of d.folder.items) (input_of d.places) (output_of d.created)
+      (λ slot. Some (bytes_in d.sinks slot));
   failing = d.failing.items;
   room = room_in d.sinks;
   piece = d.piece.bytes;
@@ -73,7 +76,8 @@ next_fails s = list_any (nat_eq (one_more s.calls)) s.failing
 
 -- the word at this place names no file of the folder
 abbrev pub is_missing : MemoryState → ℕ → Bool
-is_missing s place = is_none (option_and_then (λ folder. option_and_then (file_of folder) (slice_get s.desk.words place)) s.desk.folder)
+is_missing s place = is_none (option_and_then (λ folder. option_and_then (file_of folder) (slice_get s.desk.words place))
+    s.desk.folder)
 
 -- how many bytes more the slot has room for
 abbrev pub room_left : MemoryState → OutSlot → ℕ

@@ -73,7 +73,8 @@ impl<D: Desk> Desk for GatedDesk<D> {
 
     fn bind_in(&mut self, slot: InSlot, place: usize) -> Result<(), Failed>
         requires { Contains (plan (D.state (behind self.old)).words) (Input slot, place) }
-        ensures ok { OnOk result ((bytes : List ℕ) × IsFileAt (D.state (behind self.old)) place bytes × (D.state (behind self.new) ≡ opened (D.state (behind self.old)) slot bytes)) }
+        ensures ok { OnOk result ((bytes : List ℕ) × IsFileAt (D.state (behind self.old)) place bytes
+            × (D.state (behind self.new) ≡ opened (D.state (behind self.old)) slot bytes)) }
         ensures err { OnErr result (D.state (behind self.new) ≡ D.state (behind self.old)) }
         ensures cause { HasCause (failures self.old) (failures self.new) result }
         ensures closed { 0 < failures self.old → behind self.new ≡ behind self.old }
@@ -85,8 +86,10 @@ impl<D: Desk> Desk for GatedDesk<D> {
     fn read(&mut self, slot: InSlot, into: &mut [u8]) -> Result<usize, Failed>
         requires { IsTrue (is_bound (D.state (behind self.old)) (Input slot)) }
         ensures at_most { IfOk result (λ count. count ≤ length into.new) }
-        ensures front { IfOk result (λ count. IfSome ((D.state (behind self.old)).left slot) (λ left. (take count into.new ≡ take count left) × (count ≤ length left))) }
-        ensures end { IfOk result (λ count. count ≡ 0 → 0 < length into.new → IfSome ((D.state (behind self.old)).left slot) (λ left. left ≡ [])) }
+        ensures front { IfOk result (λ count. IfSome ((D.state (behind self.old)).left slot)
+            (λ left. (take count into.new ≡ take count left) × (count ≤ length left))) }
+        ensures end { IfOk result (λ count. count ≡ 0 → 0 < length into.new
+            → IfSome ((D.state (behind self.old)).left slot) (λ left. left ≡ [])) }
         ensures ok { IfOk result (λ count. D.state (behind self.new) ≡ took (D.state (behind self.old)) slot count) }
         ensures err { OnErr result (D.state (behind self.new) ≡ D.state (behind self.old)) }
         ensures cause { HasCause (failures self.old) (failures self.new) result }
@@ -112,7 +115,8 @@ impl<D: Desk> Desk for GatedDesk<D> {
         ensures at_most { IfOk result (λ count. count ≤ length bytes.now) }
         ensures some { IfOk result (λ count. 0 < length bytes.now → 0 < count) }
         ensures never { length bytes.now ≡ 0 → IsOk result }
-        ensures ok { IfOk result (λ count. D.state (behind self.new) ≡ wrote (D.state (behind self.old)) slot (take count bytes.now)) }
+        ensures ok { IfOk result (λ count. D.state (behind self.new) ≡ wrote (D.state (behind self.old)) slot
+            (take count bytes.now)) }
         ensures err { OnErr result (D.state (behind self.new) ≡ D.state (behind self.old)) }
         ensures cause { HasCause (failures self.old) (failures self.new) result }
         ensures closed { 0 < failures self.old → behind self.new ≡ behind self.old }

@@ -25,7 +25,8 @@ const MESSAGE_BYTES: u64 = 256;
 /// A desk over real files. The report is the standard output and the faults are the standard error. It tells no
 /// content, and counts a fault at each error of the system, at each write that takes nothing, at one to a file that has the
 /// greatest size that the system allows, at a regular file that is to be made empty and is open on the desk already, by
-/// whatever path, and at a regular file to which the standard output or the standard error goes. Of each fault it says one line on the standard error, `lib2sim: PATH: REASON`, as far as that can be written.
+/// whatever path, and at a regular file to which the standard output or the standard error goes. Of each fault it says one line
+/// on the standard error, `lib2sim: PATH: REASON`, as far as that can be written.
 #[derive(Drop)]
 pub struct FileDesk {
     rt: HostRuntime,

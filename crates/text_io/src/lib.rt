@@ -1,8 +1,8 @@
 //! The desk: all that a command asks of the world outside it. Words are read, files are bound, read and written
 //! through it, and nothing else reaches out. Three desks keep the one trait: over memory, over memory without
 //! failures, and over real files.
-//! Parts of a text, and how they are put one behind the other. That a part puts its text is said once, by a trait, and so it is of
-//! the items of a list. No call takes memory.
+//! Parts of a text, and how they are put one behind the other. That a part puts its text is said once, by a trait, and so it is
+//! of the items of a list. No call takes memory.
 #![tactic(auto)]
 
 mod asked;

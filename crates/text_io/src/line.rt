@@ -61,7 +61,8 @@ impl Line {
         pieces: &[&[u8]],
     ) -> Result<(), Failed>
         requires { IsTrue (is_bound (D.state desk.old) (Output slot)) }
-        ensures text { PutsText (D.state desk.old) (D.state desk.new) slot self.old (flat_map (λ piece. piece.now) pieces.now) self.new result }
+        ensures text { PutsText (D.state desk.old) (D.state desk.new) slot self.old (flat_map (λ piece. piece.now) pieces.now)
+            self.new result }
         ensures cause { HasCause (D.faults desk.old) (D.faults desk.new) result }
     {
         for piece in pieces {
@@ -92,7 +93,8 @@ fn gather<D: Desk>(
 ) -> Result<usize, Failed>
     requires bound { IsTrue (is_bound (D.state desk.old) (Output slot)) }
     requires within { held ≤ length bytes.old }
-    ensures ok { IfOk result (λ now. Gathers (D.state desk.old) (D.state desk.new) slot (take held bytes.old) piece.now (take now bytes.new)) }
+    ensures ok { IfOk result (λ now. Gathers (D.state desk.old) (D.state desk.new) slot (take held bytes.old) piece.now
+        (take now bytes.new)) }
     ensures fits { IfOk result (λ now. now ≤ length bytes.new) }
     ensures err { OnErr result (StopsWithin (D.state desk.old) (D.state desk.new) slot (take held bytes.old ++ piece.now)) }
     ensures cause { HasCause (D.faults desk.old) (D.faults desk.new) result }

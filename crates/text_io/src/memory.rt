@@ -1,12 +1,14 @@
 //! The desk over memory, which fails where it was told to.
 
-ghost use Rattle.std.specs.Prelude.{◌≡◌, ◌<◌, ◌≤◌, ◌-◌, ◌||◌, List, ℕ, [], length, min, take, map, slice_get, string_bytes, is_err, IsTrue, IsOk, IfOk, IfSome, OnOk, OnErr, Some, Contains};
+ghost use Rattle.std.specs.Prelude.{◌≡◌, ◌<◌, ◌≤◌, ◌-◌, ◌||◌, List, ℕ, [], length, min, take, map, slice_get, string_bytes};
+ghost use Rattle.std.specs.Prelude.{is_err, IsTrue, IsOk, IfOk, IfSome, OnOk, OnErr, Some, Contains};
 ghost use Rattle.std.specs.Option.{option_copied, option_and_then};
 ghost use Rattle.text_io.specs.declared.slots.Slot.TheVariants.{Input, Output};
 ghost use Rattle.text_io.specs.Plan.{plan};
 ghost use Rattle.text_io.specs.Desk.{DeskState, is_bound, opened, created, took, wrote, file_of, IsFileAt, HasCause};
 ghost use Rattle.text_io.specs.NamedFiles.{folder_of, file_at};
-ghost use Rattle.text_io.specs.Memory.{memory_of, fresh_memory, after_call, after_fault, next_fails, is_missing, is_full, room_left, CountsCall};
+ghost use Rattle.text_io.specs.Memory.{memory_of, fresh_memory, after_call, after_fault, next_fails, is_missing, is_full};
+ghost use Rattle.text_io.specs.Memory.{room_left, CountsCall};
 
 use crate::each_slot::{Inputs, Outputs};
 use crate::named_files::{NamedFile, Place, file_of_word, read_on};
@@ -53,7 +55,8 @@ impl MemoryDesk {
         failing: Vec<u64>,
         room: usize,
     ) -> Result<MemoryDesk, Memory>
-        ensures { IfOk result (λ desk. memory_of desk ≡ fresh_memory (map string_bytes words.items) (folder_of folder.items) failing.items room usize.MAX) }
+        ensures { IfOk result (λ desk. memory_of desk ≡ fresh_memory (map string_bytes words.items)
+            (folder_of folder.items) failing.items room usize.MAX) }
     {
         MemoryDesk::in_pieces(alloc, words, folder, failing, room, usize::MAX)
     }
@@ -68,7 +71,8 @@ impl MemoryDesk {
         piece: usize,
     ) -> Result<MemoryDesk, Memory>
         requires { 0 < piece }
-        ensures { IfOk result (λ desk. memory_of desk ≡ fresh_memory (map string_bytes words.items) (folder_of folder.items) failing.items room piece) }
+        ensures { IfOk result (λ desk. memory_of desk ≡ fresh_memory (map string_bytes words.items)
+            (folder_of folder.items) failing.items room piece) }
     {
         let sinks = Outputs::empty(alloc, room)?;
         Ok(MemoryDesk {
@@ -111,7 +115,8 @@ impl MemoryDesk {
 
     /// The place in the folder of the file that the word at this place names.
     fn file_of_word(&self, place: usize) -> Option<usize>
-        ensures file { option_and_then (file_at (folder_of self.now.folder.items)) result ≡ option_and_then (file_of (folder_of self.now.folder.items)) (slice_get (map string_bytes self.now.words.items) place) }
+        ensures file { option_and_then (file_at (folder_of self.now.folder.items)) result ≡ option_and_then
+            (file_of (folder_of self.now.folder.items)) (slice_get (map string_bytes self.now.words.items) place) }
         ensures within { IfSome result (λ file. file < length self.now.folder.items) }
     {
         file_of_word(self.words.as_slice(), self.folder.as_slice(), place)
@@ -153,7 +158,8 @@ impl Desk for MemoryDesk {
     #[tactic(auto, unfolding(crate::specs::Memory::reads_memory))]
     fn bind_in(&mut self, slot: InSlot, place: usize) -> Result<(), Failed>
         requires { Contains (plan (memory_of self.old).desk.words) (Input slot, place) }
-        ensures ok { OnOk result ((bytes : List ℕ) × IsFileAt (memory_of self.old).desk place bytes × ((memory_of self.new).desk ≡ opened (memory_of self.old).desk slot bytes)) }
+        ensures ok { OnOk result ((bytes : List ℕ) × IsFileAt (memory_of self.old).desk place bytes
+            × ((memory_of self.new).desk ≡ opened (memory_of self.old).desk slot bytes)) }
         ensures err { OnErr result ((memory_of self.new).desk ≡ (memory_of self.old).desk) }
         ensures cause { HasCause (memory_of self.old).faults (memory_of self.new).faults result }
         ensures fails { is_err result ≡ (next_fails (memory_of self.old) || is_missing (memory_of self.old) place) }
@@ -171,14 +177,17 @@ impl Desk for MemoryDesk {
     fn read(&mut self, slot: InSlot, into: &mut [u8]) -> Result<usize, Failed>
         requires { IsTrue (is_bound (memory_of self.old).desk (Input slot)) }
         ensures at_most { IfOk result (λ count. count ≤ length into.new) }
-        ensures front { IfOk result (λ count. IfSome ((memory_of self.old).desk.left slot) (λ left. (take count into.new ≡ take count left) × (count ≤ length left))) }
-        ensures end { IfOk result (λ count. count ≡ 0 → 0 < length into.new → IfSome ((memory_of self.old).desk.left slot) (λ left. left ≡ [])) }
+        ensures front { IfOk result (λ count. IfSome ((memory_of self.old).desk.left slot)
+            (λ left. (take count into.new ≡ take count left) × (count ≤ length left))) }
+        ensures end { IfOk result (λ count. count ≡ 0 → 0 < length into.new
+            → IfSome ((memory_of self.old).desk.left slot) (λ left. left ≡ [])) }
         ensures ok { IfOk result (λ count. (memory_of self.new).desk ≡ took (memory_of self.old).desk slot count) }
         ensures err { OnErr result ((memory_of self.new).desk ≡ (memory_of self.old).desk) }
         ensures cause { HasCause (memory_of self.old).faults (memory_of self.new).faults result }
         ensures fails { is_err result ≡ next_fails (memory_of self.old) }
         ensures counts { CountsCall (memory_of self.old) (memory_of self.new) (is_err result) }
-        ensures count { IfOk result (λ count. IfSome ((memory_of self.old).desk.left slot) (λ left. count ≡ min (length left) (min (length into.new) (memory_of self.old).piece))) }
+        ensures count { IfOk result (λ count. IfSome ((memory_of self.old).desk.left slot)
+            (λ left. count ≡ min (length left) (min (length into.new) (memory_of self.old).piece))) }
     {
         self.count_call()?;
         let Some(mut place) = *self.places.get(slot) else {
@@ -212,13 +221,16 @@ impl Desk for MemoryDesk {
         ensures at_most { IfOk result (λ count. count ≤ length bytes.now) }
         ensures some { IfOk result (λ count. 0 < length bytes.now → 0 < count) }
         ensures never { length bytes.now ≡ 0 → IsOk result }
-        ensures ok { IfOk result (λ count. (memory_of self.new).desk ≡ wrote (memory_of self.old).desk slot (take count bytes.now)) }
+        ensures ok { IfOk result (λ count. (memory_of self.new).desk ≡ wrote (memory_of self.old).desk slot
+            (take count bytes.now)) }
         ensures err { OnErr result ((memory_of self.new).desk ≡ (memory_of self.old).desk) }
         ensures cause { HasCause (memory_of self.old).faults (memory_of self.new).faults result }
-        ensures fails { 0 < length bytes.now → is_err result ≡ (next_fails (memory_of self.old) || is_full (memory_of self.old) slot) }
+        ensures fails { 0 < length bytes.now
+            → is_err result ≡ (next_fails (memory_of self.old) || is_full (memory_of self.old) slot) }
         ensures counts { 0 < length bytes.now → CountsCall (memory_of self.old) (memory_of self.new) (is_err result) }
         ensures uncounted { length bytes.now ≡ 0 → memory_of self.new ≡ memory_of self.old }
-        ensures count { IfOk result (λ count. count ≡ min (min (length bytes.now) (memory_of self.old).piece) (room_left (memory_of self.old) slot)) }
+        ensures count { IfOk result (λ count. count ≡ min (min (length bytes.now) (memory_of self.old).piece)
+            (room_left (memory_of self.old) slot)) }
     {
         if bytes.is_empty() {
             return Ok(0);

@@ -34,7 +34,8 @@ pub(crate) fn find_file(files: &[NamedFile], name: &str) -> Option<usize>
 
 /// The place in the folder of the file that the word at this place names.
 pub(crate) fn file_of_word(words: &[String], files: &[NamedFile], place: usize) -> Option<usize>
-    ensures file { option_and_then (file_at (folder_of files.now)) result ≡ option_and_then (file_of (folder_of files.now)) (slice_get (map string_bytes words.now) place) }
+    ensures file { option_and_then (file_at (folder_of files.now)) result ≡ option_and_then (file_of (folder_of files.now))
+        (slice_get (map string_bytes words.now) place) }
     ensures within { IfSome result (λ file. file < length files.now) }
 {
     let word = words.get(place)?;

@@ -1,6 +1,7 @@
 //! The desk as a trait: what each call does to its state, and where it may fail.
 
-ghost use Rattle.std.specs.Prelude.{◌≡◌, ◌<◌, ◌≤◌, ℕ, [], List, length, take, slice_get, IsTrue, IsOk, IfOk, IfSome, OnOk, OnErr, Contains};
+ghost use Rattle.std.specs.Prelude.{◌≡◌, ◌<◌, ◌≤◌, ℕ, [], List, length, take, slice_get, IsTrue, IsOk, IfOk, IfSome, OnOk, OnErr};
+ghost use Rattle.std.specs.Prelude.{Contains};
 ghost use Rattle.std.specs.Option.{option_copied};
 ghost use Rattle.text_io.specs.declared.slots.Slot.TheVariants.{Input, Output};
 ghost use Rattle.text_io.specs.Plan.{plan};
@@ -32,7 +33,8 @@ pub trait Desk {
     /// Binds the file that this word names for reading, from its first byte on.
     fn bind_in(&mut self, slot: InSlot, place: usize) -> Result<(), Failed>
         requires { Contains (plan (state self.old).words) (Input slot, place) }
-        ensures ok { OnOk result ((bytes : List ℕ) × IsFileAt (state self.old) place bytes × (state self.new ≡ opened (state self.old) slot bytes)) }
+        ensures ok { OnOk result ((bytes : List ℕ) × IsFileAt (state self.old) place bytes
+            × (state self.new ≡ opened (state self.old) slot bytes)) }
         ensures err { OnErr result (state self.new ≡ state self.old) }
         ensures cause { HasCause (faults self.old) (faults self.new) result };
 
@@ -41,8 +43,10 @@ pub trait Desk {
     fn read(&mut self, slot: InSlot, into: &mut [u8]) -> Result<usize, Failed>
         requires { IsTrue (is_bound (state self.old) (Input slot)) }
         ensures at_most { IfOk result (λ count. count ≤ length into.new) }
-        ensures front { IfOk result (λ count. IfSome ((state self.old).left slot) (λ left. (take count into.new ≡ take count left) × (count ≤ length left))) }
-        ensures end { IfOk result (λ count. count ≡ 0 → 0 < length into.new → IfSome ((state self.old).left slot) (λ left. left ≡ [])) }
+        ensures front { IfOk result (λ count. IfSome ((state self.old).left slot) (λ left. (take count into.new ≡ take count left)
+            × (count ≤ length left))) }
+        ensures end { IfOk result (λ count. count ≡ 0 → 0 < length into.new
+            → IfSome ((state self.old).left slot) (λ left. left ≡ [])) }
         ensures ok { IfOk result (λ count. state self.new ≡ took (state self.old) slot count) }
         ensures err { OnErr result (state self.new ≡ state self.old) }
         ensures cause { HasCause (faults self.old) (faults self.new) result };

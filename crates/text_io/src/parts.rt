@@ -4,8 +4,8 @@ ghost use Rattle.text_io.specs.declared.slots.Slot.TheVariants.{Output};
 ghost use Rattle.text_io.specs.Desk.{is_bound, HasCause};
 ghost use Rattle.text_io.specs.Line.{PutsText};
 
-use itoa::Buffer;
 use crate::{Desk, Failed, Line, OutSlot};
+use itoa::Buffer;
 
 /// What putting gives: that all was put, or that a write failed.
 pub type Put = Result<(), Failed>;

@@ -33,7 +33,8 @@ impl SureDesk {
     #[tactic(auto, unfolding(crate::specs::Memory::reads_memory))]
     pub fn new(words: Vec<String>, folder: Vec<NamedFile>) -> Option<SureDesk>
         ensures found { is_some result ≡ inputs_found (map string_bytes words.items) (folder_of folder.items) }
-        ensures state { IfSome result (λ desk. sure_state desk ≡ fresh_sure (map string_bytes words.items) (folder_of folder.items)) }
+        ensures state { IfSome result (λ desk. sure_state desk ≡ fresh_sure (map string_bytes words.items)
+            (folder_of folder.items)) }
     {
         if !inputs_found(words.as_slice(), folder.as_slice()) {
             return None;
@@ -58,7 +59,8 @@ impl SureDesk {
 
     /// The place in the folder of the file that the word at this place names.
     fn file_of_word(&self, place: usize) -> Option<usize>
-        ensures file { option_and_then (file_at (folder_of self.now.folder.items)) result ≡ option_and_then (file_of (folder_of self.now.folder.items)) (slice_get (map string_bytes self.now.words.items) place) }
+        ensures file { option_and_then (file_at (folder_of self.now.folder.items)) result ≡ option_and_then
+            (file_of (folder_of self.now.folder.items)) (slice_get (map string_bytes self.now.words.items) place) }
         ensures within { IfSome result (λ file. file < length self.now.folder.items) }
     {
         file_of_word(self.words.as_slice(), self.folder.as_slice(), place)

@@ -1,6 +1,8 @@
--- What drives the three-state outputs of a cell is a driver of its core: they are among the outputs of the cell, in order, each path
--- leads from an input to one of them, and the core has one more output for each.
-use Rattle.std.proofs.Common.{◌≡◌, ℕ, ◌+◌, ◌-◌, ◌<◌, ◌≤◌, Bool, true, false, cond, ◌&&◌, List, [], ◌∷◌, ◌++◌, length, refl, sym, ap, ◌∙◌, subst, arith, append_assoc, length-append, map, take, IsTrue, Option, Some, None, is_some, unwrap_or, nat_lt, nat_le, drop, ltb-true}
+-- What drives the three-state outputs of a cell is a driver of its core: they are among the outputs of the cell, in order, each
+-- path leads from an input to one of them, and the core has one more output for each.
+use Rattle.std.proofs.Common.{◌≡◌, ℕ, ◌+◌, ◌-◌, ◌<◌, ◌≤◌, Bool, true, false, cond, ◌&&◌, List, [], ◌∷◌, ◌++◌, length, refl, sym}
+use Rattle.std.proofs.Common.{ap, ◌∙◌, subst, arith, append_assoc, length-append, map, take, IsTrue, Option, Some, None, is_some}
+use Rattle.std.proofs.Common.{unwrap_or, nat_lt, nat_le, drop, ltb-true}
 use Rattle.std.specs.Prelude.{All, bytes_eq, flat_map, if◌then◌else◌, count_by}
 use Rattle.std.specs.List.{list_all, take-map}
 use Rattle.std.proofs.Math.Seq.{take-append_seam, drop-append_seam}
@@ -36,7 +38,8 @@ use Rattle.cell_reader.specs.declared.read.ReadCell.{ReadCell}
 use Rattle.cell_reader.specs.CellTexts.{IsCellOf}
 use Rattle.three_state_cells.specs.declared.drivers.Drivers.{Drivers}
 use Rattle.core_groups.specs.declared.outputs.CellPins.{CellPins}
-use Rattle.core_groups.specs.Outputs.{ThreeStateOutput, three_state_of, is_three_state, outputs_from, three_state_outputs, shown, outputs_shown}
+use Rattle.core_groups.specs.Outputs.{ThreeStateOutput, three_state_of, is_three_state, outputs_from, three_state_outputs, shown}
+use Rattle.core_groups.specs.Outputs.{outputs_shown}
 use Rattle.core_groups.specs.CoreGroups.{core_group}
 use Rattle.three_state_cells.specs.Timing.{is_output_at, output_number, driven_of, answer_of, path_of, paths_from, driver_of}
 use Rattle.three_state_cells.specs.Drivers.{HasEnables, IsDriverOf}
@@ -75,7 +78,8 @@ number_is pins pin = sym (flags_count is_output_at (take pin pins)) ∙ ap count
 abbrev makes_output : Group → Bool
 makes_output group = is_output (unwrap_or (direction_of group) Input)
 
-same_in : (group : Group) (arguments : List Value) → map is_output_at (map (pin_as group) arguments) ≡ map makes_output (map (owner_as group) arguments)
+same_in : (group : Group) (arguments : List Value)
+    → map is_output_at (map (pin_as group) arguments) ≡ map makes_output (map (owner_as group) arguments)
 same_in group [] = refl
 same_in group (value ∷ arguments) = ap (λ (bs : List Bool). makes_output group ∷ bs) (same_in group arguments)
 
@@ -102,7 +106,8 @@ three_state_makes_output group h =
 
 -- Numbers that ascend between two bounds.
 
-all_weaker : (test other : ℕ → Bool) (xs : List ℕ) → ((x : ℕ) → test x ≡ true → other x ≡ true) → list_all test xs ≡ true → list_all other xs ≡ true
+all_weaker : (test other : ℕ → Bool) (xs : List ℕ) → ((x : ℕ) → test x ≡ true → other x ≡ true) → list_all test xs ≡ true
+    → list_all other xs ≡ true
 all_weaker test other [] weaker h = refl
 all_weaker test other (x ∷ xs) weaker h =
     let parts = and_parts (test x) (list_all test xs) h in
@@ -148,7 +153,8 @@ are_more low high xs below h = record {
 abbrev place_in : List Bool → ThreeStateOutput → ℕ
 place_in flags output = count (take output.pin flags)
 
-seam : (flags before rest : List Bool) (pin : ℕ) → flags ≡ before ++ rest → pin ≡ length before → count (take pin flags) ≡ count before
+seam : (flags before rest : List Bool) (pin : ℕ) → flags ≡ before ++ rest → pin ≡ length before
+    → count (take pin flags) ≡ count before
 seam flags before rest pin e p = rw e (rw p (ap count (take-append_seam before rest)))
 
 abbrev ArePlaced : List Bool → List Bool → List Group → ℕ → Type 0
@@ -162,24 +168,32 @@ placed_by :
 placed_by true flags before after group groups pin t e p later =
     let output : makes_output group ≡ true = three_state_makes_output group t in
     let one : one_if (makes_output group) ≡ 1 = ap one_if output in
-    let low : count (before ++ makes_output group ∷ []) ≡ count before + 1 = let c = count_append before (makes_output group ∷ []) in omega (arith, c, one) in
-    let high : count (before ++ makes_output group ∷ []) + count (map makes_output groups) ≡ count before + count (map makes_output (group ∷ groups)) = omega (arith, low, one) in
-    let rest : AreBetween (count before + 1) (count before + count (map makes_output (group ∷ groups))) (map (place_in flags) (outputs_from (pin + 1) groups)) =
+    let low : count (before ++ makes_output group ∷ []) ≡ count before + 1 = let c = count_append before (makes_output group ∷ [])
+    in omega (arith, c, one) in
+    let high : count (before ++ makes_output group ∷ []) + count (map makes_output groups) ≡ count before + count
+    (map makes_output (group ∷ groups)) = omega (arith, low, one) in
+    let rest : AreBetween (count before + 1) (count before + count (map makes_output (group ∷ groups)))
+    (map (place_in flags) (outputs_from (pin + 1) groups)) =
     subst (λ (k : ℕ). AreBetween (count before + 1) k (map (place_in flags) (outputs_from (pin + 1) groups))) high
-    (subst (λ (k : ℕ). AreBetween k (count (before ++ makes_output group ∷ []) + count (map makes_output groups)) (map (place_in flags) (outputs_from (pin + 1) groups))) low later) in
+    (subst (λ (k : ℕ). AreBetween k (count (before ++ makes_output group ∷ []) + count (map makes_output groups))
+    (map (place_in flags) (outputs_from (pin + 1) groups))) low later) in
     let here : count (take pin flags) ≡ count before = seam flags before (map makes_output (group ∷ groups) ++ after) pin e p in
-    let all : AreBetween (count before) (count before + count (map makes_output (group ∷ groups))) (count before ∷ map (place_in flags) (outputs_from (pin + 1) groups)) =
+    let all : AreBetween (count before) (count before + count (map makes_output (group ∷ groups)))
+    (count before ∷ map (place_in flags) (outputs_from (pin + 1) groups)) =
     are_more (count before) (count before + count (map makes_output (group ∷ groups))) _ (omega (arith, one)) rest in
     rw t
-    (subst (λ (k : ℕ). AreBetween (count before) (count before + count (map makes_output (group ∷ groups))) (k ∷ map (place_in flags) (outputs_from (pin + 1) groups))) (sym here) all)
+    (subst (λ (k : ℕ). AreBetween (count before) (count before + count (map makes_output (group ∷ groups)))
+    (k ∷ map (place_in flags) (outputs_from (pin + 1) groups))) (sym here) all)
 placed_by false flags before after group groups pin t e p later =
     let c = count_append before (makes_output group ∷ []) in
-    let high : count (before ++ makes_output group ∷ []) + count (map makes_output groups) ≡ count before + count (map makes_output (group ∷ groups)) = omega (arith, c) in
+    let high : count (before ++ makes_output group ∷ []) + count (map makes_output groups) ≡ count before + count
+    (map makes_output (group ∷ groups)) = omega (arith, c) in
     rw t
     (subst (λ (k : ℕ). AreBetween (count before) k (map (place_in flags) (outputs_from (pin + 1) groups))) high
     (are_weaker (count before) (count (before ++ makes_output group ∷ [])) _ _ (omega (arith, c)) later))
 
-placed : (owners : List Group) (flags before after : List Bool) (pin : ℕ) → flags ≡ before ++ (map makes_output owners ++ after) → pin ≡ length before → ArePlaced flags before owners pin
+placed : (owners : List Group) (flags before after : List Bool) (pin : ℕ) → flags ≡ before ++ (map makes_output owners ++ after)
+    → pin ≡ length before → ArePlaced flags before owners pin
 placed [] flags before after pin e p = record { ascending = refl; bounds = refl }
 placed (group ∷ groups) flags before after pin e p =
     placed_by (is_three_state group) flags before after group groups pin refl e p
@@ -189,7 +203,8 @@ placed (group ∷ groups) flags before after pin e p =
 
 -- The outputs of the core.
 
-enables_are_outputs : (number : ℕ) (outputs : List ThreeStateOutput) → count (map is_output_at (enable_outputs number outputs)) ≡ length outputs
+enables_are_outputs : (number : ℕ) (outputs : List ThreeStateOutput)
+    → count (map is_output_at (enable_outputs number outputs)) ≡ length outputs
 enables_are_outputs number [] = refl
 enables_are_outputs number (output ∷ outputs) = let rest = enables_are_outputs (number + 1) outputs in omega (arith, rest)
 
@@ -199,13 +214,15 @@ core_flags :
 core_flags cell =
     ap (map is_output_at) (core_pins_are cell)
     ∙ (map-append is_output_at (pins_of cell) (enable_outputs 0 (three_state_outputs cell))
-    ∙ ap (λ (bs : List Bool). bs ++ map is_output_at (enable_outputs 0 (three_state_outputs cell))) (same_outputs (pin_groups cell)))
+    ∙ ap (λ (bs : List Bool). bs ++ map is_output_at (enable_outputs 0 (three_state_outputs cell)))
+    (same_outputs (pin_groups cell)))
 
 map_same : {A B : Type 0} (f g : A → B) → ((x : A) → f x ≡ g x) → (xs : List A) → map f xs ≡ map g xs
 map_same f g same [] = refl
 map_same f g same (x ∷ xs) = ap (λ y. y ∷ map f xs) (same x) ∙ ap (λ ys. g x ∷ ys) (map_same f g same xs)
 
-core_places : (cell : Group) → AreBetween 0 (count (map makes_output (owners_of cell))) (driven_of (pins_of (core_group cell)) (three_state_outputs cell))
+core_places : (cell : Group) → AreBetween 0 (count (map makes_output (owners_of cell)))
+    (driven_of (pins_of (core_group cell)) (three_state_outputs cell))
 core_places cell =
     let flags : List Bool = map is_output_at (pins_of (core_group cell)) in
     let found : AreBetween 0 (0 + count (map makes_output (owners_of cell))) (map (place_in flags) (three_state_outputs cell)) =
@@ -218,13 +235,16 @@ core_places cell =
 
 own_count :
     (cell : Group)
-    → count_by is_output_at (pins_of (core_group cell)) - length (driven_of (pins_of (core_group cell)) (three_state_outputs cell))
+    → count_by is_output_at (pins_of (core_group cell)) - length
+    (driven_of (pins_of (core_group cell)) (three_state_outputs cell))
     ≡ count (map makes_output (owners_of cell))
 own_count cell =
     let all = sym (flags_count is_output_at (pins_of (core_group cell))) ∙ ap count (core_flags cell) in
-    let parts = count_append (map makes_output (owners_of cell)) (map is_output_at (enable_outputs 0 (three_state_outputs cell))) in
+    let parts = count_append (map makes_output (owners_of cell)) (map is_output_at (enable_outputs 0 (three_state_outputs cell)))
+    in
     let enables = enables_are_outputs 0 (three_state_outputs cell) in
-    let driven = count_shown (λ (output : ThreeStateOutput). output_number (pins_of (core_group cell)) output.pin) (three_state_outputs cell) in
+    let driven = count_shown (λ (output : ThreeStateOutput). output_number (pins_of (core_group cell)) output.pin)
+    (three_state_outputs cell) in
     omega (arith, all, parts, enables, driven)
 
 -- how many outputs a core has
@@ -236,14 +256,17 @@ one_more false k n ks e = omega (arith, e)
 outputs_numbered : (k : ℕ) (pins : List Pin) → length (output_pins_from k pins) ≡ count (map is_output_at pins)
 outputs_numbered k [] = refl
 outputs_numbered k (pin ∷ pins) =
-    one_more (is_output pin.direction) k (count (map is_output_at pins)) (output_pins_from (k + 1) pins) (outputs_numbered (k + 1) pins)
+    one_more (is_output pin.direction) k (count (map is_output_at pins)) (output_pins_from (k + 1) pins)
+    (outputs_numbered (k + 1) pins)
 
 pub outputs_counted : (core : CellData) → KeepsOutputs core → length core.outputs ≡ count_by is_output_at core.pins
 outputs_counted core h =
     let numbers : List ℕ = map (λ (output : OutputPin). output.pin) core.outputs in
-    let rules = and_parts (bytes_eq numbers (output_pins_from 0 core.pins)) (list_all (is_output_of core.pins core.groups) core.outputs) h in
+    let rules = and_parts (bytes_eq numbers (output_pins_from 0 core.pins))
+    (list_all (is_output_of core.pins core.groups) core.outputs) h in
     let same : numbers ≡ output_pins_from 0 core.pins = (bytes_eq-Decides numbers (output_pins_from 0 core.pins)).0 rules.0 in
-    sym (length-map core.outputs (λ (output : OutputPin). output.pin)) ∙ (ap length same ∙ (outputs_numbered 0 core.pins ∙ flags_count is_output_at core.pins))
+    sym (length-map core.outputs (λ (output : OutputPin). output.pin))
+    ∙ (ap length same ∙ (outputs_numbered 0 core.pins ∙ flags_count is_output_at core.pins))
 
 -- The paths.
 
@@ -255,7 +278,8 @@ module _ (driver : Driver) where
   paths_go pins drive (arc ∷ arcs) e below h =
       let parts = and_parts (is_arc pins arc) (list_all (is_arc pins) arcs) h in
       let from = input_number-below pins arc.from (and_parts (is_input_pin pins arc.from) _ parts.0).0 in
-      All-cons (IsPathOf driver) (path_of pins drive arc) (map (path_of pins drive) arcs) (record { from = omega (arith, from, e); drive = below })
+      All-cons (IsPathOf driver) (path_of pins drive arc) (map (path_of pins drive) arcs)
+      (record { from = omega (arith, from, e); drive = below })
       (paths_go pins drive arcs e below parts.1)
 
   all_paths_go :
@@ -263,7 +287,8 @@ module _ (driver : Driver) where
       → drive + length outputs ≤ length driver.drives → All (IsPathOf driver) (paths_from core drive outputs)
   all_paths_go core drive [] e h = All-nil (IsPathOf driver)
   all_paths_go core drive (output ∷ outputs) e h =
-      All-append (IsPathOf driver) (map (path_of core.pins drive) (arcs_in (answer_of core output))) (paths_from core (drive + 1) outputs)
+      All-append (IsPathOf driver) (map (path_of core.pins drive) (arcs_in (answer_of core output)))
+      (paths_from core (drive + 1) outputs)
       (paths_go core.pins drive (arcs_in (answer_of core output)) e (omega arith)
       (driver_arcs_are_sound (subject_at core output.pin) output.group (answer_of core output) refl))
       (all_paths_go core (drive + 1) outputs e (omega arith))
@@ -274,12 +299,16 @@ all_below : (high : ℕ) (xs : List ℕ) → IsTrue (list_all (is_between 0 high
 all_below high [] h = All-nil (λ place. place < high)
 all_below high (x ∷ xs) h =
     let parts = and_parts (is_between 0 high x) (list_all (is_between 0 high) xs) h in
-    All-cons (λ place. place < high) x xs (ltb-true x high (and_parts (nat_le 0 x) (nat_lt x high) parts.0).1) (all_below high xs parts.1)
+    All-cons (λ place. place < high) x xs (ltb-true x high (and_parts (nat_le 0 x) (nat_lt x high) parts.0).1)
+    (all_below high xs parts.1)
 
-driven_count : (cell : Group) → length (driven_of (pins_of (core_group cell)) (three_state_outputs cell)) ≡ length (three_state_outputs cell)
-driven_count cell = count_shown (λ (output : ThreeStateOutput). output_number (pins_of (core_group cell)) output.pin) (three_state_outputs cell)
+driven_count : (cell : Group) → length (driven_of (pins_of (core_group cell)) (three_state_outputs cell)) ≡ length
+    (three_state_outputs cell)
+driven_count cell = count_shown (λ (output : ThreeStateOutput). output_number (pins_of (core_group cell)) output.pin)
+    (three_state_outputs cell)
 
-driver_is_sound : (unit : Option TimeUnit) (cell : Group) → IsSound (driver_of (subject_of unit (core_group cell)) (three_state_outputs cell))
+driver_is_sound : (unit : Option TimeUnit) (cell : Group)
+    → IsSound (driver_of (subject_of unit (core_group cell)) (three_state_outputs cell))
 unfolding driver_of
 driver_is_sound unit cell =
     let places = core_places cell in
@@ -290,9 +319,11 @@ driver_is_sound unit cell =
     ap (λ (n : ℕ). count_by is_output_at pins - n) (sym counted) ∙ own_count cell in
     record {
       ascending = places.ascending;
-      outputs = subst (λ (high : ℕ). All (λ place. place < high) drives) (sym own) (all_below (count (map makes_output (owners_of cell))) drives places.bounds);
+      outputs = subst (λ (high : ℕ). All (λ place. place < high) drives) (sym own)
+          (all_below (count (map makes_output (owners_of cell))) drives places.bounds);
       paths =
-          all_paths_go (driver_of (subject_of unit (core_group cell)) (three_state_outputs cell)) (subject_of unit (core_group cell)) 0
+          all_paths_go (driver_of (subject_of unit (core_group cell)) (three_state_outputs cell))
+          (subject_of unit (core_group cell)) 0
           (three_state_outputs cell) refl (omega (arith, counted));
     }
 
@@ -305,15 +336,18 @@ enables_length number [] = refl
 enables_length number (output ∷ outputs) = let rest = enables_length (number + 1) outputs in omega (arith, rest)
 
 last_pass :
-    (own enables pins : List Pin) (driven : ℕ) → pins ≡ own ++ enables → length enables ≡ driven → IsTrue (list_all is_output_at enables)
+    (own enables pins : List Pin) (driven : ℕ) → pins ≡ own ++ enables → length enables ≡ driven
+    → IsTrue (list_all is_output_at enables)
     → IsTrue (list_all is_output_at (drop (length pins - driven) pins))
 last_pass own enables pins driven e n h =
-    let seam : length pins - driven ≡ length own = (let all = ap length e in let parts = length-append own enables in omega (arith, all, parts, n)) in
+    let seam : length pins - driven ≡ length own = (let all = ap length e in let parts = length-append own enables
+    in omega (arith, all, parts, n)) in
     let rest : drop (length pins - driven) pins ≡ enables =
     ap (λ (k : ℕ). drop k pins) seam ∙ (ap (drop (length own)) e ∙ drop-append_seam own enables) in
     subst (λ (xs : List Pin). IsTrue (list_all is_output_at xs)) (sym rest) h
 
-has_enables : (unit : Option TimeUnit) (cell : Group) → HasEnables (pins_of (core_group cell)) (driver_of (subject_of unit (core_group cell)) (three_state_outputs cell))
+has_enables : (unit : Option TimeUnit) (cell : Group)
+    → HasEnables (pins_of (core_group cell)) (driver_of (subject_of unit (core_group cell)) (three_state_outputs cell))
 unfolding driver_of
 has_enables unit cell =
     last_pass (pins_of cell) (enable_outputs 0 (three_state_outputs cell)) (pins_of (core_group cell)) _ (core_pins_are cell)
@@ -323,24 +357,29 @@ has_enables unit cell =
 pub few_enables : (cell : Group) → length (three_state_outputs cell) ≤ count_by is_output_at (pins_of (core_group cell))
 few_enables cell =
     let all = sym (flags_count is_output_at (pins_of (core_group cell))) ∙ ap count (core_flags cell) in
-    let parts = count_append (map makes_output (owners_of cell)) (map is_output_at (enable_outputs 0 (three_state_outputs cell))) in
+    let parts = count_append (map makes_output (owners_of cell)) (map is_output_at (enable_outputs 0 (three_state_outputs cell)))
+    in
     let enables = enables_are_outputs 0 (three_state_outputs cell) in
     omega (arith, all, parts, enables)
 
 -- the same of what is held of the cell
 pub few_held :
-    (unit : Option TimeUnit) (core : Group) (pins : CellPins) (subject : Subject) → IsCoreOfPins core pins → subject ≡ subject_of unit core
+    (unit : Option TimeUnit) (core : Group) (pins : CellPins) (subject : Subject) → IsCoreOfPins core pins
+    → subject ≡ subject_of unit core
     → length pins.outputs.items ≤ count_by is_output_at subject.pins
 few_held unit core pins subject (cell, (is_core, are)) same =
     let few = few_enables cell in
-    let held : length pins.outputs.items ≡ length (three_state_outputs cell) = sym (count_shown shown pins.outputs.items) ∙ ap length are.of_outputs in
+    let held : length pins.outputs.items ≡ length (three_state_outputs cell) = sym (count_shown shown pins.outputs.items)
+    ∙ ap length are.of_outputs in
     let of_core : count_by is_output_at subject.pins ≡ count_by is_output_at (pins_of (core_group cell)) =
     ap (λ (s : Subject). count_by is_output_at s.pins) same ∙ ap (λ (g : Group). count_by is_output_at (pins_of g)) is_core in
     omega (arith, few, held, of_core)
 
 core_driver :
-    (unit : Option TimeUnit) (name : List ℕ) (number : ℕ) (cell : Group) → KeepsOutputs (cell_data unit name number (core_group cell))
-    → IsDriverOf (cell_data unit name number (core_group cell)) (driver_of (subject_of unit (core_group cell)) (three_state_outputs cell))
+    (unit : Option TimeUnit) (name : List ℕ) (number : ℕ) (cell : Group)
+    → KeepsOutputs (cell_data unit name number (core_group cell))
+    → IsDriverOf (cell_data unit name number (core_group cell))
+    (driver_of (subject_of unit (core_group cell)) (three_state_outputs cell))
 unfolding driver_of
 core_driver unit name number cell h =
     let some = few_enables cell in
@@ -355,16 +394,19 @@ core_driver unit name number cell h =
 -- That of the cell that was read.
 pub read_driver :
     (unit : Option TimeUnit) (number : ℕ) (core : Group) (pins : CellPins) (read : ReadCell) (drivers : Drivers)
-    → IsCoreOfPins core pins → IsCellOf (subject_of unit core) number core read.cell → AreDrivers unit core (outputs_shown pins) drivers
+    → IsCoreOfPins core pins → IsCellOf (subject_of unit core) number core read.cell
+    → AreDrivers unit core (outputs_shown pins) drivers
     → IsDriverOf (data_of read.cell) drivers.driver
 read_driver unit number core pins read drivers (cell, (is_core, are)) h d =
     let of_core : data_of read.cell ≡ cell_data unit (cell_name core) number core = data_as unit number core read.cell h in
     let same : drivers.driver ≡ driver_of (subject_of unit core) (three_state_outputs cell) =
     d.driver ∙ ap (driver_of (subject_of unit core)) are.of_outputs in
-    let keeps : KeepsOutputs (cell_data unit (cell_name core) number core) = subst KeepsOutputs of_core (cell_rules read.cell).of_outputs in
+    let keeps : KeepsOutputs (cell_data unit (cell_name core) number core) =
+    subst KeepsOutputs of_core (cell_rules read.cell).of_outputs in
     let whole : (core : Group) → core ≡ core_group cell → KeepsOutputs (cell_data unit (cell_name core) number core)
     → IsDriverOf (cell_data unit (cell_name core) number core) (driver_of (subject_of unit core) (three_state_outputs cell)) =
-    λ core e k. subst (λ (g : Group). KeepsOutputs (cell_data unit (cell_name g) number g) → IsDriverOf (cell_data unit (cell_name g) number g) (driver_of (subject_of unit g) (three_state_outputs cell)))
+    λ core e k. subst (λ (g : Group). KeepsOutputs (cell_data unit (cell_name g) number g)
+    → IsDriverOf (cell_data unit (cell_name g) number g) (driver_of (subject_of unit g) (three_state_outputs cell)))
     (sym e) (core_driver unit (cell_name (core_group cell)) number cell) k in
     subst (λ (c : CellData). IsDriverOf c drivers.driver) (sym of_core)
     (subst (IsDriverOf (cell_data unit (cell_name core) number core)) (sym same) (whole core is_core keeps))
@@ -388,9 +430,11 @@ pub drivers_are_of_cores : DriversAreOfCores
 unfolding driven_data floating_of
 drivers_are_of_cores unit number cell = by (three_state_outputs cell) refl
   where
-    by : (outputs : List ThreeStateOutput) → three_state_outputs cell ≡ outputs → KeepsOutputs (data_by unit number cell outputs).core
+    by : (outputs : List ThreeStateOutput) → three_state_outputs cell ≡ outputs
+        → KeepsOutputs (data_by unit number cell outputs).core
         → IsDriverOf (data_by unit number cell outputs).core (data_by unit number cell outputs).driver
     by [] e h = plain_driver (cell_data unit (cell_name cell) number cell)
     by (output ∷ outputs) e h =
-        subst (λ (found : List ThreeStateOutput). IsDriverOf (cell_data unit (core_name number) number (core_group cell)) (driver_of (subject_of unit (core_group cell)) found))
+        subst (λ (found : List ThreeStateOutput). IsDriverOf (cell_data unit (core_name number) number (core_group cell))
+        (driver_of (subject_of unit (core_group cell)) found))
         e (core_driver unit (core_name number) number cell h)

@@ -1,5 +1,6 @@
 -- The name of a core is one that a cell may bear.
-use Rattle.std.proofs.Common.{ℕ, ◌^◌, ◌<◌, ◌≤◌, ◌&&◌, List, [], ◌∷◌, ◌++◌, length, IsTrue, refl, arith, codes, decimal, nat_lt, nat_le}
+use Rattle.std.proofs.Common.{ℕ, ◌^◌, ◌<◌, ◌≤◌, ◌&&◌, List, [], ◌∷◌, ◌++◌, length, IsTrue, refl, arith, codes, decimal, nat_lt}
+use Rattle.std.proofs.Common.{nat_le}
 use Rattle.std.specs.List.{list_all}
 use Rattle.std.specs.Str.Parse.{AllDigits}
 use Rattle.std.proofs.lemmas.Bool.{and_parts, and_from, le-leb, lt-ltb}
@@ -30,13 +31,19 @@ pub core_name_is_name : (n : ℕ) → n < 2 ^ 64 → IsTrue (is_name (core_name 
 core_name_is_name n h =
     let few : length (decimal n) ≤ 20 = length-decimal-le 20 n (omega arith) (below_digits n h) h in
     let some : IsTrue (nat_lt 0 (length (codes "-z" ++ decimal n))) = lt-ltb 0 (length (codes "-z" ++ decimal n)) (omega arith) in
-    let short : IsTrue (nat_le (length (codes "-z" ++ decimal n)) 255) = le-leb (length (codes "-z" ++ decimal n)) 255 (omega arith) in
-    let printed : IsTrue (list_all (λ b. nat_lt 32 b && nat_lt b 127) (decimal n)) = digits_print (decimal n) (decimal_is_IsNumeral n h).0.1 in
+    let short : IsTrue (nat_le (length (codes "-z" ++ decimal n)) 255) =
+    le-leb (length (codes "-z" ++ decimal n)) 255 (omega arith) in
+    let printed : IsTrue (list_all (λ b. nat_lt 32 b && nat_lt b 127) (decimal n)) =
+    digits_print (decimal n) (decimal_is_IsNumeral n h).0.1 in
     rw some (rw short printed)
 
 -- a cell keeps the rules of cells under another name
 pub renamed_keeps_rules :
-    (old new : List ℕ) (pins : List Pin) (groups : List StateGroup) (outputs : List OutputPin) (checks : List Check) (arcs : List Arc)
-    → IsTrue (is_name new) → IsTrue (is_cell old pins groups outputs checks arcs) → IsTrue (is_cell new pins groups outputs checks arcs)
+    (old new : List ℕ) (pins : List Pin) (groups : List StateGroup) (outputs : List OutputPin) (checks : List Check)
+    (arcs : List Arc)
+    → IsTrue (is_name new) → IsTrue (is_cell old pins groups outputs checks arcs)
+    → IsTrue (is_cell new pins groups outputs checks arcs)
 renamed_keeps_rules old new pins groups outputs checks arcs h k =
-    and_from (is_name new) _ h (and_parts (is_name old) (are_pins pins && (are_groups pins groups && (are_outputs pins groups outputs && (are_checks pins checks && are_arcs pins arcs)))) k).1
+    and_from (is_name new) _ h (and_parts (is_name old)
+    (are_pins pins && (are_groups pins groups
+    && (are_outputs pins groups outputs && (are_checks pins checks && are_arcs pins arcs)))) k).1

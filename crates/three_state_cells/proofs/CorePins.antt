@@ -1,5 +1,6 @@
 -- The pins of a core are those of its cell and behind them one output for each three-state output.
-use Rattle.std.proofs.Common.{◌≡◌, ℕ, ◌+◌, Bool, true, false, not, ◌&&◌, ◌==◌, List, [], ◌∷◌, ◌++◌, length, refl, sym, ap, ◌∙◌, append_assoc, map, filter, codes, decimal, Option, Some, None, is_some, unwrap_or}
+use Rattle.std.proofs.Common.{◌≡◌, ℕ, ◌+◌, Bool, true, false, not, ◌&&◌, ◌==◌, List, [], ◌∷◌, ◌++◌, length, refl, sym, ap, ◌∙◌}
+use Rattle.std.proofs.Common.{append_assoc, map, filter, codes, decimal, Option, Some, None, is_some, unwrap_or}
 use Rattle.std.specs.Prelude.{flat_map, bytes_eq, if◌then◌else◌}
 use Rattle.std.specs.List.{cons_option}
 use Rattle.std.proofs.lemmas.Bool.{and_parts}
@@ -19,7 +20,8 @@ use Rattle.cell_attributes.specs.Groups.{inner_of, inner_groups, is_pin}
 use Rattle.cell_attributes.specs.Scans.{is_output_group}
 use Rattle.cell_attributes.specs.Pins.{direction_as, direction_of, pins_in, pins_of, owners_of}
 use Rattle.core_groups.specs.Outputs.{ThreeStateOutput, three_state_of, is_three_state, outputs_from, three_state_outputs}
-use Rattle.core_groups.specs.CoreGroups.{stays_in_core, core_pin, core_statement_as, core_statement, one_value, enable_function, enable_statements, enable_pin, enable_pin_of, enable_pins, core_group}
+use Rattle.core_groups.specs.CoreGroups.{stays_in_core, core_pin, core_statement_as, core_statement, one_value, enable_function}
+use Rattle.core_groups.specs.CoreGroups.{enable_statements, enable_pin, enable_pin_of, enable_pins, core_group}
 use Rattle.three_state_cells.specs.Laws.{enable_output, enable_outputs, CorePinsAre}
 use Rattle.core_groups.proofs.Statements.{not_false, attributes_kept}
 
@@ -33,11 +35,15 @@ pins_by (layer.Simple name value at) = []
 pins_by (layer.Complex name arguments at) = []
 pins_by (layer.Inner group) = if is_pin group then pins_in group else []
 
-by_pin : (b : Bool) (group : Group) (groups : List Group) → flat_map pins_in (if b then group ∷ filter is_pin groups else filter is_pin groups) ≡ (if b then pins_in group else []) ++ flat_map pins_in (filter is_pin groups)
+by_pin : (b : Bool) (group : Group) (groups : List Group)
+    → flat_map pins_in (if b then group ∷ filter is_pin groups else filter is_pin groups) ≡ (if b then pins_in group else [])
+    ++ flat_map pins_in (filter is_pin groups)
 by_pin true group groups = refl
 by_pin false group groups = refl
 
-by_layer : (one : Item-F Item Group) (groups : List Group) → flat_map pins_in (filter is_pin (cons_option (inner_of one) groups)) ≡ pins_by one ++ flat_map pins_in (filter is_pin groups)
+by_layer : (one : Item-F Item Group) (groups : List Group)
+    → flat_map pins_in (filter is_pin (cons_option (inner_of one) groups)) ≡ pins_by one
+    ++ flat_map pins_in (filter is_pin groups)
 by_layer (layer.Simple name value at) groups = refl
 by_layer (layer.Complex name arguments at) groups = refl
 by_layer (layer.Inner group) groups = by_pin (is_pin group) group groups
@@ -57,22 +63,32 @@ among_append (x ∷ xs) ys =
 
 gone_is_no_direction : (one : Item-F Item Group) → stays_in_core one ≡ false → simple_named (codes "direction") one ≡ None
 gone_is_no_direction (layer.Simple name value at) h =
-    let named : name ≡ codes "three_state" = (bytes_eq-Decides name (codes "three_state")).0 (not_false (bytes_eq name (codes "three_state")) h) in
+    let named : name ≡ codes "three_state" =
+    (bytes_eq-Decides name (codes "three_state")).0 (not_false (bytes_eq name (codes "three_state")) h) in
     rw named refl
 gone_is_no_direction (layer.Complex name arguments at) h = refl
 gone_is_no_direction (layer.Inner group) h = refl
 
 abbrev core_as : Group → Group-F Item Group
-core_as pin = record { name = pin.name; arguments = pin.arguments; items = filter (λ item. stays_in_core (out-Item item)) pin.items; at = pin.at }
+core_as pin = record {
+  name = pin.name;
+  arguments = pin.arguments;
+  items =
+      filter (λ item. stays_in_core (out-Item item)) pin.items;
+  at = pin.at;
+}
 
 core_direction : (pin : Group) → direction_of (core_pin pin) ≡ direction_of pin
 core_direction pin =
-    ap (λ (one : Group-F Item Group). direction_as (last_or None (attributes_named (codes "direction") one.items))) (out-roll-Group (core_as pin))
-    ∙ ap (λ (found : List Attribute). direction_as (last_or None found)) (attributes_kept (codes "direction") stays_in_core gone_is_no_direction pin.items)
+    ap (λ (one : Group-F Item Group). direction_as (last_or None (attributes_named (codes "direction") one.items)))
+    (out-roll-Group (core_as pin))
+    ∙ ap (λ (found : List Attribute). direction_as (last_or None found))
+    (attributes_kept (codes "direction") stays_in_core gone_is_no_direction pin.items)
 
 core_is_pin : (pin : Group) → is_pin (core_pin pin) ≡ is_pin pin
 core_is_pin pin =
-    ap (λ (one : Group-F Item Group). bytes_eq one.name (codes "pin") && not (length one.arguments == 0)) (out-roll-Group (core_as pin))
+    ap (λ (one : Group-F Item Group). bytes_eq one.name (codes "pin") && not (length one.arguments == 0))
+    (out-roll-Group (core_as pin))
 
 abbrev named_pin : Option Direction → Value → Pin
 named_pin direction value = record { name = value.bytes; direction = unwrap_or direction Input }
@@ -85,14 +101,16 @@ core_pins_in pin =
     ap (λ (direction : Option Direction). named_pins direction (core_pin pin).arguments) (core_direction pin)
     ∙ ap (λ (one : Group-F Item Group). named_pins (direction_of pin) one.arguments) (out-roll-Group (core_as pin))
 
-stays_by : (b : Bool) (whole : Item) (pin : Group) → out-Item whole ≡ layer.Inner pin → pins_by (out-Item (if b then item.Inner (core_pin pin) else whole)) ≡ pins_by (layer.Inner pin)
+stays_by : (b : Bool) (whole : Item) (pin : Group) → out-Item whole ≡ layer.Inner pin
+    → pins_by (out-Item (if b then item.Inner (core_pin pin) else whole)) ≡ pins_by (layer.Inner pin)
 stays_by true whole pin e =
     ap pins_by (outs-Inner (core_pin pin))
     ∙ (ap (λ (b : Bool). if b then pins_in (core_pin pin) else []) (core_is_pin pin)
     ∙ ap (λ (pins : List Pin). if is_pin pin then pins else []) (core_pins_in pin))
 stays_by false whole pin e = ap pins_by e
 
-by_core : (whole : Item) (one : Item-F Item Group) → out-Item whole ≡ one → pins_by (out-Item (core_statement_as whole one)) ≡ pins_by one
+by_core : (whole : Item) (one : Item-F Item Group) → out-Item whole ≡ one
+    → pins_by (out-Item (core_statement_as whole one)) ≡ pins_by one
 by_core whole (layer.Simple name value at) e = ap pins_by e
 by_core whole (layer.Complex name arguments at) e = ap pins_by e
 by_core whole (layer.Inner pin) e = stays_by (is_three_state pin) whole pin e
@@ -107,23 +125,37 @@ same_among (one ∷ items) =
 -- The outputs that are added.
 
 abbrev enable_as : ℕ → Attribute → Group-F Item Group
-enable_as number floats = record { name = codes "pin"; arguments = one_value (codes "-e" ++ decimal (number + 1)); items = enable_statements floats; at = floats.at }
+enable_as number floats = record {
+  name = codes "pin";
+  arguments = one_value (codes "-e" ++ decimal (number + 1));
+  items =
+      enable_statements floats;
+  at = floats.at;
+}
 
-enable_direction : (floats : Attribute) → last_or None (attributes_named (codes "direction") (enable_statements floats)) ≡ Some (record { text = codes "output"; at = floats.at })
+enable_direction : (floats : Attribute)
+    → last_or None (attributes_named (codes "direction") (enable_statements floats)) ≡ Some
+    (record { text = codes "output"; at = floats.at })
 enable_direction floats =
-    ap (λ (one : Item-F Item Group). last_or None (cons_option (simple_named (codes "direction") one) (attributes_named (codes "direction") (item.Simple (codes "function") (one_value (enable_function floats.text)) floats.at ∷ []))))
+    ap (λ (one : Item-F Item Group). last_or None
+    (cons_option (simple_named (codes "direction") one)
+    (attributes_named (codes "direction")
+    (item.Simple (codes "function") (one_value (enable_function floats.text)) floats.at ∷ []))))
     (outs-Simple (codes "direction") (one_value (codes "output")) floats.at)
-    ∙ ap (λ (one : Item-F Item Group). last_or (Some (record { text = codes "output"; at = floats.at })) (cons_option (simple_named (codes "direction") one) []))
+    ∙ ap (λ (one : Item-F Item Group). last_or (Some (record { text = codes "output"; at = floats.at }))
+    (cons_option (simple_named (codes "direction") one) []))
     (outs-Simple (codes "function") (one_value (enable_function floats.text)) floats.at)
 
 enabled_pin : (number : ℕ) (floats : Attribute) → pins_by (out-Item (enable_pin number floats)) ≡ enable_output number ∷ []
 enabled_pin number floats =
     let group : Group = roll-Group (enable_as number floats) in
     let direction : direction_of group ≡ Some Output =
-    ap (λ (one : Group-F Item Group). direction_as (last_or None (attributes_named (codes "direction") one.items))) (out-roll-Group (enable_as number floats))
+    ap (λ (one : Group-F Item Group). direction_as (last_or None (attributes_named (codes "direction") one.items)))
+    (out-roll-Group (enable_as number floats))
     ∙ ap direction_as (enable_direction floats) in
     let pin : is_pin group ≡ true =
-    ap (λ (one : Group-F Item Group). bytes_eq one.name (codes "pin") && not (length one.arguments == 0)) (out-roll-Group (enable_as number floats)) in
+    ap (λ (one : Group-F Item Group). bytes_eq one.name (codes "pin") && not (length one.arguments == 0))
+    (out-roll-Group (enable_as number floats)) in
     ap pins_by (outs-Inner group)
     ∙ (ap (λ (b : Bool). if b then pins_in group else []) pin
     ∙ (ap (λ (d : Option Direction). named_pins d group.arguments) direction
@@ -135,7 +167,8 @@ three_state_floats group h =
     (and_parts (is_output_group (direction_of group)) (is_some (three_state_of group))
     (and_parts (is_pin group) (is_output_group (direction_of group) && is_some (three_state_of group)) h).1).1
 
-enabled_by : (floats : Option Attribute) (number : ℕ) (items : List Item) → is_some floats ≡ true → pins_among (enable_pin_of number floats ++ items) ≡ enable_output number ∷ pins_among items
+enabled_by : (floats : Option Attribute) (number : ℕ) (items : List Item) → is_some floats ≡ true
+    → pins_among (enable_pin_of number floats ++ items) ≡ enable_output number ∷ pins_among items
 enabled_by None number items h = absurd cc
 enabled_by (Some floats) number items h =
     among_cons (enable_pin number floats) items ∙ ap (λ (pins : List Pin). pins ++ pins_among items) (enabled_pin number floats)
@@ -148,11 +181,13 @@ enabled_all number pin [] = refl
 enabled_all number pin (group ∷ groups) =
     by (is_three_state group) refl (enabled_all number (pin + 1) groups) (enabled_all (number + 1) (pin + 1) groups)
   where
-    by : (b : Bool) → is_three_state group ≡ b → IsEnabled number (outputs_from (pin + 1) groups) → IsEnabled (number + 1) (outputs_from (pin + 1) groups)
+    by : (b : Bool) → is_three_state group ≡ b → IsEnabled number (outputs_from (pin + 1) groups)
+        → IsEnabled (number + 1) (outputs_from (pin + 1) groups)
         → IsEnabled number (outputs_from pin (group ∷ groups))
     by true e same more =
         rw e
-        (enabled_by (three_state_of group) number (enable_pins (number + 1) (outputs_from (pin + 1) groups)) (three_state_floats group e)
+        (enabled_by (three_state_of group) number (enable_pins (number + 1) (outputs_from (pin + 1) groups))
+        (three_state_floats group e)
         ∙ ap (λ (pins : List Pin). enable_output number ∷ pins) more)
     by false e same more = rw e same
 
@@ -160,7 +195,13 @@ pub core_pins_are : CorePinsAre
 unfolding core_group
 core_pins_are cell =
     ap (λ (one : Group-F Item Group). pins_among one.items)
-    (out-roll-Group (record { name = cell.name; arguments = cell.arguments; items = map core_statement cell.items ++ enable_pins 0 (three_state_outputs cell); at = cell.at }))
+    (out-roll-Group (record {
+      name = cell.name;
+      arguments = cell.arguments;
+      items = map core_statement cell.items
+          ++ enable_pins 0 (three_state_outputs cell);
+      at = cell.at;
+    }))
     ∙ (among_append (map core_statement cell.items) (enable_pins 0 (three_state_outputs cell))
     ∙ (ap (λ (pins : List Pin). pins ++ pins_among (enable_pins 0 (three_state_outputs cell))) (same_among cell.items)
     ∙ ap (λ (pins : List Pin). pins_of cell ++ pins) (enabled_all 0 0 (owners_of cell))))

@@ -1,5 +1,6 @@
 -- What is read of a cell, as data.
-use Rattle.std.proofs.Common.{◌≡◌, ℕ, List, [], ◌∷◌, ◌==◌, ◌∙◌, length, true, false, map, refl, sym, ap, subst, arith, Result, Ok, Err, IsErrAnd, IfErr}
+use Rattle.std.proofs.Common.{◌≡◌, ℕ, List, [], ◌∷◌, ◌==◌, ◌∙◌, length, true, false, map, refl, sym, ap, subst, arith, Result, Ok}
+use Rattle.std.proofs.Common.{Err, IsErrAnd, IfErr}
 use Rattle.std.proofs.lemmas.Bool.{eqb-true}
 use Rattle.std.specs.Prelude.{Option}
 use Rattle.liberty_text.specs.declared.time.Unit.{Unit}
@@ -40,7 +41,8 @@ data_as unit number group cell h = λ i. record {
 
 lines_are :
     (unit : Option Unit) (core : Group) (outputs : List ThreeStateOutput) (read : ReadCell) (lines : List LeftOut)
-    → read.cell.pins ≡ pins_of core → read.left_out ≡ left_out_of (subject_of unit core) core → lines ≡ all_left_out (subject_of unit core) outputs
+    → read.cell.pins ≡ pins_of core → read.left_out ≡ left_out_of (subject_of unit core) core
+    → lines ≡ all_left_out (subject_of unit core) outputs
     → in_pin_order 0 read.cell.pins read.left_out lines
     ≡ in_pin_order 0 (pins_of core) (left_out_of (subject_of unit core) core) (all_left_out (subject_of unit core) outputs)
 lines_are unit core outputs read lines p l e =
@@ -49,9 +51,11 @@ lines_are unit core outputs read lines p l e =
     ∙ ap (in_pin_order 0 (pins_of core) (left_out_of (subject_of unit core) core)) e)
 
 pub floating_as :
-    (unit : Option Unit) (number : ℕ) (core : Group) (outputs : List ThreeStateOutput) (read : ReadCell) (drivers : Drivers) (cell : DrivenCell)
+    (unit : Option Unit) (number : ℕ) (core : Group) (outputs : List ThreeStateOutput) (read : ReadCell) (drivers : Drivers)
+    (cell : DrivenCell)
     → IsCellOf (subject_of unit core) number core read.cell → read.left_out ≡ left_out_of (subject_of unit core) core
-    → AreDrivers unit core outputs drivers → IsFloating read drivers number cell → driven_data_of cell ≡ floating_of unit number core outputs
+    → AreDrivers unit core outputs drivers → IsFloating read drivers number cell
+    → driven_data_of cell ≡ floating_of unit number core outputs
 unfolding floating_of
 floating_as unit number core outputs read drivers cell h l d f =
     let renamed : data_of cell.core ≡ cell_data unit (core_name number) number core =
@@ -68,7 +72,8 @@ floating_as unit number core outputs read drivers cell h l d f =
 
 pub plain_as :
     (unit : Option Unit) (number : ℕ) (cell : Group) (read : ReadCell) (driven : DrivenCell)
-    → three_state_outputs cell ≡ [] → IsCellOf (subject_of unit cell) number cell read.cell → read.left_out ≡ left_out_of (subject_of unit cell) cell
+    → three_state_outputs cell ≡ [] → IsCellOf (subject_of unit cell) number cell read.cell
+    → read.left_out ≡ left_out_of (subject_of unit cell) cell
     → driven_data_of driven ≡ plain_of (data_of read.cell) read.left_out → driven_data_of driven ≡ driven_data unit number cell
 unfolding driven_data
 plain_as unit number cell read driven none h l e =
@@ -91,7 +96,8 @@ some_data unit number cell (output ∷ outputs) h = refl
 
 some_refusal :
     (unit : Option Unit) (earlier : List (List ℕ)) (cell : Group) (outputs : List ThreeStateOutput)
-    → (outputs ≡ [] → ⊥) → floating_refusal unit earlier (core_group cell) (pin_groups cell) ≡ refusal_by unit earlier cell outputs
+    → (outputs ≡ [] → ⊥) → floating_refusal unit earlier (core_group cell) (pin_groups cell) ≡ refusal_by unit earlier cell
+    outputs
 some_refusal unit earlier cell [] h = absurd (h refl)
 some_refusal unit earlier cell (output ∷ outputs) h = refl
 
@@ -100,7 +106,8 @@ none_shown [] h = refl
 none_shown (output ∷ outputs) h = absurd cc
 
 pub floating_data_is :
-    (unit : Option Unit) (number : ℕ) (cell core : Group) (pins : CellPins) → ArePins cell pins → (pins.outputs.items ≡ [] → ⊥) → core ≡ core_group cell
+    (unit : Option Unit) (number : ℕ) (cell core : Group) (pins : CellPins) → ArePins cell pins → (pins.outputs.items ≡ [] → ⊥)
+    → core ≡ core_group cell
     → floating_of unit number core (map shown pins.outputs.items) ≡ driven_data unit number cell
 unfolding driven_data
 floating_data_is unit number cell core pins h some e =
@@ -109,7 +116,8 @@ floating_data_is unit number cell core pins h some e =
     ∙ ap (data_by unit number cell) h.of_outputs)
 
 pub floating_refusal_is :
-    (unit : Option Unit) (earlier : List (List ℕ)) (cell core : Group) (pins : CellPins) → ArePins cell pins → (pins.outputs.items ≡ [] → ⊥)
+    (unit : Option Unit) (earlier : List (List ℕ)) (cell core : Group) (pins : CellPins) → ArePins cell pins
+    → (pins.outputs.items ≡ [] → ⊥)
     → core ≡ core_group cell
     → floating_refusal unit earlier core (map (λ group. group.now) pins.groups.items) ≡ driven_refusal unit earlier cell
 unfolding driven_refusal
@@ -120,6 +128,7 @@ floating_refusal_is unit earlier cell core pins h some e =
     ∙ ap (refusal_by unit earlier cell) h.of_outputs))
 
 -- what is told of an answer that is this fault
-pub err_told : {A E : Type 0} (answer : Result A E) (given : E) (Q : E → Type 0) → IsErrAnd answer (λ fault. fault ≡ given) → Q given → IfErr answer Q
+pub err_told : {A E : Type 0} (answer : Result A E) (given : E) (Q : E → Type 0) → IsErrAnd answer (λ fault. fault ≡ given)
+    → Q given → IfErr answer Q
 err_told (Ok x) given Q h k = absurd h
 err_told (Err fault) given Q h k = subst Q (sym h) k

@@ -1,5 +1,6 @@
 -- Which of two refusals decides, and what holds of a core that is not refused early.
-use Rattle.std.proofs.Common.{◌≡◌, ℕ, ◌<◌, ◌≤◌, Bool, true, false, List, [], ◌∷◌, length, IsTrue, refl, sym, subst, arith, Option, Some, None}
+use Rattle.std.proofs.Common.{◌≡◌, ℕ, ◌<◌, ◌≤◌, Bool, true, false, List, [], ◌∷◌, length, IsTrue, refl, sym, subst, arith, Option}
+use Rattle.std.proofs.Common.{Some, None}
 use Rattle.std.specs.Prelude.{⊤, if◌then◌else◌, ◌+◌}
 use Rattle.std.proofs.lemmas.Bool.{lt-ltb}
 use Rattle.liberty_groups.specs.declared.tree.Group.{Group}
@@ -47,13 +48,15 @@ late_group true subject group =
     late_by (least (unknown_names_at subject (driver_pin group))) (least (numbers_at subject (driver_pin group)))
 late_group false subject group = tt
 
-late_with : (core : Subject) (found : Option Refusal) (pin : ℕ) (groups : List Group) → IsLate found → IsLate (refusal_with core found pin groups)
+late_with : (core : Subject) (found : Option Refusal) (pin : ℕ) (groups : List Group) → IsLate found
+    → IsLate (refusal_with core found pin groups)
 late_with core found pin [] h = h
 late_with core found pin (group ∷ groups) h =
     late_with core (first_of_two found (wrong_group (subject_at core pin) group)) (pin + length group.arguments) groups
     (late_two found (wrong_group (subject_at core pin) group) h (late_group (is_three_state group) (subject_at core pin) group))
 
-late_decided : (told : Refusal) (other : Option Refusal) → number_of_reason told.reason ≤ 7 → IsLate other → first_of_two (Some told) other ≡ Some told
+late_decided : (told : Refusal) (other : Option Refusal) → number_of_reason told.reason ≤ 7 → IsLate other
+    → first_of_two (Some told) other ≡ Some told
 late_decided told None h k = refl
 late_decided told (Some other) h k = rw (lt-ltb (number_of_reason told.reason) (number_of_reason other.reason) (omega arith)) refl
 
@@ -69,7 +72,8 @@ abbrev IsEarly : Option Refusal → Type 0
 IsEarly None = ⊤
 IsEarly (Some told) = number_of_reason told.reason ≤ 6
 
-early_or : (r : Reason) (at : Option ℕ) (later : Option Refusal) → number_of_reason r ≤ 6 → IsEarly later → IsEarly (refused_or r at later)
+early_or : (r : Reason) (at : Option ℕ) (later : Option Refusal) → number_of_reason r ≤ 6 → IsEarly later
+    → IsEarly (refused_or r at later)
 early_or r None later h k = k
 early_or r (Some at) later h k = h
 
@@ -98,8 +102,11 @@ late_by_number subject earlier cell told (Some other) e k h more =
 pub refused_early :
     (subject : Subject) (earlier : List (List ℕ)) (cell : Group) (told : Refusal)
     → refusal_of subject earlier cell ≡ Some told → 7 < number_of_reason told.reason → IsEarlyUnmet cell
-refused_early subject earlier cell told h more =
-    (earlier, late_by_number subject earlier cell told (first_refusal (early_reasons earlier cell)) refl (early_numbers earlier cell) h more)
+refused_early subject earlier cell told h more = (
+  earlier,
+  late_by_number subject earlier cell told (first_refusal (early_reasons earlier cell)) refl
+      (early_numbers earlier cell) h more,
+)
 
 pub early_names : (cell : Group) → IsEarlyUnmet cell → IsTrue (are_distinct (pin_names (pins_of cell)))
 early_names cell h = names_are_distinct h.0 cell h.1

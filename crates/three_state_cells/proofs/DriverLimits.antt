@@ -1,5 +1,6 @@
 -- The paths of what drives the three-state outputs of a cell keep limits.
-use Rattle.std.proofs.Common.{◌≡◌, ℕ, suc, ◌+◌, ◌*◌, ◌≤◌, Bool, true, ◌&&◌, List, [], ◌∷◌, ◌++◌, length, map, refl, sym, subst, arith, length-append, IsTrue, nat_le}
+use Rattle.std.proofs.Common.{◌≡◌, ℕ, suc, ◌+◌, ◌*◌, ◌≤◌, Bool, true, ◌&&◌, List, [], ◌∷◌, ◌++◌, length, map, refl, sym, subst}
+use Rattle.std.proofs.Common.{arith, length-append, IsTrue, nat_le}
 use Rattle.std.specs.Prelude.{All}
 use Rattle.std.proofs.Math.Nat.{suc-mul}
 use Rattle.std.specs.List.{list_all}
@@ -37,11 +38,13 @@ arc_times pins drive arc h =
     let d = and_parts (nat_le arc.fall longest_time) condition c.1 in
     record { rise = leb-true arc.rise longest_time c.0; fall = leb-true arc.fall longest_time d.0 }
 
-paths_times : (pins : List Pin) (drive : ℕ) (arcs : List Arc) → list_all (is_arc pins) arcs ≡ true → All HasTimes (map (path_of pins drive) arcs)
+paths_times : (pins : List Pin) (drive : ℕ) (arcs : List Arc) → list_all (is_arc pins) arcs ≡ true
+    → All HasTimes (map (path_of pins drive) arcs)
 paths_times pins drive [] h = All-nil HasTimes
 paths_times pins drive (arc ∷ arcs) h =
     let parts = and_parts (is_arc pins arc) (list_all (is_arc pins) arcs) h in
-    All-cons HasTimes (path_of pins drive arc) (map (path_of pins drive) arcs) (arc_times pins drive arc parts.0) (paths_times pins drive arcs parts.1)
+    All-cons HasTimes (path_of pins drive arc) (map (path_of pins drive) arcs) (arc_times pins drive arc parts.0)
+    (paths_times pins drive arcs parts.1)
 
 -- Numbers in order.
 
@@ -59,10 +62,12 @@ one_before : (x : ℕ) (xs : List ℕ) → AreAbove x xs → IsTrue (is_in_order
 one_before x [] h k = refl
 one_before x (y ∷ ys) h k = and_from (nat_le x y) (is_in_order (y ∷ ys)) (and_parts (nat_le x y) (list_all (nat_le x) ys) h).0 k
 
-block_above : (pins : List Pin) (drive : ℕ) (arcs : List Arc) (later : List ℕ) → AreAbove drive later → AreAbove drive (map drive_of (map (path_of pins drive) arcs) ++ later)
+block_above : (pins : List Pin) (drive : ℕ) (arcs : List Arc) (later : List ℕ) → AreAbove drive later
+    → AreAbove drive (map drive_of (map (path_of pins drive) arcs) ++ later)
 block_above pins drive [] later h = h
 block_above pins drive (arc ∷ arcs) later h =
-    and_from (nat_le drive drive) (list_all (nat_le drive) (map drive_of (map (path_of pins drive) arcs) ++ later)) (le-leb drive drive (omega arith))
+    and_from (nat_le drive drive) (list_all (nat_le drive) (map drive_of (map (path_of pins drive) arcs) ++ later))
+    (le-leb drive drive (omega arith))
     (block_above pins drive arcs later h)
 
 block_in_order :
@@ -70,7 +75,8 @@ block_in_order :
     → IsTrue (is_in_order (map drive_of (map (path_of pins drive) arcs) ++ later))
 block_in_order pins drive [] later h k = k
 block_in_order pins drive (arc ∷ arcs) later h k =
-    one_before drive (map drive_of (map (path_of pins drive) arcs) ++ later) (block_above pins drive arcs later h) (block_in_order pins drive arcs later h k)
+    one_before drive (map drive_of (map (path_of pins drive) arcs) ++ later) (block_above pins drive arcs later h)
+    (block_in_order pins drive arcs later h k)
 
 -- Of the paths to some outputs.
 
@@ -84,7 +90,8 @@ module _ (core : Subject) where
       (all_times (drive + 1) outputs)
 
   drives_split :
-      (drive : ℕ) (output : ThreeStateOutput) (outputs : List ThreeStateOutput) → map drive_of (paths_from core drive (output ∷ outputs))
+      (drive : ℕ) (output : ThreeStateOutput) (outputs : List ThreeStateOutput)
+      → map drive_of (paths_from core drive (output ∷ outputs))
       ≡ map drive_of (paths_of core drive output) ++ map drive_of (paths_from core (drive + 1) outputs)
   drives_split drive output outputs = map-append drive_of (paths_of core drive output) (paths_from core (drive + 1) outputs)
 
@@ -93,25 +100,31 @@ module _ (core : Subject) where
   all_above drive (output ∷ outputs) =
       subst (AreAbove drive) (sym (drives_split drive output outputs))
       (block_above core.pins drive (arcs_in (answer_of core output)) (map drive_of (paths_from core (drive + 1) outputs))
-      (above_lower drive (drive + 1) (map drive_of (paths_from core (drive + 1) outputs)) (omega arith) (all_above (drive + 1) outputs)))
+      (above_lower drive (drive + 1) (map drive_of (paths_from core (drive + 1) outputs)) (omega arith)
+      (all_above (drive + 1) outputs)))
 
-  all_in_order : (drive : ℕ) (outputs : List ThreeStateOutput) → IsTrue (is_in_order (map drive_of (paths_from core drive outputs)))
+  all_in_order : (drive : ℕ) (outputs : List ThreeStateOutput)
+      → IsTrue (is_in_order (map drive_of (paths_from core drive outputs)))
   all_in_order drive [] = refl
   all_in_order drive (output ∷ outputs) =
       subst (λ (xs : List ℕ). IsTrue (is_in_order xs)) (sym (drives_split drive output outputs))
       (block_in_order core.pins drive (arcs_in (answer_of core output)) (map drive_of (paths_from core (drive + 1) outputs))
-      (above_lower drive (drive + 1) (map drive_of (paths_from core (drive + 1) outputs)) (omega arith) (all_above (drive + 1) outputs))
+      (above_lower drive (drive + 1) (map drive_of (paths_from core (drive + 1) outputs)) (omega arith)
+      (all_above (drive + 1) outputs))
       (all_in_order (drive + 1) outputs))
 
   more_paths : (n m own later all : ℕ) → own ≤ m → later ≤ n * m → all ≡ own + later → all ≤ suc n * m
   more_paths n m own later all h k e = let split : suc n * m ≡ n * m + m = suc-mul n m in omega (arith, h, k, e, split)
 
-  all_few : (drive : ℕ) (outputs : List ThreeStateOutput) → length (paths_from core drive outputs) ≤ length outputs * length core.pins
+  all_few : (drive : ℕ) (outputs : List ThreeStateOutput)
+      → length (paths_from core drive outputs) ≤ length outputs * length core.pins
   all_few drive [] = omega arith
   all_few drive (output ∷ outputs) =
       let own = driver_arcs_are_few (subject_at core output.pin) output.group (answer_of core output) refl in
-      let paths : length (paths_of core drive output) ≡ length (arcs_in (answer_of core output)) = length-map (arcs_in (answer_of core output)) (path_of core.pins drive) in
-      more_paths (length outputs) (length core.pins) (length (paths_of core drive output)) (length (paths_from core (drive + 1) outputs))
+      let paths : length (paths_of core drive output) ≡ length (arcs_in (answer_of core output)) =
+      length-map (arcs_in (answer_of core output)) (path_of core.pins drive) in
+      more_paths (length outputs) (length core.pins) (length (paths_of core drive output))
+      (length (paths_from core (drive + 1) outputs))
       (length (paths_from core drive (output ∷ outputs))) (omega (arith, own, paths)) (all_few (drive + 1) outputs)
       (length-append (paths_of core drive output) (paths_from core (drive + 1) outputs))
 
@@ -129,6 +142,7 @@ pub drivers_keep_limits : DriversKeepLimits
 unfolding driven_data floating_of
 drivers_keep_limits unit number cell = by (three_state_outputs cell)
   where
-    by : (outputs : List ThreeStateOutput) → KeepsLimits (length (data_by unit number cell outputs).core.pins) (data_by unit number cell outputs).driver
+    by : (outputs : List ThreeStateOutput)
+        → KeepsLimits (length (data_by unit number cell outputs).core.pins) (data_by unit number cell outputs).driver
     by [] = record { times = All-nil HasTimes; order = refl; few = omega arith }
     by (output ∷ outputs) = driver_keeps (subject_of unit (core_group cell)) (output ∷ outputs)

@@ -1,5 +1,6 @@
 -- What is read of the delays of three-state outputs: no condition, so that nothing is wrong in one.
-use Rattle.std.proofs.Common.{◌≡◌, ℕ, Bool, true, false, List, [], ◌∷◌, refl, sym, ◌∙◌, ap, subst, map, filter, codes, Option, Some, None}
+use Rattle.std.proofs.Common.{◌≡◌, ℕ, Bool, true, false, List, [], ◌∷◌, refl, sym, ◌∙◌, ap, subst, map, filter, codes, Option}
+use Rattle.std.proofs.Common.{Some, None}
 use Rattle.std.specs.Prelude.{flat_map, bytes_eq, if◌then◌else◌, Ok, Err}
 use Rattle.std.specs.List.{cons_option, list_all}
 use Rattle.std.proofs.lemmas.Bool.{and_from}
@@ -10,12 +11,14 @@ use Rattle.liberty_groups.specs.declared.tree.Item.TheOpen.{Item-F, Group-F}
 use Rattle.liberty_groups.specs.declared.tree.Item.TheOpen as layer
 use Rattle.liberty_groups.specs.declared.tree.Item.TheViews.{outs-Inner, out-roll-Group}
 use Rattle.liberty_groups.specs.declared.tree.Group.{Group}
-use Rattle.liberty_groups.specs.Attributes.{Attribute, simple_named, group_named, attributes_named, groups_named, last_or, attribute_of}
+use Rattle.liberty_groups.specs.Attributes.{Attribute, simple_named, group_named, attributes_named, groups_named, last_or}
+use Rattle.liberty_groups.specs.Attributes.{attribute_of}
 use Rattle.timing_arcs.specs.declared.subject.Subject.{Subject}
 use Rattle.timing_arcs.specs.declared.subject.PinTiming.{PinTiming}
 use Rattle.timing_arcs.specs.declared.subject.Room.{Room}
 use Rattle.timing_arcs.specs.declared.fault.TimingFault.TheVariants as fault
-use Rattle.timing_arcs.specs.Timing.{timing_groups, malformed_in, own_in, malformed_at, own_conditions_at, unknown_names_at, numbers_at, unless_at, timing_of, reading_answer, held_answer}
+use Rattle.timing_arcs.specs.Timing.{timing_groups, malformed_in, own_in, malformed_at, own_conditions_at, unknown_names_at}
+use Rattle.timing_arcs.specs.Timing.{numbers_at, unless_at, timing_of, reading_answer, held_answer}
 use Rattle.cell_machine.specs.Delay.{least}
 use Rattle.cell_reader.specs.declared.refusal.Reason.TheVariants as reason
 use Rattle.cell_reader.specs.PinTimings.{Answer}
@@ -30,12 +33,14 @@ type_is_no_when : (name : List ℕ) → bytes_eq name (codes "timing_type") ≡ 
 type_is_no_when name h = rw ((bytes_eq-Decides name (codes "timing_type")).0 h) refl
 
 typed_is_no_when : (one : Item-F Item Group) → is_no_type one ≡ false → simple_named (codes "when") one ≡ None
-typed_is_no_when (layer.Simple name value at) h = rw (type_is_no_when name (not_false (bytes_eq name (codes "timing_type")) h)) refl
+typed_is_no_when (layer.Simple name value at) h =
+    rw (type_is_no_when name (not_false (bytes_eq name (codes "timing_type")) h)) refl
 typed_is_no_when (layer.Complex name arguments at) h = refl
 typed_is_no_when (layer.Inner group) h = refl
 
 -- the conditions among all statements but those of the type
-untyped_when : (items : List Item) → attributes_named (codes "when") (filter (λ item. is_no_type (out-Item item)) items) ≡ attributes_named (codes "when") items
+untyped_when : (items : List Item)
+    → attributes_named (codes "when") (filter (λ item. is_no_type (out-Item item)) items) ≡ attributes_named (codes "when") items
 untyped_when items = attributes_kept (codes "when") is_no_type typed_is_no_when items
 
 -- No timing group has a condition as it is read.
@@ -44,11 +49,13 @@ read_when : (group : Group) → last_or None (attributes_named (codes "when") (r
 read_when group = by (has_type (codes "three_state_disable") group) (attribute_of group (codes "when")) refl refl
   where
     typed : (b : Bool) → has_type (codes "three_state_enable") group ≡ b → attribute_of group (codes "when") ≡ None
-        → last_or None (attributes_named (codes "when") (if b then filter (λ item. is_no_type (out-Item item)) group.items else group.items)) ≡ None
+        → last_or None (attributes_named (codes "when") (if b then filter (λ item. is_no_type (out-Item item)) group.items
+        else group.items)) ≡ None
     typed true e h = rw (untyped_when group.items) h
     typed false e h = h
 
-    by : (disables : Bool) (when : Option Attribute) → has_type (codes "three_state_disable") group ≡ disables → attribute_of group (codes "when") ≡ when
+    by : (disables : Bool) (when : Option Attribute) → has_type (codes "three_state_disable") group ≡ disables
+        → attribute_of group (codes "when") ≡ when
         → last_or None (attributes_named (codes "when") (read_items group)) ≡ None
     by true when e h = rw e refl
     by false (Some attribute) e h = rw e (rw h refl)
@@ -61,14 +68,16 @@ no_condition group =
     ∙ read_when group
 
 named_condition :
-    (group found : Group) (b : Bool) → (if b then Some (driver_timing group) else None) ≡ Some found → attribute_of found (codes "when") ≡ None
+    (group found : Group) (b : Bool) → (if b then Some (driver_timing group) else None) ≡ Some found
+    → attribute_of found (codes "when") ≡ None
 named_condition group found true e =
     let same : driver_timing group ≡ found = cc in
     subst (λ (one : Group). attribute_of one (codes "when") ≡ None) same (no_condition group)
 named_condition group found false e = absurd cc
 
 found_condition :
-    (group found : Group) → group_named (codes "timing") (out-Item (driver_item group)) ≡ Some found → attribute_of found (codes "when") ≡ None
+    (group found : Group) → group_named (codes "timing") (out-Item (driver_item group)) ≡ Some found
+    → attribute_of found (codes "when") ≡ None
 found_condition group found e =
     named_condition group found (bytes_eq (driver_timing group).name (codes "timing"))
     (sym (ap (group_named (codes "timing")) (outs-Inner (driver_timing group))) ∙ e)
@@ -85,7 +94,8 @@ pub none_among :
     → (groups : List Group) → flat_map told (groups_named (codes "timing") (map driver_item groups)) ≡ []
 none_among told none [] = refl
 none_among told none (group ∷ groups) =
-    told_behind told (group_named (codes "timing") (out-Item (driver_item group))) (groups_named (codes "timing") (map driver_item groups))
+    told_behind told (group_named (codes "timing") (out-Item (driver_item group)))
+    (groups_named (codes "timing") (map driver_item groups))
     (λ found e. none found (found_condition group found e)) (none_among told none groups)
 
 -- what holds of all that such a group tells holds of all that is told
@@ -104,7 +114,8 @@ pub all_among :
     → (groups : List Group) → list_all test (flat_map told (groups_named (codes "timing") (map driver_item groups))) ≡ true
 all_among test told all [] = refl
 all_among test told all (group ∷ groups) =
-    told_all test told (group_named (codes "timing") (out-Item (driver_item group))) (groups_named (codes "timing") (map driver_item groups))
+    told_all test told (group_named (codes "timing") (out-Item (driver_item group)))
+    (groups_named (codes "timing") (map driver_item groups))
     (λ found e. all found (found_condition group found e)) (all_among test told all groups)
 
 abbrev nothing : List ℕ
@@ -120,14 +131,22 @@ malformed_none subject group h = rw h (either_empty _)
 own_none : (subject : Subject) (group : Group) → attribute_of group (codes "when") ≡ None → own_in subject group ≡ []
 own_none subject group h = rw h (either_empty _)
 
-pub timings_of : (pin : Group) → timing_groups (driver_pin pin) ≡ groups_named (codes "timing") (map driver_item (timing_groups pin))
+pub timings_of : (pin : Group) → timing_groups (driver_pin pin) ≡ groups_named (codes "timing")
+    (map driver_item (timing_groups pin))
 unfolding driver_pin
 timings_of pin =
     ap (λ (g : Group-F Item Group). groups_named (codes "timing") g.items)
-    (out-roll-Group (record { name = pin.name; arguments = pin.arguments; items = map driver_item (timing_groups pin); at = pin.at }))
+    (out-roll-Group (record {
+      name = pin.name;
+      arguments = pin.arguments;
+      items = map driver_item (timing_groups pin);
+      at =
+          pin.at;
+    }))
 
 pub driver_malformed : (subject : Subject) (pin : Group) → malformed_at subject (driver_pin pin) ≡ []
-driver_malformed subject pin = rw (timings_of pin) (none_among (malformed_in subject) (malformed_none subject) (timing_groups pin))
+driver_malformed subject pin = rw (timings_of pin)
+    (none_among (malformed_in subject) (malformed_none subject) (timing_groups pin))
 
 pub driver_own : (subject : Subject) (pin : Group) → own_conditions_at subject (driver_pin pin) ≡ []
 driver_own subject pin = rw (timings_of pin) (none_among (own_in subject) (own_none subject) (timing_groups pin))
@@ -142,11 +161,13 @@ told_by None None timing = refl
 told_by None (Some at) timing = refl
 told_by (Some at) number timing = refl
 
-pub wrong_delays_told : (subject : Subject) (pin : Group) → wrong_told (reading_answer subject (driver_pin pin)) ≡ wrong_delays subject pin
+pub wrong_delays_told : (subject : Subject) (pin : Group)
+    → wrong_told (reading_answer subject (driver_pin pin)) ≡ wrong_delays subject pin
 wrong_delays_told subject pin =
     rw (driver_malformed subject pin)
     (rw (driver_own subject pin)
-    (told_by (least (unknown_names_at subject (driver_pin pin))) (least (numbers_at subject (driver_pin pin))) (timing_of subject (driver_pin pin))))
+    (told_by (least (unknown_names_at subject (driver_pin pin))) (least (numbers_at subject (driver_pin pin)))
+    (timing_of subject (driver_pin pin))))
 
 held_told : (room : Room) (answer : Answer) → wrong_told (held_answer room answer) ≡ wrong_told answer
 held_told room (Ok timing) = refl
@@ -157,7 +178,8 @@ held_told room (Err (fault.Number at)) = refl
 
 pub told_is_wrong :
     (room : Room) (subject : Subject) (pin driver : Group) (answer : Answer)
-    → driver ≡ driver_pin pin → answer ≡ held_answer room (reading_answer subject driver) → wrong_told answer ≡ wrong_delays subject pin
+    → driver ≡ driver_pin pin → answer ≡ held_answer room (reading_answer subject driver)
+    → wrong_told answer ≡ wrong_delays subject pin
 told_is_wrong room subject pin driver answer d e =
     ap wrong_told e
     ∙ (held_told room (reading_answer subject driver)

@@ -1,5 +1,6 @@
 -- One more turn of the loops over the pins, the groups and the three-state outputs of a cell.
-use Rattle.std.proofs.Common.{◌≡◌, ℕ, ◌+◌, ◌<◌, List, [], ◌∷◌, ◌++◌, length, map, drop, sym, ap, ◌∙◌, arith, append_assoc, length-append}
+use Rattle.std.proofs.Common.{◌≡◌, ℕ, ◌+◌, ◌<◌, List, [], ◌∷◌, ◌++◌, length, map, drop, sym, ap, ◌∙◌, arith, append_assoc}
+use Rattle.std.proofs.Common.{length-append}
 use Rattle.std.specs.Prelude.{Option, count_by, flat_map}
 use Rattle.std.proofs.Math.Seq.{take-length}
 use Rattle.std.proofs.lemmas.List.{drop_more, length-map}
@@ -14,7 +15,8 @@ use Rattle.cell_reader.specs.PinTimings.{Answer, subject_at, arcs_in}
 use Rattle.driven_traces.specs.declared.delays.DrivePath.{DrivePath}
 use Rattle.core_groups.specs.Outputs.{ThreeStateOutput}
 use Rattle.three_state_cells.specs.Refusals.{first_of_two, wrong_group, refusal_with}
-use Rattle.three_state_cells.specs.Timing.{is_output_at, output_number, driven_of, answer_of, path_of, paths_from, left_out_as, places_in, left_out_of, all_left_out, of_pin, in_pin_order}
+use Rattle.three_state_cells.specs.Timing.{is_output_at, output_number, driven_of, answer_of, path_of, paths_from, left_out_as}
+use Rattle.three_state_cells.specs.Timing.{places_in, left_out_of, all_left_out, of_pin, in_pin_order}
 
 pub pin_turn :
     (pins : List Pin) (i : ℕ) (one other found next last : List LeftOut)
@@ -47,7 +49,8 @@ count_turn before place group rest all a p = rw a (rw p (simp (length-append, le
 
 -- one more three-state output
 
-now_core : (core now : Subject) (output : ThreeStateOutput) → now ≡ subject_at core now.place → answer_of now output ≡ answer_of core output
+now_core : (core now : Subject) (output : ThreeStateOutput) → now ≡ subject_at core now.place
+    → answer_of now output ≡ answer_of core output
 now_core core now output s = ap (λ (subject : Subject). answer_of subject output) s
 
 now_pins : (core now : Subject) → now ≡ subject_at core now.place → now.pins ≡ core.pins
@@ -63,7 +66,8 @@ driven_turn core now output rest all before after a s n =
     rw a (rw same (append_assoc before (output_number core.pins output.pin ∷ []) (driven_of core.pins rest)))
 
 pub paths_turn :
-    (core now : Subject) (output : ThreeStateOutput) (rest all : List ThreeStateOutput) (drive next : ℕ) (before after : List DrivePath)
+    (core now : Subject) (output : ThreeStateOutput) (rest all : List ThreeStateOutput) (drive next : ℕ)
+    (before after : List DrivePath)
     → all ≡ output ∷ rest → now ≡ subject_at core now.place → next ≡ drive + 1
     → after ≡ before ++ map (path_of now.pins drive) (arcs_in (answer_of now output))
     → after ++ paths_from core next rest ≡ before ++ paths_from core drive all
@@ -72,7 +76,8 @@ paths_turn core now output rest all drive next before after a s d n =
     n
     ∙ (ap (λ (pins : List Pin). before ++ map (path_of pins drive) (arcs_in (answer_of now output))) (now_pins core now s)
     ∙ ap (λ (answer : Answer). before ++ map (path_of core.pins drive) (arcs_in answer)) (now_core core now output s)) in
-    rw a (rw d (rw same (append_assoc before (map (path_of core.pins drive) (arcs_in (answer_of core output))) (paths_from core (drive + 1) rest))))
+    rw a (rw d (rw same (append_assoc before (map (path_of core.pins drive) (arcs_in (answer_of core output)))
+    (paths_from core (drive + 1) rest))))
 
 pub left_out_turn :
     (core now : Subject) (output : ThreeStateOutput) (rest all : List ThreeStateOutput) (before after : List LeftOut)
@@ -88,7 +93,8 @@ one_longer before after x e = rw e (simp length-append)
 
 -- the pins of the core stay, whichever of them is looked at
 pub same_turn :
-    (core now next : Subject) (pin : ℕ) → now ≡ subject_at core now.place → next ≡ subject_at now pin → next ≡ subject_at core next.place
+    (core now next : Subject) (pin : ℕ) → now ≡ subject_at core now.place → next ≡ subject_at now pin
+    → next ≡ subject_at core next.place
 same_turn core now next pin s n =
     let same : next ≡ subject_at core pin = n ∙ ap (λ (subject : Subject). subject_at subject pin) s in
     same ∙ ap (subject_at core) (sym (ap (λ (subject : Subject). subject.place) same))

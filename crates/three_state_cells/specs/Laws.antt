@@ -41,8 +41,8 @@ pub record HasTimes (path : DrivePath) : Type 0 where
   pub rise : path.rise ≤ longest_time
   pub fall : path.fall ≤ longest_time
 
--- The paths of a driver keep limits: their delays are times, they stand in the order of the driven outputs to which they lead, and
--- to none of these there are more than so many.
+-- The paths of a driver keep limits: their delays are times, they stand in the order of the driven outputs to which they lead,
+-- and to none of these there are more than so many.
 pub record KeepsLimits (most : ℕ) (driver : Driver) : Type 0 where
   pub times : All HasTimes driver.paths
   pub order : IsTrue (is_in_order (map (λ (path : DrivePath). path.drive) driver.paths))

@@ -43,8 +43,8 @@ paths_from core drive [] = []
 paths_from core drive (output ∷ outputs) =
     paths_of core drive output ++ paths_from core (drive + 1) outputs
 
--- The driver of some three-state outputs, where these are the pins of the core: behind its other outputs the core has one more for
--- each of them.
+-- The driver of some three-state outputs, where these are the pins of the core: behind its other outputs the core has one more
+-- for each of them.
 unfoldable pub driver_of : Subject → List ThreeStateOutput → Driver
 driver_of core outputs = record {
   inputs = count_by is_input_at core.pins;

@@ -5,8 +5,10 @@ ghost use Rattle.core_groups.specs.Outputs.{shown};
 ghost use Rattle.timing_arcs.specs.Timing.{reading_answer};
 ghost use Rattle.cell_reader.specs.PinTimings.{subject_at, arcs_in};
 ghost use Rattle.core_groups.specs.DriverGroups.{driver_pin as driver_pin_of};
-ghost use Rattle.three_state_cells.specs.Timing.{is_output_at, output_number as output_number_of, driven_of, path_of as path_of_arc};
-ghost use Rattle.three_state_cells.specs.Timing.{places_in, left_out_as, left_out_of, all_left_out, paths_of, paths_from, driver_of as driver_of_outputs};
+ghost use Rattle.three_state_cells.specs.Timing.{is_output_at, output_number as output_number_of, driven_of};
+ghost use Rattle.three_state_cells.specs.Timing.{path_of as path_of_arc};
+ghost use Rattle.three_state_cells.specs.Timing.{places_in, left_out_as, left_out_of, all_left_out, paths_of, paths_from};
+ghost use Rattle.three_state_cells.specs.Timing.{driver_of as driver_of_outputs};
 
 use crate::left_out::add_left_out;
 use crate::subjects::move_to;
@@ -118,7 +120,8 @@ impl Drivers {
     ) -> Result<(), AllocError>
         ensures inputs { OnOk result (self.new.driver.inputs ≡ self.old.driver.inputs) }
         ensures outputs { OnOk result (self.new.driver.outputs ≡ self.old.driver.outputs) }
-        ensures drives { OnOk result (self.new.driver.drives ≡ self.old.driver.drives ++ output_number_of core.old.pins output.entry.pin ∷ []) }
+        ensures drives { OnOk result (self.new.driver.drives ≡ self.old.driver.drives
+            ++ output_number_of core.old.pins output.entry.pin ∷ []) }
         ensures paths { OnOk result
             (self.new.driver.paths ≡ self.old.driver.paths ++ paths_of core.old (length self.old.driver.drives) (shown output.entry)) }
         ensures left_out { OnOk result (self.new.left_out ≡ self.old.left_out ++ left_out_of core.old (shown output.entry)) }
@@ -132,8 +135,8 @@ impl Drivers {
         self.add_answer(alloc, pins, drive, output, &answer)
     }
 
-    /// Adds the paths and the left-out timing groups of an output, where this is its number among the three-state outputs, these are
-    /// the pins of the core, and reading its delays answers this.
+    /// Adds the paths and the left-out timing groups of an output, where this is its number among the three-state outputs, these
+    /// are the pins of the core, and reading its delays answers this.
     fn add_answer(
         &mut self,
         alloc: Global,
@@ -145,8 +148,10 @@ impl Drivers {
         ensures inputs { OnOk result (self.new.driver.inputs ≡ self.old.driver.inputs) }
         ensures outputs { OnOk result (self.new.driver.outputs ≡ self.old.driver.outputs) }
         ensures drives { OnOk result (self.new.driver.drives ≡ self.old.driver.drives) }
-        ensures paths { OnOk result (self.new.driver.paths ≡ self.old.driver.paths ++ map (path_of_arc pins.now drive) (arcs_in answer.now)) }
-        ensures left_out { OnOk result (self.new.left_out ≡ self.old.left_out ++ map (left_out_as (shown output.entry)) (places_in answer.now)) }
+        ensures paths { OnOk result (self.new.driver.paths ≡ self.old.driver.paths
+            ++ map (path_of_arc pins.now drive) (arcs_in answer.now)) }
+        ensures left_out { OnOk result (self.new.left_out ≡ self.old.left_out
+            ++ map (left_out_as (shown output.entry)) (places_in answer.now)) }
     {
         let Ok(timing) = answer else {
             return Ok(());

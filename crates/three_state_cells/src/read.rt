@@ -20,10 +20,10 @@ use crate::driver_refusals::{driver_refusal, first_with};
 use crate::drivers::{Drivers, drivers_of, input_number};
 use crate::left_out::in_pin_order;
 use bool_functions::Names;
-use cell_machine::{Cell, Pin};
 use cell_attributes::groups::{inner_groups, pins_among};
 use cell_attributes::held::{held_with, kept_unless};
 use cell_attributes::pins::pins_of;
+use cell_machine::{Cell, Pin};
 use cell_reader::{CellFault, LeftOut, ReadCell, Reason, Refusal, names_of, read_cell};
 use core_groups::{CellPins, core_group};
 use driven_traces::Driver;
@@ -278,8 +278,8 @@ fn read_core(
     }
 }
 
-/// The cell with this number that a group describes, where these are its pin groups and its three-state outputs, of which there are
-/// some.
+/// The cell with this number that a group describes, where these are its pin groups and its three-state outputs, of which there
+/// are some.
 fn read_floating(
     alloc: Global,
     cell: &Group,

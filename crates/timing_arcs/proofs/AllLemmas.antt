@@ -1,5 +1,6 @@
 -- Tests that pass of all elements of lists.
-use Rattle.std.proofs.Common.{◌≡◌, ℕ, Bool, true, false, not, ◌&&◌, ◌||◌, ◌==◌, List, [], ◌∷◌, ◌++◌, map, refl, sym, ap, ◌∙◌, subst, arith}
+use Rattle.std.proofs.Common.{◌≡◌, ℕ, Bool, true, false, not, ◌&&◌, ◌||◌, ◌==◌, List, [], ◌∷◌, ◌++◌, map, refl, sym, ap, ◌∙◌}
+use Rattle.std.proofs.Common.{subst, arith}
 use Rattle.std.specs.Prelude.{Some, filter, flat_map, find}
 use Rattle.std.specs.List.{list_all, list_any}
 use Rattle.std.proofs.lemmas.Bool.{cases_Bool, and_parts, eqb-true}
@@ -15,12 +16,14 @@ pub implied : (a b : Bool) → (a ≡ true → b ≡ true) → (not a || b) ≡ 
 implied true b f = f refl
 implied false b f = refl
 
-pub all-append : {A : Type 0} (t : A → Bool) (xs ys : List A) → list_all t xs ≡ true → list_all t ys ≡ true → list_all t (xs ++ ys) ≡ true
+pub all-append : {A : Type 0} (t : A → Bool) (xs ys : List A) → list_all t xs ≡ true → list_all t ys ≡ true
+    → list_all t (xs ++ ys) ≡ true
 all-append t [] ys h k = k
 all-append t (x ∷ xs) ys h k = let parts = and_parts (t x) (list_all t xs) h in both _ _ parts.0 (all-append t xs ys parts.1 k)
 
 -- of the elements that pass one test
-pub all-filter : {A : Type 0} (t f : A → Bool) (xs : List A) → list_all (λ x. not (f x) || t x) xs ≡ true → list_all t (filter f xs) ≡ true
+pub all-filter : {A : Type 0} (t f : A → Bool) (xs : List A) → list_all (λ x. not (f x) || t x) xs ≡ true
+    → list_all t (filter f xs) ≡ true
 all-filter t f [] h = refl
 all-filter t f (x ∷ xs) h =
     let parts = and_parts (not (f x) || t x) (list_all (λ x. not (f x) || t x) xs) h in
@@ -44,11 +47,14 @@ all-find t p (y ∷ ys) x h e =
     ]
 
 -- a test that is weaker
-pub all-weaker : {A : Type 0} (t s : A → Bool) (xs : List A) → ((x : A) → t x ≡ true → s x ≡ true) → list_all t xs ≡ true → list_all s xs ≡ true
+pub all-weaker : {A : Type 0} (t s : A → Bool) (xs : List A) → ((x : A) → t x ≡ true → s x ≡ true) → list_all t xs ≡ true
+    → list_all s xs ≡ true
 all-weaker t s [] f h = refl
-all-weaker t s (x ∷ xs) f h = let parts = and_parts (t x) (list_all t xs) h in both _ _ (f x parts.0) (all-weaker t s xs f parts.1)
+all-weaker t s (x ∷ xs) f h = let parts = and_parts (t x) (list_all t xs) h
+    in both _ _ (f x parts.0) (all-weaker t s xs f parts.1)
 
-pub all-both : {A : Type 0} (t s : A → Bool) (xs : List A) → list_all t xs ≡ true → list_all s xs ≡ true → list_all (λ x. t x && s x) xs ≡ true
+pub all-both : {A : Type 0} (t s : A → Bool) (xs : List A) → list_all t xs ≡ true → list_all s xs ≡ true
+    → list_all (λ x. t x && s x) xs ≡ true
 all-both t s [] h k = refl
 all-both t s (x ∷ xs) h k =
     let first = and_parts (t x) (list_all t xs) h in
@@ -56,15 +62,18 @@ all-both t s (x ∷ xs) h k =
     both _ _ (both _ _ first.0 second.0) (all-both t s xs first.1 second.1)
 
 -- of what each element gives
-pub all-flat_map : {A B : Type 0} (t : B → Bool) (f : A → List B) (s : A → Bool) (xs : List A) → ((x : A) → s x ≡ true → list_all t (f x) ≡ true) → list_all s xs ≡ true → list_all t (flat_map f xs) ≡ true
+pub all-flat_map : {A B : Type 0} (t : B → Bool) (f : A → List B) (s : A → Bool) (xs : List A)
+    → ((x : A) → s x ≡ true → list_all t (f x) ≡ true) → list_all s xs ≡ true → list_all t (flat_map f xs) ≡ true
 all-flat_map t f s [] g h = refl
 all-flat_map t f s (x ∷ xs) g h =
     let parts = and_parts (s x) (list_all s xs) h in
     all-append t (f x) (flat_map f xs) (g x parts.0) (all-flat_map t f s xs g parts.1)
 
-pub all-map : {A B : Type 0} (t : B → Bool) (f : A → B) (xs : List A) → list_all (λ x. t (f x)) xs ≡ true → list_all t (map f xs) ≡ true
+pub all-map : {A B : Type 0} (t : B → Bool) (f : A → B) (xs : List A) → list_all (λ x. t (f x)) xs ≡ true
+    → list_all t (map f xs) ≡ true
 all-map t f [] h = refl
-all-map t f (x ∷ xs) h = let parts = and_parts (t (f x)) (list_all (λ x. t (f x)) xs) h in both _ _ parts.0 (all-map t f xs parts.1)
+all-map t f (x ∷ xs) h = let parts = and_parts (t (f x)) (list_all (λ x. t (f x)) xs) h
+    in both _ _ parts.0 (all-map t f xs parts.1)
 
 -- each number of a list is in it
 pub has-here : (x : ℕ) (xs : List ℕ) → has (x ∷ xs) x ≡ true
@@ -92,13 +101,15 @@ has-inside (x ∷ apart) all i h k =
     ]
 
 -- numbers that are not in a list are not in one whose numbers are
-pub all-apart : (t : ℕ → Bool) (apart all : List ℕ) (is : List ℕ) → list_all (has all) apart ≡ true → list_all t is ≡ true → list_any (has all) is ≡ false → list_all (λ i. t i && not (has apart i)) is ≡ true
+pub all-apart : (t : ℕ → Bool) (apart all : List ℕ) (is : List ℕ) → list_all (has all) apart ≡ true → list_all t is ≡ true
+    → list_any (has all) is ≡ false → list_all (λ i. t i && not (has apart i)) is ≡ true
 all-apart t apart all [] inside h k = refl
 all-apart t apart all (i ∷ is) inside h k =
     let parts = and_parts (t i) (list_all t is) h in
     let none = neither (has all i) (list_any (has all) is) k in
     let out : has apart i ≡ false = elim (cases_Bool (has apart i)) [
-      | inl found ↦ let there : has all i ≡ true = has-inside apart all i inside found in let clash : true ≡ false = sym there ∙ none.0 in absurd cc
+      | inl found ↦ let there : has all i ≡ true = has-inside apart all i inside found
+          in let clash : true ≡ false = sym there ∙ none.0 in absurd cc
       | inr out ↦ out
     ] in
     both _ _ (both _ _ parts.0 (ap not out)) (all-apart t apart all is inside parts.1 none.1)

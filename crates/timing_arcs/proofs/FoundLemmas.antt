@@ -1,5 +1,6 @@
 -- What is put together statement by statement is what the definition says of all statements.
-use Rattle.std.proofs.Common.{◌≡◌, ℕ, zero, suc, ◌+◌, ◌<◌, ◌≤◌, Bool, true, false, ◌==◌, nat_lt, List, [], ◌∷◌, ◌++◌, map, take, length, refl, sym, ap, ◌∙◌, append_assoc, append-nil, length-append, arith}
+use Rattle.std.proofs.Common.{◌≡◌, ℕ, zero, suc, ◌+◌, ◌<◌, ◌≤◌, Bool, true, false, ◌==◌, nat_lt, List, [], ◌∷◌, ◌++◌, map, take}
+use Rattle.std.proofs.Common.{length, refl, sym, ap, ◌∙◌, append_assoc, append-nil, length-append, arith}
 use Rattle.std.specs.Prelude.{Option, Some, None, filter, flat_map, codes, Result, Ok, if◌then◌else◌}
 use Rattle.std.specs.List.{list_any, cons_option}
 use Rattle.std.proofs.lemmas.Bool.{cases_Bool}
@@ -27,8 +28,14 @@ use Rattle.timing_arcs.specs.Times.{time_of}
 use Rattle.timing_arcs.specs.RelatedPins.{inputs_of, is_left_out}
 use Rattle.timing_arcs.specs.Making.{check, event, has_limit, checks_from, arcs_from, is_made, checks_in}
 use Rattle.timing_arcs.specs.Merging.{Placed, same_path, firsts, merged_into, merged, merged_at}
-use Rattle.timing_arcs.specs.Timing.{timing_groups, malformed_in, unknown_in, own_in, wide_in, bad_numbers_in, pulse_high, pulse_low, least_period, attribute_checks, attribute_check_at, bad_attribute, at_each, placed_arcs_in, left_out_at, left_out_from, checks_of, check_at_of, malformed_at, unknown_names_at, own_conditions_at, numbers_at, timing_of, unless_at, reading_answer, held_answer}
-use Rattle.timing_arcs.specs.Adding.{joined_with, pushed, with_left_out, with_placed, with_checks, with_arcs, with_inputs, with_noted, with_group, with_optional, with_items, with_limit, with_attribute, nothing_found, found_of, answer_found}
+use Rattle.timing_arcs.specs.Timing.{timing_groups, malformed_in, unknown_in, own_in, wide_in, bad_numbers_in, pulse_high}
+use Rattle.timing_arcs.specs.Timing.{pulse_low, least_period, attribute_checks, attribute_check_at, bad_attribute, at_each}
+use Rattle.timing_arcs.specs.Timing.{placed_arcs_in, left_out_at, left_out_from, checks_of, check_at_of, malformed_at}
+use Rattle.timing_arcs.specs.Timing.{unknown_names_at, own_conditions_at, numbers_at, timing_of, unless_at, reading_answer}
+use Rattle.timing_arcs.specs.Timing.{held_answer}
+use Rattle.timing_arcs.specs.Adding.{joined_with, pushed, with_left_out, with_placed, with_checks, with_arcs, with_inputs}
+use Rattle.timing_arcs.specs.Adding.{with_noted, with_group, with_optional, with_items, with_limit, with_attribute, nothing_found}
+use Rattle.timing_arcs.specs.Adding.{found_of, answer_found}
 use Rattle.timing_arcs.specs.Readings.{joined, offsets_in}
 use Rattle.cell_machine.proofs.LeastLemmas.{least_append}
 use Rattle.timing_arcs.proofs.MergingLemmas.{merged-append, merged_at-append}
@@ -54,7 +61,14 @@ shows room p = record {
   arcs = take room.arcs (merged p.placed);
   arc_at = take room.arcs (merged_at p.placed);
   left_out = (if room.left_out then p.left_out else []);
-  offsets = record { malformed = least p.malformed; unknown_name = least p.unknown; own_condition = least p.own; number = least p.numbers; wide = least p.wide };
+  offsets = record {
+    malformed = least p.malformed;
+    unknown_name = least p.unknown;
+    own_condition = least p.own;
+    number =
+        least p.numbers;
+    wide = least p.wide;
+  };
 }
 
 abbrev add : Parts → Parts → Parts
@@ -71,7 +85,18 @@ add p q = record {
 }
 
 abbrev no_parts : Parts
-no_parts = record { checks = []; check_at = []; placed = []; left_out = []; malformed = []; unknown = []; own = []; numbers = []; wide = [] }
+no_parts = record {
+  checks = [];
+  check_at = [];
+  placed = [];
+  left_out = [];
+  malformed = [];
+  unknown = [];
+  own = [];
+  numbers =
+      [];
+  wide = [];
+}
 
 add-none : (p : Parts) → add p no_parts ≡ p
 add-none p = λ i. record {
@@ -128,16 +153,27 @@ push-take n xs x =
 push-full : {A : Type 0} (n : ℕ) (xs : List A) (x : A) → n ≤ length xs → pushed n (take n xs) x ≡ take n xs
 push-full n xs x h = push-take n xs x ∙ take-append-le n xs (x ∷ []) h
 
-with_checks-shows : (room : Room) (at : ℕ) (p : Parts) (ks : List Check) → with_checks at (shows room p) ks ≡ shows room (more_checks p (filter has_limit ks) (at_each at (filter has_limit ks)))
-with_checks-shows room at p [] = ap (shows room) (sym (λ i. record p { checks = append-nil p.checks i; check_at = append-nil p.check_at i }))
+with_checks-shows : (room : Room) (at : ℕ) (p : Parts) (ks : List Check)
+    → with_checks at (shows room p) ks ≡ shows room (more_checks p (filter has_limit ks) (at_each at (filter has_limit ks)))
+with_checks-shows room at p [] = ap (shows room)
+    (sym (λ i. record p { checks = append-nil p.checks i; check_at = append-nil p.check_at i }))
 with_checks-shows room at p (k ∷ ks) =
     elim (cases_Bool (k.limit == 0)) [
       | inl no_limit ↦ rw no_limit (with_checks-shows room at p ks)
       | inr some ↦
           rw some
-          (ap (λ found. with_checks at found ks) (λ i. record (shows room p) { checks = push-take room.checks p.checks k i; check_at = push-take room.checks p.check_at at i })
+          (ap (λ found. with_checks at found ks)
+          (λ i. record (shows room p) {
+            checks = push-take room.checks p.checks k i;
+            check_at =
+                push-take room.checks p.check_at at i;
+          })
           ∙ with_checks-shows room at (more_checks p (k ∷ []) (at ∷ [])) ks
-          ∙ ap (shows room) (λ i. record p { checks = append_assoc p.checks (k ∷ []) (filter has_limit ks) i; check_at = append_assoc p.check_at (at ∷ []) (at_each at (filter has_limit ks)) i }))
+          ∙ ap (shows room) (λ i. record p {
+            checks = append_assoc p.checks (k ∷ []) (filter has_limit ks) i;
+            check_at =
+                append_assoc p.check_at (at ∷ []) (at_each at (filter has_limit ks)) i;
+          }))
     ]
 
 any-take : {A : Type 0} (t : A → Bool) (n : ℕ) (xs : List A) → list_any t (take n xs) ≡ true → list_any t xs ≡ true
@@ -160,23 +196,28 @@ beyond t n xs none some =
     ]
 
 as_many : (made : List Placed) → length (merged_at made) ≡ length (merged made)
-as_many made = length-map (firsts made) (λ (p : Placed). p.at) ∙ sym (length-map (firsts made) (λ (p : Placed). merged_into made p.arc))
+as_many made = length-map (firsts made) (λ (p : Placed). p.at)
+    ∙ sym (length-map (firsts made) (λ (p : Placed). merged_into made p.arc))
 
 -- one more arc, as far as there is room
-arcs-one : (n : ℕ) (made : List Placed) (q : Placed) → list_any (same_path q.arc) (take n (merged made)) ≡ false → pushed n (map (joined_with q.arc) (take n (merged made))) q.arc ≡ take n (merged (made ++ q ∷ []))
+arcs-one : (n : ℕ) (made : List Placed) (q : Placed) → list_any (same_path q.arc) (take n (merged made)) ≡ false
+    → pushed n (map (joined_with q.arc) (take n (merged made))) q.arc ≡ take n (merged (made ++ q ∷ []))
 arcs-one n made q none =
     let joint : List Arc = map (joined_with q.arc) (merged made) in
-    let moved : map (joined_with q.arc) (take n (merged made)) ≡ take n joint = sym (take-map (joined_with q.arc) n (merged made)) in
+    let moved : map (joined_with q.arc) (take n (merged made)) ≡ take n joint = sym (take-map (joined_with q.arc) n (merged made))
+    in
     elim (cases_Bool (list_any (same_path q.arc) (merged made))) [
       | inl there ↦
           let full : n ≤ length (merged made) = beyond (same_path q.arc) n (merged made) none there in
           let count : length joint ≡ length (merged made) = length-map (merged made) (joined_with q.arc) in
           let long : n ≤ length joint = omega arith in
           ap (λ arcs. pushed n arcs q.arc) moved ∙ push-full n joint q.arc long ∙ ap (take n) (rw there at (merged-append made q))
-      | inr new ↦ ap (λ arcs. pushed n arcs q.arc) moved ∙ push-take n joint q.arc ∙ ap (take n) (rw new at (merged-append made q))
+      | inr new ↦ ap (λ arcs. pushed n arcs q.arc) moved ∙ push-take n joint q.arc
+          ∙ ap (take n) (rw new at (merged-append made q))
     ]
 
-ats-one : (n : ℕ) (made : List Placed) (q : Placed) → list_any (same_path q.arc) (take n (merged made)) ≡ false → pushed n (take n (merged_at made)) q.at ≡ take n (merged_at (made ++ q ∷ []))
+ats-one : (n : ℕ) (made : List Placed) (q : Placed) → list_any (same_path q.arc) (take n (merged made)) ≡ false
+    → pushed n (take n (merged_at made)) q.at ≡ take n (merged_at (made ++ q ∷ []))
 ats-one n made q none =
     elim (cases_Bool (list_any (same_path q.arc) (merged made))) [
       | inl there ↦
@@ -186,13 +227,16 @@ ats-one n made q none =
       | inr new ↦ push-take n (merged_at made) q.at ∙ ap (take n) (rw new at (merged_at-append made q))
     ]
 
-with_placed-shows : (room : Room) (at : ℕ) (p : Parts) (arc : Arc) → with_placed at (shows room p) arc ≡ shows room (more_arcs p (record { arc = arc; at = at } ∷ []))
+with_placed-shows : (room : Room) (at : ℕ) (p : Parts) (arc : Arc)
+    → with_placed at (shows room p) arc ≡ shows room (more_arcs p (record { arc = arc; at = at } ∷ []))
 with_placed-shows room at p arc =
     let q : Placed = record { arc = arc; at = at } in
     elim (cases_Bool (list_any (same_path arc) (take room.arcs (merged p.placed)))) [
       | inl there ↦
-          let whole : list_any (same_path arc) (merged p.placed) ≡ true = any-take (same_path arc) room.arcs (merged p.placed) there in
-          let kept : map (joined_with arc) (merged p.placed) ≡ merged (p.placed ++ q ∷ []) = rw whole at (merged-append p.placed q) in
+          let whole : list_any (same_path arc) (merged p.placed) ≡ true =
+          any-take (same_path arc) room.arcs (merged p.placed) there in
+          let kept : map (joined_with arc) (merged p.placed) ≡ merged (p.placed ++ q ∷ []) =
+          rw whole at (merged-append p.placed q) in
           let same : merged_at p.placed ≡ merged_at (p.placed ++ q ∷ []) = rw whole at (merged_at-append p.placed q) in
           let arcs = sym (take-map (joined_with arc) room.arcs (merged p.placed)) ∙ ap (take room.arcs) kept in
           rw there (λ i. record (shows room p) { arcs = arcs i; arc_at = take room.arcs (same i) })
@@ -202,37 +246,54 @@ with_placed-shows room at p arc =
           rw new (λ i. record (shows room p) { arcs = arcs i; arc_at = ats i })
     ]
 
-with_arcs-shows : (room : Room) (at : ℕ) (p : Parts) (arcs : List Arc) → with_arcs at (shows room p) arcs ≡ shows room (more_arcs p (placed_at at arcs))
+with_arcs-shows : (room : Room) (at : ℕ) (p : Parts) (arcs : List Arc)
+    → with_arcs at (shows room p) arcs ≡ shows room (more_arcs p (placed_at at arcs))
 with_arcs-shows room at p [] = ap (shows room) (sym (λ i. record p { placed = append-nil p.placed i }))
 with_arcs-shows room at p (arc ∷ arcs) =
     ap (λ found. with_arcs at found arcs) (with_placed-shows room at p arc)
     ∙ with_arcs-shows room at (more_arcs p (record { arc = arc; at = at } ∷ [])) arcs
-    ∙ ap (shows room) (λ i. record p { placed = append_assoc p.placed (record { arc = arc; at = at } ∷ []) (placed_at at arcs) i })
+    ∙ ap (shows room) (λ i. record p {
+      placed =
+          append_assoc p.placed (record { arc = arc; at = at } ∷ []) (placed_at at arcs) i;
+    })
 
 -- with checks, of which those with a limit count, and with arcs
 abbrev more_made : ℕ → Parts → List Check → List Arc → Parts
 more_made at p ks arcs = more_arcs (more_checks p (filter has_limit ks) (at_each at (filter has_limit ks))) (placed_at at arcs)
 
 with_inputs-shows : (room : Room) (subject : Subject) (group : Group) (p : Parts) (inputs : List ℕ) →
-    with_inputs subject group (shows room p) inputs ≡ shows room (more_made group.at p (flat_map (checks_from subject group) inputs) (flat_map (arcs_from subject group) inputs))
+    with_inputs subject group (shows room p) inputs ≡ shows room
+    (more_made group.at p (flat_map (checks_from subject group) inputs) (flat_map (arcs_from subject group) inputs))
 with_inputs-shows room subject group p [] =
-    ap (shows room) (sym (λ i. record p { checks = append-nil p.checks i; check_at = append-nil p.check_at i; placed = append-nil p.placed i }))
+    ap (shows room) (sym (λ i. record p {
+      checks = append-nil p.checks i;
+      check_at = append-nil p.check_at i;
+      placed =
+          append-nil p.placed i;
+    }))
 with_inputs-shows room subject group p (related ∷ inputs) =
     let ks : List Check = checks_from subject group related in
     let arcs : List Arc = arcs_from subject group related in
     let more : List Check = flat_map (checks_from subject group) inputs in
     let others : List Arc = flat_map (arcs_from subject group) inputs in
-    let limited : filter has_limit (ks ++ more) ≡ filter has_limit ks ++ filter has_limit more = filter-append has_limit ks more in
-    let ats : at_each group.at (filter has_limit (ks ++ more)) ≡ at_each group.at (filter has_limit ks) ++ at_each group.at (filter has_limit more) =
+    let limited : filter has_limit (ks ++ more) ≡ filter has_limit ks ++ filter has_limit more = filter-append has_limit ks more
+    in
+    let ats : at_each group.at (filter has_limit (ks ++ more)) ≡ at_each group.at (filter has_limit ks)
+    ++ at_each group.at (filter has_limit more) =
     ap (at_each group.at) limited ∙ map-append (λ x. group.at) (filter has_limit ks) (filter has_limit more) in
-    let places : placed_at group.at (arcs ++ others) ≡ placed_at group.at arcs ++ placed_at group.at others = map-append (λ arc. record { arc = arc; at = group.at }) arcs others in
+    let places : placed_at group.at (arcs ++ others) ≡ placed_at group.at arcs ++ placed_at group.at others =
+    map-append (λ arc. record { arc = arc; at = group.at }) arcs others in
     ap (λ found. with_inputs subject group (with_arcs group.at found arcs) inputs) (with_checks-shows room group.at p ks)
-    ∙ ap (λ found. with_inputs subject group found inputs) (with_arcs-shows room group.at (more_checks p (filter has_limit ks) (at_each group.at (filter has_limit ks))) arcs)
+    ∙ ap (λ found. with_inputs subject group found inputs)
+    (with_arcs-shows room group.at (more_checks p (filter has_limit ks) (at_each group.at (filter has_limit ks))) arcs)
     ∙ with_inputs-shows room subject group (more_made group.at p ks arcs) inputs
     ∙ ap (shows room) (λ i. record p {
-      checks = (append_assoc p.checks (filter has_limit ks) (filter has_limit more) ∙ ap (λ (xs : List Check). p.checks ++ xs) (sym limited)) i;
-      check_at = (append_assoc p.check_at (at_each group.at (filter has_limit ks)) (at_each group.at (filter has_limit more)) ∙ ap (λ (xs : List ℕ). p.check_at ++ xs) (sym ats)) i;
-      placed = (append_assoc p.placed (placed_at group.at arcs) (placed_at group.at others) ∙ ap (λ (xs : List Placed). p.placed ++ xs) (sym places)) i;
+      checks = (append_assoc p.checks (filter has_limit ks) (filter has_limit more)
+          ∙ ap (λ (xs : List Check). p.checks ++ xs) (sym limited)) i;
+      check_at = (append_assoc p.check_at (at_each group.at (filter has_limit ks)) (at_each group.at (filter has_limit more))
+          ∙ ap (λ (xs : List ℕ). p.check_at ++ xs) (sym ats)) i;
+      placed = (append_assoc p.placed (placed_at group.at arcs) (placed_at group.at others)
+          ∙ ap (λ (xs : List Placed). p.placed ++ xs) (sym places)) i;
     })
 
 -- what groups give, where these are the places of those that are left out
@@ -261,19 +322,27 @@ noted subject place p group = record p {
 }
 
 -- a left-out group in a list that is held or not
-left-held : (left keep : Bool) (found : Found) (place : ℕ) (places : List ℕ) → found.room.left_out ≡ keep → found.left_out ≡ (if keep then places else []) →
-    (if left then with_left_out found place else found) ≡ record found { left_out = (if keep then places ++ (if left then place ∷ [] else []) else []) }
+left-held : (left keep : Bool) (found : Found) (place : ℕ) (places : List ℕ) → found.room.left_out ≡ keep
+    → found.left_out ≡ (if keep then places else []) →
+    (if left then with_left_out found place else found) ≡ record found {
+      left_out =
+          (if keep then places ++ (if left then place ∷ [] else []) else []);
+    }
 left-held true true found place places e h =
     ap (λ b. if b then record found { left_out = found.left_out ++ place ∷ [] } else found) e
     ∙ (λ i. record found { left_out = ap (λ (ps : List ℕ). ps ++ place ∷ []) h i })
 left-held true false found place places e h =
-    ap (λ b. if b then record found { left_out = found.left_out ++ place ∷ [] } else found) e ∙ (λ i. record found { left_out = h i })
+    ap (λ b. if b then record found { left_out = found.left_out ++ place ∷ [] } else found) e
+    ∙ (λ i. record found { left_out = h i })
 left-held false true found place places e h = λ i. record found { left_out = (h ∙ sym (append-nil places)) i }
 left-held false false found place places e h = λ i. record found { left_out = h i }
 
-with_noted-shows : (room : Room) (subject : Subject) (place : ℕ) (p : Parts) (group : Group) → with_noted subject place (shows room p) group ≡ shows room (noted subject place p group)
+with_noted-shows : (room : Room) (subject : Subject) (place : ℕ) (p : Parts) (group : Group)
+    → with_noted subject place (shows room p) group ≡ shows room (noted subject place p group)
 with_noted-shows room subject place p group =
-    left-held (is_left_out subject group) room.left_out (record (shows room p) { offsets = joined ((shows room p).offsets) (offsets_in subject group) }) place p.left_out refl refl
+    left-held (is_left_out subject group) room.left_out
+    (record (shows room p) { offsets = joined ((shows room p).offsets) (offsets_in subject group) }) place p.left_out refl
+    refl
     ∙ (λ i. record (shows room (noted subject place p group)) {
       offsets = record {
         malformed = sym (least_append p.malformed (malformed_in subject group)) i;
@@ -298,7 +367,8 @@ group_parts subject place group = record {
   wide = wide_in subject group;
 }
 
-with_group-shows : (room : Room) (subject : Subject) (place : ℕ) (p : Parts) (group : Group) → with_group subject place (shows room p) group ≡ shows room (add p (group_parts subject place group))
+with_group-shows : (room : Room) (subject : Subject) (place : ℕ) (p : Parts) (group : Group)
+    → with_group subject place (shows room p) group ≡ shows room (add p (group_parts subject place group))
 with_group-shows room subject place p group =
     elim (cases_Bool (is_made subject group)) [
       | inl made ↦
@@ -308,7 +378,12 @@ with_group-shows room subject place p group =
       | inr not_made ↦
           rw not_made
           (with_noted-shows room subject place p group
-          ∙ ap (shows room) (sym (λ i. record (noted subject place p group) { checks = append-nil p.checks i; check_at = append-nil p.check_at i; placed = append-nil p.placed i })))
+          ∙ ap (shows room) (sym (λ i. record (noted subject place p group) {
+            checks = append-nil p.checks i;
+            check_at =
+                append-nil p.check_at i;
+            placed = append-nil p.placed i;
+          })))
     ]
 
 -- a group that is there or not, before others
@@ -316,24 +391,29 @@ abbrev optional_parts : Subject → ℕ → Option Group → Parts
 optional_parts subject place None = no_parts
 optional_parts subject place (Some group) = group_parts subject place group
 
-with_optional-shows : (room : Room) (subject : Subject) (place : ℕ) (p : Parts) (o : Option Group) → with_optional subject place (shows room p) o ≡ shows room (add p (optional_parts subject place o))
+with_optional-shows : (room : Room) (subject : Subject) (place : ℕ) (p : Parts) (o : Option Group)
+    → with_optional subject place (shows room p) o ≡ shows room (add p (optional_parts subject place o))
 with_optional-shows room subject place p None = ap (shows room) (sym (add-none p))
 with_optional-shows room subject place p (Some group) = with_group-shows room subject place p group
 
 step-parts : (subject : Subject) (place : ℕ) (o : Option Group) (groups : List Group) (left : List ℕ) →
-    add (optional_parts subject place o) (parts_of subject groups left) ≡ parts_of subject (cons_option o groups) (left_out_at subject place o ++ left)
+    add (optional_parts subject place o) (parts_of subject groups left) ≡ parts_of subject (cons_option o groups)
+    (left_out_at subject place o ++ left)
 step-parts subject place None groups left = refl
 step-parts subject place (Some group) groups left = refl
 
 with_items-shows : (room : Room) (subject : Subject) (place : ℕ) (p : Parts) (items : List Item) →
-    with_items subject place (shows room p) items ≡ shows room (add p (parts_of subject (groups_named (codes "timing") items) (left_out_from subject place items)))
+    with_items subject place (shows room p) items ≡ shows room
+    (add p (parts_of subject (groups_named (codes "timing") items) (left_out_from subject place items)))
 with_items-shows room subject place p [] = ap (shows room) (sym (add-none p))
 with_items-shows room subject place p (item ∷ items) =
     let o : Option Group = group_named (codes "timing") (out-Item item) in
     ap (λ found. with_items subject (place + 1) found items) (with_optional-shows room subject place p o)
     ∙ with_items-shows room subject (place + 1) (add p (optional_parts subject place o)) items
-    ∙ ap (shows room) (add-assoc p (optional_parts subject place o) (parts_of subject (groups_named (codes "timing") items) (left_out_from subject (place + 1) items)))
-    ∙ ap (λ q. shows room (add p q)) (step-parts subject place o (groups_named (codes "timing") items) (left_out_from subject (place + 1) items))
+    ∙ ap (shows room) (add-assoc p (optional_parts subject place o)
+    (parts_of subject (groups_named (codes "timing") items) (left_out_from subject (place + 1) items)))
+    ∙ ap (λ q. shows room (add p q))
+    (step-parts subject place o (groups_named (codes "timing") items) (left_out_from subject (place + 1) items))
 
 -- with the check of an attribute
 abbrev more_attribute : Subject → CheckKind → Edge → Edge → Parts → Option Attribute → Parts
@@ -343,8 +423,10 @@ more_attribute subject k first second p attribute = record p {
   numbers = p.numbers ++ bad_attribute subject attribute;
 }
 
-attribute-time : (room : Room) (subject : Subject) (k : CheckKind) (first second : Edge) (p : Parts) (attribute : Attribute) (time : Option ℕ) → time_of subject.unit attribute.text ≡ time →
-    with_limit subject k first second (shows room p) attribute.at time ≡ shows room (more_attribute subject k first second p (Some attribute))
+attribute-time : (room : Room) (subject : Subject) (k : CheckKind) (first second : Edge) (p : Parts) (attribute : Attribute)
+    (time : Option ℕ) → time_of subject.unit attribute.text ≡ time →
+    with_limit subject k first second (shows room p) attribute.at time ≡ shows room
+    (more_attribute subject k first second p (Some attribute))
 attribute-time room subject k first second p attribute None e =
     rw e
     (λ i. record (shows room p) {
@@ -356,13 +438,22 @@ attribute-time room subject k first second p attribute (Some time) e =
     let made : List Check = check k (event subject.place first) (event subject.place second) time None ∷ [] in
     rw e
     (with_checks-shows room attribute.at p made
-    ∙ ap (shows room) (sym (λ i. record (more_checks p (filter has_limit made) (at_each attribute.at (filter has_limit made))) { numbers = append-nil p.numbers i })))
+    ∙ ap (shows room) (sym (λ i. record (more_checks p (filter has_limit made) (at_each attribute.at (filter has_limit made)))
+    { numbers = append-nil p.numbers i })))
 
-with_attribute-shows : (room : Room) (subject : Subject) (k : CheckKind) (first second : Edge) (p : Parts) (attribute : Option Attribute) →
-    with_attribute subject k first second (shows room p) attribute ≡ shows room (more_attribute subject k first second p attribute)
+with_attribute-shows : (room : Room) (subject : Subject) (k : CheckKind) (first second : Edge) (p : Parts)
+    (attribute : Option Attribute) →
+    with_attribute subject k first second (shows room p) attribute ≡ shows room
+    (more_attribute subject k first second p attribute)
 with_attribute-shows room subject k first second p None =
-    ap (shows room) (sym (λ i. record p { checks = append-nil p.checks i; check_at = append-nil p.check_at i; numbers = append-nil p.numbers i }))
-with_attribute-shows room subject k first second p (Some attribute) = attribute-time room subject k first second p attribute (time_of subject.unit attribute.text) refl
+    ap (shows room) (sym (λ i. record p {
+      checks = append-nil p.checks i;
+      check_at = append-nil p.check_at i;
+      numbers =
+          append-nil p.numbers i;
+    }))
+with_attribute-shows room subject k first second p (Some attribute) =
+    attribute-time room subject k first second p attribute (time_of subject.unit attribute.text) refl
 
 append-three : {A : Type 0} (xs ys zs us : List A) → xs ++ ys ++ zs ++ us ≡ xs ++ (ys ++ (zs ++ us))
 append-three xs ys zs us = append_assoc (xs ++ ys) zs us ∙ append_assoc xs ys (zs ++ us)
@@ -400,23 +491,30 @@ found_of-shows room subject pin =
     let period : Option Attribute = least_period subject pin in
     let p1 : Parts = more_attribute subject kind.Width Rise Fall p high in
     let p2 : Parts = more_attribute subject kind.Width Fall Rise p1 low in
-    ap (λ found. with_attribute subject kind.Period Any Any (with_attribute subject kind.Width Fall Rise (with_attribute subject kind.Width Rise Fall found high) low) period)
+    ap (λ found. with_attribute subject kind.Period Any Any
+    (with_attribute subject kind.Width Fall Rise (with_attribute subject kind.Width Rise Fall found high) low) period)
     (ap (λ found. with_items subject 0 found pin.items) (nothing-shows room) ∙ with_items-shows room subject 0 no_parts pin.items)
-    ∙ ap (λ found. with_attribute subject kind.Period Any Any (with_attribute subject kind.Width Fall Rise found low) period) (with_attribute-shows room subject kind.Width Rise Fall p high)
-    ∙ ap (λ found. with_attribute subject kind.Period Any Any found period) (with_attribute-shows room subject kind.Width Fall Rise p1 low)
+    ∙ ap (λ found. with_attribute subject kind.Period Any Any (with_attribute subject kind.Width Fall Rise found low) period)
+    (with_attribute-shows room subject kind.Width Rise Fall p high)
+    ∙ ap (λ found. with_attribute subject kind.Period Any Any found period)
+    (with_attribute-shows room subject kind.Width Fall Rise p1 low)
     ∙ with_attribute-shows room subject kind.Period Any Any p2 period
     ∙ ap (shows room) (λ i. record p {
-      checks = append-three p.checks (attribute_checks subject kind.Width Rise Fall high) (attribute_checks subject kind.Width Fall Rise low) (attribute_checks subject kind.Period Any Any period) i;
-      check_at = append-three p.check_at (attribute_check_at subject kind.Width Rise Fall high) (attribute_check_at subject kind.Width Fall Rise low) (attribute_check_at subject kind.Period Any Any period) i;
+      checks = append-three p.checks (attribute_checks subject kind.Width Rise Fall high)
+          (attribute_checks subject kind.Width Fall Rise low) (attribute_checks subject kind.Period Any Any period) i;
+      check_at = append-three p.check_at (attribute_check_at subject kind.Width Rise Fall high)
+          (attribute_check_at subject kind.Width Fall Rise low) (attribute_check_at subject kind.Period Any Any period) i;
       numbers = append-three p.numbers (bad_attribute subject high) (bad_attribute subject low) (bad_attribute subject period) i;
     })
 
-held-unless : (room : Room) (wrong : ℕ → TimingFault) (o : Option ℕ) (answer : Result PinTiming TimingFault) → unless_at wrong o (held_answer room answer) ≡ held_answer room (unless_at wrong o answer)
+held-unless : (room : Room) (wrong : ℕ → TimingFault) (o : Option ℕ) (answer : Result PinTiming TimingFault)
+    → unless_at wrong o (held_answer room answer) ≡ held_answer room (unless_at wrong o answer)
 held-unless room wrong None answer = refl
 held-unless room wrong (Some at) answer = refl
 
 -- the answer on what is found of a pin is what is held of that of the definition
-pub answer-is : (room : Room) (subject : Subject) (pin : Group) → answer_found (found_of room subject pin) ≡ held_answer room (reading_answer subject pin)
+pub answer-is : (room : Room) (subject : Subject) (pin : Group)
+    → answer_found (found_of room subject pin) ≡ held_answer room (reading_answer subject pin)
 answer-is room subject pin =
     let malformed : Option ℕ = least (malformed_at subject pin) in
     let unknown : Option ℕ = least (unknown_names_at subject pin) in
@@ -424,7 +522,10 @@ answer-is room subject pin =
     let number : Option ℕ = least (numbers_at subject pin) in
     let timing : Result PinTiming TimingFault = Ok (timing_of subject pin) in
     ap answer_found (found_of-shows room subject pin)
-    ∙ ap (λ answer. unless_at fault.Malformed malformed (unless_at fault.UnknownName unknown (unless_at fault.OwnCondition own answer))) (held-unless room fault.Number number timing)
-    ∙ ap (λ answer. unless_at fault.Malformed malformed (unless_at fault.UnknownName unknown answer)) (held-unless room fault.OwnCondition own _)
+    ∙ ap (λ answer. unless_at fault.Malformed malformed
+    (unless_at fault.UnknownName unknown (unless_at fault.OwnCondition own answer)))
+    (held-unless room fault.Number number timing)
+    ∙ ap (λ answer. unless_at fault.Malformed malformed (unless_at fault.UnknownName unknown answer))
+    (held-unless room fault.OwnCondition own _)
     ∙ ap (λ answer. unless_at fault.Malformed malformed answer) (held-unless room fault.UnknownName unknown _)
     ∙ held-unless room fault.Malformed malformed _

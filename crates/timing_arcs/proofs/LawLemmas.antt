@@ -1,5 +1,6 @@
 -- The laws of the timing that is read.
-use Rattle.std.proofs.Common.{◌≡◌, ℕ, zero, suc, ◌+◌, ◌<◌, ◌≤◌, Bool, true, false, not, ◌&&◌, ◌||◌, List, [], ◌∷◌, ◌++◌, map, length, nat_eq, nat_le, nat_lt, refl, sym, ap, ◌∙◌, subst, arith}
+use Rattle.std.proofs.Common.{◌≡◌, ℕ, zero, suc, ◌+◌, ◌<◌, ◌≤◌, Bool, true, false, not, ◌&&◌, ◌||◌, List, [], ◌∷◌, ◌++◌, map}
+use Rattle.std.proofs.Common.{length, nat_eq, nat_le, nat_lt, refl, sym, ap, ◌∙◌, subst, arith}
 use Rattle.std.specs.Prelude.{Option, Some, None, Result, Ok, codes, filter, flat_map, unwrap_or, slice_get, if◌then◌else◌}
 use Rattle.std.specs.List.{list_all, list_any}
 use Rattle.std.proofs.lemmas.Bool.{cases_Bool, and_parts}
@@ -15,13 +16,15 @@ use Rattle.cell_machine.specs.declared.checks.Edge.TheVariants.{Any, Rise, Fall}
 use Rattle.cell_machine.specs.declared.checks.Check.{Check}
 use Rattle.cell_machine.specs.declared.arcs.Arc.{Arc}
 use Rattle.cell_machine.specs.declared.pins.Pin.{Pin}
-use Rattle.cell_machine.specs.CellRules.{longest_time, is_input_pin, is_output_pin, is_condition, has_events, is_check, is_arc, AreApart}
+use Rattle.cell_machine.specs.CellRules.{longest_time, is_input_pin, is_output_pin, is_condition, has_events, is_check, is_arc}
+use Rattle.cell_machine.specs.CellRules.{AreApart}
 use Rattle.timing_arcs.specs.declared.fault.TimingFault.{TimingFault}
 use Rattle.timing_arcs.specs.declared.fault.TimingFault.TheVariants as fault
 use Rattle.timing_arcs.specs.declared.subject.Subject.{Subject}
 use Rattle.timing_arcs.specs.declared.subject.PinTiming.{PinTiming}
 use Rattle.timing_arcs.specs.declared.timing_type.TimingType.{TimingType}
-use Rattle.timing_arcs.specs.declared.timing_type.TimingType.TheVariants.{Delay, Setup, Hold, Recovery, Removal, Width, Period, Other}
+use Rattle.timing_arcs.specs.declared.timing_type.TimingType.TheVariants.{Delay, Setup, Hold, Recovery, Removal, Width, Period}
+use Rattle.timing_arcs.specs.declared.timing_type.TimingType.TheVariants.{Other}
 use Rattle.liberty_groups.specs.Attributes.{Attribute, attribute_of, group_named}
 use Rattle.cell_machine.specs.Delay.{lesser, least}
 use Rattle.timing_arcs.specs.Times.{time_of}
@@ -30,14 +33,18 @@ use Rattle.timing_arcs.specs.RelatedPins.{inputs_of, is_left_out}
 use Rattle.timing_arcs.specs.Tables.{greatest}
 use Rattle.timing_arcs.specs.Making.{event, check, has_limit, is_made, checks_in, arcs_from, arcs_in, arcs_with, rise_of, fall_of}
 use Rattle.timing_arcs.specs.Merging.{same_path, Placed, firsts_after, firsts, merged_into, merged, merged_at}
-use Rattle.timing_arcs.specs.Timing.{timing_groups, malformed_at, unknown_names_at, own_in, own_conditions_at, wide_in, wide_at, numbers_at, limit_attribute, pulse_high, pulse_low, least_period, attribute_check, attribute_checks, attribute_check_at, at_each, placed_arcs_in, placed_arcs, left_out_at, left_out_from, checks_of, check_at_of, timing_of, unless_at, reading_answer}
+use Rattle.timing_arcs.specs.Timing.{timing_groups, malformed_at, unknown_names_at, own_in, own_conditions_at, wide_in, wide_at}
+use Rattle.timing_arcs.specs.Timing.{numbers_at, limit_attribute, pulse_high, pulse_low, least_period, attribute_check}
+use Rattle.timing_arcs.specs.Timing.{attribute_checks, attribute_check_at, at_each, placed_arcs_in, placed_arcs, left_out_at}
+use Rattle.timing_arcs.specs.Timing.{left_out_from, checks_of, check_at_of, timing_of, unless_at, reading_answer}
 use Rattle.timing_arcs.specs.Laws.{ChecksAreSound, ArcsAreSound, ArcsEndHere, ArcsAreApart, IsPlaced, TimingsArePlaced}
 use Rattle.timing_arcs.proofs.AllLemmas.{both, all-append, all-filter, all-flat_map, all-map, all-weaker}
 use Rattle.timing_arcs.proofs.MergingLemmas.{path-equal}
 use Rattle.timing_arcs.proofs.SoundLemmas.{time_of-within, group-checks, group-arcs, check-kept, has-same}
 
 -- Where the answer is a timing nothing is wrong.
-no_fault : (wrong : ℕ → TimingFault) (o : Option ℕ) (answer : Result PinTiming TimingFault) (t : PinTiming) → unless_at wrong o answer ≡ Ok t → (o ≡ None) × (answer ≡ Ok t)
+no_fault : (wrong : ℕ → TimingFault) (o : Option ℕ) (answer : Result PinTiming TimingFault) (t : PinTiming)
+    → unless_at wrong o answer ≡ Ok t → (o ≡ None) × (answer ≡ Ok t)
 no_fault wrong None answer t e = (refl, e)
 no_fault wrong (Some at) answer t e = absurd cc
 
@@ -67,12 +74,14 @@ both_empty : {A : Type 0} (xs ys : List A) → xs ++ ys ≡ [] → (xs ≡ []) �
 both_empty [] ys h = (refl, h)
 both_empty (x ∷ xs) ys h = absurd cc
 
-all-checks : (subject : Subject) (groups : List Group) → flat_map (own_in subject) groups ≡ [] → flat_map (wide_in subject) groups ≡ [] → list_all (is_check subject.pins) (flat_map (checks_in subject) groups) ≡ true
+all-checks : (subject : Subject) (groups : List Group) → flat_map (own_in subject) groups ≡ []
+    → flat_map (wide_in subject) groups ≡ [] → list_all (is_check subject.pins) (flat_map (checks_in subject) groups) ≡ true
 all-checks subject [] own wide = refl
 all-checks subject (group ∷ groups) own wide =
     let o = both_empty (own_in subject group) (flat_map (own_in subject) groups) own in
     let w = both_empty (wide_in subject group) (flat_map (wide_in subject) groups) wide in
-    all-append (is_check subject.pins) (checks_in subject group) (flat_map (checks_in subject) groups) (group-checks subject group o.0 w.0) (all-checks subject groups o.1 w.1)
+    all-append (is_check subject.pins) (checks_in subject group) (flat_map (checks_in subject) groups)
+    (group-checks subject group o.0 w.0) (all-checks subject groups o.1 w.1)
 
 -- the checks of attributes
 limit-within : (o : Option ℕ) → ((t : ℕ) → o ≡ Some t → t ≤ longest_time) → unwrap_or o 0 ≤ longest_time
@@ -84,34 +93,45 @@ abbrev HaveEvents : Subject → CheckKind → Edge → Edge → Type 0
 HaveEvents subject k first second =
     (limit : ℕ) → has_events (check k (event subject.place first) (event subject.place second) limit None) k ≡ true
 
-attribute-sound : (subject : Subject) (k : CheckKind) (first second : Edge) (attribute : Attribute) → HaveEvents subject k first second → is_input_pin subject.pins subject.place ≡ true → list_all (is_check subject.pins) (attribute_check subject k first second attribute) ≡ true
+attribute-sound : (subject : Subject) (k : CheckKind) (first second : Edge) (attribute : Attribute)
+    → HaveEvents subject k first second → is_input_pin subject.pins subject.place ≡ true
+    → list_all (is_check subject.pins) (attribute_check subject k first second attribute) ≡ true
 attribute-sound subject k first second attribute events input =
     let limit : ℕ = unwrap_or (time_of subject.unit attribute.text) 0 in
     let made : Check = check k (event subject.place first) (event subject.place second) limit None in
     all-filter (is_check subject.pins) has_limit (made ∷ [])
-    (both _ _ (check-kept subject.pins made input input (events limit) (limit-within (time_of subject.unit attribute.text) (time_of-within subject.unit attribute.text)) refl) refl)
+    (both _ _ (check-kept subject.pins made input input (events limit)
+    (limit-within (time_of subject.unit attribute.text) (time_of-within subject.unit attribute.text)) refl) refl)
 
-attributes-of : (subject : Subject) (k : CheckKind) (first second : Edge) (o : Option Attribute) → HaveEvents subject k first second → is_input_pin subject.pins subject.place ≡ true → list_all (is_check subject.pins) (attribute_checks subject k first second o) ≡ true
+attributes-of : (subject : Subject) (k : CheckKind) (first second : Edge) (o : Option Attribute)
+    → HaveEvents subject k first second → is_input_pin subject.pins subject.place ≡ true
+    → list_all (is_check subject.pins) (attribute_checks subject k first second o) ≡ true
 attributes-of subject k first second None events input = refl
 attributes-of subject k first second (Some attribute) events input = attribute-sound subject k first second attribute events input
 
-attributes-sound : (subject : Subject) (k : CheckKind) (first second : Edge) (pin : Group) (name : List ℕ) → HaveEvents subject k first second → list_all (is_check subject.pins) (attribute_checks subject k first second (limit_attribute subject pin name)) ≡ true
+attributes-sound : (subject : Subject) (k : CheckKind) (first second : Edge) (pin : Group) (name : List ℕ)
+    → HaveEvents subject k first second
+    → list_all (is_check subject.pins) (attribute_checks subject k first second (limit_attribute subject pin name)) ≡ true
 attributes-sound subject k first second pin name events =
     elim (cases_Bool (is_input_pin subject.pins subject.place)) [
       | inl input ↦ rw input (attributes-of subject k first second (attribute_of pin name) events input)
       | inr other ↦ rw other refl
     ]
 
-checks-sound : (subject : Subject) (pin : Group) → own_conditions_at subject pin ≡ [] → wide_at subject pin ≡ [] → list_all (is_check subject.pins) (checks_of subject pin) ≡ true
+checks-sound : (subject : Subject) (pin : Group) → own_conditions_at subject pin ≡ [] → wide_at subject pin ≡ []
+    → list_all (is_check subject.pins) (checks_of subject pin) ≡ true
 checks-sound subject pin own wide =
     let is : List Check → Type 0 = λ ks. list_all (is_check subject.pins) ks ≡ true in
     let high : is (attribute_checks subject kind.Width Rise Fall (pulse_high subject pin)) =
-    attributes-sound subject kind.Width Rise Fall pin (codes "min_pulse_width_high") (λ limit. both _ _ (has-same subject.place) refl) in
+    attributes-sound subject kind.Width Rise Fall pin (codes "min_pulse_width_high")
+    (λ limit. both _ _ (has-same subject.place) refl) in
     let low : is (attribute_checks subject kind.Width Fall Rise (pulse_low subject pin)) =
-    attributes-sound subject kind.Width Fall Rise pin (codes "min_pulse_width_low") (λ limit. both _ _ (has-same subject.place) refl) in
+    attributes-sound subject kind.Width Fall Rise pin (codes "min_pulse_width_low")
+    (λ limit. both _ _ (has-same subject.place) refl) in
     let period : is (attribute_checks subject kind.Period Any Any (least_period subject pin)) =
     attributes-sound subject kind.Period Any Any pin (codes "min_period") (λ limit. both _ _ (has-same subject.place) refl) in
-    all-append (is_check subject.pins) (flat_map (checks_in subject) (timing_groups pin)) _ (all-checks subject (timing_groups pin) own wide)
+    all-append (is_check subject.pins) (flat_map (checks_in subject) (timing_groups pin)) _
+    (all-checks subject (timing_groups pin) own wide)
     (all-append (is_check subject.pins) (attribute_checks subject kind.Width Rise Fall (pulse_high subject pin)) _ high
     (all-append (is_check subject.pins) (attribute_checks subject kind.Width Fall Rise (pulse_low subject pin)) _ low period))
 
@@ -119,29 +139,36 @@ pub checks_are_sound : ChecksAreSound
 checks_are_sound subject pin t e narrow =
     let is = read subject pin t e in
     let wide : least (wide_at subject pin) ≡ None = ap (λ (s : PinTiming). s.wide) is.timing ∙ narrow in
-    subst (λ (s : PinTiming). list_all (is_check subject.pins) s.checks ≡ true) is.timing (checks-sound subject pin is.own (none-least (wide_at subject pin) wide))
+    subst (λ (s : PinTiming). list_all (is_check subject.pins) s.checks ≡ true) is.timing
+    (checks-sound subject pin is.own (none-least (wide_at subject pin) wide))
 
 -- Arcs before they are merged, and after.
 abbrev arc_is : (Arc → Bool) → Placed → Bool
 arc_is t p = t p.arc
 
-all-placed : (t : Arc → Bool) (subject : Subject) (groups : List Group) → ((group : Group) → list_all t (arcs_in subject group) ≡ true) → list_all (arc_is t) (flat_map (placed_arcs_in subject) groups) ≡ true
+all-placed : (t : Arc → Bool) (subject : Subject) (groups : List Group)
+    → ((group : Group) → list_all t (arcs_in subject group) ≡ true)
+    → list_all (arc_is t) (flat_map (placed_arcs_in subject) groups) ≡ true
 all-placed t subject [] f = refl
 all-placed t subject (group ∷ groups) f =
     all-append (arc_is t) (placed_arcs_in subject group) (flat_map (placed_arcs_in subject) groups)
     (all-map (arc_is t) (λ arc. record { arc = arc; at = group.at }) (arcs_in subject group) (f group))
     (all-placed t subject groups f)
 
-all-arcs : (subject : Subject) (groups : List Group) → flat_map (own_in subject) groups ≡ [] → flat_map (wide_in subject) groups ≡ [] → list_all (arc_is (is_arc subject.pins)) (flat_map (placed_arcs_in subject) groups) ≡ true
+all-arcs : (subject : Subject) (groups : List Group) → flat_map (own_in subject) groups ≡ []
+    → flat_map (wide_in subject) groups ≡ []
+    → list_all (arc_is (is_arc subject.pins)) (flat_map (placed_arcs_in subject) groups) ≡ true
 all-arcs subject [] own wide = refl
 all-arcs subject (group ∷ groups) own wide =
     let o = both_empty (own_in subject group) (flat_map (own_in subject) groups) own in
     let w = both_empty (wide_in subject group) (flat_map (wide_in subject) groups) wide in
     all-append (arc_is (is_arc subject.pins)) (placed_arcs_in subject group) (flat_map (placed_arcs_in subject) groups)
-    (all-map (arc_is (is_arc subject.pins)) (λ arc. record { arc = arc; at = group.at }) (arcs_in subject group) (group-arcs subject group o.0 w.0))
+    (all-map (arc_is (is_arc subject.pins)) (λ arc. record { arc = arc; at = group.at }) (arcs_in subject group)
+    (group-arcs subject group o.0 w.0))
     (all-arcs subject groups o.1 w.1)
 
-all-firsts : (t : Placed → Bool) (earlier : List Arc) (made : List Placed) → list_all t made ≡ true → list_all t (firsts_after earlier made) ≡ true
+all-firsts : (t : Placed → Bool) (earlier : List Arc) (made : List Placed) → list_all t made ≡ true
+    → list_all t (firsts_after earlier made) ≡ true
 all-firsts t earlier [] h = refl
 all-firsts t earlier (p ∷ made) h =
     let parts = and_parts (t p) (list_all t made) h in
@@ -151,10 +178,12 @@ all-firsts t earlier (p ∷ made) h =
     ]
 
 -- what all arcs are, and merging does not change, the merged ones are
-all-merged : (t : Arc → Bool) (made : List Placed) → ((arc : Arc) → t arc ≡ true → t (merged_into made arc) ≡ true) → list_all (arc_is t) made ≡ true → list_all t (merged made) ≡ true
+all-merged : (t : Arc → Bool) (made : List Placed) → ((arc : Arc) → t arc ≡ true → t (merged_into made arc) ≡ true)
+    → list_all (arc_is t) made ≡ true → list_all t (merged made) ≡ true
 all-merged t made f h =
     all-map t (λ (p : Placed). merged_into made p.arc) (firsts made)
-    (all-weaker (arc_is t) (λ (p : Placed). t (merged_into made p.arc)) (firsts made) (λ p is. f p.arc is) (all-firsts (arc_is t) [] made h))
+    (all-weaker (arc_is t) (λ (p : Placed). t (merged_into made p.arc)) (firsts made) (λ p is. f p.arc is)
+    (all-firsts (arc_is t) [] made h))
 
 abbrev short_rise : Arc → Bool
 short_rise arc = nat_le arc.rise longest_time
@@ -162,7 +191,9 @@ short_rise arc = nat_le arc.rise longest_time
 abbrev short_fall : Arc → Bool
 short_fall arc = nat_le arc.fall longest_time
 
-greatest-short : (f : Arc → ℕ) (t : Placed → Bool) (made : List Placed) → list_all (λ (p : Placed). nat_le (f p.arc) longest_time) made ≡ true → greatest (map (λ (p : Placed). f p.arc) (filter t made)) ≤ longest_time
+greatest-short : (f : Arc → ℕ) (t : Placed → Bool) (made : List Placed)
+    → list_all (λ (p : Placed). nat_le (f p.arc) longest_time) made ≡ true
+    → greatest (map (λ (p : Placed). f p.arc) (filter t made)) ≤ longest_time
 greatest-short f t [] h = omega arith
 greatest-short f t (p ∷ made) h =
     let parts = and_parts (nat_le (f p.arc) longest_time) (list_all (λ (p : Placed). nat_le (f p.arc) longest_time) made) h in
@@ -192,7 +223,8 @@ arc_parts pins arc h =
     let d = and_parts (nat_le arc.fall longest_time) (is_condition pins (arc.from ∷ []) arc.condition) c.1 in
     record { from = a.0; to = b.0; rise = c.0; fall = d.0; condition = d.1 }
 
-merged-sound : (pins : List Pin) (made : List Placed) → list_all (arc_is (is_arc pins)) made ≡ true → list_all (is_arc pins) (merged made) ≡ true
+merged-sound : (pins : List Pin) (made : List Placed) → list_all (arc_is (is_arc pins)) made ≡ true
+    → list_all (is_arc pins) (merged made) ≡ true
 merged-sound pins made h =
     let rises = all-weaker (arc_is (is_arc pins)) (arc_is short_rise) made (λ p is. (arc_parts pins p.arc is).rise) h in
     let falls = all-weaker (arc_is (is_arc pins)) (arc_is short_fall) made (λ p is. (arc_parts pins p.arc is).fall) h in
@@ -208,13 +240,15 @@ arcs_are_sound subject pin t e narrow =
     let is = read subject pin t e in
     let wide : least (wide_at subject pin) ≡ None = ap (λ (s : PinTiming). s.wide) is.timing ∙ narrow in
     subst (λ (s : PinTiming). list_all (is_arc subject.pins) s.arcs ≡ true) is.timing
-    (merged-sound subject.pins (placed_arcs subject pin) (all-arcs subject (timing_groups pin) is.own (none-least (wide_at subject pin) wide)))
+    (merged-sound subject.pins (placed_arcs subject pin)
+    (all-arcs subject (timing_groups pin) is.own (none-least (wide_at subject pin) wide)))
 
 -- They end at the pin.
 abbrev ends_at : ℕ → Arc → Bool
 ends_at place arc = nat_eq arc.to place
 
-typed-ends : (place : ℕ) (t : TimingType) (p rise fall : ℕ) (c : Option _) → list_all (ends_at place) (arcs_with t place p rise fall c) ≡ true
+typed-ends : (place : ℕ) (t : TimingType) (p rise fall : ℕ) (c : Option _)
+    → list_all (ends_at place) (arcs_with t place p rise fall c) ≡ true
 typed-ends place Delay p rise fall c = both _ _ (has-same place) refl
 typed-ends place (Setup edge) p rise fall c = refl
 typed-ends place (Hold edge) p rise fall c = refl
@@ -233,7 +267,9 @@ group-ends subject group =
     elim (cases_Bool (is_made subject group)) [
       | inl made ↦
           rw made
-          (all-flat_map (ends_at subject.place) (arcs_from subject group) (λ p. true) (inputs_of subject group) (λ p h. typed-ends subject.place (type_of group) p (rise_of subject group) (fall_of subject group) _) (all-of (inputs_of subject group)))
+          (all-flat_map (ends_at subject.place) (arcs_from subject group) (λ p. true) (inputs_of subject group)
+          (λ p h. typed-ends subject.place (type_of group) p (rise_of subject group) (fall_of subject group) _)
+          (all-of (inputs_of subject group)))
       | inr not_made ↦ rw not_made refl
     ]
 
@@ -241,7 +277,8 @@ pub arcs_end_here : ArcsEndHere
 arcs_end_here subject pin t e =
     let is = read subject pin t e in
     subst (λ (s : PinTiming). list_all (ends_at subject.place) s.arcs ≡ true) is.timing
-    (all-merged (ends_at subject.place) (placed_arcs subject pin) (λ arc h. h) (all-placed (ends_at subject.place) subject (timing_groups pin) (group-ends subject)))
+    (all-merged (ends_at subject.place) (placed_arcs subject pin) (λ arc h. h)
+    (all-placed (ends_at subject.place) subject (timing_groups pin) (group-ends subject)))
 
 -- No two have the same path.
 abbrev unlike : Arc → Arc → Bool
@@ -261,7 +298,8 @@ neither false b h = (refl, h)
 -- what holds of the first with each path, where it holds of one more that is like none before it
 each-first :
     (P : List Arc → List Placed → Type 0) → ((earlier : List Arc) → P earlier [])
-    → ((earlier : List Arc) (p : Placed) (ps : List Placed) → list_any (same_path p.arc) earlier ≡ false → P (p.arc ∷ earlier) ps → P earlier (p ∷ ps))
+    → ((earlier : List Arc) (p : Placed) (ps : List Placed) → list_any (same_path p.arc) earlier ≡ false → P (p.arc ∷ earlier) ps
+    → P earlier (p ∷ ps))
     → (earlier : List Arc) (made : List Placed) → P earlier (firsts_after earlier made)
 each-first P none one earlier [] = none earlier
 each-first P none one earlier (p ∷ made) =
@@ -272,12 +310,15 @@ each-first P none one earlier (p ∷ made) =
 
 -- they are like none before them, and no two of them are alike
 abbrev AreNew : List Arc → List Placed → Type 0
-AreNew earlier ps = (list_all (λ (p : Placed). not (list_any (same_path p.arc) earlier)) ps ≡ true) × (apart (map arc_of ps) ≡ true)
+AreNew earlier ps = (list_all (λ (p : Placed). not (list_any (same_path p.arc) earlier)) ps ≡ true)
+    × (apart (map arc_of ps) ≡ true)
 
-one-new : (earlier : List Arc) (p : Placed) (ps : List Placed) → list_any (same_path p.arc) earlier ≡ false → AreNew (p.arc ∷ earlier) ps → AreNew earlier (p ∷ ps)
+one-new : (earlier : List Arc) (p : Placed) (ps : List Placed) → list_any (same_path p.arc) earlier ≡ false
+    → AreNew (p.arc ∷ earlier) ps → AreNew earlier (p ∷ ps)
 one-new earlier p ps new (none, alone) = (
   both _ _ (ap not new)
-      (all-weaker (λ (q : Placed). not (list_any (same_path q.arc) (p.arc ∷ earlier))) (λ (q : Placed). not (list_any (same_path q.arc) earlier)) ps
+      (all-weaker (λ (q : Placed). not (list_any (same_path q.arc) (p.arc ∷ earlier)))
+      (λ (q : Placed). not (list_any (same_path q.arc) earlier)) ps
       (λ q h. (neither (same_path q.arc p.arc) (list_any (same_path q.arc) earlier) h).1) none),
   both _ _
       (all-map (unlike p.arc) arc_of ps
@@ -289,11 +330,14 @@ one-new earlier p ps new (none, alone) = (
 firsts-apart : (earlier : List Arc) (made : List Placed) → apart (map arc_of (firsts_after earlier made)) ≡ true
 firsts-apart earlier made = (each-first AreNew (λ earlier. (refl, refl)) one-new earlier made).1
 
-unlike-merged : (made : List Placed) (a : Arc) (ps : List Placed) → list_all (unlike a) (map arc_of ps) ≡ true → list_all (unlike (merged_into made a)) (map (λ (p : Placed). merged_into made p.arc) ps) ≡ true
+unlike-merged : (made : List Placed) (a : Arc) (ps : List Placed) → list_all (unlike a) (map arc_of ps) ≡ true
+    → list_all (unlike (merged_into made a)) (map (λ (p : Placed). merged_into made p.arc) ps) ≡ true
 unlike-merged made a [] h = refl
-unlike-merged made a (p ∷ ps) h = let parts = and_parts (unlike a p.arc) (list_all (unlike a) (map arc_of ps)) h in both _ _ parts.0 (unlike-merged made a ps parts.1)
+unlike-merged made a (p ∷ ps) h = let parts = and_parts (unlike a p.arc) (list_all (unlike a) (map arc_of ps)) h
+    in both _ _ parts.0 (unlike-merged made a ps parts.1)
 
-apart-merged : (made : List Placed) (ps : List Placed) → apart (map arc_of ps) ≡ true → apart (map (λ (p : Placed). merged_into made p.arc) ps) ≡ true
+apart-merged : (made : List Placed) (ps : List Placed) → apart (map arc_of ps) ≡ true
+    → apart (map (λ (p : Placed). merged_into made p.arc) ps) ≡ true
 apart-merged made [] h = refl
 apart-merged made (p ∷ ps) h =
     let parts = and_parts (list_all (unlike p.arc) (map arc_of ps)) (apart (map arc_of ps)) h in
@@ -304,13 +348,16 @@ all-get t [] i x h e = absurd cc
 all-get t (y ∷ xs) zero x h e = let same : y ≡ x = cc in subst (λ z. t z ≡ true) same (and_parts (t y) (list_all t xs) h).0
 all-get t (y ∷ xs) (suc i) x h e = all-get t xs i x (and_parts (t y) (list_all t xs) h).1 e
 
-apart-get : (arcs : List Arc) (i j : ℕ) (a b : Arc) → apart arcs ≡ true → i < j → slice_get arcs i ≡ Some a → slice_get arcs j ≡ Some b → unlike a b ≡ true
+apart-get : (arcs : List Arc) (i j : ℕ) (a b : Arc) → apart arcs ≡ true → i < j → slice_get arcs i ≡ Some a
+    → slice_get arcs j ≡ Some b → unlike a b ≡ true
 apart-get [] i j a b h l e f = absurd cc
 apart-get (x ∷ arcs) i zero a b h l e f = absurd (omega arith)
 apart-get (x ∷ arcs) zero (suc j) a b h l e f =
     let same : x ≡ a = cc in
-    subst (λ (y : Arc). unlike y b ≡ true) same (all-get (unlike x) arcs j b (and_parts (list_all (unlike x) arcs) (apart arcs) h).0 f)
-apart-get (x ∷ arcs) (suc i) (suc j) a b h l e f = apart-get arcs i j a b (and_parts (list_all (unlike x) arcs) (apart arcs) h).1 (omega arith) e f
+    subst (λ (y : Arc). unlike y b ≡ true) same
+    (all-get (unlike x) arcs j b (and_parts (list_all (unlike x) arcs) (apart arcs) h).0 f)
+apart-get (x ∷ arcs) (suc i) (suc j) a b h l e f =
+    apart-get arcs i j a b (and_parts (list_all (unlike x) arcs) (apart arcs) h).1 (omega arith) e f
 
 all-apart-arcs : (arcs : List Arc) → apart arcs ≡ true → AreApart arcs
 all-apart-arcs arcs h i j a b l e f from to condition =
@@ -322,40 +369,53 @@ pub arcs_are_apart : ArcsAreApart
 arcs_are_apart subject pin t e =
     let is = read subject pin t e in
     subst (λ (s : PinTiming). AreApart s.arcs) is.timing
-    (all-apart-arcs (merged (placed_arcs subject pin)) (apart-merged (placed_arcs subject pin) (firsts (placed_arcs subject pin)) (firsts-apart [] (placed_arcs subject pin))))
+    (all-apart-arcs (merged (placed_arcs subject pin))
+    (apart-merged (placed_arcs subject pin) (firsts (placed_arcs subject pin)) (firsts-apart [] (placed_arcs subject pin))))
 
 -- The offsets, and the places of the groups that are left out.
-groups-lengths : (subject : Subject) (groups : List Group) → length (flat_map (λ (group : Group). at_each group.at (checks_in subject group)) groups) ≡ length (flat_map (checks_in subject) groups)
+groups-lengths : (subject : Subject) (groups : List Group)
+    → length (flat_map (λ (group : Group). at_each group.at (checks_in subject group)) groups) ≡ length
+    (flat_map (checks_in subject) groups)
 groups-lengths subject [] = refl
 groups-lengths subject (group ∷ groups) =
     let others = groups-lengths subject groups in
-    length-append (at_each group.at (checks_in subject group)) (flat_map (λ (group : Group). at_each group.at (checks_in subject group)) groups)
-    ∙ ap (λ n. n + length (flat_map (λ (group : Group). at_each group.at (checks_in subject group)) groups)) (length-map (checks_in subject group) (λ x. group.at))
+    length-append (at_each group.at (checks_in subject group))
+    (flat_map (λ (group : Group). at_each group.at (checks_in subject group)) groups)
+    ∙ ap (λ n. n + length (flat_map (λ (group : Group). at_each group.at (checks_in subject group)) groups))
+    (length-map (checks_in subject group) (λ x. group.at))
     ∙ ap (λ n. length (checks_in subject group) + n) others
     ∙ sym (length-append (checks_in subject group) (flat_map (checks_in subject) groups))
 
-attribute-lengths : (subject : Subject) (k : CheckKind) (first second : Edge) (o : Option Attribute) → length (attribute_check_at subject k first second o) ≡ length (attribute_checks subject k first second o)
+attribute-lengths : (subject : Subject) (k : CheckKind) (first second : Edge) (o : Option Attribute)
+    → length (attribute_check_at subject k first second o) ≡ length (attribute_checks subject k first second o)
 attribute-lengths subject k first second None = refl
-attribute-lengths subject k first second (Some attribute) = length-map (attribute_check subject k first second attribute) (λ x. attribute.at)
+attribute-lengths subject k first second (Some attribute) =
+    length-map (attribute_check subject k first second attribute) (λ x. attribute.at)
 
-lengths-append : {A : Type 0} (ns ms : List ℕ) (xs ys : List A) → length ns ≡ length xs → length ms ≡ length ys → length (ns ++ ms) ≡ length (xs ++ ys)
-lengths-append ns ms xs ys h k = length-append ns ms ∙ ap (λ n. n + length ms) h ∙ ap (λ n. length xs + n) k ∙ sym (length-append xs ys)
+lengths-append : {A : Type 0} (ns ms : List ℕ) (xs ys : List A) → length ns ≡ length xs → length ms ≡ length ys
+    → length (ns ++ ms) ≡ length (xs ++ ys)
+lengths-append ns ms xs ys h k = length-append ns ms ∙ ap (λ n. n + length ms) h ∙ ap (λ n. length xs + n) k
+    ∙ sym (length-append xs ys)
 
 checks-lengths : (subject : Subject) (pin : Group) → length (check_at_of subject pin) ≡ length (checks_of subject pin)
 checks-lengths subject pin =
     lengths-append _ _ (flat_map (checks_in subject) (timing_groups pin)) _ (groups-lengths subject (timing_groups pin))
-    (lengths-append _ _ (attribute_checks subject kind.Width Rise Fall (pulse_high subject pin)) _ (attribute-lengths subject kind.Width Rise Fall (pulse_high subject pin))
-    (lengths-append _ _ (attribute_checks subject kind.Width Fall Rise (pulse_low subject pin)) (attribute_checks subject kind.Period Any Any (least_period subject pin))
+    (lengths-append _ _ (attribute_checks subject kind.Width Rise Fall (pulse_high subject pin)) _
+    (attribute-lengths subject kind.Width Rise Fall (pulse_high subject pin))
+    (lengths-append _ _ (attribute_checks subject kind.Width Fall Rise (pulse_low subject pin))
+    (attribute_checks subject kind.Period Any Any (least_period subject pin))
     (attribute-lengths subject kind.Width Fall Rise (pulse_low subject pin))
     (attribute-lengths subject kind.Period Any Any (least_period subject pin))))
 
 arcs-lengths : (made : List Placed) → length (merged_at made) ≡ length (merged made)
-arcs-lengths made = length-map (firsts made) (λ (p : Placed). p.at) ∙ sym (length-map (firsts made) (λ (p : Placed). merged_into made p.arc))
+arcs-lengths made = length-map (firsts made) (λ (p : Placed). p.at)
+    ∙ sym (length-map (firsts made) (λ (p : Placed). merged_into made p.arc))
 
 below-test : (n m : ℕ) → n < m → nat_lt n m ≡ true
 below-test n m h = grind (arith, nat_tests)
 
-place-below : (subject : Subject) (place top : ℕ) (o : Option Group) → place < top → list_all (λ n. nat_lt n top) (left_out_at subject place o) ≡ true
+place-below : (subject : Subject) (place top : ℕ) (o : Option Group) → place < top
+    → list_all (λ n. nat_lt n top) (left_out_at subject place o) ≡ true
 place-below subject place top None h = refl
 place-below subject place top (Some group) h =
     elim (is_left_out subject group) as (λ b. list_all (λ n. nat_lt n top) (if b then place ∷ [] else []) ≡ true) [
@@ -363,10 +423,12 @@ place-below subject place top (Some group) h =
       | false ↦ refl
     ]
 
-places-below : (subject : Subject) (place top : ℕ) (items : List Item) → place + length items ≤ top → list_all (λ n. nat_lt n top) (left_out_from subject place items) ≡ true
+places-below : (subject : Subject) (place top : ℕ) (items : List Item) → place + length items ≤ top
+    → list_all (λ n. nat_lt n top) (left_out_from subject place items) ≡ true
 places-below subject place top [] h = refl
 places-below subject place top (item ∷ items) h =
-    all-append (λ n. nat_lt n top) (left_out_at subject place (group_named (codes "timing") (out-Item item))) (left_out_from subject (place + 1) items)
+    all-append (λ n. nat_lt n top) (left_out_at subject place (group_named (codes "timing") (out-Item item)))
+    (left_out_from subject (place + 1) items)
     (place-below subject place top (group_named (codes "timing") (out-Item item)) (omega arith))
     (places-below subject (place + 1) top items (omega arith))
 

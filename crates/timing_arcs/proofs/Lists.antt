@@ -1,5 +1,6 @@
 -- Lists.
-use Rattle.std.proofs.Common.{◌≡◌, ℕ, zero, suc, ◌<◌, Bool, true, false, ◌||◌, List, [], ◌∷◌, ◌++◌, map, take, drop, set, get_or, length, refl, sym, ap, ◌∙◌, arith}
+use Rattle.std.proofs.Common.{◌≡◌, ℕ, zero, suc, ◌<◌, Bool, true, false, ◌||◌, List, [], ◌∷◌, ◌++◌, map, take, drop, set, get_or}
+use Rattle.std.proofs.Common.{length, refl, sym, ap, ◌∙◌, arith}
 use Rattle.std.specs.List.{list_any}
 
 pub or-false : (b : Bool) → (b || false) ≡ b
@@ -19,12 +20,15 @@ map-both f g (x ∷ xs) = ap (λ ys. f (g x) ∷ ys) (map-both f g xs)
 abbrev pub changed : {A : Type 0} → (A → A) → ℕ → List A → List A
 changed f i xs = map f (take i xs) ++ drop i xs
 
-pub set_next : {A : Type 0} (f : A → A) (xs : List A) (i : ℕ) (x : A) → i < length xs → x ≡ get_or (changed f i xs) i x → set (changed f i xs) i (f x) ≡ changed f (suc i) xs
+pub set_next : {A : Type 0} (f : A → A) (xs : List A) (i : ℕ) (x : A) → i < length xs → x ≡ get_or (changed f i xs) i x
+    → set (changed f i xs) i (f x) ≡ changed f (suc i) xs
 set_next f [] i x h e = absurd (omega arith)
 set_next f (y ∷ xs) zero x h e = ap (λ z. f z ∷ xs) e
 set_next f (y ∷ xs) (suc i) x h e = ap (λ zs. f y ∷ zs) (set_next f xs i x (omega arith) e)
 
-pub any_next : {A : Type 0} (f : A → A) (p : A → Bool) (xs : List A) (i : ℕ) (x : A) → i < length xs → x ≡ get_or (changed f i xs) i x → list_any p (take (suc i) xs) ≡ (list_any p (take i xs) || p x)
+pub any_next : {A : Type 0} (f : A → A) (p : A → Bool) (xs : List A) (i : ℕ) (x : A) → i < length xs
+    → x ≡ get_or (changed f i xs) i x → list_any p (take (suc i) xs) ≡ (list_any p (take i xs) || p x)
 any_next f p [] i x h e = absurd (omega arith)
 any_next f p (y ∷ xs) zero x h e = ap (λ z. p z || false) (sym e) ∙ or-false (p x)
-any_next f p (y ∷ xs) (suc i) x h e = ap (λ b. p y || b) (any_next f p xs i x (omega arith) e) ∙ or-assoc (p y) (list_any p (take i xs)) (p x)
+any_next f p (y ∷ xs) (suc i) x h e = ap (λ b. p y || b) (any_next f p xs i x (omega arith) e)
+    ∙ or-assoc (p y) (list_any p (take i xs)) (p x)

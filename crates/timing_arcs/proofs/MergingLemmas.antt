@@ -1,5 +1,6 @@
 -- Merging one more arc.
-use Rattle.std.proofs.Common.{◌≡◌, ℕ, Bool, true, false, ◌&&◌, ◌||◌, ◌==◌, List, [], ◌∷◌, ◌++◌, map, refl, sym, ap, ◌∙◌, arith, append-nil}
+use Rattle.std.proofs.Common.{◌≡◌, ℕ, Bool, true, false, ◌&&◌, ◌||◌, ◌==◌, List, [], ◌∷◌, ◌++◌, map, refl, sym, ap, ◌∙◌, arith}
+use Rattle.std.proofs.Common.{append-nil}
 use Rattle.std.specs.Prelude.{Option, Some, None, max, filter, if◌then◌else◌}
 use Rattle.std.specs.List.{list_any}
 use Rattle.std.proofs.lemmas.Bool.{and_parts, eqb-true, cases_Bool}
@@ -66,7 +67,8 @@ path-back a b h = sym (path-like a b a h) ∙ path-refl a
 
 any-like : (a b : Arc) (cs : List Arc) → same_path a b ≡ true → list_any (same_path a) cs ≡ list_any (same_path b) cs
 any-like a b [] h = refl
-any-like a b (c ∷ cs) h = ap (λ t. t || list_any (same_path a) cs) (path-like a b c h) ∙ ap (λ t. same_path b c || t) (any-like a b cs h)
+any-like a b (c ∷ cs) h = ap (λ t. t || list_any (same_path a) cs) (path-like a b c h)
+    ∙ ap (λ t. same_path b c || t) (any-like a b cs h)
 
 abbrev arc_of : Placed → Arc
 arc_of p = p.arc
@@ -101,7 +103,8 @@ firsts_after-append earlier (p ∷ made) q =
           rw new
           (ap (λ (ps : List Placed). p ∷ ps)
           (firsts_after-append (p.arc ∷ earlier) made q
-          ∙ ap (λ b. firsts_after (p.arc ∷ earlier) made ++ if_new b q) (any-move q.arc p.arc earlier (map arc_of (firsts_after (p.arc ∷ earlier) made)))))
+          ∙ ap (λ b. firsts_after (p.arc ∷ earlier) made ++ if_new b q)
+          (any-move q.arc p.arc earlier (map arc_of (firsts_after (p.arc ∷ earlier) made)))))
     ]
 
 true-or : (a b : Bool) → a ≡ true → (a || b) ≡ true
@@ -117,7 +120,8 @@ false-or true b h e = absurd cc
 false-or false b h e = e
 
 -- an arc has the path of a kept one, where it has that of one at all
-covered : (earlier : List Arc) (made : List Placed) (q : Arc) → list_any (λ (p : Placed). same_path p.arc q) made ≡ true → kept_has q earlier made ≡ true
+covered : (earlier : List Arc) (made : List Placed) (q : Arc) → list_any (λ (p : Placed). same_path p.arc q) made ≡ true
+    → kept_has q earlier made ≡ true
 covered earlier [] q h = absurd cc
 covered earlier (p ∷ made) q h =
     elim (cases_Bool (same_path p.arc q)) [
@@ -158,20 +162,28 @@ rise_of p = p.arc.rise
 abbrev fall_of : Placed → ℕ
 fall_of p = p.arc.fall
 
-greatest-map-one : (f : Placed → ℕ) (ps : List Placed) (q : Placed) → greatest (map f (ps ++ q ∷ [])) ≡ max (greatest (map f ps)) (f q)
+greatest-map-one : (f : Placed → ℕ) (ps : List Placed) (q : Placed)
+    → greatest (map f (ps ++ q ∷ [])) ≡ max (greatest (map f ps)) (f q)
 greatest-map-one f ps q =
     ap greatest (map-append f ps (q ∷ [])) ∙ greatest-append (map f ps) (f q ∷ []) ∙ omega arith
 
 -- one more arc in what arcs of one path are merged into
-merged_into-append : (made : List Placed) (q : Placed) (a : Arc) → merged_into (made ++ q ∷ []) a ≡ joined_with q.arc (merged_into made a)
+merged_into-append : (made : List Placed) (q : Placed) (a : Arc)
+    → merged_into (made ++ q ∷ []) a ≡ joined_with q.arc (merged_into made a)
 merged_into-append made q a =
     let test : Placed → Bool = λ (p : Placed). same_path p.arc a in
     elim (cases_Bool (same_path q.arc a)) [
       | inl same ↦
-          let whole : filter test (made ++ q ∷ []) ≡ filter test made ++ q ∷ [] = filter-append test made (q ∷ []) ∙ rw same refl in
-          rw (whole, same) (λ i. record a { rise = greatest-map-one rise_of (filter test made) q i; fall = greatest-map-one fall_of (filter test made) q i })
+          let whole : filter test (made ++ q ∷ []) ≡ filter test made ++ q ∷ [] = filter-append test made (q ∷ []) ∙ rw same refl
+          in
+          rw (whole, same) (λ i. record a {
+            rise = greatest-map-one rise_of (filter test made) q i;
+            fall =
+                greatest-map-one fall_of (filter test made) q i;
+          })
       | inr other ↦
-          let whole : filter test (made ++ q ∷ []) ≡ filter test made = filter-append test made (q ∷ []) ∙ rw other (append-nil (filter test made)) in
+          let whole : filter test (made ++ q ∷ []) ≡ filter test made = filter-append test made (q ∷ [])
+          ∙ rw other (append-nil (filter test made)) in
           rw (whole, other) refl
     ]
 
@@ -184,19 +196,22 @@ merged_into-new made q h =
       | inr none ↦ none
     ] in
     let whole : filter test (made ++ q ∷ []) ≡ q ∷ [] =
-    filter-append test made (q ∷ []) ∙ ap (λ (ps : List Placed). ps ++ filter test (q ∷ [])) (none-filtered test made none) ∙ rw (path-refl q.arc) refl in
+    filter-append test made (q ∷ []) ∙ ap (λ (ps : List Placed). ps ++ filter test (q ∷ [])) (none-filtered test made none)
+    ∙ rw (path-refl q.arc) refl in
     let rise : max q.arc.rise 0 ≡ q.arc.rise = omega arith in
     let fall : max q.arc.fall 0 ≡ q.arc.fall = omega arith in
     rw whole (λ i. record (q.arc) { rise = rise i; fall = fall i })
 
 map-merged : (made : List Placed) (q : Placed) (ps : List Placed) →
-    map (λ (p : Placed). merged_into (made ++ q ∷ []) p.arc) ps ≡ map (joined_with q.arc) (map (λ (p : Placed). merged_into made p.arc) ps)
+    map (λ (p : Placed). merged_into (made ++ q ∷ []) p.arc) ps ≡ map (joined_with q.arc)
+    (map (λ (p : Placed). merged_into made p.arc) ps)
 map-merged made q [] = refl
 map-merged made q (p ∷ ps) =
     ap (λ (a : Arc). a ∷ map (λ (p : Placed). merged_into (made ++ q ∷ []) p.arc) ps) (merged_into-append made q p.arc)
     ∙ ap (λ (arcs : List Arc). joined_with q.arc (merged_into made p.arc) ∷ arcs) (map-merged made q ps)
 
-any-merged : (made : List Placed) (q : Arc) (ps : List Placed) → list_any (same_path q) (map (λ (p : Placed). merged_into made p.arc) ps) ≡ list_any (same_path q) (map arc_of ps)
+any-merged : (made : List Placed) (q : Arc) (ps : List Placed)
+    → list_any (same_path q) (map (λ (p : Placed). merged_into made p.arc) ps) ≡ list_any (same_path q) (map arc_of ps)
 any-merged made q [] = refl
 any-merged made q (p ∷ ps) = ap (λ b. same_path q p.arc || b) (any-merged made q ps)
 
@@ -205,7 +220,8 @@ pub merged-append : (made : List Placed) (q : Placed) → with_arc (merged made)
 merged-append made q =
     elim (cases_Bool (kept_has q.arc [] made)) [
       | inl there ↦
-          let left : firsts (made ++ q ∷ []) ≡ firsts made = firsts_after-append [] made q ∙ rw there (append-nil (firsts made)) in
+          let left : firsts (made ++ q ∷ []) ≡ firsts made = firsts_after-append [] made q ∙ rw there (append-nil (firsts made))
+          in
           let found : list_any (same_path q.arc) (merged made) ≡ true = any-merged made q.arc (firsts made) ∙ there in
           rw (found, left) (sym (map-merged made q (firsts made)))
       | inr new ↦
@@ -219,11 +235,13 @@ merged-append made q =
 
 -- and the offsets of the groups that first made them
 pub merged_at-append : (made : List Placed) (q : Placed) →
-    (if list_any (same_path q.arc) (merged made) then merged_at made else merged_at made ++ q.at ∷ []) ≡ merged_at (made ++ q ∷ [])
+    (if list_any (same_path q.arc) (merged made) then merged_at made else merged_at made ++ q.at ∷ []) ≡ merged_at
+    (made ++ q ∷ [])
 merged_at-append made q =
     elim (cases_Bool (kept_has q.arc [] made)) [
       | inl there ↦
-          let left : firsts (made ++ q ∷ []) ≡ firsts made = firsts_after-append [] made q ∙ rw there (append-nil (firsts made)) in
+          let left : firsts (made ++ q ∷ []) ≡ firsts made = firsts_after-append [] made q ∙ rw there (append-nil (firsts made))
+          in
           let found : list_any (same_path q.arc) (merged made) ≡ true = any-merged made q.arc (firsts made) ∙ there in
           rw (found, left) refl
       | inr new ↦

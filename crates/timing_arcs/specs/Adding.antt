@@ -1,5 +1,6 @@
 -- How the timing of a pin is put together, one statement after another.
-use Rattle.std.specs.Prelude.{ℕ, ◌+◌, max, ◌==◌, nat_lt, List, [], ◌∷◌, ◌++◌, length, map, fold, codes, Option, Some, None, Result, Ok, if◌then◌else◌}
+use Rattle.std.specs.Prelude.{ℕ, ◌+◌, max, ◌==◌, nat_lt, List, [], ◌∷◌, ◌++◌, length, map, fold, codes, Option, Some, None}
+use Rattle.std.specs.Prelude.{Result, Ok, if◌then◌else◌}
 use Rattle.std.specs.List.{list_any}
 use Rattle.liberty_groups.specs.declared.tree.Item.{Item, out-Item}
 use Rattle.liberty_groups.specs.declared.tree.Group.{Group}
@@ -112,7 +113,16 @@ with_attribute subject k first second found (Some attribute) =
 
 -- nothing
 abbrev pub nothing_found : Room → Found
-nothing_found room = record { room = room; checks = []; check_at = []; arcs = []; arc_at = []; left_out = []; offsets = no_offsets }
+nothing_found room = record {
+  room = room;
+  checks = [];
+  check_at = [];
+  arcs = [];
+  arc_at = [];
+  left_out = [];
+  offsets =
+      no_offsets;
+}
 
 -- what is found of a pin
 abbrev pub found_of : Room → Subject → Group → Found

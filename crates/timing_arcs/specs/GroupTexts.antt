@@ -1,6 +1,7 @@
 -- What the texts of a timing group say in a cell, whichever of its pins the group stands under, and what that gives under
 -- one of them (Liberty Reference Manual, `timing` group).
-use Rattle.std.specs.Prelude.{ℕ, ◌+◌, Bool, true, false, not, ◌&&◌, ◌||◌, ◌==◌, nat_lt, List, [], ◌∷◌, ◌++◌, length, map, fold, codes, slice_get, Option, Some, None, if◌then◌else◌}
+use Rattle.std.specs.Prelude.{ℕ, ◌+◌, Bool, true, false, not, ◌&&◌, ◌||◌, ◌==◌, nat_lt, List, [], ◌∷◌, ◌++◌, length, map, fold}
+use Rattle.std.specs.Prelude.{codes, slice_get, Option, Some, None, if◌then◌else◌}
 use Rattle.std.specs.Option.{option_map_or}
 use Rattle.std.specs.List.{list_any, filter_map}
 use Rattle.liberty_groups.specs.declared.tree.Item.{Item, out-Item}
@@ -10,7 +11,8 @@ use Rattle.cell_machine.specs.Names.{has}
 use Rattle.timing_arcs.specs.declared.found.Found.{Found}
 use Rattle.timing_arcs.specs.declared.offsets.Offsets.{Offsets}
 use Rattle.timing_arcs.specs.declared.timing_type.TimingType.{TimingType}
-use Rattle.timing_arcs.specs.declared.timing_type.TimingType.TheVariants.{Delay, Setup, Hold, Recovery, Removal, Width, Period, Other}
+use Rattle.timing_arcs.specs.declared.timing_type.TimingType.TheVariants.{Delay, Setup, Hold, Recovery, Removal, Width, Period}
+use Rattle.timing_arcs.specs.declared.timing_type.TimingType.TheVariants.{Other}
 use Rattle.timing_arcs.specs.declared.condition.Condition.TheVariants.{Always}
 use Rattle.timing_arcs.specs.declared.related.Related.{Related}
 use Rattle.timing_arcs.specs.declared.related.RelatedText.{RelatedText}
@@ -152,7 +154,8 @@ inputs_under subject text = if is_of_one_pin text.timing_type then subject.place
 abbrev pub with_made : Subject → GroupText → Found → ℕ → Found
 with_made subject text found related =
     with_arcs text.at
-    (with_checks text.at found (checks_with text.timing_type subject.place related text.rise text.fall (tree_of text.when.condition)))
+    (with_checks text.at found (checks_with text.timing_type subject.place related text.rise text.fall
+    (tree_of text.when.condition)))
     (arcs_with text.timing_type subject.place related text.rise text.fall (tree_of text.when.condition))
 
 abbrev pub with_all_made : Subject → GroupText → Found → List ℕ → Found

@@ -34,7 +34,11 @@ firsts made = firsts_after [] made
 -- All arcs with its ends and its condition in one: the greatest rise and the greatest fall of them.
 abbrev pub merged_into : List Placed → Arc → Arc
 merged_into made arc =
-    record arc { rise = greatest (map (λ (p : Placed). p.arc.rise) (filter (λ (p : Placed). same_path p.arc arc) made)); fall = greatest (map (λ (p : Placed). p.arc.fall) (filter (λ (p : Placed). same_path p.arc arc) made)) }
+    record arc {
+      rise = greatest (map (λ (p : Placed). p.arc.rise) (filter (λ (p : Placed). same_path p.arc arc) made));
+      fall =
+          greatest (map (λ (p : Placed). p.arc.fall) (filter (λ (p : Placed). same_path p.arc arc) made));
+    }
 
 -- The arcs that are left, each in the place of the first of those that it stands for.
 abbrev pub merged : List Placed → List Arc

@@ -5,4 +5,11 @@ use Rattle.std.specs.Option.{option_copied}
 
 -- the arc on a path
 abbrev pub arc_on : Path → Arc
-arc_on path = record { from = path.from; to = path.to; rise = path.rise; fall = path.fall; condition = option_copied path.condition }
+arc_on path = record {
+  from = path.from;
+  to = path.to;
+  rise = path.rise;
+  fall = path.fall;
+  condition =
+      option_copied path.condition;
+}

@@ -35,7 +35,8 @@ with_arguments unit at sum arguments = fold (λ sum (value : Value). with_text u
 -- with a statement
 abbrev pub with_item : Option TimeUnit → Sum → Item-F Item Group → Sum
 with_item unit sum (layer.Simple n value at) = sum
-with_item unit sum (layer.Complex n arguments at) = if bytes_eq n (codes "values") then with_arguments unit at sum arguments else sum
+with_item unit sum (layer.Complex n arguments at) = if bytes_eq n (codes "values") then with_arguments unit at sum arguments
+    else sum
 with_item unit sum (layer.Inner group) = sum
 
 -- with a table

@@ -1,6 +1,7 @@
 -- The tables of timing groups and the times in them (Liberty Reference Manual, `cell_rise`, `rise_constraint` and their
 -- kin, and `values`).
-use Rattle.std.specs.Prelude.{ℕ, max, Bool, ◌||◌, not, ◌==◌, List, [], ◌∷◌, ◌++◌, length, codes, bytes_eq, flat_map, Option, Some, None, is_none, if◌then◌else◌}
+use Rattle.std.specs.Prelude.{ℕ, max, Bool, ◌||◌, not, ◌==◌, List, [], ◌∷◌, ◌++◌, length, codes, bytes_eq, flat_map, Option, Some}
+use Rattle.std.specs.Prelude.{None, is_none, if◌then◌else◌}
 use Rattle.std.specs.List.{list_any, filter_map}
 use Rattle.liberty_text.specs.declared.time.Unit.{Unit as TimeUnit}
 use Rattle.liberty_groups.specs.declared.tree.Value.{Value}
@@ -26,7 +27,8 @@ entries_of arguments = flat_map (λ (value : Value). words_between is_separator 
 -- The `values` statement that a statement is, where it is one.
 abbrev pub values_as : Item-F Item Group → Option Values
 values_as (layer.Simple n value at) = None
-values_as (layer.Complex n arguments at) = if bytes_eq n (codes "values") then Some (record { entries = entries_of arguments; at = at }) else None
+values_as (layer.Complex n arguments at) = if bytes_eq n (codes "values")
+    then Some (record { entries = entries_of arguments; at = at }) else None
 values_as (layer.Inner group) = None
 
 -- The `values` statements of a table.

@@ -1,6 +1,7 @@
 -- The timing of one pin: what its timing groups, its pulse widths and its period make (Liberty Reference Manual, `timing`
 -- group, `min_pulse_width_high`, `min_pulse_width_low` and `min_period`).
-use Rattle.std.specs.Prelude.{ℕ, ◌+◌, ◌&&◌, List, [], ◌∷◌, ◌++◌, map, filter, flat_map, take, codes, Option, Some, None, is_none, unwrap_or, Result, Ok, Err, if◌then◌else◌}
+use Rattle.std.specs.Prelude.{ℕ, ◌+◌, ◌&&◌, List, [], ◌∷◌, ◌++◌, map, filter, flat_map, take, codes, Option, Some, None, is_none}
+use Rattle.std.specs.Prelude.{unwrap_or, Result, Ok, Err, if◌then◌else◌}
 use Rattle.std.specs.Option.{option_map_or}
 use Rattle.std.specs.List.{list_any}
 use Rattle.liberty_groups.specs.declared.tree.Item.{Item, out-Item}
@@ -35,12 +36,14 @@ timing_groups pin = groups_named (codes "timing") pin.items
 -- A condition that does not read.
 abbrev pub malformed_in : Subject → Group → List ℕ
 malformed_in subject group =
-    if is_read subject group && is_malformed (condition_of subject group) then place_of (attribute_of group (codes "when")) else []
+    if is_read subject group && is_malformed (condition_of subject group) then place_of (attribute_of group (codes "when"))
+    else []
 
 -- A related pin that is no pin.
 abbrev pub unknown_related_in : Subject → Group → List ℕ
 unknown_related_in subject group =
-    if is_used subject group && list_any is_unknown (related_of subject group) then place_of (attribute_of group (codes "related_pin")) else []
+    if is_used subject group && list_any is_unknown (related_of subject group)
+    then place_of (attribute_of group (codes "related_pin")) else []
 
 -- A condition with a name that is no input pin.
 abbrev pub unknown_condition_in : Subject → Group → List ℕ
@@ -53,7 +56,8 @@ unknown_in subject group = unknown_related_in subject group ++ unknown_condition
 -- A condition that names the pin of a check or a pin that the group is related to.
 abbrev pub own_in : Subject → Group → List ℕ
 own_in subject group =
-    if is_read subject group && names_one (subject.place ∷ inputs_of subject group) (condition_of subject group) then place_of (attribute_of group (codes "when")) else []
+    if is_read subject group && names_one (subject.place ∷ inputs_of subject group) (condition_of subject group)
+    then place_of (attribute_of group (codes "when")) else []
 
 -- A condition with more names than the limit.
 abbrev pub wide_in : Subject → Group → List ℕ
@@ -64,7 +68,8 @@ wide_in subject group =
 abbrev pub bad_numbers_in : Subject → Group → List ℕ
 bad_numbers_in subject group =
     if is_read subject group
-    then bad_numbers_at subject.unit (rise_table (type_of group)) group ++ bad_numbers_at subject.unit (fall_table (type_of group)) group
+    then bad_numbers_at subject.unit (rise_table (type_of group)) group
+    ++ bad_numbers_at subject.unit (fall_table (type_of group)) group
     else []
 
 -- The three attributes of an input pin that give the limit of a check: the least width of a high pulse, that of a low
@@ -84,14 +89,16 @@ least_period subject pin = limit_attribute subject pin (codes "min_period")
 -- The check of this kind that an attribute makes, between these events of the pin. It has no condition.
 abbrev pub attribute_check : Subject → CheckKind → Edge → Edge → Attribute → List Check
 attribute_check subject k first second attribute =
-    filter has_limit (check k (event subject.place first) (event subject.place second) (unwrap_or (time_of subject.unit attribute.text) 0) None ∷ [])
+    filter has_limit (check k (event subject.place first) (event subject.place second)
+    (unwrap_or (time_of subject.unit attribute.text) 0) None ∷ [])
 
 abbrev pub attribute_checks : Subject → CheckKind → Edge → Edge → Option Attribute → List Check
 attribute_checks subject k first second attribute = option_map_or (attribute_check subject k first second) attribute []
 
 -- An attribute that is no time.
 abbrev pub bad_attribute : Subject → Option Attribute → List ℕ
-bad_attribute subject attribute = option_map_or (λ (a : Attribute). if is_none (time_of subject.unit a.text) then a.at ∷ [] else []) attribute []
+bad_attribute subject attribute =
+    option_map_or (λ (a : Attribute). if is_none (time_of subject.unit a.text) then a.at ∷ [] else []) attribute []
 
 -- These at the offset.
 abbrev pub at_each : {A : Type 0} → ℕ → List A → List ℕ
@@ -107,7 +114,8 @@ checks_of subject pin =
 
 -- For each check the offset of the group or attribute that made it.
 abbrev pub attribute_check_at : Subject → CheckKind → Edge → Edge → Option Attribute → List ℕ
-attribute_check_at subject k first second attribute = option_map_or (λ (a : Attribute). at_each a.at (attribute_check subject k first second a)) attribute []
+attribute_check_at subject k first second attribute =
+    option_map_or (λ (a : Attribute). at_each a.at (attribute_check subject k first second a)) attribute []
 
 abbrev pub check_at_of : Subject → Group → List ℕ
 check_at_of subject pin =

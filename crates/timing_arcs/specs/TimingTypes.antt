@@ -1,6 +1,7 @@
 -- The types of timing groups: under which pins each stands, and which tables it uses (Liberty Reference Manual,
 -- `timing` group, `timing_type`).
-use Rattle.std.specs.Prelude.{ℕ, Bool, false, ◌&&◌, ◌||◌, not, ◌==◌, List, [], ◌∷◌, length, codes, find, bytes_eq, unwrap_or, slice_get, if◌then◌else◌}
+use Rattle.std.specs.Prelude.{ℕ, Bool, false, ◌&&◌, ◌||◌, not, ◌==◌, List, [], ◌∷◌, length, codes, find, bytes_eq, unwrap_or}
+use Rattle.std.specs.Prelude.{slice_get, if◌then◌else◌}
 use Rattle.std.specs.List.{list_any}
 use Rattle.std.specs.Option.{option_map, option_map_or}
 use Rattle.liberty_groups.specs.declared.tree.Group.{Group}
@@ -9,13 +10,15 @@ use Rattle.cell_machine.specs.declared.pins.Direction.{Direction}
 use Rattle.cell_machine.specs.declared.pins.Pin.{Pin}
 use Rattle.cell_machine.specs.CellRules.{is_input, is_output}
 use Rattle.timing_arcs.specs.declared.timing_type.TimingType.{TimingType}
-use Rattle.timing_arcs.specs.declared.timing_type.TimingType.TheVariants.{Delay, Setup, Hold, Recovery, Removal, Width, Period, Other}
+use Rattle.timing_arcs.specs.declared.timing_type.TimingType.TheVariants.{Delay, Setup, Hold, Recovery, Removal, Width, Period}
+use Rattle.timing_arcs.specs.declared.timing_type.TimingType.TheVariants.{Other}
 use Rattle.timing_arcs.specs.declared.subject.Subject.{Subject}
 use Rattle.liberty_groups.specs.Attributes.{Attribute, attribute_of, groups_named}
 
 -- The words of `timing_type` that a delay has. (Liberty Reference Manual, `timing_type`.)
 abbrev pub delay_words : List (List ℕ)
-delay_words = codes "combinational" ∷ codes "combinational_rise" ∷ codes "combinational_fall" ∷ codes "rising_edge" ∷ codes "falling_edge" ∷ codes "clear" ∷ codes "preset" ∷ []
+delay_words = codes "combinational" ∷ codes "combinational_rise" ∷ codes "combinational_fall" ∷ codes "rising_edge" ∷ codes
+    "falling_edge" ∷ codes "clear" ∷ codes "preset" ∷ []
 
 -- The words of `timing_type` that a check has, and what each stands for. (Liberty Reference Manual, `timing_type`.)
 abbrev pub check_words : List (List ℕ × TimingType)
@@ -39,7 +42,8 @@ type_named text =
 
 -- The type of a timing group. One without `timing_type` is combinational. (Liberty Reference Manual, `timing_type`.)
 abbrev pub type_of : Group → TimingType
-type_of group = option_map_or (λ (attribute : Attribute). type_named attribute.text) (attribute_of group (codes "timing_type")) Delay
+type_of group = option_map_or (λ (attribute : Attribute). type_named attribute.text) (attribute_of group (codes "timing_type"))
+    Delay
 
 -- Whether a timing group of this type stands under pins of this direction: a delay where it ends, under an output, and
 -- a check under an input. (Liberty Reference Manual, `timing` group.)

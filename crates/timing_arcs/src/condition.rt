@@ -4,7 +4,8 @@ ghost use Rattle.std.specs.List.{list_all};
 ghost use Rattle.std.specs.Option.{option_copied};
 ghost use Rattle.bool_functions.specs.Tree.{name_bound};
 ghost use Rattle.cell_machine.specs.CellRules.{is_input_pin};
-ghost use Rattle.timing_arcs.specs.Conditions.{IsKept, plain_condition, condition_by, condition_of_tree, condition_in, tree_of, may_hold, is_malformed, has_unknown, named_pins};
+ghost use Rattle.timing_arcs.specs.Conditions.{IsKept, plain_condition, condition_by, condition_of_tree, condition_in, tree_of};
+ghost use Rattle.timing_arcs.specs.Conditions.{may_hold, is_malformed, has_unknown, named_pins};
 
 use crate::subject::Subject;
 use crate::timing_type::is_input_pin;

@@ -59,7 +59,8 @@ impl Found {
 
     /// Whether one more check is held.
     pub(crate) fn has_check_room(&self) -> bool
-        ensures { result ≡ (nat_lt (length self.now.checks) self.now.room.checks || nat_lt (length self.now.check_at) self.now.room.checks) }
+        ensures { result ≡ (nat_lt (length self.now.checks) self.now.room.checks
+            || nat_lt (length self.now.check_at) self.now.room.checks) }
     {
         self.checks.len() < self.room.checks || self.check_at.len() < self.room.checks
     }
@@ -79,7 +80,8 @@ impl Found {
 
     /// Whether one more arc is held.
     pub(crate) fn has_arc_room(&self) -> bool
-        ensures { result ≡ (nat_lt (length self.now.arcs) self.now.room.arcs || nat_lt (length self.now.arc_at) self.now.room.arcs) }
+        ensures { result ≡ (nat_lt (length self.now.arcs) self.now.room.arcs
+            || nat_lt (length self.now.arc_at) self.now.room.arcs) }
     {
         self.arcs.len() < self.room.arcs || self.arc_at.len() < self.room.arcs
     }

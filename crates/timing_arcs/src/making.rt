@@ -61,7 +61,8 @@ impl Making<'_> {
 
     /// Adds a check.
     fn add_check(&self, alloc: Global, timed: Timed, found: &mut Found) -> Result<(), AllocError>
-        ensures { OnOk result (found.new ≡ with_check self.now.text.now.at found.old (check timed.kind timed.first timed.second timed.limit (tree_of self.now.text.now.when.condition))) }
+        ensures { OnOk result (found.new ≡ with_check self.now.text.now.at found.old
+            (check timed.kind timed.first timed.second timed.limit (tree_of self.now.text.now.when.condition))) }
     {
         if !found.has_check_room() {
             return Ok(());
@@ -84,7 +85,9 @@ impl Making<'_> {
         edge: Edge,
         found: &mut Found,
     ) -> Result<(), AllocError>
-        ensures { OnOk result (found.new ≡ with_checks self.now.text.now.at found.old (checks_with (TimingType.Recovery edge) self.now.subject.now.place related self.now.text.now.rise self.now.text.now.fall (tree_of self.now.text.now.when.condition))) }
+        ensures { OnOk result (found.new ≡ with_checks self.now.text.now.at found.old
+            (checks_with (TimingType.Recovery edge) self.now.subject.now.place related self.now.text.now.rise
+            self.now.text.now.fall (tree_of self.now.text.now.when.condition))) }
     {
         let own = self.subject.place;
         let rise = Timed::new(
@@ -111,7 +114,9 @@ impl Making<'_> {
         edge: Edge,
         found: &mut Found,
     ) -> Result<(), AllocError>
-        ensures { OnOk result (found.new ≡ with_checks self.now.text.now.at found.old (checks_with (TimingType.Removal edge) self.now.subject.now.place related self.now.text.now.rise self.now.text.now.fall (tree_of self.now.text.now.when.condition))) }
+        ensures { OnOk result (found.new ≡ with_checks self.now.text.now.at found.old
+            (checks_with (TimingType.Removal edge) self.now.subject.now.place related self.now.text.now.rise
+            self.now.text.now.fall (tree_of self.now.text.now.when.condition))) }
     {
         let own = self.subject.place;
         let rise = Timed::new(
@@ -132,7 +137,9 @@ impl Making<'_> {
 
     /// Adds the checks of a pulse width: of the high pulse, then of the low one.
     fn add_widths(&self, alloc: Global, found: &mut Found) -> Result<(), AllocError>
-        ensures { OnOk result (found.new ≡ with_checks self.now.text.now.at found.old (checks_with TimingType.Width self.now.subject.now.place self.now.subject.now.place self.now.text.now.rise self.now.text.now.fall (tree_of self.now.text.now.when.condition))) }
+        ensures { OnOk result (found.new ≡ with_checks self.now.text.now.at found.old
+            (checks_with TimingType.Width self.now.subject.now.place self.now.subject.now.place self.now.text.now.rise
+            self.now.text.now.fall (tree_of self.now.text.now.when.condition))) }
     {
         let own = self.subject.place;
         let rise = Timed::new(
@@ -153,7 +160,9 @@ impl Making<'_> {
 
     /// Adds the checks with a pin that the group is related to.
     fn add_checks(&self, alloc: Global, related: usize, found: &mut Found) -> Result<(), AllocError>
-        ensures { OnOk result (found.new ≡ with_checks self.now.text.now.at found.old (checks_with self.now.text.now.timing_type self.now.subject.now.place related self.now.text.now.rise self.now.text.now.fall (tree_of self.now.text.now.when.condition))) }
+        ensures { OnOk result (found.new ≡ with_checks self.now.text.now.at found.old
+            (checks_with self.now.text.now.timing_type self.now.subject.now.place related self.now.text.now.rise
+            self.now.text.now.fall (tree_of self.now.text.now.when.condition))) }
     {
         let own = self.subject.place;
         let both = self.text.rise.max(self.text.fall);
@@ -192,7 +201,9 @@ impl Making<'_> {
 
     /// Adds the arc from a pin that the group is related to, if the group is one of a delay.
     fn add_arcs(&self, alloc: Global, related: usize, found: &mut Found) -> Result<(), AllocError>
-        ensures { OnOk result (found.new ≡ with_arcs self.now.text.now.at found.old (arcs_with self.now.text.now.timing_type self.now.subject.now.place related self.now.text.now.rise self.now.text.now.fall (tree_of self.now.text.now.when.condition))) }
+        ensures { OnOk result (found.new ≡ with_arcs self.now.text.now.at found.old
+            (arcs_with self.now.text.now.timing_type self.now.subject.now.place related self.now.text.now.rise
+            self.now.text.now.fall (tree_of self.now.text.now.when.condition))) }
     {
         let TimingType::Delay = self.text.timing_type else {
             return Ok(());

@@ -6,7 +6,8 @@ ghost use Rattle.liberty_groups.specs.Attributes.{groups_named, first_of};
 ghost use Rattle.cell_machine.specs.Delay.{least};
 ghost use Rattle.timing_arcs.specs.Times.{time_of};
 ghost use Rattle.timing_arcs.specs.Tables.{limit_of, bad_numbers_at};
-ghost use Rattle.timing_arcs.specs.Sums.{first_unless, no_sum, with_entry, with_text, with_arguments, with_item, with_table, with_tables};
+ghost use Rattle.timing_arcs.specs.Sums.{first_unless, no_sum, with_entry, with_text, with_arguments, with_item, with_table};
+ghost use Rattle.timing_arcs.specs.Sums.{with_tables};
 ghost use Rattle.timing_arcs.specs.Words.{with_word};
 
 use crate::offsets::lesser;

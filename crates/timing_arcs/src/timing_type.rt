@@ -3,7 +3,8 @@ ghost use Rattle.std.specs.Prelude.{◌≡◌, ◌==◌, not, length, bytes_eq};
 ghost use Rattle.std.specs.List.{list_any};
 ghost use Rattle.cell_machine.specs.CellRules.{is_input, is_output, is_input_pin};
 ghost use Rattle.liberty_groups.specs.Attributes.{groups_named};
-ghost use Rattle.timing_arcs.specs.TimingTypes.{delay_words, type_named, type_of, stands_under, rise_table, fall_table, has_table};
+ghost use Rattle.timing_arcs.specs.TimingTypes.{delay_words, type_named, type_of, stands_under, rise_table, fall_table};
+ghost use Rattle.timing_arcs.specs.TimingTypes.{has_table};
 ghost use Rattle.timing_arcs.specs.GroupTexts.{is_of_one_pin, stands_at};
 
 use cell_machine::{Direction, Edge, Pin};

@@ -1,7 +1,8 @@
 //! What a timing group gives under one of the cell's pins.
 ghost use Rattle.std.specs.Prelude.{◌≡◌, OnOk};
 ghost use Rattle.timing_arcs.specs.Adding.{with_left_out};
-ghost use Rattle.timing_arcs.specs.GroupTexts.{names_pin, used_under, read_under, left_out_under, made_under, unknown_under, own_under, read_offsets, offsets_under, with_text_noted, with_text};
+ghost use Rattle.timing_arcs.specs.GroupTexts.{names_pin, used_under, read_under, left_out_under, made_under, unknown_under};
+ghost use Rattle.timing_arcs.specs.GroupTexts.{own_under, read_offsets, offsets_under, with_text_noted, with_text};
 
 use crate::found::Found;
 use crate::group_text::GroupText;

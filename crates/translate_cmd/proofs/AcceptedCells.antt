@@ -99,17 +99,21 @@ record AreBehind (from : ℕ) (names : List (List ℕ)) (cells : List DrivenData
 abbrev Follow : List LibraryItem → Type 0
 Follow items =
     (p : Progress) (from : ℕ) (names : List (List ℕ))
-    → from ≤ next_number p → next_number p + length items < 2 ^ 64 → AreAmong names p.names → AreBehind from names (accepted_cells p items)
+    → from ≤ next_number p → next_number p + length items < 2 ^ 64 → AreAmong names p.names
+    → AreBehind from names (accepted_cells p items)
 
 cell_accepted :
-    (p : Progress) (group : Group) (items : List LibraryItem) (from : ℕ) (names : List (List ℕ)) → Follow items → from ≤ next_number p
+    (p : Progress) (group : Group) (items : List LibraryItem) (from : ℕ) (names : List (List ℕ)) → Follow items
+    → from ≤ next_number p
     → next_number p + (length items + 1) < 2 ^ 64 → AreAmong names p.names → (o : Option Refusal) → next_refusal p group ≡ o
     → AreBehind from names (cells_by p group o ++ accepted_cells (after_cell p (cell_name group) (entity_by p group o)) items)
 cell_accepted p group items from names follow low room h None e =
     let cell : DrivenData = next_data p group in
     let number = its_next_number p group e in
-    let rest = follow (after_cell p (cell_name group) (Some (next_entity p group))) (cell.core.number + 1) (cell.name ∷ names) (omega (arith, number)) (omega (arith, room))
-    (subst (λ x. AreAmong (x ∷ names) (names_with p.names (cell_name group))) (sym (next_name p group)) (one_more names p.names (cell_name group) h)) in
+    let rest = follow (after_cell p (cell_name group) (Some (next_entity p group))) (cell.core.number + 1) (cell.name ∷ names)
+    (omega (arith, number)) (omega (arith, room))
+    (subst (λ x. AreAmong (x ∷ names) (names_with p.names (cell_name group))) (sym (next_name p group))
+    (one_more names p.names (cell_name group) h)) in
     record {
       accepted = (omega (arith, number, low), omega (arith, number, room), accepted p group e names h, rest.accepted);
       each = (in_library p group e (omega (arith, room)), rest.each);
@@ -122,9 +126,11 @@ all_accepted : (items : List LibraryItem) → Follow items
 all_accepted [] p from names low room h = record { accepted = tt; each = tt }
 all_accepted (item.Cell group ∷ items) p from names low room h =
     cell_accepted p group items from names (all_accepted items) low (omega (arith, room)) h (next_refusal p group) refl
-all_accepted (item.Unit line ∷ items) p from names low room h = all_accepted items _ from names (omega (arith, low)) (omega (arith, room)) h
+all_accepted (item.Unit line ∷ items) p from names low room h =
+    all_accepted items _ from names (omega (arith, low)) (omega (arith, room)) h
 all_accepted (item.LeftOut at ∷ items) p from names low room h = all_accepted items p from names low (omega (arith, room)) h
-all_accepted (item.BusType group ∷ items) p from names low room h = all_accepted items _ from names (omega (arith, low)) (omega (arith, room)) h
+all_accepted (item.BusType group ∷ items) p from names low room h =
+    all_accepted items _ from names (omega (arith, low)) (omega (arith, room)) h
 
 -- the items of a library are not many
 few_items : (bytes : List ℕ) → length (items_within library_limit bytes) ≤ library_limit
@@ -163,7 +169,8 @@ module _ (bytes : List ℕ) where
           numbered = All-from_recursion IsNumberedDriven cells all_numbered;
           numbers = subst (IsDistinct nat_eq) (map-map (λ (c : CellData). c.number) under_own_name cells) apart.numbers;
         };
-        names = subst (λ names. IsDistinct bytes_eq (kept_names names)) (map-map (λ (c : CellData). c.name) under_own_name cells) apart.names;
+        names = subst (λ names. IsDistinct bytes_eq (kept_names names)) (map-map (λ (c : CellData). c.name) under_own_name cells)
+            apart.names;
       }
 
 pub modules-well-formed : ModulesAreWellFormed

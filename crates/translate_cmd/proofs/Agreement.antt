@@ -52,17 +52,20 @@ use Rattle.translate_cmd.proofs.FileModels.{entities_are, verilog_read, vital_re
 pub own_models : (library : List ℕ) → HaveOwnModels (cells_of library)
 own_models library =
     let modules = own_names (translate_outcome library).text.verilog (modules_of (cells_of library)) (verilog_read library) in
-    let entities = own_names_beside (translate_outcome library).text.vital (vital_in library) (libraries-read-back library).vital.answer (entities-well-formed library).models in
+    let entities = own_names_beside (translate_outcome library).text.vital (vital_in library)
+    (libraries-read-back library).vital.answer (entities-well-formed library).models in
     record {
       modules = modules_apart (modules_of (cells_of library)) modules.own;
       entities = entities_apart (entities_of (cells_of library))
-          (subst (λ (fs : List (FileModel VEntity)). AreApart (model_names vital fs)) (sym (entities_are library)) entities.apart);
+          (subst (λ (fs : List (FileModel VEntity)). AreApart (model_names vital fs))
+          (sym (entities_are library)) entities.apart);
     }
 
 -- Runs that end at a file.
 
 -- a run that a file ends otherwise
-stopped : (library stimulus : List ℕ) (binds : ℕ) (stop : FileStop) → stop.status ≢ status.Model → stop.status ≢ status.Differ → stop.status ≢ status.Done
+stopped : (library stimulus : List ℕ) (binds : ℕ) (stop : FileStop) → stop.status ≢ status.Model → stop.status ≢ status.Differ
+    → stop.status ≢ status.Done
     → Agrees library stimulus (record { status = stop.status; binds = binds; text = nothing_written; faults = stop.line })
 stopped library stimulus binds stop f g h = record { not_model = f; not_differ = g; done = λ e. absurd (h e) }
 
@@ -70,7 +73,8 @@ stopped library stimulus binds stop f g h = record { not_model = f; not_differ =
 abbrev pub IsReadAs : {T : Type 0} → T → Result T FileStop → Type 0
 IsReadAs value answer = (answer ≡ Ok value) ⊎ ((stop : FileStop) × (answer ≡ Err stop) × (stop.status ≡ status.TooLong))
 
-pub read_as : {M : Type 0} (l : Language M) (text : List ℕ) (models : List M) → l.text text ≡ Ok models → IsReadAs models (model_answer l text)
+pub read_as : {M : Type 0} (l : Language M) (text : List ℕ) (models : List M) → l.text text ≡ Ok models
+    → IsReadAs models (model_answer l text)
 unfolding model_answer
 read_as {M = M} l text models e = by (nat_lt model_limit (length text))
   where
@@ -81,10 +85,12 @@ read_as {M = M} l text models e = by (nat_lt model_limit (length text))
 -- a run goes on behind such a file
 goes_on : {T : Type 0} (library stimulus : List ℕ) (binds : ℕ) (value : T) (answer : Result T FileStop) (more : T → Outcome)
     → IsReadAs value answer → Agrees library stimulus (more value) → Agrees library stimulus (outcome_by binds answer more)
-goes_on library stimulus binds value answer more (inl e) h = subst (λ r. Agrees library stimulus (outcome_by binds r more)) (sym e) h
+goes_on library stimulus binds value answer more (inl e) h =
+    subst (λ r. Agrees library stimulus (outcome_by binds r more)) (sym e) h
 goes_on library stimulus binds value answer more (inr (stop, e, long)) h =
     subst (λ r. Agrees library stimulus (outcome_by binds r more)) (sym e)
-    (stopped library stimulus binds stop (λ f. let clash = sym long ∙ f in absurd cc) (λ f. let clash = sym long ∙ f in absurd cc) (λ f. let clash = sym long ∙ f in absurd cc))
+    (stopped library stimulus binds stop (λ f. let clash = sym long ∙ f in absurd cc) (λ f. let clash = sym long ∙ f
+    in absurd cc) (λ f. let clash = sym long ∙ f in absurd cc))
 
 -- The stimulus.
 
@@ -92,29 +98,42 @@ goes_on library stimulus binds value answer more (inr (stop, e, long)) h =
 abbrev IsUndone : {T : Type 0} → Result T FileStop → Type 0
 IsUndone answer = IfErr answer (λ stop. stop.status ≢ status.Done)
 
-fault_undone : (cells : List CellEntry) (answer : Result (List Section) StimulusFault) → IsUndone (sections_or_stop (cause_stop cells) answer)
+fault_undone : (cells : List CellEntry) (answer : Result (List Section) StimulusFault)
+    → IsUndone (sections_or_stop (cause_stop cells) answer)
 fault_undone cells (Ok sections) = tt
 fault_undone cells (Err (fault.Line line why)) = (bad_line_stops why).1
 fault_undone cells (Err fault.Memory) = λ e. absurd cc
 
-stimulus_undone : (cells : List CellEntry) (catalog : NamedCells) (more : Bool) (bytes : List ℕ) → IsUndone (answer_where long_stimulus_stop (sections_in_text (cause_stop cells) catalog) more bytes)
+stimulus_undone : (cells : List CellEntry) (catalog : NamedCells) (more : Bool) (bytes : List ℕ)
+    → IsUndone (answer_where long_stimulus_stop (sections_in_text (cause_stop cells) catalog) more bytes)
 stimulus_undone cells catalog true bytes = λ e. absurd cc
 stimulus_undone cells catalog false bytes = fault_undone cells (stimulus_of (listed catalog) bytes)
 
-by_stimulus : (library stimulus : List ℕ) → library_answer library ≡ Ok (cells_of library) → (answer : Result (List Section) FileStop)
+by_stimulus : (library stimulus : List ℕ) → library_answer library ≡ Ok (cells_of library)
+    → (answer : Result (List Section) FileStop)
     → stimulus_answer (cause_stop (cells_of library)) (own_catalog (cells_of library)) stimulus ≡ answer
     → IsUndone answer → EndsEqual (cells_of library) (modules_of (cells_of library)) (entities_of (cells_of library)) answer
-    → Agrees library stimulus (outcome_by 4 answer (λ sections. sections_outcome (cells_of library) (modules_of (cells_of library)) (entities_of (cells_of library)) sections))
+    → Agrees library stimulus (outcome_by 4 answer
+    (λ sections. sections_outcome (cells_of library) (modules_of (cells_of library)) (entities_of (cells_of library)) sections))
 by_stimulus library stimulus whole (Ok sections) e undone h = record {
   not_model = λ f. let clash = sym h.done ∙ f in absurd cc;
   not_differ = λ f. let clash = sym h.done ∙ f in absurd cc;
   done = λ _. record {
     report = sections_text (cells_of library) (modules_of (cells_of library)) (entities_of (cells_of library)) sections;
-    equal = record { cells = cells_of library; are_cells = whole; sections = sections; are_sections = e; equal = h.sections; report_is = refl };
+    equal = record {
+      cells = cells_of library;
+      are_cells = whole;
+      sections = sections;
+      are_sections = e;
+      equal =
+          h.sections;
+      report_is = refl;
+    };
     outcome_is = λ i. record {
       status = h.done i;
       binds = 4;
-      text = in_report (sections_text (cells_of library) (modules_of (cells_of library)) (entities_of (cells_of library)) sections);
+      text = in_report (sections_text (cells_of library) (modules_of (cells_of library)) (entities_of (cells_of library))
+          sections);
       faults = [];
     };
   };
@@ -128,7 +147,8 @@ ends_equal : (library stimulus : List ℕ)
 ends_equal library stimulus = never_model_or_differ (cells_of library) stimulus (kept_rules library) (own_models library)
 
 behind_the_models : (library stimulus : List ℕ) → library_answer library ≡ Ok (cells_of library)
-    → Agrees library stimulus (behind_entities (cells_of library) (modules_of (cells_of library)) (entities_of (cells_of library)) stimulus)
+    → Agrees library stimulus (behind_entities (cells_of library) (modules_of (cells_of library)) (entities_of (cells_of library))
+    stimulus)
 behind_the_models library stimulus whole =
     let catalog = own_catalog (cells_of library) in
     by_stimulus library stimulus whole (stimulus_answer (cause_stop (cells_of library)) catalog stimulus) refl
@@ -137,23 +157,27 @@ behind_the_models library stimulus whole =
 -- The library and its models.
 
 behind_the_library : (library stimulus : List ℕ) → library_answer library ≡ Ok (cells_of library)
-    → Agrees library stimulus (behind_cells (cells_of library) (translate_outcome library).text.verilog (translate_outcome library).text.vital stimulus)
+    → Agrees library stimulus (behind_cells (cells_of library) (translate_outcome library).text.verilog
+    (translate_outcome library).text.vital stimulus)
 behind_the_library library stimulus whole =
     goes_on library stimulus 2 (modules_of (cells_of library)) (model_answer verilog (translate_outcome library).text.verilog)
     (λ modules. behind_modules (cells_of library) modules (translate_outcome library).text.vital stimulus)
     (read_as verilog (translate_outcome library).text.verilog (modules_of (cells_of library)) (verilog_read library))
     (goes_on library stimulus 3 (entities_of (cells_of library)) (model_answer vital (translate_outcome library).text.vital)
     (λ entities. behind_entities (cells_of library) (modules_of (cells_of library)) entities stimulus)
-    (read_as vital (translate_outcome library).text.vital (entities_of (cells_of library)) (vital_read library)) (behind_the_models library stimulus whole))
+    (read_as vital (translate_outcome library).text.vital (entities_of (cells_of library)) (vital_read library))
+    (behind_the_models library stimulus whole))
 
 by_end : (library stimulus : List ℕ) (end : Ending) → ending_of library_limit library ≡ end
     → Agrees library stimulus
     (outcome_by 1 (answer_by (cells_by end (cells_of library)))
     (λ cells. behind_cells cells (translate_outcome library).text.verilog (translate_outcome library).text.vital stimulus))
-by_end library stimulus ending.Whole e = behind_the_library library stimulus (ap (λ (end : Ending). answer_by (cells_by end (cells_of library))) e)
+by_end library stimulus ending.Whole e =
+    behind_the_library library stimulus (ap (λ (end : Ending). answer_by (cells_by end (cells_of library))) e)
 by_end library stimulus (ending.Fault fault) e =
     stopped library stimulus 1 (library_stop (not_whole.Fault fault)) (λ f. absurd cc) (λ f. absurd cc) (λ f. absurd cc)
-by_end library stimulus ending.TooLong e = stopped library stimulus 1 (library_stop not_whole.TooLong) (λ f. absurd cc) (λ f. absurd cc) (λ f. absurd cc)
+by_end library stimulus ending.TooLong e =
+    stopped library stimulus 1 (library_stop not_whole.TooLong) (λ f. absurd cc) (λ f. absurd cc) (λ f. absurd cc)
 
 pub own_models_agree : OwnModelsAgree
 own_models_agree library stimulus = by_end library stimulus (ending_of library_limit library) refl

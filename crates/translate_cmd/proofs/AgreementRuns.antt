@@ -26,50 +26,63 @@ use Rattle.translate_cmd.proofs.CompleteLemmas.{decided_or}
 use Rattle.translate_cmd.proofs.OwnEnds.{own_words_are_done}
 
 -- what such words come to
-own_outcome : (words : List (List ℕ)) (folder : Folder) → NameOwnModels words folder → Agrees (bytes_at words folder 1) (bytes_at words folder 4) (simulate_of words folder)
+own_outcome : (words : List (List ℕ)) (folder : Folder) → NameOwnModels words folder
+    → Agrees (bytes_at words folder 1) (bytes_at words folder 4) (simulate_of words folder)
 own_outcome words folder own =
     let library = bytes_at words folder 1 in
     let stimulus = bytes_at words folder 4 in
     subst (λ text. Agrees library stimulus (simulate_outcome library text (bytes_at words folder 3) stimulus)) (sym own.verilog)
-    (subst (λ text. Agrees library stimulus (simulate_outcome library (translate_outcome library).text.verilog text stimulus)) (sym own.vital)
+    (subst (λ text. Agrees library stimulus (simulate_outcome library (translate_outcome library).text.verilog text stimulus))
+    (sym own.vital)
     (own_models_agree library stimulus))
 
 -- a run of the simulation that these words ask for
 abbrev Simulates : DeskState → DeskState → Status → Type 0
 Simulates old new result = RunsAs simulate_files (simulate_of old.words) old new result
 
-simulates : (old new : DeskState) (result : Status) → reading old.words ≡ command.Files Simulate → Runs old new result → Simulates old new result
-simulates old new result e r = subst (λ (asked : Command). RunsAs (files_of asked) (outcome_of asked old.words) old new result) e r.run
+simulates : (old new : DeskState) (result : Status) → reading old.words ≡ command.Files Simulate → Runs old new result
+    → Simulates old new result
+simulates old new result e r = subst (λ (asked : Command). RunsAs (files_of asked) (outcome_of asked old.words) old new result) e
+    r.run
 
 -- A run with a status that is decided ends as its outcome says.
 
-ends_so : (old new : DeskState) (result s : Status) (folder : Folder) → Simulates old new result → Tells simulate_files old folder → IsTrue (is_decided s)
+ends_so : (old new : DeskState) (result s : Status) (folder : Folder) → Simulates old new result → Tells simulate_files old folder
+    → IsTrue (is_decided s)
     → result ≡ s → (simulate_of old.words folder).status ≡ s
-ends_so old new result s folder r tells d e = sym (r.whole (subst (λ (one : Status). IsTrue (is_decided one)) (sym e) d) folder tells).same_status ∙ e
+ends_so old new result s folder r tells d e =
+    sym (r.whole (subst (λ (one : Status). IsTrue (is_decided one)) (sym e) d) folder tells).same_status ∙ e
 
 -- the report is all that was written
 report_alone : (s : DeskState) (text : Written) (faults report : List ℕ) → text ≡ in_report report → faults ≡ []
     → wrote (wrote_all s text) Faults faults ≡ wrote s Report report
 report_alone s text faults report t f =
-    ap (λ w. wrote (wrote_all s w) Faults faults) t ∙ ap (wrote (wrote_all s (in_report report)) Faults) f ∙ wrote-nil (wrote_all s (in_report report)) Faults ∙ wrote_all-report s report
+    ap (λ w. wrote (wrote_all s w) Faults faults) t ∙ ap (wrote (wrote_all s (in_report report)) Faults) f
+    ∙ wrote-nil (wrote_all s (in_report report)) Faults ∙ wrote_all-report s report
 
-is_done : (library stimulus : List ℕ) (old new : DeskState) (result : Status) (folder : Folder) → Simulates old new result → Tells simulate_files old folder
-    → result ≡ status.Done → ReportsAllEqual library stimulus (simulate_of old.words folder) → WritesAllEqual library stimulus old new
+is_done : (library stimulus : List ℕ) (old new : DeskState) (result : Status) (folder : Folder) → Simulates old new result
+    → Tells simulate_files old folder
+    → result ≡ status.Done → ReportsAllEqual library stimulus (simulate_of old.words folder)
+    → WritesAllEqual library stimulus old new
 is_done library stimulus old new result folder r tells e h =
     let d : IsTrue (is_decided result) = rw e refl in
     let all = r.whole d folder tells in
-    let bound : r.bound ≡ simulate_files = r.all_bound d folder tells ∙ ap (λ (o : Outcome). take o.binds simulate_files) h.outcome_is in
+    let bound : r.bound ≡ simulate_files =
+    r.all_bound d folder tells ∙ ap (λ (o : Outcome). take o.binds simulate_files) h.outcome_is in
     record {
       bytes = r.bytes;
       named = subst (λ (files : Files). AreNamed old files r.bytes) bound r.named;
       taken = r.taken;
       report = h.report;
       equal = h.equal;
-      state = r.state ∙ ap (λ (files : Files). wrote (wrote_all (took_all (bound_state old files r.bytes) r.taken) r.text) Faults r.faults) bound
-          ∙ report_alone _ r.text r.faults h.report (all.same_text ∙ ap (λ (o : Outcome). o.text) h.outcome_is) (all.same_faults ∙ ap (λ (o : Outcome). o.faults) h.outcome_is);
+      state = r.state ∙ ap (λ (files : Files). wrote (wrote_all (took_all (bound_state old files r.bytes) r.taken) r.text) Faults
+          r.faults) bound
+          ∙ report_alone _ r.text r.faults h.report (all.same_text ∙ ap (λ (o : Outcome). o.text) h.outcome_is)
+          (all.same_faults ∙ ap (λ (o : Outcome). o.faults) h.outcome_is);
     }
 
-pub own_models_end_in_agreement : (old new : DeskState) (result : Status) → Runs old new result → OwnModelsEndInAgreement old new result
+pub own_models_end_in_agreement : (old new : DeskState) (result : Status) → Runs old new result
+    → OwnModelsEndInAgreement old new result
 own_models_end_in_agreement old new result run = λ asked folder tells own.
     let r = simulates old new result asked run in
     let agrees = own_outcome old.words folder own in
@@ -82,5 +95,6 @@ own_models_end_in_agreement old new result run = λ asked folder tells own.
             | inr (inl memory) ↦ inr memory
             | inr (inr d) ↦ inl ((r.whole d folder tells).same_status ∙ own_words_are_done old.words folder own h)
           ];
-      done = λ e. is_done _ _ old new result folder r tells e (agrees.done (ends_so old new result status.Done folder r tells refl e));
+      done = λ e. is_done _ _ old new result folder r tells e
+          (agrees.done (ends_so old new result status.Done folder r tells refl e));
     }

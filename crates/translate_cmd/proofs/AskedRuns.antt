@@ -18,11 +18,13 @@ use Rattle.translate_cmd.specs.Outcome.{files_of, file_outcome, outcome_of}
 use Rattle.translate_cmd.specs.Runs.{Runs}
 
 -- the files that such words bind
-pub named_files : (words : List (List ℕ)) (asked one : FileCommand) → reading words ≡ command.Files asked → asked ≡ one → plan words ≡ planned_files (Some one)
+pub named_files : (words : List (List ℕ)) (asked one : FileCommand) → reading words ≡ command.Files asked → asked ≡ one
+    → plan words ≡ planned_files (Some one)
 named_files words asked one e is = ap planned_files (files_asked words asked e ∙ ap Some is)
 
 -- a run of a command of files that is no translation
-pub files_run : (one asked : FileCommand) (old new : DeskState) (result : Status) → (command.Files one ≡ command.Files Translate → ⊥) → reading old.words ≡ command.Files asked
+pub files_run : (one asked : FileCommand) (old new : DeskState) (result : Status)
+    → (command.Files one ≡ command.Files Translate → ⊥) → reading old.words ≡ command.Files asked
     → asked ≡ one → RunsAs (planned_files (Some one)) (file_outcome one old.words) old new result → Runs old new result
 files_run one asked old new result other e is run =
     let reads : reading old.words ≡ command.Files one = e ∙ ap command.Files is in
@@ -35,10 +37,12 @@ files_run one asked old new result other e is run =
 abbrev HoldsWhat : DeskState → DeskState → Status → Command → Type 0
 HoldsWhat old new result asked =
     (run : RunsAs (files_of asked) (outcome_of asked old.words) old new result)
-    × ((folder : Folder) → Tells translate_files old folder → HoldsModels (bytes_at old.words folder 1) (run.taken Library) run.text)
+    × ((folder : Folder) → Tells translate_files old folder
+    → HoldsModels (bytes_at old.words folder 1) (run.taken Library) run.text)
 
 -- a run of a translation
-pub translation_run : (asked : FileCommand) (old new : DeskState) (result : Status) → reading old.words ≡ command.Files asked → asked ≡ Translate
+pub translation_run : (asked : FileCommand) (old new : DeskState) (result : Status) → reading old.words ≡ command.Files asked
+    → asked ≡ Translate
     → RunsTranslation old new result → Runs old new result
 translation_run asked old new result e is t =
     let held = subst (HoldsWhat old new result) (sym (e ∙ ap command.Files is)) (t.run, t.models) in

@@ -1,5 +1,5 @@
--- A run that compares a library with a Verilog file is done exactly where all accepted cells have matches, and then these cells agree
--- with their modules.
+-- A run that compares a library with a Verilog file is done exactly where all accepted cells have matches, and then these cells
+-- agree with their modules.
 use Rattle.std.proofs.Common.{◌≡◌, sym, subst, ◌∙◌}
 use Rattle.text_io.specs.declared.file_commands.FileCommand.TheVariants.{Audit}
 use Rattle.text_io.specs.Desk.{DeskState}
@@ -16,10 +16,13 @@ use Rattle.translate_cmd.specs.Runs.{Runs}
 use Rattle.translate_cmd.specs.Audits.{AuditedCellsAgree}
 use Rattle.translate_cmd.specs.AuditRuns.{DoneWhereAllMatch}
 
-audits : (old new : DeskState) (result : Status) → reading old.words ≡ command.Files Audit → Runs old new result → RunsAs audit_files (audit_of old.words) old new result
-audits old new result e r = subst (λ (asked : Command). RunsAs (files_of asked) (outcome_of asked old.words) old new result) e r.run
+audits : (old new : DeskState) (result : Status) → reading old.words ≡ command.Files Audit → Runs old new result
+    → RunsAs audit_files (audit_of old.words) old new result
+audits old new result e r = subst (λ (asked : Command). RunsAs (files_of asked) (outcome_of asked old.words) old new result) e
+    r.run
 
-pub done_where_all_match : DoneIsMatch → AuditedCellsAgree → (old new : DeskState) (result : Status) → Runs old new result → DoneWhereAllMatch old result
+pub done_where_all_match : DoneIsMatch → AuditedCellsAgree → (old new : DeskState) (result : Status) → Runs old new result
+    → DoneWhereAllMatch old result
 done_where_all_match law agree old new result run = λ asked folder tells decided.
     let library = bytes_at old.words folder 1 in
     let text = bytes_at old.words folder 2 in

@@ -18,7 +18,9 @@ module _ {M : Type 0} (l : SectionLanguage M) where
   abbrev pub IsFound : List M → M → Type 0
   IsFound models m = core_named l models (core_name_of l m) ≡ Some m
 
-  any_named : (x : List ℕ) (models : List M) → list_any (λ (core : Core). l.vocabulary.is_same x core.name) (map l.core models) ≡ list_any (l.vocabulary.is_same x) (own_names models)
+  any_named : (x : List ℕ) (models : List M)
+      → list_any (λ (core : Core). l.vocabulary.is_same x core.name) (map l.core models) ≡ list_any (l.vocabulary.is_same x)
+      (own_names models)
   any_named x [] = refl
   any_named x (m ∷ models) = ap (λ (b : Bool). l.vocabulary.is_same x (core_name_of l m) || b) (any_named x models)
 
@@ -37,17 +39,21 @@ module _ {M : Type 0} (l : SectionLanguage M) where
   -- where a name that stands apart from those before it is none of them, and is itself
   module _
       (Apart : List (List ℕ) → Type 0)
-      (new : (before : List (List ℕ)) (x : List ℕ) (after : List (List ℕ)) → Apart (before ++ x ∷ after) → list_any (l.vocabulary.is_same x) before ≡ false)
+      (new : (before : List (List ℕ)) (x : List ℕ) (after : List (List ℕ)) → Apart (before ++ x ∷ after)
+      → list_any (l.vocabulary.is_same x) before ≡ false)
       (self : (x : List ℕ) → l.vocabulary.is_same x x ≡ true)
     where
-      found_behind_others : (before models : List M) → Apart (own_names (before ++ models)) → AllByRecursion (IsFound (before ++ models)) models
+      found_behind_others : (before models : List M) → Apart (own_names (before ++ models))
+          → AllByRecursion (IsFound (before ++ models)) models
       found_behind_others before [] apart = tt
       found_behind_others before (m ∷ models) apart =
-          let none = new (own_names before) (core_name_of l m) (own_names models) (subst Apart (map-append (core_name_of l) before (m ∷ models)) apart) in
+          let none = new (own_names before) (core_name_of l m) (own_names models)
+          (subst Apart (map-append (core_name_of l) before (m ∷ models)) apart) in
           let same : (before ++ m ∷ []) ++ models ≡ before ++ m ∷ models = append_assoc before (m ∷ []) models in (
             one_found before m models none (self (core_name_of l m)),
             subst (λ (all : List M). AllByRecursion (IsFound all) models) same
-                (found_behind_others (before ++ m ∷ []) models (subst (λ (all : List M). Apart (own_names all)) (sym same) apart)),
+                (found_behind_others (before ++ m ∷ []) models
+                (subst (λ (all : List M). Apart (own_names all)) (sym same) apart)),
           )
 
       pub all_found : (models : List M) → Apart (own_names models) → AllByRecursion (IsFound models) models

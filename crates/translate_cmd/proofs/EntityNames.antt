@@ -21,21 +21,26 @@ abbrev pub AreAlike : List (List ℕ) → List (List ℕ) → Type 0
 AreAlike given known = (name : List ℕ) → list_any (bytes_eq name) given ≡ list_any (bytes_eq name) known
 
 -- the names of the models so far tell whether VHDL text keeps a name behind them
-kept_alike : (given known : List (List ℕ)) (name : List ℕ) → AreAlike given known → is_kept_entity_name known name ≡ is_kept_entity_name given name
+kept_alike : (given known : List (List ℕ)) (name : List ℕ) → AreAlike given known
+    → is_kept_entity_name known name ≡ is_kept_entity_name given name
 unfolding is_kept_entity_name
 kept_alike given known name h =
     ap (λ (b : Bool). is_identifier name && (is_free name && (not (is_numbered (codes "cell") name) && not b)))
     (found_is known (lowered name) ∙ sym (h (lowered name)) ∙ sym (found_is given (lowered name)))
 
 -- and what the next cell's model is called
-named_alike : (given known : List (List ℕ)) (cell : DrivenData) → AreAlike given known → vital_name known cell ≡ model_name (may_float cell) given cell
+named_alike : (given known : List (List ℕ)) (cell : DrivenData) → AreAlike given known
+    → vital_name known cell ≡ model_name (may_float cell) given cell
 named_alike given known cell h = by (may_float cell)
   where
-    by : (b : Bool) → (if b then driver_name cell.core.number known cell.name else entity_name cell.core.number known cell.core.name) ≡ model_name b given cell
+    by : (b : Bool) → (if b then driver_name cell.core.number known cell.name
+        else entity_name cell.core.number known cell.core.name) ≡ model_name b given cell
     by true =
-        ap (λ (b : Bool). name_or_numbered (b && not (str_eq_ignore_ascii_case cell.name (codes "driven"))) cell.name (codes "vitalz") cell.core.number)
+        ap (λ (b : Bool). name_or_numbered (b && not (str_eq_ignore_ascii_case cell.name (codes "driven"))) cell.name
+        (codes "vitalz") cell.core.number)
         (kept_alike given known cell.name h)
-    by false = ap (λ (b : Bool). name_or_numbered b cell.core.name (codes "cell") cell.core.number) (kept_alike given known cell.core.name h)
+    by false = ap (λ (b : Bool). name_or_numbered b cell.core.name (codes "cell") cell.core.number)
+        (kept_alike given known cell.core.name h)
 
 -- a list that holds a name already holds the same names with it
 same_with : (known : List (List ℕ)) (x name : List ℕ) → list_any (bytes_eq x) known ≡ true
@@ -48,12 +53,15 @@ same_with known x name e = by (list_any (bytes_eq name) known) (bytes_eq name x)
     by false true h k = sym (subst (λ y. list_any (bytes_eq y) known ≡ true) (sym ((bytes_eq-Decides name x).0 k)) e) ∙ h
 
 -- one more name, which the second list is given once
-pub alike_with : (given known : List (List ℕ)) (x : List ℕ) → AreAlike given known → AreAlike (given ++ x ∷ []) (names_with known x)
+pub alike_with : (given known : List (List ℕ)) (x : List ℕ) → AreAlike given known
+    → AreAlike (given ++ x ∷ []) (names_with known x)
 alike_with given known x h name =
-    list_any-append (bytes_eq name) given (x ∷ []) ∙ ap (λ (a : Bool). a || (bytes_eq name x || false)) (h name) ∙ by (is_some (number_of known x)) (found_is known x)
+    list_any-append (bytes_eq name) given (x ∷ []) ∙ ap (λ (a : Bool). a || (bytes_eq name x || false)) (h name)
+    ∙ by (is_some (number_of known x)) (found_is known x)
   where
     by : (b : Bool) → b ≡ list_any (bytes_eq x) known
-        → (list_any (bytes_eq name) known || (bytes_eq name x || false)) ≡ list_any (bytes_eq name) (if b then known else known ++ x ∷ [])
+        → (list_any (bytes_eq name) known || (bytes_eq name x || false)) ≡ list_any (bytes_eq name)
+        (if b then known else known ++ x ∷ [])
     by true e = same_with known x name (sym e)
     by false e = sym (list_any-append (bytes_eq name) known (x ∷ []))
 

@@ -61,7 +61,8 @@ module _ {M : Type 0} (g : CellModels M) where
   apart cells = record { models = cores g cells; drivers = all_drivers cells }
 
   module _
-      (l : SectionLanguage M) (named : (cell : DrivenData) (entity : List ℕ) → may_float cell ≡ true → (g.driver cell entity).core ≡ core_name_of l (g.core cell entity))
+      (l : SectionLanguage M) (named : (cell : DrivenData) (entity : List ℕ) → may_float cell ≡ true
+      → (g.driver cell entity).core ≡ core_name_of l (g.core cell entity))
       (ms : List M)
     where
       one_over : (cell : DrivenData) (entity : List ℕ) → may_float cell ≡ true → IsFound l ms (g.core cell entity)
@@ -69,7 +70,8 @@ module _ {M : Type 0} (g : CellModels M) where
       one_over cell entity floats found =
           ap (over_core (g.driver cell entity)) (ap (core_named l ms) (named cell entity floats) ∙ found)
 
-      all_over : (cells : List CellEntry) → AllByRecursion (IsFound l ms) (cores g cells) → flat_map (over_its_core l ms) (all_drivers cells) ≡ drivers g cells
+      all_over : (cells : List CellEntry) → AllByRecursion (IsFound l ms) (cores g cells)
+          → flat_map (over_its_core l ms) (all_drivers cells) ≡ drivers g cells
       all_over [] h = refl
       all_over (Accepted cell entity ∷ cells) h = by (may_float cell) refl (all_over cells h.1)
         where
@@ -82,7 +84,8 @@ module _ {M : Type 0} (g : CellModels M) where
 
 -- The Verilog models.
 
-verilog_core : (cell : DrivenData) (entity : List ℕ) → may_float cell ≡ true → (verilog_driver_of cell).core ≡ (module_of cell.core).name
+verilog_core : (cell : DrivenData) (entity : List ℕ) → may_float cell ≡ true
+    → (verilog_driver_of cell).core ≡ (module_of cell.core).name
 unfolding verilog_driver_of
 verilog_core cell entity floats = refl
 
@@ -96,27 +99,35 @@ same_modules (Accepted cell entity ∷ cells) = by (same_modules cells) (may_flo
   where
     by : apart in_verilog cells ≡ verilog_of (accepted_of cells) → (b : Bool)
         → with_cell (module_of cell.core) (if b then verilog_driver_of cell ∷ [] else []) (apart in_verilog cells)
-        ≡ with_cell (module_of cell.core) (driver_in (if b then Some (verilog_driver_of cell) else None)) (verilog_of (accepted_of cells))
+        ≡ with_cell (module_of cell.core) (driver_in (if b then Some (verilog_driver_of cell) else None))
+        (verilog_of (accepted_of cells))
     by rest true = ap (with_cell (module_of cell.core) (verilog_driver_of cell ∷ [])) rest
     by rest false = ap (with_cell (module_of cell.core) []) rest
 same_modules (Refused name refusal ∷ cells) = same_modules cells
 
-verilog_by : (cells : List CellEntry) → AllByRecursion (IsFound verilog_sections (core_modules cells)) (core_modules cells) → modules_of cells ≡ file_models verilog_sections (apart in_verilog cells)
+verilog_by : (cells : List CellEntry) → AllByRecursion (IsFound verilog_sections (core_modules cells)) (core_modules cells)
+    → modules_of cells ≡ file_models verilog_sections (apart in_verilog cells)
 verilog_by cells found =
     let drivers = all_over in_verilog verilog_sections verilog_core (core_modules cells) cells found in
     ap (λ (fs : List (FileModel VModule)). map (own_model verilog_sections) (core_modules cells) ++ fs) (sym drivers)
 
 -- The VITAL models.
 
-vital_core : (cell : DrivenData) (entity : List ℕ) → may_float cell ≡ true → (vital_driver_of cell entity).core ≡ (core_entity cell entity).name
+vital_core : (cell : DrivenData) (entity : List ℕ) → may_float cell ≡ true
+    → (vital_driver_of cell entity).core ≡ (core_entity cell entity).name
 unfolding vital_driver_of
 vital_core cell entity floats = sym (ap (λ (b : Bool). if b then codes "cell" ++ decimal cell.core.number else entity) floats)
 
 -- the entities of cells apart from their drivers, each named behind models with these names
 abbrev vital_behind : List (List ℕ) → List DrivenData → DrivenModels VEntity
-vital_behind given cells = record { models = models_of (driven_entities_behind given cells); drivers = drivers_of (driven_entities_behind given cells) }
+vital_behind given cells = record {
+  models = models_of (driven_entities_behind given cells);
+  drivers =
+      drivers_of (driven_entities_behind given cells);
+}
 
-same_entities : (cells : List CellEntry) (given : List (List ℕ)) → AreNamedBehind given cells → apart in_vital cells ≡ vital_behind given (accepted_of cells)
+same_entities : (cells : List CellEntry) (given : List (List ℕ)) → AreNamedBehind given cells
+    → apart in_vital cells ≡ vital_behind given (accepted_of cells)
 same_entities [] given named = refl
 same_entities (Accepted cell entity ∷ cells) given named =
     by (same_entities cells (given ++ lowered (model_name (may_float cell) given cell) ∷ []) named.1) (may_float cell) named.0
@@ -125,13 +136,16 @@ same_entities (Accepted cell entity ∷ cells) given named =
     others = vital_behind (given ++ lowered (model_name (may_float cell) given cell) ∷ []) (accepted_of cells)
 
     by : apart in_vital cells ≡ others → (b : Bool) → entity ≡ model_name b given cell
-        → with_cell (entity_of cell.core (if b then codes "cell" ++ decimal cell.core.number else entity)) (if b then vital_driver_of cell entity ∷ [] else []) (apart in_vital cells)
+        → with_cell (entity_of cell.core (if b then codes "cell" ++ decimal cell.core.number else entity))
+        (if b then vital_driver_of cell entity ∷ [] else []) (apart in_vital cells)
         ≡ with_cell (driven_entity b given cell).model (driver_in (driven_entity b given cell).driver) others
-    by rest true e = λ i. with_cell (entity_of cell.core (codes "cell" ++ decimal cell.core.number)) (vital_driver_of cell (e i) ∷ []) (rest i)
+    by rest true e = λ i. with_cell (entity_of cell.core (codes "cell" ++ decimal cell.core.number))
+        (vital_driver_of cell (e i) ∷ []) (rest i)
     by rest false e = λ i. with_cell (entity_of cell.core (e i)) [] (rest i)
 same_entities (Refused name refusal ∷ cells) given named = same_entities cells given named
 
-vital_by : (cells : List CellEntry) → AllByRecursion (IsFound vital_sections (core_entities cells)) (core_entities cells) → entities_of cells ≡ file_models vital_sections (apart in_vital cells)
+vital_by : (cells : List CellEntry) → AllByRecursion (IsFound vital_sections (core_entities cells)) (core_entities cells)
+    → entities_of cells ≡ file_models vital_sections (apart in_vital cells)
 vital_by cells found =
     let drivers = all_over in_vital vital_sections vital_core (core_entities cells) cells found in
     ap (λ (fs : List (FileModel VEntity)). map (own_model vital_sections) (core_entities cells) ++ fs) (sym drivers)
@@ -139,17 +153,20 @@ vital_by cells found =
 -- Each core is found by its name.
 
 modules_found : (ms : List VModule) → verilog_rules.AreWellFormed ms → AllByRecursion (IsFound verilog_sections ms) ms
-modules_found ms h = all_found verilog_sections verilog_rules.AreApart module_names.is_new same_bytes ms (modules_apart ms h.apart)
+modules_found ms h = all_found verilog_sections verilog_rules.AreApart module_names.is_new same_bytes ms
+    (modules_apart ms h.apart)
 
 -- names of entities that differ, whatever the case of their letters
 record AreEntityNames (names : List (List ℕ)) : Type 0 where
   apart : vital_rules.AreApart names
   named : AllByRecursion IsNamed names
 
-new_entity : (before : List (List ℕ)) (x : List ℕ) (after : List (List ℕ)) → AreEntityNames (before ++ x ∷ after) → list_any (is_same x) before ≡ false
+new_entity : (before : List (List ℕ)) (x : List ℕ) (after : List (List ℕ)) → AreEntityNames (before ++ x ∷ after)
+    → list_any (is_same x) before ≡ false
 new_entity before x after h = entity_names.is_new before x after (at_place IsNamed before x after h.named) h.apart
 
-all_named : (es : List VEntity) → AllByRecursion vital_rules.IsWellFormedEntity es → AllByRecursion IsNamed (own_names vital_sections es)
+all_named : (es : List VEntity) → AllByRecursion vital_rules.IsWellFormedEntity es
+    → AllByRecursion IsNamed (own_names vital_sections es)
 all_named [] h = tt
 all_named (e ∷ es) h = (entity_named e.name h.0.name, all_named es h.1)
 
@@ -166,8 +183,10 @@ modules_apart_are library = same_modules (cells_of library) ∙ ap verilog_of (a
 modules_are : (library : List ℕ) → modules_of (cells_of library) ≡ file_models verilog_sections (verilog_in library)
 modules_are library =
     let same = modules_apart_are library in
-    let well_formed = subst (λ (found : DrivenModels VModule). verilog_rules.AreWellFormed found.models) (sym same) (modules-well-formed library).models in
-    verilog_by (cells_of library) (modules_found (core_modules (cells_of library)) well_formed) ∙ ap (file_models verilog_sections) same
+    let well_formed = subst (λ (found : DrivenModels VModule). verilog_rules.AreWellFormed found.models) (sym same)
+    (modules-well-formed library).models in
+    verilog_by (cells_of library) (modules_found (core_modules (cells_of library)) well_formed)
+    ∙ ap (file_models verilog_sections) same
 
 entities_apart_are : (library : List ℕ) → apart in_vital (cells_of library) ≡ vital_in library
 entities_apart_are library = same_entities (cells_of library) [] (are_named library) ∙ ap (vital_behind []) (are_accepted library)
@@ -175,15 +194,19 @@ entities_apart_are library = same_entities (cells_of library) [] (are_named libr
 pub entities_are : (library : List ℕ) → entities_of (cells_of library) ≡ file_models vital_sections (vital_in library)
 entities_are library =
     let same = entities_apart_are library in
-    let well_formed = subst (λ (found : DrivenModels VEntity). vital_rules.AreWellFormed found.models) (sym same) (entities-well-formed library).models in
-    vital_by (cells_of library) (entities_found (core_entities (cells_of library)) well_formed) ∙ ap (file_models vital_sections) same
+    let well_formed = subst (λ (found : DrivenModels VEntity). vital_rules.AreWellFormed found.models) (sym same)
+    (entities-well-formed library).models in
+    vital_by (cells_of library) (entities_found (core_entities (cells_of library)) well_formed)
+    ∙ ap (file_models vital_sections) same
 
 -- So the Verilog and the VHDL of the library are read as these.
 
 pub verilog_read : (library : List ℕ) → verilog.text (translate_outcome library).text.verilog ≡ Ok (modules_of (cells_of library))
 verilog_read library =
-    ap (result_map_both (file_models verilog_sections) (λ f. f)) (libraries-read-back library).verilog.answer ∙ ap Ok (sym (modules_are library))
+    ap (result_map_both (file_models verilog_sections) (λ f. f)) (libraries-read-back library).verilog.answer
+    ∙ ap Ok (sym (modules_are library))
 
 pub vital_read : (library : List ℕ) → vital.text (translate_outcome library).text.vital ≡ Ok (entities_of (cells_of library))
 vital_read library =
-    ap (result_map_both (file_models vital_sections) (λ f. f)) (libraries-read-back library).vital.answer ∙ ap Ok (sym (entities_are library))
+    ap (result_map_both (file_models vital_sections) (λ f. f)) (libraries-read-back library).vital.answer
+    ∙ ap Ok (sym (entities_are library))

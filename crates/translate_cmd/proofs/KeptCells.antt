@@ -1,5 +1,5 @@
--- The accepted cells that are kept of a library are those that are translated, named as these: a cell that is accepted has a new name, so
--- it is kept.
+-- The accepted cells that are kept of a library are those that are translated, named as these: a cell that is accepted has a new
+-- name, so it is kept.
 use Rattle.std.proofs.Common.{◌≡◌, ℕ, Bool, true, false, List, [], ◌∷◌, ◌++◌, refl, ap, subst, Option, Some, None, is_some}
 use Rattle.std.proofs.Common.{if◌then◌else◌}
 use Rattle.library_simulation.specs.file_models.bool_functions.NameList.{number_of}
@@ -14,7 +14,8 @@ use Rattle.generated_driven_models.specs.three_state_cells.DrivenCells.{DrivenDa
 use Rattle.generated_driven_models.specs.VitalLibrary.{model_name}
 use Rattle.library_simulation.specs.library_reader.LibraryCells.{CellEntry, Accepted, Refused}
 use Rattle.library_simulation.specs.library_reader.declared.progress.Progress.{Progress}
-use Rattle.library_simulation.specs.library_reader.Progress.{no_progress, next_bits, next_refusal, next_data, next_entity, entity_by}
+use Rattle.library_simulation.specs.library_reader.Progress.{no_progress, next_bits, next_refusal, next_data, next_entity}
+use Rattle.library_simulation.specs.library_reader.Progress.{entity_by}
 use Rattle.library_simulation.specs.library_reader.Progress.{after_cell, after_item}
 use Rattle.library_simulation.specs.library_reader.KeptCells.{kept_by, kept_cells}
 use Rattle.library_simulation.specs.library_reader.Endings.{library_limit}
@@ -33,7 +34,8 @@ accepted_of (Refused name refusal ∷ cells) = accepted_of cells
 abbrev pub AreNamedBehind : List (List ℕ) → List CellEntry → Type 0
 AreNamedBehind given [] = Unit {0}
 AreNamedBehind given (Accepted cell entity ∷ cells) =
-    (entity ≡ model_name (may_float cell) given cell) × AreNamedBehind (given ++ lowered (model_name (may_float cell) given cell) ∷ []) cells
+    (entity ≡ model_name (may_float cell) given cell)
+    × AreNamedBehind (given ++ lowered (model_name (may_float cell) given cell) ∷ []) cells
 AreNamedBehind given (Refused name refusal ∷ cells) = AreNamedBehind given cells
 
 -- what is kept are these cells, so named
@@ -48,7 +50,8 @@ new_name p group e =
 
 -- what holds of items behind any others
 abbrev Follow : List LibraryItem → Type 0
-Follow items = (p : Progress) (given : List (List ℕ)) → AreAlike given p.entities → AreKept given (accepted_cells p items) (kept_cells p items)
+Follow items = (p : Progress) (given : List (List ℕ)) → AreAlike given p.entities
+    → AreKept given (accepted_cells p items) (kept_cells p items)
 
 cell_kept :
     (p : Progress) (group : Group) (items : List LibraryItem) (given : List (List ℕ)) → Follow items → AreAlike given p.entities
@@ -61,7 +64,8 @@ cell_kept p group items given follow h false None new =
     let named = its_entity p group given h in
     let after : Progress = after_cell p (cell_name group) (Some (next_entity p group)) in
     let rest = follow after (given ++ lowered (model_name (may_float cell) given cell) ∷ [])
-    (subst (λ (name : List ℕ). AreAlike (given ++ lowered name ∷ []) after.entities) named (alike_with given p.entities (lowered (next_entity p group)) h)) in
+    (subst (λ (name : List ℕ). AreAlike (given ++ lowered name ∷ []) after.entities) named
+    (alike_with given p.entities (lowered (next_entity p group)) h)) in
     record { same = ap (λ (cells : List DrivenData). cell ∷ cells) rest.same; named = (named, rest.named) }
 cell_kept p group items given follow h true (Some refusal) new = follow (after_cell p (cell_name group) None) given h
 cell_kept p group items given follow h false (Some refusal) new =
@@ -71,7 +75,8 @@ cell_kept p group items given follow h false (Some refusal) new =
 all_kept : (items : List LibraryItem) → Follow items
 all_kept [] p given h = record { same = refl; named = tt }
 all_kept (item.Cell group ∷ items) p given h =
-    cell_kept p group items given (all_kept items) h (is_some (number_of p.names (cell_name group))) (next_refusal p group) (new_name p group)
+    cell_kept p group items given (all_kept items) h (is_some (number_of p.names (cell_name group))) (next_refusal p group)
+    (new_name p group)
 all_kept (item.Unit line ∷ items) p given h = all_kept items (after_item p (item.Unit line)) given h
 all_kept (item.LeftOut at ∷ items) p given h = all_kept items p given h
 all_kept (item.BusType group ∷ items) p given h = all_kept items (after_item p (item.BusType group)) given h

@@ -18,4 +18,5 @@ keep_rules (Refused name refusal ∷ cells) h = (tt, keep_rules cells h)
 pub kept_rules : (library : List ℕ) → All KeepsRules (cells_of library)
 kept_rules library =
     All-from_recursion KeepsRules (cells_of library)
-    (keep_rules (cells_of library) (subst (λ (cells : List DrivenData). AllByRecursion IsNumberedDriven cells) (sym (are_accepted library)) (all_numbered library)))
+    (keep_rules (cells_of library) (subst (λ (cells : List DrivenData). AllByRecursion IsNumberedDriven cells)
+    (sym (are_accepted library)) (all_numbered library)))

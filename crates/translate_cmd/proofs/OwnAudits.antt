@@ -1,5 +1,5 @@
--- A library compared with its own modules: each accepted cell none of whose outputs may float has a module with its name that matches it,
--- so no line tells another thing.
+-- A library compared with its own modules: each accepted cell none of whose outputs may float has a module with its name that
+-- matches it, so no line tells another thing.
 use Rattle.std.proofs.Common.{◌≡◌, ℕ, Bool, true, false, List, inl, inr, refl, sym, ap, subst, ◌∙◌, Some, Result, Ok}
 use Rattle.std.proofs.Common.{if◌then◌else◌}
 use Rattle.std.specs.Prelude.{◌≢◌, All, slice_get, slice_index_or}
@@ -45,11 +45,13 @@ done_well : (outcome : Outcome) → outcome.status ≡ status.Done → EndsWell 
 done_well outcome d = (λ e. let clash = sym d ∙ e in absurd cc, λ e. let clash = sym d ∙ e in absurd cc)
 
 -- both files are read as these, or the run ends before that
-same_models : (ms models : List (FileModel VModule)) (answer : Result (List (FileModel VModule)) FileStop) → IsReadAs ms answer → answer ≡ Ok models → ms ≡ models
+same_models : (ms models : List (FileModel VModule)) (answer : Result (List (FileModel VModule)) FileStop) → IsReadAs ms answer
+    → answer ≡ Ok models → ms ≡ models
 same_models ms models answer (inl e) h = let both = sym e ∙ h in cc
 same_models ms models answer (inr (stop, e, long)) h = let both = sym e ∙ h in absurd cc
 
-same_cells : (library : List ℕ) (end : Ending) (cells : List CellEntry) → answer_by (cells_by end (cells_of library)) ≡ Ok cells → cells_of library ≡ cells
+same_cells : (library : List ℕ) (end : Ending) (cells : List CellEntry) → answer_by (cells_by end (cells_of library)) ≡ Ok cells
+    → cells_of library ≡ cells
 same_cells library ending.Whole cells e = cc
 same_cells library (ending.Fault fault) cells e = absurd cc
 same_cells library ending.TooLong cells e = absurd cc
@@ -57,7 +59,8 @@ same_cells library ending.TooLong cells e = absurd cc
 module _ (match : GeneratedModulesMatch) (same : SameLineIsMatch) (done : DoneIsMatch) where
   -- A cell none of whose outputs may float has its module, which matches it.
   plain_match :
-      (cells : List CellEntry) → HaveOwnModels cells → (k : ℕ) (cell : DrivenData) (entity : List ℕ) → slice_get cells k ≡ Some (Accepted cell entity)
+      (cells : List CellEntry) → HaveOwnModels cells → (k : ℕ) (cell : DrivenData) (entity : List ℕ)
+      → slice_get cells k ≡ Some (Accepted cell entity)
       → KeepsCellRules cell → may_float cell ≡ false → HasMatch (modules_of cells) cell.core
   unfolding module_for module_at
   plain_match cells own k cell entity there keeps plain =
@@ -80,36 +83,46 @@ module _ (match : GeneratedModulesMatch) (same : SameLineIsMatch) (done : DoneIs
   own_entry cells own k (Accepted cell entity) there keeps = λ plain. plain_match cells own k cell entity there keeps plain
   own_entry cells own k (Refused name refusal) there keeps = tt
 
-  own_entries : (cells : List CellEntry) → HaveOwnModels cells → All KeepsRules cells → All (HasMatchOrIsLeftOut (modules_of cells)) cells
-  own_entries cells own keep = λ k d below. own_entry cells own k (slice_index_or cells k d) (slice_get-get_or cells k d below) (keep k d below)
+  own_entries : (cells : List CellEntry) → HaveOwnModels cells → All KeepsRules cells
+      → All (HasMatchOrIsLeftOut (modules_of cells)) cells
+  own_entries cells own keep = λ k d below. own_entry cells own k (slice_index_or cells k d) (slice_get-get_or cells k d below)
+      (keep k d below)
 
   all_own : (library : List ℕ) → All (HasMatchOrIsLeftOut (modules_of (cells_of library))) (cells_of library)
   all_own library = own_entries (cells_of library) (own_models library) (kept_rules library)
 
   -- The line of a cell.
-  line_by : (models : List (FileModel VModule)) (cell : DrivenData) (entity : List ℕ) (b : Bool) → may_float cell ≡ b → HasMatchOrIsLeftOut models (Accepted cell entity)
+  line_by : (models : List (FileModel VModule)) (cell : DrivenData) (entity : List ℕ) (b : Bool) → may_float cell ≡ b
+      → HasMatchOrIsLeftOut models (Accepted cell entity)
       → accepted_text models cell ≡ same_or_left_out cell
   line_by models cell entity true floats h =
-      ap (λ (b : Bool). if b then left_out_line cell.core.number cell.name else audit_line cell.core.number cell.name (verdict_in models cell.core)) floats
-      ∙ sym (ap (λ (b : Bool). if b then left_out_line cell.core.number cell.name else same_line cell.core.number cell.name) floats)
+      ap (λ (b : Bool). if b then left_out_line cell.core.number cell.name
+      else audit_line cell.core.number cell.name (verdict_in models cell.core)) floats
+      ∙ sym (ap (λ (b : Bool). if b then left_out_line cell.core.number cell.name else same_line cell.core.number cell.name)
+      floats)
   line_by models cell entity false plain h =
       (same models cell entity).1 (record { plain = plain; has_match = h plain })
-      ∙ sym (ap (λ (b : Bool). if b then left_out_line cell.core.number cell.name else same_line cell.core.number cell.name) plain)
+      ∙ sym (ap (λ (b : Bool). if b then left_out_line cell.core.number cell.name else same_line cell.core.number cell.name)
+      plain)
 
   says_same : (models : List (FileModel VModule)) (c : CellEntry) → HasMatchOrIsLeftOut models c → IsSameOrIsLeftOut models c
   says_same models (Accepted cell entity) h = line_by models cell entity (may_float cell) refl h
   says_same models (Refused name refusal) h = tt
 
-  read_modules : (library : List ℕ) → IsReadAs (modules_of (cells_of library)) (model_answer verilog (translate_outcome library).text.verilog)
-  read_modules library = read_as verilog (translate_outcome library).text.verilog (modules_of (cells_of library)) (verilog_read library)
+  read_modules : (library : List ℕ)
+      → IsReadAs (modules_of (cells_of library)) (model_answer verilog (translate_outcome library).text.verilog)
+  read_modules library = read_as verilog (translate_outcome library).text.verilog (modules_of (cells_of library))
+      (verilog_read library)
 
   lines : (library : List ℕ) (cells : List CellEntry) (models : List (FileModel VModule))
       → library_answer library ≡ Ok cells → model_answer verilog (translate_outcome library).text.verilog ≡ Ok models
       → All (IsSameOrIsLeftOut models) cells
   lines library cells models e f =
       let are_cells = same_cells library (ending_of library_limit library) cells e in
-      let are_models = same_models (modules_of (cells_of library)) models (model_answer verilog (translate_outcome library).text.verilog) (read_modules library) f in
-      let all = subst (λ ms. All (HasMatchOrIsLeftOut ms) cells) are_models (subst (λ cs. All (HasMatchOrIsLeftOut (modules_of (cells_of library))) cs) are_cells (all_own library)) in
+      let are_models = same_models (modules_of (cells_of library)) models
+      (model_answer verilog (translate_outcome library).text.verilog) (read_modules library) f in
+      let all = subst (λ ms. All (HasMatchOrIsLeftOut ms) cells) are_models
+      (subst (λ cs. All (HasMatchOrIsLeftOut (modules_of (cells_of library))) cs) are_cells (all_own library)) in
       λ k d below. says_same models (slice_index_or cells k d) (all k d below)
 
   by_modules : (library : List ℕ) → library_answer library ≡ Ok (cells_of library)
@@ -119,7 +132,14 @@ module _ (match : GeneratedModulesMatch) (same : SameLineIsMatch) (done : DoneIs
       let text = (translate_outcome library).text.verilog in
       done_well (audit_outcome library text)
       ((done library text).1
-      (record { cells = cells_of library; are_cells = whole; models = modules_of (cells_of library); are_models = e; match_all = all_own library }))
+      (record {
+        cells = cells_of library;
+        are_cells = whole;
+        models = modules_of (cells_of library);
+        are_models = e;
+        match_all =
+            all_own library;
+      }))
   by_modules library whole (inr (stop, e, long)) =
       let text = (translate_outcome library).text.verilog in
       subst (λ r. EndsWell (outcome_by 1 r (λ cells. behind_cells cells text))) (sym whole)
@@ -127,9 +147,11 @@ module _ (match : GeneratedModulesMatch) (same : SameLineIsMatch) (done : DoneIs
       (λ f. let clash = sym long ∙ f in absurd cc, λ f. let clash = sym long ∙ f in absurd cc))
 
   by_end : (library : List ℕ) (end : Ending) → ending_of library_limit library ≡ end
-      → EndsWell (outcome_by 1 (answer_by (cells_by end (cells_of library))) (λ cells. behind_cells cells (translate_outcome library).text.verilog))
+      → EndsWell (outcome_by 1 (answer_by (cells_by end (cells_of library)))
+      (λ cells. behind_cells cells (translate_outcome library).text.verilog))
   by_end library ending.Whole e =
-      let whole : library_answer library ≡ Ok (cells_of library) = ap (λ (end : Ending). answer_by (cells_by end (cells_of library))) e in
+      let whole : library_answer library ≡ Ok (cells_of library) =
+      ap (λ (end : Ending). answer_by (cells_by end (cells_of library))) e in
       subst (λ r. EndsWell (outcome_by 1 r (λ cells. behind_cells cells (translate_outcome library).text.verilog))) whole
       (by_modules library whole (read_modules library))
   by_end library (ending.Fault fault) e = (λ f. absurd cc, λ f. absurd cc)

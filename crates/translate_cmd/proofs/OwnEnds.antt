@@ -34,11 +34,13 @@ can_be_simulated library stimulus h = record {
   lines = h.lines;
 }
 
-done_unless : (some_differ : Bool) (s : Status) → s ≡ (if some_differ then status.Differ else status.Done) → s ≢ status.Differ → s ≡ status.Done
+done_unless : (some_differ : Bool) (s : Status) → s ≡ (if some_differ then status.Differ else status.Done) → s ≢ status.Differ
+    → s ≡ status.Done
 done_unless true s e never = absurd (never e)
 done_unless false s e never = e
 
-own_simulation_is_done : (library stimulus : List ℕ) → IsWithoutFault library stimulus → (own_simulation library stimulus).status ≡ status.Done
+own_simulation_is_done : (library stimulus : List ℕ) → IsWithoutFault library stimulus
+    → (own_simulation library stimulus).status ≡ status.Done
 unfolding can_be_simulated
 own_simulation_is_done library stimulus h =
     let cells = cells_of library in
@@ -49,11 +51,13 @@ own_simulation_is_done library stimulus h =
     (own_models_agree library stimulus).not_differ
 
 -- so it is with words that name these files
-pub own_words_are_done : (words : List (List ℕ)) (folder : Folder) → NameOwnModels words folder → IsWithoutFault (bytes_at words folder 1) (bytes_at words folder 4)
+pub own_words_are_done : (words : List (List ℕ)) (folder : Folder) → NameOwnModels words folder
+    → IsWithoutFault (bytes_at words folder 1) (bytes_at words folder 4)
     → (simulate_of words folder).status ≡ status.Done
 own_words_are_done words folder own h =
     let library = bytes_at words folder 1 in
     let stimulus = bytes_at words folder 4 in
     subst (λ text. (simulate_outcome library text (bytes_at words folder 3) stimulus).status ≡ status.Done) (sym own.verilog)
-    (subst (λ text. (simulate_outcome library (translate_outcome library).text.verilog text stimulus).status ≡ status.Done) (sym own.vital)
+    (subst (λ text. (simulate_outcome library (translate_outcome library).text.verilog text stimulus).status ≡ status.Done)
+    (sym own.vital)
     (own_simulation_is_done library stimulus h))

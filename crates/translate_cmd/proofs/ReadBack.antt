@@ -19,10 +19,13 @@ verilog_back bytes =
     let h = modules-well-formed bytes in
     let written = sym (verilog-of-modules bytes) in
     record {
-      answer = subst (λ (text : List ℕ). driven_models verilog_sections text ≡ Ok (verilog_in bytes)) written (read_back written_verilog well_formed_verilog verilog.pieces (modules_in bytes) h.models h.drivers);
-      apart = subst (λ (text : List ℕ). HoldsApart written_verilog text (verilog_in bytes).models (verilog_in bytes).drivers) written
+      answer = subst (λ (text : List ℕ). driven_models verilog_sections text ≡ Ok (verilog_in bytes)) written
+          (read_back written_verilog well_formed_verilog verilog.pieces (modules_in bytes) h.models h.drivers);
+      apart = subst (λ (text : List ℕ). HoldsApart written_verilog text (verilog_in bytes).models (verilog_in bytes).drivers)
+          written
           (kept_apart written_verilog well_formed_verilog verilog.pieces (modules_in bytes) h.models
-          (all_declared written_verilog well_formed_verilog verilog.pieces (verilog_in bytes).models [] (verilog_in bytes).drivers h.drivers));
+          (all_declared written_verilog well_formed_verilog verilog.pieces (verilog_in bytes).models []
+          (verilog_in bytes).drivers h.drivers));
     }
 
 vital_back : (bytes : List ℕ) → VitalReadsBack bytes
@@ -30,10 +33,12 @@ vital_back bytes =
     let h = entities-well-formed bytes in
     let written = sym (vital-of-entities bytes) in
     record {
-      answer = subst (λ (text : List ℕ). driven_models vital_sections text ≡ Ok (vital_in bytes)) written (read_back written_vital well_formed_vital vital.pieces (entities_in bytes) h.models h.drivers);
+      answer = subst (λ (text : List ℕ). driven_models vital_sections text ≡ Ok (vital_in bytes)) written
+          (read_back written_vital well_formed_vital vital.pieces (entities_in bytes) h.models h.drivers);
       apart = subst (λ (text : List ℕ). HoldsApart written_vital text (vital_in bytes).models (vital_in bytes).drivers) written
           (kept_apart written_vital well_formed_vital vital.pieces (entities_in bytes) h.models
-          (all_declared written_vital well_formed_vital vital.pieces (vital_in bytes).models [] (vital_in bytes).drivers h.drivers));
+          (all_declared written_vital well_formed_vital vital.pieces (vital_in bytes).models []
+          (vital_in bytes).drivers h.drivers));
     }
 
 pub libraries-read-back : LibrariesReadBack

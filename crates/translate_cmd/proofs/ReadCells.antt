@@ -38,8 +38,8 @@ not_known false at h = refl
 abbrev pub under_own_name : DrivenData → CellData
 under_own_name cell = record cell.core { name = cell.name }
 
--- A cell was read so: some group describes its core under its own name, and nothing refuses this group where these names stood before
--- it.
+-- A cell was read so: some group describes its core under its own name, and nothing refuses this group where these names stood
+-- before it.
 pub record HasCore (unit : Option Unit) (earlier : List (List ℕ)) (number : ℕ) (cell : DrivenData) : Type 0 where
   pub group : Group
   pub unrefused : refusal_of (subject_of unit group) earlier group ≡ None
@@ -74,7 +74,13 @@ unfolding floating_of core_group
 named_by unit number cell [] = refl
 named_by unit number cell (output ∷ outputs) =
     ap (λ (one : Group-F Item Group). first_argument one.arguments)
-    (out-roll-Group (record { name = cell.name; arguments = cell.arguments; items = map core_statement cell.items ++ enable_pins 0 (three_state_outputs cell); at = cell.at }))
+    (out-roll-Group (record {
+      name = cell.name;
+      arguments = cell.arguments;
+      items = map core_statement cell.items
+          ++ enable_pins 0 (three_state_outputs cell);
+      at = cell.at;
+    }))
 
 module _ (unit : Option Unit) (earlier : List (List ℕ)) (number : ℕ) (cell : Group) where
   abbrev read : DrivenData
@@ -94,8 +100,10 @@ module _ (unit : Option Unit) (earlier : List (List ℕ)) (number : ℕ) (cell :
     name_is_new =
         let subject = subject_of unit its_core.group in
         let unmet = accepted_meets_none subject earlier its_core.group its_core.unrefused in
-        let twice = nil_parts (known_cell earlier its_core.group) (clashes_after [] (declared_of its_core.group)) unmet.1.1.1.1.1.0 in
-        subst (λ (name : List ℕ). is_some (number_of earlier name) ≡ false) (sym (ap (λ (c : CellData). c.name) its_core.is) ∙ its_name)
+        let twice = nil_parts (known_cell earlier its_core.group) (clashes_after [] (declared_of its_core.group))
+        unmet.1.1.1.1.1.0 in
+        subst (λ (name : List ℕ). is_some (number_of earlier name) ≡ false)
+        (sym (ap (λ (c : CellData). c.name) its_core.is) ∙ its_name)
         (not_known (is_some (number_of earlier (cell_name its_core.group))) its_core.group.at twice.0)
 
     pub its_number : read.core.number ≡ number

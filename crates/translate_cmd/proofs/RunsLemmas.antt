@@ -21,33 +21,45 @@ use Rattle.translate_cmd.specs.Runs.{Runs}
 use Rattle.library_translation.proofs.ModelsLemmas.{no_model_owed}
 
 -- a run that has read nothing owes no models
-unread_runs : (old new : DeskState) (result : Status) → RunsUnread (files_of (reading old.words)) (outcome old.words) old new result → Runs old new result
+unread_runs : (old new : DeskState) (result : Status)
+    → RunsUnread (files_of (reading old.words)) (outcome old.words) old new result → Runs old new result
 unread_runs old new result r = record {
   run = r.0;
-  models = λ _ folder _. subst (λ n. HoldsModels (bytes_at old.words folder 1) n r.0.text) (sym (ap (λ taken. taken Library) r.1)) (no_model_owed _ r.0.text);
+  models = λ _ folder _. subst (λ n. HoldsModels (bytes_at old.words folder 1) n r.0.text) (sym (ap (λ taken. taken Library) r.1))
+      (no_model_owed _ r.0.text);
 }
 
 -- the primitive was written to the report
-pub udp_runs : {T : Type 0} (old new : DeskState) (udp : Udp) (written : Result T Failed) (result : Status) → reading old.words ≡ command.Udp udp
-    → WritesText old new Report (primitive_text udp) written → MatchResult written (λ _. result ≡ Done) (λ _. result ≡ Outside) → Runs old new result
+pub udp_runs : {T : Type 0} (old new : DeskState) (udp : Udp) (written : Result T Failed) (result : Status)
+    → reading old.words ≡ command.Udp udp
+    → WritesText old new Report (primitive_text udp) written → MatchResult written (λ _. result ≡ Done) (λ _. result ≡ Outside)
+    → Runs old new result
 udp_runs old new udp written result e w r =
     unread_runs old new result
-    (report_runs (files_of (reading old.words)) (outcome old.words) old new (primitive_text udp) Done written result (ap files_of e) (λ folder. ap (λ c. outcome_of c old.words folder) e) w r)
+    (report_runs (files_of (reading old.words)) (outcome old.words) old new (primitive_text udp) Done written result
+    (ap files_of e) (λ folder. ap (λ c. outcome_of c old.words folder) e) w r)
 
 -- the report of a run on test cells was written
-pub selftest_runs : {T : Type 0} (old new : DeskState) (cells : ℕ) (counts : Counts) (written : Result T Failed) (result : Status) → reading old.words ≡ command.Selftest cells
-    → counts ≡ own_counts cells → WritesText old new Report (report_text cells counts) written → MatchResult written (λ _. result ≡ Done) (λ _. result ≡ Outside) → Runs old new result
+pub selftest_runs : {T : Type 0} (old new : DeskState) (cells : ℕ) (counts : Counts) (written : Result T Failed) (result : Status)
+    → reading old.words ≡ command.Selftest cells
+    → counts ≡ own_counts cells → WritesText old new Report (report_text cells counts) written
+    → MatchResult written (λ _. result ≡ Done) (λ _. result ≡ Outside) → Runs old new result
 selftest_runs old new cells counts written result e own w r =
     unread_runs old new result
-    (report_runs (files_of (reading old.words)) (outcome old.words) old new (report_text cells (own_counts cells)) Done written result (ap files_of e)
-    (λ folder. ap (λ c. outcome_of c old.words folder) e) (subst (λ counted. WritesText old new Report (report_text cells counted) written) own w) r)
+    (report_runs (files_of (reading old.words)) (outcome old.words) old new (report_text cells (own_counts cells)) Done written
+    result (ap files_of e)
+    (λ folder. ap (λ c. outcome_of c old.words folder) e)
+    (subst (λ counted. WritesText old new Report (report_text cells counted) written) own w) r)
 
 -- the line of usage was written to the faults
-pub usage_runs : {T : Type 0} (old new : DeskState) (written : Result T Failed) (result : Status) → reading old.words ≡ command.Usage
-    → WritesText old new Faults (codes "lib2sim: usage\n") written → MatchResult written (λ _. result ≡ Usage) (λ _. result ≡ Outside) → Runs old new result
+pub usage_runs : {T : Type 0} (old new : DeskState) (written : Result T Failed) (result : Status)
+    → reading old.words ≡ command.Usage
+    → WritesText old new Faults (codes "lib2sim: usage\n") written
+    → MatchResult written (λ _. result ≡ Usage) (λ _. result ≡ Outside) → Runs old new result
 usage_runs old new written result e w r =
     unread_runs old new result
-    (faults_runs (files_of (reading old.words)) (outcome old.words) old new (codes "lib2sim: usage\n") Usage written result (ap files_of e) (λ folder. ap (λ c. outcome_of c old.words folder) e) w r)
+    (faults_runs (files_of (reading old.words)) (outcome old.words) old new (codes "lib2sim: usage\n") Usage written result
+    (ap files_of e) (λ folder. ap (λ c. outcome_of c old.words folder) e) w r)
 
 -- nothing was written, for want of memory
 pub nothing_runs : (old : DeskState) → Runs old old Memory

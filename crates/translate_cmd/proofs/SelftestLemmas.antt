@@ -14,7 +14,8 @@ use Rattle.translate_cmd.proofs.CompleteLemmas.{decided_or}
 nothing_there : Folder
 nothing_there = []
 
-selftest_tells : (old : DeskState) (cells : ℕ) (asked : Command) → asked ≡ command.Selftest cells → Tells (files_of asked) old nothing_there
+selftest_tells : (old : DeskState) (cells : ℕ) (asked : Command) → asked ≡ command.Selftest cells
+    → Tells (files_of asked) old nothing_there
 selftest_tells old cells asked e = rw e tt
 
 pub selftests_end : (old new : DeskState) (result : Status) → Runs old new result → SelftestsEnd old result

@@ -58,14 +58,17 @@ one_vital given cell name e = by (may_float cell) e
         ++ (if b then vhdl.driver_text (vital_driver_of cell name) else [])
         ≡ entity_text (driven_entity b given cell).model ++ text_behind written_vital (driven_entity b given cell).driver
     by true e =
-        ap (λ (x : List ℕ). entity_text (entity_of cell.core (codes "cell" ++ decimal cell.core.number)) ++ vhdl.driver_text (vital_driver_of cell x)) e
+        ap (λ (x : List ℕ). entity_text (entity_of cell.core (codes "cell" ++ decimal cell.core.number))
+        ++ vhdl.driver_text (vital_driver_of cell x)) e
     by false e = ap (λ (x : List ℕ). entity_text (entity_of cell.core x) ++ []) e
 
-in_verilog : (entity : List ℕ) (cell : DrivenData) (group : Group) → (accepted_written entity cell group).verilog ≡ model_text cell
+in_verilog : (entity : List ℕ) (cell : DrivenData) (group : Group)
+    → (accepted_written entity cell group).verilog ≡ model_text cell
 unfolding accepted_written models_written
 in_verilog entity cell group = append-nil (model_text cell ++ []) ∙ append-nil (model_text cell)
 
-in_vital : (entity : List ℕ) (cell : DrivenData) (group : Group) → (accepted_written entity cell group).vital ≡ vital_text entity cell
+in_vital : (entity : List ℕ) (cell : DrivenData) (group : Group)
+    → (accepted_written entity cell group).vital ≡ vital_text entity cell
 unfolding accepted_written models_written
 in_vital entity cell group = append-nil (vital_text entity cell)
 
@@ -76,13 +79,15 @@ record IsOfCells (given : List (List ℕ)) (cells : List DrivenData) (written : 
 
 -- what holds of items behind any others
 abbrev Follow : List LibraryItem → Type 0
-Follow items = (p : Progress) (given : List (List ℕ)) → AreAlike given p.entities → IsOfCells given (accepted_cells p items) (items_written p items)
+Follow items = (p : Progress) (given : List (List ℕ)) → AreAlike given p.entities
+    → IsOfCells given (accepted_cells p items) (items_written p items)
 
 abbrev items_behind : Progress → Group → Option Refusal → List LibraryItem → Written
 items_behind p group o items = items_written (after_cell p (cell_name group) (entity_by p group o)) items
 
 cell_written :
-    (p : Progress) (group : Group) (items : List LibraryItem) (given : List (List ℕ)) → Follow items → AreAlike given p.entities → (o : Option Refusal)
+    (p : Progress) (group : Group) (items : List LibraryItem) (given : List (List ℕ)) → Follow items → AreAlike given p.entities
+    → (o : Option Refusal)
     → IsOfCells given (cells_by p group o ++ accepted_cells (after_cell p (cell_name group) (entity_by p group o)) items)
     (joined (written_by p group o) (items_behind p group o items))
 cell_written p group items given follow h None =
@@ -90,7 +95,8 @@ cell_written p group items given follow h None =
     let named = its_entity p group given h in
     let after : Progress = after_cell p (cell_name group) (Some (next_entity p group)) in
     let rest = follow after (given ++ lowered (model_name (may_float cell) given cell) ∷ [])
-    (subst (λ (name : List ℕ). AreAlike (given ++ lowered name ∷ []) after.entities) named (alike_with given p.entities (lowered (next_entity p group)) h)) in
+    (subst (λ (name : List ℕ). AreAlike (given ++ lowered name ∷ []) after.entities) named
+    (alike_with given p.entities (lowered (next_entity p group)) h)) in
     let first = in_verilog (next_entity p group) cell group ∙ one_verilog cell in
     let second = in_vital (next_entity p group) cell group ∙ one_vital given cell (next_entity p group) named in
     record {
@@ -114,7 +120,9 @@ all_written (item.BusType group ∷ items) p given h =
     let rest = all_written items (after_item p (item.BusType group)) given h in
     record { verilog = rest.verilog; vital = rest.vital }
 
-library_written : (bytes : List ℕ) → IsOfCells [] (accepted_cells no_progress (items_within library_limit bytes)) (items_written no_progress (items_within library_limit bytes))
+library_written : (bytes : List ℕ)
+    → IsOfCells [] (accepted_cells no_progress (items_within library_limit bytes))
+    (items_written no_progress (items_within library_limit bytes))
 library_written bytes = all_written (items_within library_limit bytes) no_progress [] (λ name. refl)
 
 pub verilog-of-modules : VerilogIsOfModules
@@ -125,4 +133,5 @@ verilog-of-modules bytes =
 
 pub vital-of-entities : VitalIsOfEntities
 unfolding outcome_at written_text
-vital-of-entities bytes = append-nil (items_written no_progress (items_within library_limit bytes)).vital ∙ (library_written bytes).vital
+vital-of-entities bytes = append-nil (items_written no_progress (items_within library_limit bytes)).vital
+    ∙ (library_written bytes).vital

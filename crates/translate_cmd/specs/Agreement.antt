@@ -31,9 +31,9 @@ abbrev pub own_simulation : List ℕ → List ℕ → Outcome
 own_simulation library stimulus =
     simulate_outcome library (translate_outcome library).text.verilog (translate_outcome library).text.vital stimulus
 
--- This is the report of a simulation in which all traces are equal: the sections of the stimulus over the cells of the library beside
--- its own models, in order, of which each says that its three traces are equal. The models of a cell some of whose outputs may float
--- are those of its drivers over its core.
+-- This is the report of a simulation in which all traces are equal: the sections of the stimulus over the cells of the library
+-- beside its own models, in order, of which each says that its three traces are equal. The models of a cell some of whose outputs
+-- may float are those of its drivers over its core.
 pub record SaysAllEqual (library stimulus report : List ℕ) : Type 0 where
   pub cells : List CellEntry
   pub are_cells : library_answer library ≡ Ok cells
@@ -58,12 +58,13 @@ pub record Agrees (library stimulus : List ℕ) (outcome : Outcome) : Type 0 whe
 abbrev pub OwnModelsAgree : Type 0
 OwnModelsAgree = (library stimulus : List ℕ) → Agrees library stimulus (own_simulation library stimulus)
 
--- The library is whole, no line of the stimulus is bad over its cells beside its own models, and no file is over its limit: the library,
--- the Verilog and the VHDL that translating it writes, and the stimulus.
+-- The library is whole, no line of the stimulus is bad over its cells beside its own models, and no file is over its limit: the
+-- library, the Verilog and the VHDL that translating it writes, and the stimulus.
 pub record IsWithoutFault (library stimulus : List ℕ) : Type 0 where
   pub whole : IsWholeLibrary library
   pub verilog_within : length (translate_outcome library).text.verilog ≤ model_limit
   pub vital_within : length (translate_outcome library).text.vital ≤ model_limit
   pub stimulus_within : length stimulus ≤ stimulus_limit
   pub sections : List Section
-  pub lines : stimulus_of (listed (own_catalog (kept_cells no_progress (items_within library_limit library)))) stimulus ≡ Ok sections
+  pub lines : stimulus_of (listed (own_catalog (kept_cells no_progress (items_within library_limit library)))) stimulus ≡ Ok
+      sections

@@ -27,9 +27,9 @@ pub record WritesAllEqual (library stimulus : List ℕ) (old new : DeskState) : 
   pub equal : SaysAllEqual library stimulus report
   pub state : new ≡ wrote (took_all (bound_state old simulate_files bytes) taken) Report report
 
--- A run that ends so on a desk: neither for want of a model nor with traces that differ. Where no call failed, the library is whole, no line
--- of the stimulus is bad and no file is over its limit, it is done, or there was no memory. Where it is done, its report says that all
--- traces are equal.
+-- A run that ends so on a desk: neither for want of a model nor with traces that differ. Where no call failed, the library is
+-- whole, no line of the stimulus is bad and no file is over its limit, it is done, or there was no memory. Where it is done, its
+-- report says that all traces are equal.
 pub record EndsInAgreement (library stimulus : List ℕ) (old new : DeskState) (result : Status) : Type 0 where
   pub not_model : result ≢ status.Model
   pub not_differ : result ≢ status.Differ
@@ -39,5 +39,6 @@ pub record EndsInAgreement (library stimulus : List ℕ) (old new : DeskState) (
 -- Where the words ask for a simulation of a library beside its own models, and the desk tells the files, the run ends so.
 abbrev pub OwnModelsEndInAgreement : DeskState → DeskState → Status → Type 0
 OwnModelsEndInAgreement old new result =
-    reading old.words ≡ command.Files Simulate → (folder : Folder) → Tells simulate_files old folder → NameOwnModels old.words folder
+    reading old.words ≡ command.Files Simulate → (folder : Folder) → Tells simulate_files old folder
+    → NameOwnModels old.words folder
     → EndsInAgreement (bytes_at old.words folder 1) (bytes_at old.words folder 4) old new result

@@ -12,8 +12,9 @@ use Rattle.library_audit.specs.Outcome.{audit_files}
 use Rattle.library_audit.specs.Laws.{AllMatch}
 use Rattle.translate_cmd.specs.Audits.{AllAgree}
 
--- Such a run of a library and a Verilog file with these bytes: it is done exactly where both files are read and each accepted cell of the
--- library none of whose outputs may float has a module that matches it, and where it is done, each of these cells agrees with its module.
+-- Such a run of a library and a Verilog file with these bytes: it is done exactly where both files are read and each accepted
+-- cell of the library none of whose outputs may float has a module that matches it, and where it is done, each of these cells
+-- agrees with its module.
 pub record IsDoneWhereAllMatch (library text : List ℕ) (result : Status) : Type 0 where
   pub matched : (result ≡ Done) ↔ AllMatch library text
   pub agreed : result ≡ Done → AllAgree library text

@@ -22,8 +22,8 @@ use Rattle.library_audit.specs.Audits.{module_for, audit_text}
 use Rattle.library_audit.specs.Outcome.{audit_outcome}
 use Rattle.library_audit.specs.Laws.{same_line}
 
--- A cell has a module with its name among these models of a file, and the module shows what the cell shows: its trace is the cell's for
--- every list of changes of inputs at rising times, and the states of its primitives after each change are the cell's.
+-- A cell has a module with its name among these models of a file, and the module shows what the cell shows: its trace is the
+-- cell's for every list of changes of inputs at rising times, and the states of its primitives after each change are the cell's.
 pub record AgreesWithModule (models : List (FileModel VModule)) (cell : CellData) : Type 0 where
   pub model : VModule
   pub found : module_for models cell ≡ Some model
@@ -84,8 +84,8 @@ abbrev pub IsSameOrIsLeftOut : List (FileModel VModule) → CellEntry → Type 0
 IsSameOrIsLeftOut models (Accepted cell entity) = audit_text models (Accepted cell entity) ≡ same_or_left_out cell
 IsSameOrIsLeftOut models (Refused name refusal) = Unit {0}
 
--- A library compared with that Verilog ends neither for want of a module nor with one that differs. Where both are read, the line of
--- each accepted cell says that its module is the same, or where some of its outputs may float, that it is left out.
+-- A library compared with that Verilog ends neither for want of a module nor with one that differs. Where both are read, the line
+-- of each accepted cell says that its module is the same, or where some of its outputs may float, that it is left out.
 pub record AuditsWell (library : List ℕ) : Type 0 where
   pub not_model : (own_audit library).status ≢ status.Model
   pub not_differ : (own_audit library).status ≢ status.Differ

@@ -35,8 +35,8 @@ pub record IsWholeLibrary (bytes : List ℕ) : Type 0 where
   pub within : length bytes ≤ library_limit
   pub whole : end_of_bytes bytes true ≡ Whole
 
--- a whole library, a Verilog file and a VHDL file that are not refused, and a stimulus without a bad line over the library's cells beside
--- these models, each within its limit
+-- a whole library, a Verilog file and a VHDL file that are not refused, and a stimulus without a bad line over the library's
+-- cells beside these models, each within its limit
 pub record CanBeSimulated (library text vhdl stimulus : List ℕ) : Type 0 where
   pub whole : IsWholeLibrary library
   pub text_within : length text ≤ model_limit
@@ -47,7 +47,8 @@ pub record CanBeSimulated (library text vhdl stimulus : List ℕ) : Type 0 where
   pub vital : vital.text vhdl ≡ Ok entities
   pub stimulus_within : length stimulus ≤ stimulus_limit
   pub sections : List Section
-  pub lines : stimulus_of (listed (cells_named (kept_cells no_progress (items_within library_limit library)) modules entities)) stimulus ≡ Ok sections
+  pub lines : stimulus_of (listed (cells_named (kept_cells no_progress (items_within library_limit library)) modules entities))
+      stimulus ≡ Ok sections
 
 -- a whole library and a Verilog file that is not refused, each within its limit
 pub record CanBeAudited (library text : List ℕ) : Type 0 where
@@ -56,17 +57,19 @@ pub record CanBeAudited (library text : List ℕ) : Type 0 where
   pub modules : List (FileModel VModule)
   pub verilog : verilog.text text ≡ Ok modules
 
--- A command of files can be done with these words and files: a whole library be translated, its cells be simulated beside the models
--- of files that are not refused, under a stimulus that is not, a Verilog or VHDL file be replayed so, and the cells be compared with the
--- modules of a Verilog file that is not refused.
+-- A command of files can be done with these words and files: a whole library be translated, its cells be simulated beside the
+-- models of files that are not refused, under a stimulus that is not, a Verilog or VHDL file be replayed so, and the cells be
+-- compared with the modules of a Verilog file that is not refused.
 abbrev pub FilesCanBeDone : FileCommand → List (List ℕ) → Folder → Type 0
 FilesCanBeDone Translate words folder = IsWholeLibrary (bytes_at words folder 1)
-FilesCanBeDone Simulate words folder = CanBeSimulated (bytes_at words folder 1) (bytes_at words folder 2) (bytes_at words folder 3) (bytes_at words folder 4)
+FilesCanBeDone Simulate words folder =
+    CanBeSimulated (bytes_at words folder 1) (bytes_at words folder 2) (bytes_at words folder 3) (bytes_at words folder 4)
 FilesCanBeDone ReplayVerilog words folder = CanBeReplayed verilog (bytes_at words folder 1) (bytes_at words folder 2)
 FilesCanBeDone ReplayVital words folder = CanBeReplayed vital (bytes_at words folder 1) (bytes_at words folder 2)
 FilesCanBeDone Audit words folder = CanBeAudited (bytes_at words folder 1) (bytes_at words folder 2)
 
--- The command can be done: a primitive can always be printed, and a run on test cells be made. Words without a reading ask for nothing.
+-- The command can be done: a primitive can always be printed, and a run on test cells be made. Words without a reading ask for
+-- nothing.
 abbrev pub CanBeDone : Command → List (List ℕ) → Folder → Type 0
 CanBeDone (command.Udp udp) words folder = Unit {0}
 CanBeDone (command.Files asked) words folder = FilesCanBeDone asked words folder
@@ -81,7 +84,8 @@ pub record IsAllDone (old new : DeskState) (folder : Folder) (result : Status) :
   pub bytes : InSlot → List ℕ
   pub named : AreNamed old (files_of (reading old.words)) bytes
   pub taken : InSlot → ℕ
-  pub state : new ≡ wrote_all (took_all (bound_state old (files_of (reading old.words)) bytes) taken) (outcome old.words folder).text
+  pub state : new ≡ wrote_all (took_all (bound_state old (files_of (reading old.words)) bytes) taken)
+      (outcome old.words folder).text
 
 -- Where the desk tells its files and the command can be done, all was done, or there was no memory.
 abbrev pub Completes : DeskState → DeskState → Status → Type 0

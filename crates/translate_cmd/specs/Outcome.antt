@@ -42,10 +42,12 @@ selftest_outcome cells = record { status = Done; binds = 0; text = in_report (re
 
 -- what a command comes to with these words and files; words without a reading are usage
 abbrev pub outcome_of : Command → List (List ℕ) → Folder → Outcome
-outcome_of (command.Udp udp) words folder = record { status = Done; binds = 0; text = in_report (primitive_text udp); faults = [] }
+outcome_of (command.Udp udp) words folder =
+    record { status = Done; binds = 0; text = in_report (primitive_text udp); faults = [] }
 outcome_of (command.Files asked) words folder = file_outcome asked words folder
 outcome_of (command.Selftest cells) words folder = selftest_outcome cells
-outcome_of command.Usage words folder = record { status = Usage; binds = 0; text = nothing_written; faults = codes "lib2sim: usage\n" }
+outcome_of command.Usage words folder =
+    record { status = Usage; binds = 0; text = nothing_written; faults = codes "lib2sim: usage\n" }
 
 -- what words come to, with these files
 abbrev pub outcome : List (List ℕ) → Folder → Outcome

@@ -17,4 +17,5 @@ use Rattle.translate_cmd.specs.Outcome.{files_of, outcome}
 -- more than 65,536 bytes before the end of the bytes that were read of the library.
 pub record Runs (old new : DeskState) (result : Status) : Type 0 where
   pub run : RunsAs (files_of (reading old.words)) (outcome old.words) old new result
-  pub models : reading old.words ≡ command.Files Translate → (folder : Folder) → Tells translate_files old folder → HoldsModels (bytes_at old.words folder 1) (run.taken Library) run.text
+  pub models : reading old.words ≡ command.Files Translate → (folder : Folder) → Tells translate_files old folder
+      → HoldsModels (bytes_at old.words folder 1) (run.taken Library) run.text

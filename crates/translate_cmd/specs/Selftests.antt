@@ -8,4 +8,5 @@ use Rattle.command_words.specs.Reading.{reading}
 
 -- where the words ask for one, it is done, a call failed, or there was no memory
 abbrev pub SelftestsEnd : DeskState → Status → Type 0
-SelftestsEnd old result = (cells : ℕ) → reading old.words ≡ command.Selftest cells → (result ≡ Done) ⊎ ((result ≡ Outside) ⊎ (result ≡ Memory))
+SelftestsEnd old result = (cells : ℕ) → reading old.words ≡ command.Selftest cells → (result ≡ Done)
+    ⊎ ((result ≡ Outside) ⊎ (result ≡ Memory))

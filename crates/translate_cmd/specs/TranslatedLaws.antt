@@ -38,11 +38,12 @@ VerilogIsOfModules = (bytes : List ℕ) → (translate_outcome bytes).text.veril
 abbrev pub VitalIsOfEntities : Type 0
 VitalIsOfEntities = (bytes : List ℕ) → (translate_outcome bytes).text.vital ≡ written_text written_vital (entities_in bytes)
 
--- The Verilog of a library reads as the modules and the drivers of its accepted cells. Its sections are the texts of these drivers, and
--- around them it is the text of these modules, and of no others.
+-- The Verilog of a library reads as the modules and the drivers of its accepted cells. Its sections are the texts of these
+-- drivers, and around them it is the text of these modules, and of no others.
 pub record VerilogReadsBack (bytes : List ℕ) : Type 0 where
   pub answer : driven_models verilog_sections (translate_outcome bytes).text.verilog ≡ Ok (verilog_in bytes)
-  pub apart : HoldsApart written_verilog (translate_outcome bytes).text.verilog (verilog_in bytes).models (verilog_in bytes).drivers
+  pub apart : HoldsApart written_verilog (translate_outcome bytes).text.verilog (verilog_in bytes).models
+      (verilog_in bytes).drivers
 
 -- the VHDL of a library reads so as the entities and the drivers
 pub record VitalReadsBack (bytes : List ℕ) : Type 0 where

@@ -1,5 +1,6 @@
 -- The primes of all points and of none, the cube of free places, and tables with one value.
-use Rattle.std.proofs.Common.{◌≡◌, ℕ, zero, suc, ◌^◌, ◌<◌, Bool, true, false, List, [], ◌∷◌, length, replicate, slice_index_or, refl, sym, ◌∙◌, ap, arith}
+use Rattle.std.proofs.Common.{◌≡◌, ℕ, zero, suc, ◌^◌, ◌<◌, Bool, true, false, List, [], ◌∷◌, length, replicate, slice_index_or}
+use Rattle.std.proofs.Common.{refl, sym, ◌∙◌, ap, arith}
 use Rattle.trit_cubes.specs.declared.trits.Trit.TheVariants.{Unknown}
 use Rattle.trit_cubes.specs.Filling.{number, covers}
 use Rattle.trit_cubes.specs.Sets.{has}
@@ -38,7 +39,8 @@ primes-of-all (suc n) =
 
 -- the primes of a table whose entries are all the same
 pub primes-of-entries : (n : ℕ) (set : List Bool) (all : Bool)
-    → length set ≡ 2 ^ n → ((k : ℕ) → k < length set → slice_index_or set k false ≡ all) → prime_list n (λ _. all) ≡ prime_list n (has set)
+    → length set ≡ 2 ^ n → ((k : ℕ) → k < length set → slice_index_or set k false ≡ all)
+    → prime_list n (λ _. all) ≡ prime_list n (has set)
 primes-of-entries n set all long same =
     prime_list-same n (λ _. all) (has set) (λ p e. sym (same (number p) (rw (long, ← e) (number-below p))))
 

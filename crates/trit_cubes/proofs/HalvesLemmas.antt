@@ -1,5 +1,6 @@
 -- What the code of splitting and merging needs of tables and of lists of primes.
-use Rattle.std.proofs.Common.{◌≡◌, ℕ, zero, suc, ◌+◌, ◌-◌, ◌*◌, ◌/◌, ◌^◌, ◌<◌, Bool, true, false, List, length, refl, sym, ◌∙◌, ap, arith, pow-suc, add-one}
+use Rattle.std.proofs.Common.{◌≡◌, ℕ, zero, suc, ◌+◌, ◌-◌, ◌*◌, ◌/◌, ◌^◌, ◌<◌, Bool, true, false, List, length, refl, sym, ◌∙◌}
+use Rattle.std.proofs.Common.{ap, arith, pow-suc, add-one}
 use Rattle.std.specs.List.{All}
 use Rattle.std.proofs.lemmas.List.Elements.{Contains-get_or}
 use Rattle.std.proofs.Math.Path.{fun_ext}
@@ -18,7 +19,8 @@ length-half (suc n) l m some e f =
     rw before (omega (arith, double), omega (arith, double))
 
 -- primes over fewer than ten places leave room for one more
-pub primes-short : (n : ℕ) (set : List Bool → Bool) (cubes : List (List Trit)) → cubes ≡ prime_list n set → n < 10 → All (λ c. length c < 10) cubes
+pub primes-short : (n : ℕ) (set : List Bool → Bool) (cubes : List (List Trit)) → cubes ≡ prime_list n set → n < 10
+    → All (λ c. length c < 10) cubes
 primes-short n set cubes e room k d within =
     let long = prime_list-length n set _ (contains-among _ _ (Contains-get_or (prime_list n set) k d (rw (← e) within))) in
     rw e (omega (arith, long))
@@ -29,14 +31,16 @@ pub primes-halves : (n : ℕ) (set zero_half one_half both_half : List Bool) (ze
     → ((p : List Bool) → has zero_half p ≡ half (has set) false p)
     → ((p : List Bool) → has one_half p ≡ half (has set) true p)
     → ((p : List Bool) → has both_half p ≡ common (has zero_half) (has one_half) p)
-    → zero_cubes ≡ prime_list (n - 1) (has zero_half) → one_cubes ≡ prime_list (n - 1) (has one_half) → both_cubes ≡ prime_list (n - 1) (has both_half)
+    → zero_cubes ≡ prime_list (n - 1) (has zero_half) → one_cubes ≡ prime_list (n - 1) (has one_half)
+    → both_cubes ≡ prime_list (n - 1) (has both_half)
     → merged zero_cubes one_cubes both_cubes ≡ prime_list n (has set)
 primes-halves zero set zh oh bh zs os bs some hz ho hb ez eo eb = absurd (some refl)
 primes-halves (suc n) set zh oh bh zs os bs some hz ho hb ez eo eb =
     let before : suc n - 1 ≡ n = omega arith in
     let zeros : has zh ≡ half (has set) false = fun_ext hz in
     let ones : has oh ≡ half (has set) true = fun_ext ho in
-    let boths : has bh ≡ both (has set) = fun_ext hb ∙ ap (λ f. common f (has oh)) zeros ∙ ap (common (half (has set) false)) ones in
+    let boths : has bh ≡ both (has set) = fun_ext hb ∙ ap (λ f. common f (has oh)) zeros ∙ ap (common (half (has set) false)) ones
+    in
     let z : zs ≡ prime_list n (half (has set) false) = ez ∙ ap (λ m. prime_list m (has zh)) before ∙ ap (prime_list n) zeros in
     let o : os ≡ prime_list n (half (has set) true) = eo ∙ ap (λ m. prime_list m (has oh)) before ∙ ap (prime_list n) ones in
     let b : bs ≡ prime_list n (both (has set)) = eb ∙ ap (λ m. prime_list m (has bh)) before ∙ ap (prime_list n) boths in

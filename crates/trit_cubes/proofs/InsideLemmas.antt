@@ -1,5 +1,6 @@
 -- The tests of being inside a set and of being a prime say what the facts say.
-use Rattle.std.proofs.Common.{◌≡◌, ◌≢◌, ℕ, zero, suc, ◌<◌, Bool, true, false, not, List, [], ◌∷◌, map, length, slice_index_or, slice_set, refl, sym, ◌∙◌, arith}
+use Rattle.std.proofs.Common.{◌≡◌, ◌≢◌, ℕ, zero, suc, ◌<◌, Bool, true, false, not, List, [], ◌∷◌, map, length, slice_index_or}
+use Rattle.std.proofs.Common.{slice_set, refl, sym, ◌∙◌, arith}
 use Rattle.std.specs.List.{list_all}
 use Rattle.std.proofs.lemmas.Bool.{true≢false, and_parts, and_from, not-true}
 use Rattle.std.proofs.lemmas.List.Folds.{list_all-map}
@@ -19,9 +20,11 @@ is_inside-fillings set (Zero ∷ ts) h (true ∷ p) fill = absurd (true≢false 
 is_inside-fillings set (One ∷ ts) h (true ∷ p) fill = is_inside-fillings (λ q. set (true ∷ q)) ts h p fill.1
 is_inside-fillings set (One ∷ ts) h (false ∷ p) fill = absurd (true≢false (sym fill.0))
 is_inside-fillings set (Unknown ∷ ts) h (false ∷ p) fill =
-    is_inside-fillings (λ q. set (false ∷ q)) ts (and_parts (is_inside (λ q. set (false ∷ q)) ts) (is_inside (λ q. set (true ∷ q)) ts) h).0 p fill.1
+    is_inside-fillings (λ q. set (false ∷ q)) ts
+    (and_parts (is_inside (λ q. set (false ∷ q)) ts) (is_inside (λ q. set (true ∷ q)) ts) h).0 p fill.1
 is_inside-fillings set (Unknown ∷ ts) h (true ∷ p) fill =
-    is_inside-fillings (λ q. set (true ∷ q)) ts (and_parts (is_inside (λ q. set (false ∷ q)) ts) (is_inside (λ q. set (true ∷ q)) ts) h).1 p fill.1
+    is_inside-fillings (λ q. set (true ∷ q)) ts
+    (and_parts (is_inside (λ q. set (false ∷ q)) ts) (is_inside (λ q. set (true ∷ q)) ts) h).1 p fill.1
 
 pub fillings-is_inside : (set : List Bool → Bool) (ts : List Trit) → IsInside set ts → is_inside set ts ≡ true
 fillings-is_inside set [] h = h [] tt
@@ -41,10 +44,14 @@ all_freed-at p (Unknown ∷ ts) h (suc i) l fixed =
     all_freed-at (λ c. p (Unknown ∷ c)) ts (sym (list_all-map p (λ c. Unknown ∷ c) (freed ts)) ∙ h) i (omega arith) fixed
 all_freed-at p (Zero ∷ ts) h zero l fixed = (and_parts (p (Unknown ∷ ts)) (list_all p (map (λ c. Zero ∷ c) (freed ts))) h).0
 all_freed-at p (Zero ∷ ts) h (suc i) l fixed =
-    all_freed-at (λ c. p (Zero ∷ c)) ts (sym (list_all-map p (λ c. Zero ∷ c) (freed ts)) ∙ (and_parts (p (Unknown ∷ ts)) (list_all p (map (λ c. Zero ∷ c) (freed ts))) h).1) i (omega arith) fixed
+    all_freed-at (λ c. p (Zero ∷ c)) ts
+    (sym (list_all-map p (λ c. Zero ∷ c) (freed ts))
+    ∙ (and_parts (p (Unknown ∷ ts)) (list_all p (map (λ c. Zero ∷ c) (freed ts))) h).1) i (omega arith) fixed
 all_freed-at p (One ∷ ts) h zero l fixed = (and_parts (p (Unknown ∷ ts)) (list_all p (map (λ c. One ∷ c) (freed ts))) h).0
 all_freed-at p (One ∷ ts) h (suc i) l fixed =
-    all_freed-at (λ c. p (One ∷ c)) ts (sym (list_all-map p (λ c. One ∷ c) (freed ts)) ∙ (and_parts (p (Unknown ∷ ts)) (list_all p (map (λ c. One ∷ c) (freed ts))) h).1) i (omega arith) fixed
+    all_freed-at (λ c. p (One ∷ c)) ts
+    (sym (list_all-map p (λ c. One ∷ c) (freed ts))
+    ∙ (and_parts (p (Unknown ∷ ts)) (list_all p (map (λ c. One ∷ c) (freed ts))) h).1) i (omega arith) fixed
 
 zero≢unknown : Zero ≢ Unknown
 zero≢unknown e = cc
@@ -57,7 +64,8 @@ pub at-all_freed : (p : List Trit → Bool) (ts : List Trit)
     → list_all p (freed ts) ≡ true
 at-all_freed p [] h = refl
 at-all_freed p (Unknown ∷ ts) h =
-    list_all-map p (λ c. Unknown ∷ c) (freed ts) ∙ at-all_freed (λ c. p (Unknown ∷ c)) ts (λ i l fixed. h (suc i) (omega arith) fixed)
+    list_all-map p (λ c. Unknown ∷ c) (freed ts)
+    ∙ at-all_freed (λ c. p (Unknown ∷ c)) ts (λ i l fixed. h (suc i) (omega arith) fixed)
 at-all_freed p (Zero ∷ ts) h =
     and_from (p (Unknown ∷ ts)) (list_all p (map (λ c. Zero ∷ c) (freed ts))) (h zero (omega arith) zero≢unknown)
     (list_all-map p (λ c. Zero ∷ c) (freed ts) ∙ at-all_freed (λ c. p (Zero ∷ c)) ts (λ i l fixed. h (suc i) (omega arith) fixed))
@@ -78,7 +86,9 @@ is_prime-fact set c h =
 pub fact-is_prime : (set : List Bool → Bool) (c : List Trit) → IsPrime set c → is_prime set c ≡ true
 fact-is_prime set c h =
     and_from (is_inside set c) (list_all (λ d. not (is_inside set d)) (freed c)) (fillings-is_inside set c h.inside)
-    (at-all_freed (λ d. not (is_inside set d)) c (λ i l fixed. outside (is_inside set (slice_set c i Unknown)) (λ e. h.maximal i l fixed (is_inside-fillings set (slice_set c i Unknown) e))))
+    (at-all_freed (λ d. not (is_inside set d)) c
+    (λ i l fixed. outside (is_inside set (slice_set c i Unknown))
+    (λ e. h.maximal i l fixed (is_inside-fillings set (slice_set c i Unknown) e))))
   where
     outside : (b : Bool) → (b ≡ true → ⊥) → not b ≡ true
     outside true f = absurd (f refl)
@@ -99,7 +109,8 @@ agreed-same Zero = refl
 agreed-same One = refl
 agreed-same Unknown = refl
 
-pub res-fillings : (f : List Bool → Trit) (ts : List Trit) (v : Trit) → v ≢ Unknown → res f ts ≡ v → (p : List Bool) → IsFilling ts p → f p ≡ v
+pub res-fillings : (f : List Bool → Trit) (ts : List Trit) (v : Trit) → v ≢ Unknown → res f ts ≡ v → (p : List Bool)
+    → IsFilling ts p → f p ≡ v
 res-fillings f [] v k e [] fill = e
 res-fillings f [] v k e (b ∷ p) fill = absurd fill
 res-fillings f (t ∷ ts) v k e [] fill = absurd fill
@@ -108,14 +119,21 @@ res-fillings f (Zero ∷ ts) v k e (true ∷ p) fill = absurd (true≢false fill
 res-fillings f (One ∷ ts) v k e (true ∷ p) fill = res-fillings (λ q. f (true ∷ q)) ts v k e p fill.1
 res-fillings f (One ∷ ts) v k e (false ∷ p) fill = absurd (true≢false (sym fill.0))
 res-fillings f (Unknown ∷ ts) v k e (false ∷ p) fill =
-    res-fillings (λ q. f (false ∷ q)) ts v k (agreed-parts (res (λ q. f (false ∷ q)) ts) (res (λ q. f (true ∷ q)) ts) v k e).0 p fill.1
+    res-fillings (λ q. f (false ∷ q)) ts v k (agreed-parts (res (λ q. f (false ∷ q)) ts) (res (λ q. f (true ∷ q)) ts) v k e).0 p
+    fill.1
 res-fillings f (Unknown ∷ ts) v k e (true ∷ p) fill =
-    res-fillings (λ q. f (true ∷ q)) ts v k (agreed-parts (res (λ q. f (false ∷ q)) ts) (res (λ q. f (true ∷ q)) ts) v k e).1 p fill.1
+    res-fillings (λ q. f (true ∷ q)) ts v k (agreed-parts (res (λ q. f (false ∷ q)) ts) (res (λ q. f (true ∷ q)) ts) v k e).1 p
+    fill.1
 
-pub fillings-res : (f : List Bool → Trit) (ts : List Trit) (v : Trit) → ((p : List Bool) → IsFilling ts p → f p ≡ v) → res f ts ≡ v
+pub fillings-res : (f : List Bool → Trit) (ts : List Trit) (v : Trit) → ((p : List Bool) → IsFilling ts p → f p ≡ v)
+    → res f ts ≡ v
 fillings-res f [] v h = h [] tt
 fillings-res f (Zero ∷ ts) v h = fillings-res (λ q. f (false ∷ q)) ts v (λ p fill. h (false ∷ p) (refl, fill))
 fillings-res f (One ∷ ts) v h = fillings-res (λ q. f (true ∷ q)) ts v (λ p fill. h (true ∷ p) (refl, fill))
 fillings-res f (Unknown ∷ ts) v h =
-    rw (fillings-res (λ q. f (false ∷ q)) ts v (λ p fill. h (false ∷ p) (tt, fill)), fillings-res (λ q. f (true ∷ q)) ts v (λ p fill. h (true ∷ p) (tt, fill)))
+    rw (
+      fillings-res (λ q. f (false ∷ q)) ts v (λ p fill. h (false ∷ p) (tt, fill)),
+      fillings-res (λ q. f (true ∷ q)) ts v
+          (λ p fill. h (true ∷ p) (tt, fill)),
+    )
     (agreed-same v)

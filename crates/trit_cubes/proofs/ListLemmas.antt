@@ -1,5 +1,6 @@
 -- Lists: filters, tests of all or some elements, and elements found by recursion.
-use Rattle.std.proofs.Common.{◌≡◌, ℕ, zero, suc, ◌<◌, Bool, true, false, cond, ◌&&◌, ◌||◌, ◌⊎◌, List, [], ◌∷◌, ◌++◌, map, length, get_or, refl, sym, ◌∙◌, ap, inl, inr, arith}
+use Rattle.std.proofs.Common.{◌≡◌, ℕ, zero, suc, ◌<◌, Bool, true, false, cond, ◌&&◌, ◌||◌, ◌⊎◌, List, [], ◌∷◌, ◌++◌, map, length}
+use Rattle.std.proofs.Common.{get_or, refl, sym, ◌∙◌, ap, inl, inr, arith}
 use Rattle.std.specs.List.{filter, list_any, list_all, Contains}
 use Rattle.std.proofs.lemmas.Bool.{true≢false}
 
@@ -10,7 +11,11 @@ Among x (y ∷ ys) = (y ≡ x) ⊎ Among x ys
 
 pub among-contains : {X : Type 0} (x : X) (xs : List X) → Among x xs → Contains xs x
 among-contains x [] h = absurd h
-among-contains x (y ∷ ys) h = elim h [ inl e ↦ (zero, omega arith, e) | inr k ↦ let r = among-contains x ys k in (suc r.0, omega (arith, r.1), r.2) ]
+among-contains x (y ∷ ys) h = elim h [
+  | inl e ↦ (zero, omega arith, e)
+  | inr k ↦ let r = among-contains x ys k
+      in (suc r.0, omega (arith, r.1), r.2)
+]
 
 contains-among_at : {X : Type 0} (x : X) (xs : List X) (k : ℕ) → k < length xs → get_or xs k x ≡ x → Among x xs
 contains-among_at x [] k l e = absurd (omega arith)
@@ -30,7 +35,8 @@ map-among f x (y ∷ ys) h = elim h [ inl e ↦ inl (ap f e) | inr k ↦ inr (ma
 
 pub among-append : {X : Type 0} (x : X) (xs ys : List X) → Among x (xs ++ ys) → Among x xs ⊎ Among x ys
 among-append x [] ys h = inr h
-among-append x (z ∷ xs) ys h = elim h [ inl e ↦ inl (inl e) | inr k ↦ elim (among-append x xs ys k) [ inl a ↦ inl (inr a) | inr b ↦ inr b ] ]
+among-append x (z ∷ xs) ys h = elim h
+    [ inl e ↦ inl (inl e) | inr k ↦ elim (among-append x xs ys k) [ inl a ↦ inl (inr a) | inr b ↦ inr b ] ]
 
 pub append-among_left : {X : Type 0} (x : X) (xs ys : List X) → Among x xs → Among x (xs ++ ys)
 append-among_left x [] ys h = absurd h
@@ -66,13 +72,15 @@ filter-among p x (y ∷ ys) h e =
       | inr k ↦ cond-among_later (p y) x y (filter p ys) (filter-among p x ys k e)
     ]
 
-cond-map : {X Y : Type 0} (f : X → Y) (b : Bool) (x : X) (xs : List X) → cond b (f x ∷ map f xs) (map f xs) ≡ map f (cond b (x ∷ xs) xs)
+cond-map : {X Y : Type 0} (f : X → Y) (b : Bool) (x : X) (xs : List X)
+    → cond b (f x ∷ map f xs) (map f xs) ≡ map f (cond b (x ∷ xs) xs)
 cond-map f true x xs = refl
 cond-map f false x xs = refl
 
 pub filter-map : {X Y : Type 0} (p : Y → Bool) (f : X → Y) (xs : List X) → filter p (map f xs) ≡ map f (filter (λ x. p (f x)) xs)
 filter-map p f [] = refl
-filter-map p f (x ∷ xs) = ap (λ ys. cond (p (f x)) (f x ∷ ys) ys) (filter-map p f xs) ∙ cond-map f (p (f x)) x (filter (λ y. p (f y)) xs)
+filter-map p f (x ∷ xs) = ap (λ ys. cond (p (f x)) (f x ∷ ys) ys) (filter-map p f xs)
+    ∙ cond-map f (p (f x)) x (filter (λ y. p (f y)) xs)
 
 cond-and : {X : Type 0} (q : X → Bool) (b : Bool) (x : X) (xs : List X)
     → cond (b && q x) (x ∷ filter q xs) (filter q xs) ≡ filter q (cond b (x ∷ xs) xs)
@@ -99,12 +107,14 @@ pub any_never : {X : Type 0} (xs : List X) → list_any (λ _. false) xs ≡ fal
 any_never [] = refl
 any_never (x ∷ xs) = any_never xs
 
-cond-any : {X : Type 0} (p : X → Bool) (b : Bool) (x : X) (xs : List X) → (b ≡ false → p x ≡ false) → list_any p (cond b (x ∷ xs) xs) ≡ (p x || list_any p xs)
+cond-any : {X : Type 0} (p : X → Bool) (b : Bool) (x : X) (xs : List X) → (b ≡ false → p x ≡ false)
+    → list_any p (cond b (x ∷ xs) xs) ≡ (p x || list_any p xs)
 cond-any p true x xs h = refl
 cond-any p false x xs h = rw (h refl) refl
 
 -- a filter that leaves out only elements that fail the test
-pub any-filter : {X : Type 0} (p q : X → Bool) (xs : List X) → ((x : X) → q x ≡ false → p x ≡ false) → list_any p (filter q xs) ≡ list_any p xs
+pub any-filter : {X : Type 0} (p q : X → Bool) (xs : List X) → ((x : X) → q x ≡ false → p x ≡ false)
+    → list_any p (filter q xs) ≡ list_any p xs
 any-filter p q [] h = refl
 any-filter p q (x ∷ xs) h = cond-any p (q x) x (filter q xs) (h x) ∙ ap (λ b. p x || b) (any-filter p q xs h)
 

@@ -1,5 +1,6 @@
 -- Numbers of bits: shifts by them, words made of two halves, and the words of a cube with one more place at its end.
-use Rattle.std.proofs.Common.{◌≡◌, ℕ, zero, suc, ◌+◌, ◌-◌, ◌*◌, ◌/◌, ◌%◌, ◌^◌, ◌<◌, ◌≤◌, Bool, true, false, List, [], ◌∷◌, ◌++◌, length, map, slice_index_or, refl, sym, ◌∙◌, ap, arith, pow-suc}
+use Rattle.std.proofs.Common.{◌≡◌, ℕ, zero, suc, ◌+◌, ◌-◌, ◌*◌, ◌/◌, ◌%◌, ◌^◌, ◌<◌, ◌≤◌, Bool, true, false, List, [], ◌∷◌, ◌++◌}
+use Rattle.std.proofs.Common.{length, map, slice_index_or, refl, sym, ◌∙◌, ap, arith, pow-suc}
 use Rattle.std.proofs.lemmas.List.{length-append, length-map}
 use Rattle.std.proofs.lemmas.Nat.{mod-mul-add, div-mul-add, pow-add, pow_pos, and_le_l}
 use Rattle.std.proofs.Math.Nat.{mod-eq_of_lt, mod-lt, div-lt_iff_lt-mul}
@@ -31,7 +32,8 @@ pub half-fits : (n : ℕ) → n < 6 → 1 * 2 ^ 2 ^ n % 18446744073709551616 ≡
 half-fits = below-six (λ n. 1 * 2 ^ 2 ^ n % 18446744073709551616 ≡ 2 ^ 2 ^ n) refl refl refl refl refl refl
 
 pub half-below : (n : ℕ) → n < 6 → 2 ^ 2 ^ n ≤ 4294967296
-half-below = below-six (λ n. 2 ^ 2 ^ n ≤ 4294967296) (omega arith) (omega arith) (omega arith) (omega arith) (omega arith) (omega arith)
+half-below = below-six (λ n. 2 ^ 2 ^ n ≤ 4294967296) (omega arith) (omega arith) (omega arith) (omega arith) (omega arith)
+    (omega arith)
 
 -- twice the bits
 pub double-bits : (n : ℕ) → 2 ^ 2 ^ suc n ≡ 2 ^ 2 ^ n * 2 ^ 2 ^ n
@@ -51,25 +53,29 @@ below-product (suc h) z o p q =
     omega (arith, most)
 
 -- a word made of two halves fits, and is below the next power
-pub packed-below : (n zero_half one_half : ℕ) → zero_half < 2 ^ 2 ^ n → one_half < 2 ^ 2 ^ n → zero_half + one_half * 2 ^ 2 ^ n < 2 ^ 2 ^ suc n
+pub packed-below : (n zero_half one_half : ℕ) → zero_half < 2 ^ 2 ^ n → one_half < 2 ^ 2 ^ n
+    → zero_half + one_half * 2 ^ 2 ^ n < 2 ^ 2 ^ suc n
 packed-below n z o p q = rw (double-bits n) (below-product (2 ^ 2 ^ n) z o p q)
 
 -- the points of a word made of two halves
 pub packed-values : (n zero_half one_half start step : ℕ) (set : List Bool) → zero_half < 2 ^ 2 ^ n
     → ((p : List Bool) → length p ≡ n → in_word n zero_half p ≡ slice_index_or set (start + 2 * step * number p) false)
     → ((p : List Bool) → length p ≡ n → in_word n one_half p ≡ slice_index_or set (start + step + 2 * step * number p) false)
-    → (p : List Bool) → length p ≡ suc n → in_word (suc n) (zero_half + one_half * 2 ^ 2 ^ n) p ≡ slice_index_or set (start + step * number p) false
+    → (p : List Bool) → length p ≡ suc n
+    → in_word (suc n) (zero_half + one_half * 2 ^ 2 ^ n) p ≡ slice_index_or set (start + step * number p) false
 packed-values n z o start step set l hz ho [] e = absurd (omega arith)
 packed-values n z o start step set l hz ho (false ∷ p) e =
     let high : (o * 2 ^ 2 ^ n + z) % 2 ^ 2 ^ n ≡ z = mod-mul-add o (2 ^ 2 ^ n) z l in
     let swap : z + o * 2 ^ 2 ^ n ≡ o * 2 ^ 2 ^ n + z = omega arith in
     let at : start + 2 * step * number p ≡ start + step * (0 + 2 * number p) = omega arith in
-    ap (λ w. in_word n (w % 2 ^ 2 ^ n) p) swap ∙ ap (λ w. in_word n w p) high ∙ hz p (omega arith) ∙ ap (λ k. slice_index_or set k false) at
+    ap (λ w. in_word n (w % 2 ^ 2 ^ n) p) swap ∙ ap (λ w. in_word n w p) high ∙ hz p (omega arith)
+    ∙ ap (λ k. slice_index_or set k false) at
 packed-values n z o start step set l hz ho (true ∷ p) e =
     let high : (o * 2 ^ 2 ^ n + z) / 2 ^ 2 ^ n ≡ o = div-mul-add o (2 ^ 2 ^ n) z l in
     let swap : z + o * 2 ^ 2 ^ n ≡ o * 2 ^ 2 ^ n + z = omega arith in
     let at : start + step + 2 * step * number p ≡ start + step * (1 + 2 * number p) = omega arith in
-    ap (λ w. in_word n (w / 2 ^ 2 ^ n) p) swap ∙ ap (λ w. in_word n w p) high ∙ ho p (omega arith) ∙ ap (λ k. slice_index_or set k false) at
+    ap (λ w. in_word n (w / 2 ^ 2 ^ n) p) swap ∙ ap (λ w. in_word n w p) high ∙ ho p (omega arith)
+    ∙ ap (λ k. slice_index_or set k false) at
 
 -- one more place at the end
 fixed_word-last : (ts : List Trit) (t : Trit) → fixed_word (ts ++ t ∷ []) ≡ fixed_word ts + fixed_bit t * 2 ^ length ts
@@ -116,12 +122,14 @@ bit-shifted zero k l h = mod-eq_of_lt (omega arith)
 bit-shifted (suc zero) k l h = mod-eq_of_lt (shifted k h)
 bit-shifted (suc (suc b)) k l h = absurd (omega arith)
 
-pub fixed-behind : (ts : List Trit) (t : Trit) (len f b : ℕ) → len ≡ length ts → length ts < 10 → f ≡ fixed_word ts → b ≡ fixed_bit t
+pub fixed-behind : (ts : List Trit) (t : Trit) (len f b : ℕ) → len ≡ length ts → length ts < 10 → f ≡ fixed_word ts
+    → b ≡ fixed_bit t
     → f + b * 2 ^ len % 65536 ≡ fixed_word (ts ++ t ∷ [])
 fixed-behind ts t len f b long room words bits =
     rw (long, words, bits, bit-shifted (fixed_bit t) (length ts) (fixed_bit-lt t) room) (sym (fixed_word-last ts t))
 
-pub value-behind : (ts : List Trit) (t : Trit) (len v b : ℕ) → len ≡ length ts → length ts < 10 → v ≡ value_word ts → b ≡ value_bit t
+pub value-behind : (ts : List Trit) (t : Trit) (len v b : ℕ) → len ≡ length ts → length ts < 10 → v ≡ value_word ts
+    → b ≡ value_bit t
     → v + b * 2 ^ len % 65536 ≡ value_word (ts ++ t ∷ [])
 value-behind ts t len v b long room words bits =
     rw (long, words, bits, bit-shifted (value_bit t) (length ts) (value_bit-lt t) room) (sym (value_word-last ts t))
@@ -170,12 +178,14 @@ word-fits n z o l p q =
     let square : 2 ^ 2 ^ n * 2 ^ 2 ^ n ≤ 4294967296 * 2 ^ 2 ^ n = mul_le (2 ^ 2 ^ n) 4294967296 (2 ^ 2 ^ n) most in
     omega (arith, most, square, below-product (2 ^ 2 ^ n) z o p q)
 
-pub packed-is : (n z o : ℕ) → n < 6 → z < 2 ^ 2 ^ n → o < 2 ^ 2 ^ n → o * 2 ^ (1 * 2 ^ n % 4294967296) % 18446744073709551616 ≡ o * 2 ^ 2 ^ n
+pub packed-is : (n z o : ℕ) → n < 6 → z < 2 ^ 2 ^ n → o < 2 ^ 2 ^ n
+    → o * 2 ^ (1 * 2 ^ n % 4294967296) % 18446744073709551616 ≡ o * 2 ^ 2 ^ n
 packed-is n z o l p q =
     ap (λ k. o * 2 ^ k % 18446744073709551616) (half-bits n l)
     ∙ mod-eq_of_lt (omega (arith, word-fits n z o l p q))
 
-pub packed-fits : (n z o : ℕ) → n < 6 → z < 2 ^ 2 ^ n → o < 2 ^ 2 ^ n → z + o * 2 ^ (1 * 2 ^ n % 4294967296) % 18446744073709551616 < 18446744073709551616
+pub packed-fits : (n z o : ℕ) → n < 6 → z < 2 ^ 2 ^ n → o < 2 ^ 2 ^ n
+    → z + o * 2 ^ (1 * 2 ^ n % 4294967296) % 18446744073709551616 < 18446744073709551616
 packed-fits n z o l p q = rw (packed-is n z o l p q) (word-fits n z o l p q)
 
 pub packed-is_below : (n left z o : ℕ) → left ≡ suc n → n < 6 → z < 2 ^ 2 ^ n → o < 2 ^ 2 ^ n
@@ -188,7 +198,8 @@ pub packed-has : (n left z o start step : ℕ) (set : List Bool) → left ≡ su
     → ((p : List Bool) → length p ≡ n → in_word n z p ≡ slice_index_or set (start + 2 * step * number p) false)
     → ((p : List Bool) → length p ≡ n → in_word n o p ≡ slice_index_or set (start + step + 2 * step * number p) false)
     → (p : List Bool) → length p ≡ left
-    → in_word left (z + o * 2 ^ (1 * 2 ^ n % 4294967296) % 18446744073709551616) p ≡ slice_index_or set (start + step * number p) false
+    → in_word left (z + o * 2 ^ (1 * 2 ^ n % 4294967296) % 18446744073709551616) p ≡ slice_index_or set
+    (start + step * number p) false
 packed-has n left z o start step set el l p q hz ho point e =
     ap (λ x. in_word left (z + x) point) (packed-is n z o l p q)
     ∙ ap (λ m. in_word m (z + o * 2 ^ 2 ^ n) point) el
@@ -203,8 +214,10 @@ pub part-follows : (left more before : ℕ) (t : Trit) (w v : ℕ) (front longer
     → left ≡ suc (left - 1) → left + before ≤ 6 → length front + left ≤ 10 → w < 2 ^ 2 ^ left
     → more ≤ before + 1 → longer ≡ front ++ t ∷ [] → v ≡ word_part (left - 1) t w
     → (left - 1 + more ≤ 6) × ((length longer + (left - 1) ≤ 10) × (v < 2 ^ 2 ^ (left - 1)))
-part-follows left more before t w v front longer some few room below long e is =
-    (omega (arith, few, long, some), (omega (arith, room, some, length-longer front longer t e), part-is_below (left - 1) left t w v some below is))
+part-follows left more before t w v front longer some few room below long e is = (
+  omega (arith, few, long, some),
+  (omega (arith, room, some, length-longer front longer t e), part-is_below (left - 1) left t w v some below is),
+)
 
 -- the word of two points
 pub pair-has : (zero_bit one_bit : Bool) (z o start step : ℕ) (set : List Bool) → z ≡ bit zero_bit → o ≡ bit one_bit

@@ -1,5 +1,7 @@
 -- Points and their numbers.
-use Rattle.std.proofs.Common.{◌≡◌, ◌==◌, ℕ, zero, suc, ◌+◌, ◌*◌, ◌/◌, ◌%◌, ◌^◌, ◌<◌, ◌≤◌, Bool, true, false, nat_eq, bit_and, List, [], ◌∷◌, ◌++◌, map, take, length, slice_set, slice_get, slice_index_or, Some, refl, sym, ◌∙◌, ap, arith, pow-suc}
+use Rattle.std.proofs.Common.{◌≡◌, ◌==◌, ℕ, zero, suc, ◌+◌, ◌*◌, ◌/◌, ◌%◌, ◌^◌, ◌<◌, ◌≤◌, Bool, true, false, nat_eq, bit_and}
+use Rattle.std.proofs.Common.{List, [], ◌∷◌, ◌++◌, map, take, length, slice_set, slice_get, slice_index_or, Some, refl, sym, ◌∙◌}
+use Rattle.std.proofs.Common.{ap, arith, pow-suc}
 use Rattle.std.specs.Int.{bit_at}
 use Rattle.std.proofs.lemmas.List.{take_more_set, take_more, get_or-map}
 use Rattle.std.proofs.lemmas.Option.{get_or_from_slice_get}
@@ -50,7 +52,8 @@ point_of-more n k i point l m e =
     let b = nat_eq (bit_and (k / 2 ^ i) 1) 1 in
     let at : slice_get (point_of n k) i ≡ Some b = place_at n k i l ∙ ap (λ x. Some (nat_eq x 1)) (sym (shr_and_one k i)) in
     take_more_set point i b m ∙ ap (λ q. q ++ b ∷ []) e
-    ∙ sym (take_more (point_of n k) i b (rw (length-point_of n k) l) ∙ ap (λ x. take i (point_of n k) ++ x ∷ []) (get_or_from_slice_get (point_of n k) i b b at))
+    ∙ sym (take_more (point_of n k) i b (rw (length-point_of n k) l)
+    ∙ ap (λ x. take i (point_of n k) ++ x ∷ []) (get_or_from_slice_get (point_of n k) i b b at))
 
 -- a list whose entries are the values at the points of their places
 pub values-points : (n : ℕ) (f : List Bool → Trit) (values : List Trit) → length values ≡ 2 ^ n

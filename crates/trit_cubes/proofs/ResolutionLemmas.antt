@@ -34,7 +34,8 @@ pub step-zero : (post : ℕ → Trit → Type 0) (at w : ℕ) (places rest : Lis
     → (g : List Bool → Trit) → Computes (From post at w) g places → r ≡ res g places
 step-zero post at w places rest first r e f below g h =
     let is : places ≡ Zero ∷ rest = e ∙ ap (λ t. t ∷ rest) f in
-    below (λ p. g (false ∷ p)) (halved post g at at w Zero false rest refl (λ n. omega arith) (subst (λ ts. Computes (From post at w) g ts) is h)) ∙ ap (res g) (sym is)
+    below (λ p. g (false ∷ p)) (halved post g at at w Zero false rest refl (λ n. omega arith)
+    (subst (λ ts. Computes (From post at w) g ts) is h)) ∙ ap (res g) (sym is)
 
 pub step-one : (post : ℕ → Trit → Type 0) (at w : ℕ) (places rest : List Trit) (first r : Trit)
     → places ≡ first ∷ rest → first ≡ One
@@ -42,7 +43,8 @@ pub step-one : (post : ℕ → Trit → Type 0) (at w : ℕ) (places rest : List
     → (g : List Bool → Trit) → Computes (From post at w) g places → r ≡ res g places
 step-one post at w places rest first r e f below g h =
     let is : places ≡ One ∷ rest = e ∙ ap (λ t. t ∷ rest) f in
-    below (λ p. g (true ∷ p)) (halved post g at (at + w) w One true rest refl (λ n. omega arith) (subst (λ ts. Computes (From post at w) g ts) is h)) ∙ ap (res g) (sym is)
+    below (λ p. g (true ∷ p)) (halved post g at (at + w) w One true rest refl (λ n. omega arith)
+    (subst (λ ts. Computes (From post at w) g ts) is h)) ∙ ap (res g) (sym is)
 
 pub step-unknown : (post : ℕ → Trit → Type 0) (at w : ℕ) (places rest : List Trit) (first zero_r one_r : Trit)
     → places ≡ first ∷ rest → first ≡ Unknown
@@ -52,8 +54,10 @@ pub step-unknown : (post : ℕ → Trit → Type 0) (at w : ℕ) (places rest : 
 step-unknown post at w places rest first zero_r one_r e f zero one g h =
     let is : places ≡ Unknown ∷ rest = e ∙ ap (λ t. t ∷ rest) f in
     let k : Computes (From post at w) g (Unknown ∷ rest) = subst (λ ts. Computes (From post at w) g ts) is h in
-    let first_is : zero_r ≡ res (λ p. g (false ∷ p)) rest = zero (λ p. g (false ∷ p)) (halved post g at at w Unknown false rest tt (λ n. omega arith) k) in
-    let second_is : one_r ≡ res (λ p. g (true ∷ p)) rest = one (λ p. g (true ∷ p)) (halved post g at (at + w) w Unknown true rest tt (λ n. omega arith) k) in
+    let first_is : zero_r ≡ res (λ p. g (false ∷ p)) rest =
+    zero (λ p. g (false ∷ p)) (halved post g at at w Unknown false rest tt (λ n. omega arith) k) in
+    let second_is : one_r ≡ res (λ p. g (true ∷ p)) rest =
+    one (λ p. g (true ∷ p)) (halved post g at (at + w) w Unknown true rest tt (λ n. omega arith) k) in
     rw (first_is, second_is) (ap (res g) (sym is))
 
 -- at the start

@@ -1,5 +1,6 @@
 -- The primes of a set by its halves, the points with 0 and those with 1 at the first place.
-use Rattle.std.proofs.Common.{◌≡◌, ◌≢◌, ℕ, zero, suc, Bool, true, false, cond, not, ◌&&◌, ◌||◌, List, [], ◌∷◌, ◌++◌, map, length, refl, sym, ◌∙◌, ap, inl, inr, arith}
+use Rattle.std.proofs.Common.{◌≡◌, ◌≢◌, ℕ, zero, suc, Bool, true, false, cond, not, ◌&&◌, ◌||◌, List, [], ◌∷◌, ◌++◌, map, length}
+use Rattle.std.proofs.Common.{refl, sym, ◌∙◌, ap, inl, inr, arith}
 use Rattle.std.specs.List.{filter, list_all}
 use Rattle.std.proofs.lemmas.Bool.{cases_Bool, true≢false, and_parts, and_from, or_right}
 use Rattle.std.proofs.lemmas.List.Elements.{filter-append}
@@ -10,7 +11,8 @@ use Rattle.trit_cubes.specs.Filling.{is_unknown, same, covers}
 use Rattle.trit_cubes.specs.Resolution.{agreed, res}
 use Rattle.trit_cubes.specs.Sets.{common, gives}
 use Rattle.trit_cubes.specs.Prime.{is_inside, freed, is_prime, cubes_of, prime_list, any_covers, uncovered, merged}
-use Rattle.trit_cubes.proofs.ListLemmas.{Among, among-map, among-append, among-filter, filter-map, filter-and, filter_same, any_same, any-map, any_never, any-filter, all_same}
+use Rattle.trit_cubes.proofs.ListLemmas.{Among, among-map, among-append, among-filter, filter-map, filter-and, filter_same}
+use Rattle.trit_cubes.proofs.ListLemmas.{any_same, any-map, any_never, any-filter, all_same}
 
 -- the points whose first place has this value, without that place
 abbrev pub half : (List Bool → Bool) → Bool → List Bool → Bool
@@ -39,7 +41,8 @@ is_inside-common f g (Zero ∷ ts) = is_inside-common (half f false) (half g fal
 is_inside-common f g (One ∷ ts) = is_inside-common (half f true) (half g true) ts
 is_inside-common f g (Unknown ∷ ts) =
     rw (is_inside-common (half f false) (half g false) ts, is_inside-common (half f true) (half g true) ts)
-    (and_swap (is_inside (half f false) ts) (is_inside (half g false) ts) (is_inside (half f true) ts) (is_inside (half g true) ts))
+    (and_swap (is_inside (half f false) ts) (is_inside (half g false) ts) (is_inside (half f true) ts)
+    (is_inside (half g true) ts))
 
 is_prime-free : (set : List Bool → Bool) (ts : List Trit) → is_prime set (Unknown ∷ ts) ≡ is_prime (both set) ts
 is_prime-free set ts =
@@ -51,15 +54,23 @@ is_prime-free set ts =
     )
     refl
 
-is_prime-zero : (set : List Bool → Bool) (ts : List Trit) → is_prime set (Zero ∷ ts) ≡ (is_prime (half set false) ts && not (is_inside (both set) ts))
+is_prime-zero : (set : List Bool → Bool) (ts : List Trit)
+    → is_prime set (Zero ∷ ts) ≡ (is_prime (half set false) ts && not (is_inside (both set) ts))
 is_prime-zero set ts =
-    rw (list_all-map (λ c. not (is_inside set c)) (λ c. Zero ∷ c) (freed ts), is_inside-common (half set false) (half set true) ts)
-    (and_last (is_inside (half set false) ts) (is_inside set (Unknown ∷ ts)) (list_all (λ c. not (is_inside (half set false) c)) (freed ts)))
+    rw (
+      list_all-map (λ c. not (is_inside set c)) (λ c. Zero ∷ c) (freed ts),
+      is_inside-common (half set false)
+          (half set true) ts,
+    )
+    (and_last (is_inside (half set false) ts) (is_inside set (Unknown ∷ ts))
+    (list_all (λ c. not (is_inside (half set false) c)) (freed ts)))
 
-is_prime-one : (set : List Bool → Bool) (ts : List Trit) → is_prime set (One ∷ ts) ≡ (is_prime (half set true) ts && not (is_inside (both set) ts))
+is_prime-one : (set : List Bool → Bool) (ts : List Trit)
+    → is_prime set (One ∷ ts) ≡ (is_prime (half set true) ts && not (is_inside (both set) ts))
 is_prime-one set ts =
     rw (list_all-map (λ c. not (is_inside set c)) (λ c. One ∷ c) (freed ts), is_inside-common (half set false) (half set true) ts)
-    (and_last (is_inside (half set true) ts) (is_inside set (Unknown ∷ ts)) (list_all (λ c. not (is_inside (half set true) c)) (freed ts)))
+    (and_last (is_inside (half set true) ts) (is_inside set (Unknown ∷ ts))
+    (list_all (λ c. not (is_inside (half set true) c)) (freed ts)))
 
 -- the primes with a fixed first place are those of the half that are not inside both halves
 abbrev fixed_primes : ℕ → (List Bool → Bool) → Bool → List (List Trit)
@@ -71,14 +82,16 @@ primes-fixed : (n : ℕ) (set : List Bool → Bool) (t : Trit) (b : Bool)
 primes-fixed n set t b is =
     filter-map (is_prime set) (λ c. t ∷ c) (cubes_of n)
     ∙ ap (map (λ c. t ∷ c))
-    (filter_same (λ c. is_prime set (t ∷ c)) (λ c. is_prime (half set b) c && not (is_inside (both set) c)) (cubes_of n) (λ c _. is c)
+    (filter_same (λ c. is_prime set (t ∷ c)) (λ c. is_prime (half set b) c && not (is_inside (both set) c)) (cubes_of n)
+    (λ c _. is c)
     ∙ filter-and (is_prime (half set b)) (λ c. not (is_inside (both set) c)) (cubes_of n))
 
 primes-free : (n : ℕ) (set : List Bool → Bool)
     → filter (is_prime set) (map (λ c. Unknown ∷ c) (cubes_of n)) ≡ map (λ c. Unknown ∷ c) (prime_list n (both set))
 primes-free n set =
     filter-map (is_prime set) (λ c. Unknown ∷ c) (cubes_of n)
-    ∙ ap (map (λ c. Unknown ∷ c)) (filter_same (λ c. is_prime set (Unknown ∷ c)) (is_prime (both set)) (cubes_of n) (λ c _. is_prime-free set c))
+    ∙ ap (map (λ c. Unknown ∷ c)) (filter_same (λ c. is_prime set (Unknown ∷ c)) (is_prime (both set)) (cubes_of n)
+    (λ c _. is_prime-free set c))
 
 pub prime_list-outside : (n : ℕ) (set : List Bool → Bool)
     → prime_list (suc n) set
@@ -86,11 +99,19 @@ pub prime_list-outside : (n : ℕ) (set : List Bool → Bool)
     ++ map (λ c. One ∷ c) (filter (λ c. not (is_inside (both set) c)) (prime_list n (half set true)))
     ++ map (λ c. Unknown ∷ c) (prime_list n (both set))
 prime_list-outside n set =
-    filter-append (is_prime set) (map (λ c. Zero ∷ c) (cubes_of n) ++ map (λ c. One ∷ c) (cubes_of n)) (map (λ c. Unknown ∷ c) (cubes_of n))
-    ∙ rw (filter-append (is_prime set) (map (λ c. Zero ∷ c) (cubes_of n)) (map (λ c. One ∷ c) (cubes_of n)), primes-fixed n set Zero false (is_prime-zero set), primes-fixed n set One true (is_prime-one set), primes-free n set) refl
+    filter-append (is_prime set) (map (λ c. Zero ∷ c) (cubes_of n) ++ map (λ c. One ∷ c) (cubes_of n))
+    (map (λ c. Unknown ∷ c) (cubes_of n))
+    ∙ rw (
+      filter-append (is_prime set) (map (λ c. Zero ∷ c) (cubes_of n)) (map (λ c. One ∷ c) (cubes_of n)),
+      primes-fixed n set
+          Zero false (is_prime-zero set),
+      primes-fixed n set One true (is_prime-one set),
+      primes-free n set,
+    ) refl
 
 -- a list of trits that a cube inside the set covers is inside the set
-pub is_inside-covered : (set : List Bool → Bool) (c ts : List Trit) → covers c ts ≡ true → is_inside set c ≡ true → is_inside set ts ≡ true
+pub is_inside-covered : (set : List Bool → Bool) (c ts : List Trit) → covers c ts ≡ true → is_inside set c ≡ true
+    → is_inside set ts ≡ true
 is_inside-covered set [] [] h k = k
 is_inside-covered set [] (t ∷ ts) h k = absurd (true≢false (sym h))
 is_inside-covered set (w ∷ c) [] h k = absurd (true≢false (sym h))
@@ -106,18 +127,22 @@ is_inside-covered set (Unknown ∷ c) (One ∷ ts) h k =
     is_inside-covered (half set true) c ts h (and_parts (is_inside (half set false) c) (is_inside (half set true) c) k).1
 is_inside-covered set (Unknown ∷ c) (Unknown ∷ ts) h k =
     let parts = and_parts (is_inside (half set false) c) (is_inside (half set true) c) k in
-    and_from (is_inside (half set false) ts) (is_inside (half set true) ts) (is_inside-covered (half set false) c ts h parts.0) (is_inside-covered (half set true) c ts h parts.1)
+    and_from (is_inside (half set false) ts) (is_inside (half set true) ts) (is_inside-covered (half set false) c ts h parts.0)
+    (is_inside-covered (half set true) c ts h parts.1)
 
 -- what covers a list with this first place
-any_covers-free : (cs : List (List Trit)) (t : Trit) (ts : List Trit) → any_covers (map (λ c. Unknown ∷ c) cs) (t ∷ ts) ≡ any_covers cs ts
+any_covers-free : (cs : List (List Trit)) (t : Trit) (ts : List Trit)
+    → any_covers (map (λ c. Unknown ∷ c) cs) (t ∷ ts) ≡ any_covers cs ts
 any_covers-free cs t ts = any-map (λ c. covers c (t ∷ ts)) (λ c. Unknown ∷ c) cs
 
-any_covers-same : (v : Trit) (cs : List (List Trit)) (ts : List Trit) → v ≢ Unknown → any_covers (map (λ c. v ∷ c) cs) (v ∷ ts) ≡ any_covers cs ts
+any_covers-same : (v : Trit) (cs : List (List Trit)) (ts : List Trit) → v ≢ Unknown
+    → any_covers (map (λ c. v ∷ c) cs) (v ∷ ts) ≡ any_covers cs ts
 any_covers-same Zero cs ts known = any-map (λ c. covers c (Zero ∷ ts)) (λ c. Zero ∷ c) cs
 any_covers-same One cs ts known = any-map (λ c. covers c (One ∷ ts)) (λ c. One ∷ c) cs
 any_covers-same Unknown cs ts known = absurd (known refl)
 
-any_covers-other : (v t : Trit) (cs : List (List Trit)) (ts : List Trit) → (is_unknown v || same v t) ≡ false → any_covers (map (λ c. v ∷ c) cs) (t ∷ ts) ≡ false
+any_covers-other : (v t : Trit) (cs : List (List Trit)) (ts : List Trit) → (is_unknown v || same v t) ≡ false
+    → any_covers (map (λ c. v ∷ c) cs) (t ∷ ts) ≡ false
 any_covers-other v t cs ts h =
     any-map (λ c. covers c (t ∷ ts)) (λ c. v ∷ c) cs
     ∙ any_same (λ c. covers (v ∷ c) (t ∷ ts)) (λ _. false) cs (λ c. ap (λ b. b && covers c ts) h)
@@ -131,7 +156,8 @@ true_from_not : (b : Bool) → not b ≡ false → b ≡ true
 true_from_not true k = refl
 true_from_not false k = absurd (true≢false k)
 
-not_covering : (set : List Bool → Bool) (c ts : List Trit) → is_inside set ts ≡ false → is_inside set c ≡ true → covers c ts ≡ false
+not_covering : (set : List Bool → Bool) (c ts : List Trit) → is_inside set ts ≡ false → is_inside set c ≡ true
+    → covers c ts ≡ false
 not_covering set c ts h k =
     elim (cases_Bool (covers c ts))
     [ inl is_covered ↦ absurd (true≢false (sym (is_inside-covered set c ts is_covered k) ∙ h)) | inr n ↦ n ]
@@ -145,20 +171,23 @@ made_up small f cs ts e within =
       | inl h ↦ or_right (any_covers (filter (λ c. not (is_inside small c)) cs) ts) (is_inside small ts) h ∙ sym (within h)
       | inr h ↦
           let kept : any_covers (filter (λ c. not (is_inside small c)) cs) ts ≡ any_covers cs ts
-          = any-filter (λ c. covers c ts) (λ c. not (is_inside small c)) cs (λ c k. not_covering small c ts h (true_from_not (is_inside small c) k)) in
+          = any-filter (λ c. covers c ts) (λ c. not (is_inside small c)) cs
+          (λ c k. not_covering small c ts h (true_from_not (is_inside small c) k)) in
           rw (h, kept, e) (or_false (is_inside f ts))
     ]
 
 both_within : (set : List Bool → Bool) (ts : List Trit) → is_inside (both set) ts ≡ true
     → (is_inside (half set false) ts ≡ true) × (is_inside (half set true) ts ≡ true)
 both_within set ts h =
-    and_parts (is_inside (half set false) ts) (is_inside (half set true) ts) (sym (is_inside-common (half set false) (half set true) ts) ∙ h)
+    and_parts (is_inside (half set false) ts) (is_inside (half set true) ts)
+    (sym (is_inside-common (half set false) (half set true) ts) ∙ h)
 
 no_places : (b : Bool) → any_covers (cond (b && true) ([] ∷ []) []) [] ≡ b
 no_places true = refl
 no_places false = refl
 
-any_covers-split : (zs bs cs : List (List Trit)) (ts : List Trit) → any_covers (zs ++ bs ++ cs) ts ≡ ((any_covers zs ts || any_covers bs ts) || any_covers cs ts)
+any_covers-split : (zs bs cs : List (List Trit)) (ts : List Trit)
+    → any_covers (zs ++ bs ++ cs) ts ≡ ((any_covers zs ts || any_covers bs ts) || any_covers cs ts)
 any_covers-split zs bs cs ts =
     list_any-append (λ c. covers c ts) (zs ++ bs) cs ∙ ap (λ b. b || any_covers cs ts) (list_any-append (λ c. covers c ts) zs bs)
 
@@ -169,44 +198,66 @@ one≢unknown : One ≢ Unknown
 one≢unknown e = cc
 
 -- whether a prime covers a list, by the first place of the prime
-covers-split : (n : ℕ) (set : List Bool → Bool) (t : Trit) (ts : List Trit) → any_covers (prime_list n (both set)) ts ≡ is_inside (both set) ts
+covers-split : (n : ℕ) (set : List Bool → Bool) (t : Trit) (ts : List Trit)
+    → any_covers (prime_list n (both set)) ts ≡ is_inside (both set) ts
     → any_covers (prime_list (suc n) set) (t ∷ ts)
-    ≡ ((any_covers (map (λ c. Zero ∷ c) (fixed_primes n set false)) (t ∷ ts) || any_covers (map (λ c. One ∷ c) (fixed_primes n set true)) (t ∷ ts))
+    ≡ ((any_covers (map (λ c. Zero ∷ c) (fixed_primes n set false)) (t ∷ ts)
+    || any_covers (map (λ c. One ∷ c) (fixed_primes n set true)) (t ∷ ts))
     || is_inside (both set) ts)
 covers-split n set t ts small =
     ap (λ cs. any_covers cs (t ∷ ts)) (prime_list-outside n set)
-    ∙ any_covers-split (map (λ c. Zero ∷ c) (fixed_primes n set false)) (map (λ c. One ∷ c) (fixed_primes n set true)) (map (λ c. Unknown ∷ c) (prime_list n (both set))) (t ∷ ts)
+    ∙ any_covers-split (map (λ c. Zero ∷ c) (fixed_primes n set false)) (map (λ c. One ∷ c) (fixed_primes n set true))
+    (map (λ c. Unknown ∷ c) (prime_list n (both set))) (t ∷ ts)
     ∙ rw (any_covers-free (prime_list n (both set)) t ts, small) refl
 
 -- a list of trits is inside a set exactly where some prime covers it
-pub any_covers-primes : (n : ℕ) (set : List Bool → Bool) (ts : List Trit) → length ts ≡ n → any_covers (prime_list n set) ts ≡ is_inside set ts
+pub any_covers-primes : (n : ℕ) (set : List Bool → Bool) (ts : List Trit) → length ts ≡ n
+    → any_covers (prime_list n set) ts ≡ is_inside set ts
 any_covers-primes zero set [] e = no_places (set [])
 any_covers-primes zero set (t ∷ ts) e = absurd (omega arith)
 any_covers-primes (suc n) set [] e = absurd (omega arith)
 any_covers-primes (suc n) set (Zero ∷ ts) e =
     let long : length ts ≡ n = omega arith in
     covers-split n set Zero ts (any_covers-primes n (both set) ts long)
-    ∙ rw (any_covers-same Zero (fixed_primes n set false) ts zero≢unknown, any_covers-other One Zero (fixed_primes n set true) ts refl, or_false (any_covers (fixed_primes n set false) ts))
-    (made_up (both set) (half set false) (prime_list n (half set false)) ts (any_covers-primes n (half set false) ts long) (λ h. (both_within set ts h).0))
+    ∙ rw (
+      any_covers-same Zero (fixed_primes n set false) ts zero≢unknown,
+      any_covers-other One Zero
+          (fixed_primes n set true) ts refl,
+      or_false (any_covers (fixed_primes n set false) ts),
+    )
+    (made_up (both set) (half set false) (prime_list n (half set false)) ts (any_covers-primes n (half set false) ts long)
+    (λ h. (both_within set ts h).0))
 any_covers-primes (suc n) set (One ∷ ts) e =
     let long : length ts ≡ n = omega arith in
     covers-split n set One ts (any_covers-primes n (both set) ts long)
-    ∙ rw (any_covers-other Zero One (fixed_primes n set false) ts refl, any_covers-same One (fixed_primes n set true) ts one≢unknown)
-    (made_up (both set) (half set true) (prime_list n (half set true)) ts (any_covers-primes n (half set true) ts long) (λ h. (both_within set ts h).1))
+    ∙ rw (
+      any_covers-other Zero One (fixed_primes n set false) ts refl,
+      any_covers-same One
+          (fixed_primes n set true) ts one≢unknown,
+    )
+    (made_up (both set) (half set true) (prime_list n (half set true)) ts (any_covers-primes n (half set true) ts long)
+    (λ h. (both_within set ts h).1))
 any_covers-primes (suc n) set (Unknown ∷ ts) e =
     covers-split n set Unknown ts (any_covers-primes n (both set) ts (omega arith))
-    ∙ rw (any_covers-other Zero Unknown (fixed_primes n set false) ts refl, any_covers-other One Unknown (fixed_primes n set true) ts refl)
+    ∙ rw (
+      any_covers-other Zero Unknown (fixed_primes n set false) ts refl,
+      any_covers-other One Unknown
+          (fixed_primes n set true) ts refl,
+    )
     (is_inside-common (half set false) (half set true) ts)
 
 -- the lists of n trits
 pub cubes_of-length : (n : ℕ) (c : List Trit) → Among c (cubes_of n) → length c ≡ n
 cubes_of-length zero c h = elim h [ inl e ↦ sym (ap length e) | inr k ↦ absurd k ]
 cubes_of-length (suc n) c h =
-    elim (among-append c (map (λ d. Zero ∷ d) (cubes_of n) ++ map (λ d. One ∷ d) (cubes_of n)) (map (λ d. Unknown ∷ d) (cubes_of n)) h) [
+    elim (among-append c (map (λ d. Zero ∷ d) (cubes_of n) ++ map (λ d. One ∷ d) (cubes_of n))
+    (map (λ d. Unknown ∷ d) (cubes_of n)) h) [
       | inl front ↦
           elim (among-append c (map (λ d. Zero ∷ d) (cubes_of n)) (map (λ d. One ∷ d) (cubes_of n)) front) [
-            | inl k ↦ let r = among-map (λ d. Zero ∷ d) c (cubes_of n) k in sym (ap length r.1) ∙ ap suc (cubes_of-length n r.0 r.2)
-            | inr k ↦ let r = among-map (λ d. One ∷ d) c (cubes_of n) k in sym (ap length r.1) ∙ ap suc (cubes_of-length n r.0 r.2)
+            | inl k ↦ let r = among-map (λ d. Zero ∷ d) c (cubes_of n) k
+                in sym (ap length r.1) ∙ ap suc (cubes_of-length n r.0 r.2)
+            | inr k ↦ let r = among-map (λ d. One ∷ d) c (cubes_of n) k
+                in sym (ap length r.1) ∙ ap suc (cubes_of-length n r.0 r.2)
           ]
       | inr k ↦ let r = among-map (λ d. Unknown ∷ d) c (cubes_of n) k in sym (ap length r.1) ∙ ap suc (cubes_of-length n r.0 r.2)
     ]
@@ -227,30 +278,46 @@ prime_list-merged n set =
         (λ c k. ap not (sym (any_covers-primes n (both set) c (prime_list-length n f c k))))
 
 -- sets that are equal at the points of n places have the same primes
-is_inside-same : (f g : List Bool → Bool) (ts : List Trit) → ((p : List Bool) → length p ≡ length ts → f p ≡ g p) → is_inside f ts ≡ is_inside g ts
+is_inside-same : (f g : List Bool → Bool) (ts : List Trit) → ((p : List Bool) → length p ≡ length ts → f p ≡ g p)
+    → is_inside f ts ≡ is_inside g ts
 is_inside-same f g [] h = h [] refl
 is_inside-same f g (Zero ∷ ts) h = is_inside-same (half f false) (half g false) ts (λ p e. h (false ∷ p) (ap suc e))
 is_inside-same f g (One ∷ ts) h = is_inside-same (half f true) (half g true) ts (λ p e. h (true ∷ p) (ap suc e))
 is_inside-same f g (Unknown ∷ ts) h =
-    rw (is_inside-same (half f false) (half g false) ts (λ p e. h (false ∷ p) (ap suc e)), is_inside-same (half f true) (half g true) ts (λ p e. h (true ∷ p) (ap suc e))) refl
+    rw (
+      is_inside-same (half f false) (half g false) ts (λ p e. h (false ∷ p) (ap suc e)),
+      is_inside-same (half f true)
+          (half g true) ts (λ p e. h (true ∷ p) (ap suc e)),
+    ) refl
 
-both-same : (f g : List Bool → Bool) (n : ℕ) → ((p : List Bool) → length p ≡ suc n → f p ≡ g p) → (p : List Bool) → length p ≡ n → both f p ≡ both g p
+both-same : (f g : List Bool → Bool) (n : ℕ) → ((p : List Bool) → length p ≡ suc n → f p ≡ g p) → (p : List Bool) → length p ≡ n
+    → both f p ≡ both g p
 both-same f g n h p e = rw (h (false ∷ p) (ap suc e), h (true ∷ p) (ap suc e)) refl
 
-is_prime-same : (f g : List Bool → Bool) (ts : List Trit) → ((p : List Bool) → length p ≡ length ts → f p ≡ g p) → is_prime f ts ≡ is_prime g ts
+is_prime-same : (f g : List Bool → Bool) (ts : List Trit) → ((p : List Bool) → length p ≡ length ts → f p ≡ g p)
+    → is_prime f ts ≡ is_prime g ts
 is_prime-same f g [] h = rw (h [] refl) refl
 is_prime-same f g (Zero ∷ ts) h =
     is_prime-zero f ts
-    ∙ rw (is_prime-same (half f false) (half g false) ts (λ p e. h (false ∷ p) (ap suc e)), is_inside-same (both f) (both g) ts (both-same f g (length ts) h)) refl
+    ∙ rw (
+      is_prime-same (half f false) (half g false) ts (λ p e. h (false ∷ p) (ap suc e)),
+      is_inside-same (both f) (both g) ts
+          (both-same f g (length ts) h),
+    ) refl
     ∙ sym (is_prime-zero g ts)
 is_prime-same f g (One ∷ ts) h =
     is_prime-one f ts
-    ∙ rw (is_prime-same (half f true) (half g true) ts (λ p e. h (true ∷ p) (ap suc e)), is_inside-same (both f) (both g) ts (both-same f g (length ts) h)) refl
+    ∙ rw (
+      is_prime-same (half f true) (half g true) ts (λ p e. h (true ∷ p) (ap suc e)),
+      is_inside-same (both f) (both g) ts
+          (both-same f g (length ts) h),
+    ) refl
     ∙ sym (is_prime-one g ts)
 is_prime-same f g (Unknown ∷ ts) h =
     is_prime-free f ts ∙ is_prime-same (both f) (both g) ts (both-same f g (length ts) h) ∙ sym (is_prime-free g ts)
 
-pub prime_list-same : (n : ℕ) (f g : List Bool → Bool) → ((p : List Bool) → length p ≡ n → f p ≡ g p) → prime_list n f ≡ prime_list n g
+pub prime_list-same : (n : ℕ) (f g : List Bool → Bool) → ((p : List Bool) → length p ≡ n → f p ≡ g p)
+    → prime_list n f ≡ prime_list n g
 prime_list-same n f g h =
     filter_same (is_prime f) (is_prime g) (cubes_of n) (λ c k. is_prime-same f g c (λ p e. h p (e ∙ cubes_of-length n c k)))
 
@@ -258,7 +325,8 @@ prime_list-same n f g h =
 same-agreed : (v a b : Trit) → v ≢ Unknown → (same v a && same v b) ≡ same v (agreed a b)
 same-agreed v a b h = grind arith
 
-pub is_inside-gives : (v : Trit) (f : List Bool → Trit) (ts : List Trit) → v ≢ Unknown → is_inside (gives v f) ts ≡ same v (res f ts)
+pub is_inside-gives : (v : Trit) (f : List Bool → Trit) (ts : List Trit) → v ≢ Unknown
+    → is_inside (gives v f) ts ≡ same v (res f ts)
 is_inside-gives v f [] h = refl
 is_inside-gives v f (Zero ∷ ts) h = is_inside-gives v (λ p. f (false ∷ p)) ts h
 is_inside-gives v f (One ∷ ts) h = is_inside-gives v (λ p. f (true ∷ p)) ts h

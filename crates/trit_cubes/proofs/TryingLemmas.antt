@@ -1,5 +1,6 @@
 -- What the code that tries each list of trits needs.
-use Rattle.std.proofs.Common.{◌≡◌, ◌≢◌, ℕ, ◌+◌, ◌<◌, Bool, true, false, not, ◌&&◌, ◌||◌, List, [], ◌∷◌, ◌++◌, length, take, slice_index_or, slice_set, slice_get, Some, refl, sym, ◌∙◌, ap, arith}
+use Rattle.std.proofs.Common.{◌≡◌, ◌≢◌, ℕ, ◌+◌, ◌<◌, Bool, true, false, not, ◌&&◌, ◌||◌, List, [], ◌∷◌, ◌++◌, length, take}
+use Rattle.std.proofs.Common.{slice_index_or, slice_set, slice_get, Some, refl, sym, ◌∙◌, ap, arith}
 use Rattle.std.specs.List.{All, list_all}
 use Rattle.std.proofs.lemmas.Bool.{true≢false, and_right}
 use Rattle.std.proofs.lemmas.List.{take_more_set, take_more}
@@ -46,15 +47,19 @@ leaves-fixed Zero b h = ((λ e. cc), h)
 leaves-fixed One b h = ((λ e. cc), h)
 leaves-fixed Unknown b h = absurd (true≢false h)
 
-pub is_prime-stays : (set : List Bool → Bool) (c : List Trit) → is_inside set c ≡ true → ((j : ℕ) → j < length c → stays set c j ≡ true) → true ≡ is_prime set c
+pub is_prime-stays : (set : List Bool → Bool) (c : List Trit) → is_inside set c ≡ true
+    → ((j : ℕ) → j < length c → stays set c j ≡ true) → true ≡ is_prime set c
 is_prime-stays set c inside h =
     sym (ap (λ b. b && list_all (λ d. not (is_inside set d)) (freed c)) inside
-    ∙ at-all_freed (λ d. not (is_inside set d)) c (λ i l fixed. stays-fixed (slice_index_or c i Unknown) (not (is_inside set (slice_set c i Unknown))) fixed (h i l)))
+    ∙ at-all_freed (λ d. not (is_inside set d)) c
+    (λ i l fixed. stays-fixed (slice_index_or c i Unknown) (not (is_inside set (slice_set c i Unknown))) fixed (h i l)))
 
-pub is_prime-leaves : (set : List Bool → Bool) (c : List Trit) (i : ℕ) → i < length c → stays set c i ≡ false → false ≡ is_prime set c
+pub is_prime-leaves : (set : List Bool → Bool) (c : List Trit) (i : ℕ) → i < length c → stays set c i ≡ false
+    → false ≡ is_prime set c
 is_prime-leaves set c i l h =
     let out = leaves-fixed (slice_index_or c i Unknown) (not (is_inside set (slice_set c i Unknown))) h in
-    sym (and_right (is_inside set c) (list_all (λ d. not (is_inside set d)) (freed c)) (fails (list_all (λ d. not (is_inside set d)) (freed c))
+    sym (and_right (is_inside set c) (list_all (λ d. not (is_inside set d)) (freed c))
+    (fails (list_all (λ d. not (is_inside set d)) (freed c))
     (λ e. true≢false (sym (all_freed-at (λ d. not (is_inside set d)) c e i l out.0) ∙ out.1))))
   where
     fails : (b : Bool) → (b ≡ true → ⊥) → b ≡ false

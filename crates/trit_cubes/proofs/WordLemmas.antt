@@ -1,5 +1,6 @@
 -- The two words of a list of trits: their size, their bits, and the test of covering by them.
-use Rattle.std.proofs.Common.{◌≡◌, ℕ, zero, suc, ◌+◌, ◌*◌, ◌/◌, ◌^◌, ◌<◌, ◌≤◌, Bool, true, false, ◌&&◌, ◌||◌, nat_eq, bit_and, List, [], ◌∷◌, length, slice_get, Some, refl, sym, ◌∙◌, ap, inl, inr, arith, pow-suc}
+use Rattle.std.proofs.Common.{◌≡◌, ℕ, zero, suc, ◌+◌, ◌*◌, ◌/◌, ◌^◌, ◌<◌, ◌≤◌, Bool, true, false, ◌&&◌, ◌||◌, nat_eq, bit_and}
+use Rattle.std.proofs.Common.{List, [], ◌∷◌, length, slice_get, Some, refl, sym, ◌∙◌, ap, inl, inr, arith, pow-suc}
 use Rattle.std.proofs.Math.Pow.{pow_mono}
 use Rattle.std.proofs.lemmas.Bool.{cases_eq, eq-eqb, ne_eqb, and_left, and_right, and_from}
 use Rattle.std.proofs.lemmas.Nat.{and_block, and_le_l}
@@ -56,14 +57,17 @@ one_bits (suc b) (suc d) n m = refl
 pub place-free : (n f v i : ℕ) → i < n → bit_and (f / 2 ^ i) 1 ≡ 0 → slice_get (trits_of n f v) i ≡ Some Unknown
 place-free n f v i h e = place n f v i h ∙ ap Some (free_bits (bit_and (f / 2 ^ i) 1) (bit_and (v / 2 ^ i) 1) e)
 
-pub place-zero : (n f v i : ℕ) → i < n → (bit_and (f / 2 ^ i) 1 ≡ 0 → ⊥) → bit_and (v / 2 ^ i) 1 ≡ 0 → slice_get (trits_of n f v) i ≡ Some Zero
+pub place-zero : (n f v i : ℕ) → i < n → (bit_and (f / 2 ^ i) 1 ≡ 0 → ⊥) → bit_and (v / 2 ^ i) 1 ≡ 0
+    → slice_get (trits_of n f v) i ≡ Some Zero
 place-zero n f v i h d e = place n f v i h ∙ ap Some (zero_bits (bit_and (f / 2 ^ i) 1) (bit_and (v / 2 ^ i) 1) d e)
 
-pub place-one : (n f v i : ℕ) → i < n → (bit_and (f / 2 ^ i) 1 ≡ 0 → ⊥) → (bit_and (v / 2 ^ i) 1 ≡ 0 → ⊥) → slice_get (trits_of n f v) i ≡ Some One
+pub place-one : (n f v i : ℕ) → i < n → (bit_and (f / 2 ^ i) 1 ≡ 0 → ⊥) → (bit_and (v / 2 ^ i) 1 ≡ 0 → ⊥)
+    → slice_get (trits_of n f v) i ≡ Some One
 place-one n f v i h d e = place n f v i h ∙ ap Some (one_bits (bit_and (f / 2 ^ i) 1) (bit_and (v / 2 ^ i) 1) d e)
 
 -- the bits of both words, the lowest ones apart
-pub and-blocks : (k b d m n : ℕ) → b < 2 ^ k → d < 2 ^ k → bit_and (b + 2 ^ k * m) (d + 2 ^ k * n) ≡ bit_and b d + 2 ^ k * bit_and m n
+pub and-blocks : (k b d m n : ℕ) → b < 2 ^ k → d < 2 ^ k
+    → bit_and (b + 2 ^ k * m) (d + 2 ^ k * n) ≡ bit_and b d + 2 ^ k * bit_and m n
 and-blocks k b d m n p q =
     let first : b + 2 ^ k * m ≡ m * 2 ^ k + b = omega arith in
     let second : d + 2 ^ k * n ≡ n * 2 ^ k + d = omega arith in
@@ -74,7 +78,8 @@ nat_eq-double : (b d m n : ℕ) → b < 2 → d < 2 → nat_eq (b + 2 * m) (d + 
 nat_eq-double b d m n p q =
     elim (cases_eq b d) [
       | inl e ↦ elim (cases_eq m n) [
-        | inl h ↦ eq-eqb (b + 2 * m) (d + 2 * n) (omega arith) ∙ sym (and_from (nat_eq b d) (nat_eq m n) (eq-eqb b d e) (eq-eqb m n h))
+        | inl h ↦ eq-eqb (b + 2 * m) (d + 2 * n) (omega arith)
+            ∙ sym (and_from (nat_eq b d) (nat_eq m n) (eq-eqb b d e) (eq-eqb m n h))
         | inr h ↦ ne_eqb (b + 2 * m) (d + 2 * n) (λ g. h (omega arith)) ∙ sym (and_right (nat_eq b d) (nat_eq m n) (ne_eqb m n h))
       ]
       | inr e ↦ ne_eqb (b + 2 * m) (d + 2 * n) (λ g. e (omega arith)) ∙ sym (and_left (nat_eq b d) (nat_eq m n) (ne_eqb b d e))
@@ -93,10 +98,17 @@ covers-double : (b d e g x y z u : ℕ) → b < 2 → d < 2 → e < 2 → g < 2
 covers-double b d e g x y z u b-lt d-lt e-lt g-lt =
     let fixed : bit_and b d < 2 = omega (arith, and_le_l b d) in
     let valued : bit_and b e < 2 = omega (arith, and_le_l b e) in
-    rw (and-blocks 1 b d x y b-lt d-lt, and-blocks 1 b e x z b-lt e-lt, nat_eq-double (bit_and b d) b (bit_and x y) x fixed b-lt, nat_eq-double (bit_and b e) g (bit_and x z) u valued g-lt)
+    rw (
+      and-blocks 1 b d x y b-lt d-lt,
+      and-blocks 1 b e x z b-lt e-lt,
+      nat_eq-double (bit_and b d) b
+          (bit_and x y) x fixed b-lt,
+      nat_eq-double (bit_and b e) g (bit_and x z) u valued g-lt,
+    )
     (and_swap (nat_eq (bit_and b d) b) (nat_eq (bit_and x y) x) (nat_eq (bit_and b e) g) (nat_eq (bit_and x z) u))
 
-covers-bits : (w n : Trit) → (nat_eq (bit_and (fixed_bit w) (fixed_bit n)) (fixed_bit w) && nat_eq (bit_and (fixed_bit w) (value_bit n)) (value_bit w)) ≡ (is_unknown w || same w n)
+covers-bits : (w n : Trit) → (nat_eq (bit_and (fixed_bit w) (fixed_bit n)) (fixed_bit w)
+    && nat_eq (bit_and (fixed_bit w) (value_bit n)) (value_bit w)) ≡ (is_unknown w || same w n)
 covers-bits Zero Zero = refl
 covers-bits Zero One = refl
 covers-bits Zero Unknown = refl
@@ -108,12 +120,14 @@ covers-bits Unknown One = refl
 covers-bits Unknown Unknown = refl
 
 pub covers-words : (ws ns : List Trit) → length ws ≡ length ns
-    → (nat_eq (bit_and (fixed_word ws) (fixed_word ns)) (fixed_word ws) && nat_eq (bit_and (fixed_word ws) (value_word ns)) (value_word ws)) ≡ covers ws ns
+    → (nat_eq (bit_and (fixed_word ws) (fixed_word ns)) (fixed_word ws)
+    && nat_eq (bit_and (fixed_word ws) (value_word ns)) (value_word ws)) ≡ covers ws ns
 covers-words [] [] e = refl
 covers-words [] (n ∷ ns) e = absurd (omega arith)
 covers-words (w ∷ ws) [] e = absurd (omega arith)
 covers-words (w ∷ ws) (n ∷ ns) e =
-    covers-double (fixed_bit w) (fixed_bit n) (value_bit n) (value_bit w) (fixed_word ws) (fixed_word ns) (value_word ns) (value_word ws) (fixed_bit-lt w) (fixed_bit-lt n) (value_bit-lt n) (value_bit-lt w)
+    covers-double (fixed_bit w) (fixed_bit n) (value_bit n) (value_bit w) (fixed_word ws) (fixed_word ns) (value_word ns)
+    (value_word ws) (fixed_bit-lt w) (fixed_bit-lt n) (value_bit-lt n) (value_bit-lt w)
     ∙ rw (covers-bits w n, covers-words ws ns (omega arith)) refl
 
 -- lists of different lengths
@@ -121,7 +135,8 @@ pub covers-unlike : (ws ns : List Trit) → (length ws ≡ length ns → ⊥) �
 covers-unlike [] [] d = absurd (d refl)
 covers-unlike [] (n ∷ ns) d = refl
 covers-unlike (w ∷ ws) [] d = refl
-covers-unlike (w ∷ ws) (n ∷ ns) d = and_right (is_unknown w || same w n) (covers ws ns) (covers-unlike ws ns (λ e. d (omega arith)))
+covers-unlike (w ∷ ws) (n ∷ ns) d =
+    and_right (is_unknown w || same w n) (covers ws ns) (covers-unlike ws ns (λ e. d (omega arith)))
 
 -- the test as the code makes it, on words that are those of the lists
 pub covers-then : (ws ns : List Trit) (wf wv nf nv : ℕ)

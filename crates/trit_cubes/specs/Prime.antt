@@ -1,5 +1,6 @@
 -- Primes of a set of points: the cubes inside it that no freed place would keep inside.
-use Rattle.std.specs.Prelude.{◌≡◌, ◌≢◌, ◌↔◌, ℕ, zero, suc, ◌<◌, ◌⊎◌, Bool, true, false, not, ◌&&◌, IsTrue, List, [], ◌∷◌, ◌++◌, map, filter, length, Contains, slice_index_or, slice_set}
+use Rattle.std.specs.Prelude.{◌≡◌, ◌≢◌, ◌↔◌, ℕ, zero, suc, ◌<◌, ◌⊎◌, Bool, true, false, not, ◌&&◌, IsTrue, List, [], ◌∷◌, ◌++◌}
+use Rattle.std.specs.Prelude.{map, filter, length, Contains, slice_index_or, slice_set}
 use Rattle.std.specs.List.{list_any, list_all}
 use Rattle.trit_cubes.specs.declared.trits.Trit.{Trit}
 use Rattle.trit_cubes.specs.declared.trits.Trit.TheVariants.{Zero, One, Unknown}
@@ -82,7 +83,8 @@ uncovered cover cubes = filter (λ c. not (any_covers cover c)) cubes
 -- place in front of those of `both`
 abbrev pub merged : List (List Trit) → List (List Trit) → List (List Trit) → List (List Trit)
 merged zero_cubes one_cubes both_cubes =
-    map (λ c. Zero ∷ c) (uncovered both_cubes zero_cubes) ++ map (λ c. One ∷ c) (uncovered both_cubes one_cubes) ++ map (λ c. Unknown ∷ c) both_cubes
+    map (λ c. Zero ∷ c) (uncovered both_cubes zero_cubes) ++ map (λ c. One ∷ c) (uncovered both_cubes one_cubes)
+    ++ map (λ c. Unknown ∷ c) both_cubes
 
 -- the primes of two sets over n places, and of the points in both
 pub record AreHalves (n : ℕ) (f g : List Bool → Bool) (zero_cubes one_cubes both_cubes : List (List Trit)) : Type 0 where

@@ -24,7 +24,8 @@ impl Model for Cube {
 
     ghost view = { λ c. trits_of c.len c.fixed c.values };
 
-    ghost invariant = { λ c. (c.len ≤ 10) × (c.len ≡ length (trits_of c.len c.fixed c.values)) × (c.fixed ≡ fixed_word (trits_of c.len c.fixed c.values)) × (c.values ≡ value_word (trits_of c.len c.fixed c.values)) };
+    ghost invariant = { λ c. (c.len ≤ 10) × (c.len ≡ length (trits_of c.len c.fixed c.values))
+        × (c.fixed ≡ fixed_word (trits_of c.len c.fixed c.values)) × (c.values ≡ value_word (trits_of c.len c.fixed c.values)) };
 
     ghost inverse = { λ ts. record { len = length ts; fixed = fixed_word ts; values = value_word ts } };
 

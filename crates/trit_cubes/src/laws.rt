@@ -1,7 +1,8 @@
 //! Theorems on the definitions, for the proofs of other crates. The functions do nothing.
 
 ghost use Rattle.trit_cubes.specs.Resolution.{ResIsCommonValue};
-ghost use Rattle.trit_cubes.specs.Prime.{PrimesAreOneList, PrimesCoverInside, MergedArePrimes, PrimesAreOfPoints, PrimesGiveResolution};
+ghost use Rattle.trit_cubes.specs.Prime.{PrimesAreOneList, PrimesCoverInside, MergedArePrimes, PrimesAreOfPoints};
+ghost use Rattle.trit_cubes.specs.Prime.{PrimesGiveResolution};
 
 /// The resolution is 0 or 1 exactly where the function gives that value on every filling.
 pub fn res_is_common_value()

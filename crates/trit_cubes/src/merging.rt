@@ -19,7 +19,8 @@ pub fn merge_primes(
     both: &[Cube],
 ) -> Result<Vec<Cube>, AllocError>
     requires { (n : ℕ) × (f : List Bool → Bool) × (g : List Bool → Bool) × (n < 10) × AreHalves n f g zero.now one.now both.now }
-    ensures { IfOk result (λ found. (n : ℕ) (f g : List Bool → Bool) → AreHalves n f g zero.now one.now both.now → found.items ≡ prime_list (n + 1) (joined f g)) }
+    ensures { IfOk result (λ found. (n : ℕ) (f g : List Bool → Bool) → AreHalves n f g zero.now one.now both.now
+        → found.items ≡ prime_list (n + 1) (joined f g)) }
 {
     let found = merge(alloc, zero, one, both)?;
     Ok(found)

@@ -22,7 +22,8 @@ fn resolve_from<F: Fn(u16) -> Trit>(places: &[Trit], f: &F, weight: u16, at: u16
     requires callable { F.IsAlwaysCallable f.now }
     requires room { weight * 2 ^ length places.now ≤ 1024 }
     requires below { at < weight }
-    ensures { (g : List Bool → Trit) → Computes (λ n v. F.post f.now (at + weight * n) v) g places.now → result ≡ res g places.now }
+    ensures { (g : List Bool → Trit) → Computes (λ n v. F.post f.now (at + weight * n) v) g places.now
+        → result ≡ res g places.now }
 {
     let Some((first, rest)) = places.split_first() else {
         return f(at);

@@ -1,6 +1,7 @@
 //! The primes of a set by splitting it at its first place.
 
-ghost use Rattle.std.specs.Prelude.{◌≡◌, ℕ, ◌+◌, ◌*◌, ◌/◌, ◌^◌, ◌<◌, ◌≤◌, Bool, false, List, ◌∷◌, ◌&&◌, length, slice_index_or, IfOk, IfSome, IsNone, vec_len};
+ghost use Rattle.std.specs.Prelude.{◌≡◌, ℕ, ◌+◌, ◌*◌, ◌/◌, ◌^◌, ◌<◌, ◌≤◌, Bool, false, List, ◌∷◌, ◌&&◌, length, slice_index_or};
+ghost use Rattle.std.specs.Prelude.{IfOk, IfSome, IsNone, vec_len};
 ghost use Rattle.trit_cubes.specs.Sets.{has, common};
 ghost use Rattle.trit_cubes.specs.Prime.{prime_list};
 
@@ -63,7 +64,8 @@ fn of_all_or_none(alloc: Global, n: usize, all: bool) -> Result<Vec<Cube>, Alloc
 /// The points with this value at place 0, without that place.
 fn half(alloc: Global, set: &[bool], first: bool) -> Result<Vec<bool>, AllocError>
     ensures entries { IfOk result (λ points. vec_len points ≡ length set.now / 2) }
-    ensures values { IfOk result (λ points. (p : List Bool) → 2 * vec_len points ≡ length set.now → has points.items p ≡ has set.now (first ∷ p)) }
+    ensures values { IfOk result (λ points. (p : List Bool) → 2 * vec_len points ≡ length set.now
+        → has points.items p ≡ has set.now (first ∷ p)) }
 {
     let offset = usize::from(first);
     let mut points = Vec::with_capacity(alloc, set.len() / 2)?;

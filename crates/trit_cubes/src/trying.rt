@@ -1,5 +1,6 @@
 //! The primes by the way that their definition says: each list of trits is tried against the set.
-ghost use Rattle.std.specs.Prelude.{◌≡◌, ◌^◌, ◌<◌, ◌≤◌, ◌||◌, not, false, length, take, slice_get, slice_set, slice_index_or, IfOk};
+ghost use Rattle.std.specs.Prelude.{◌≡◌, ◌^◌, ◌<◌, ◌≤◌, ◌||◌, not, false, length, take, slice_get, slice_set, slice_index_or};
+ghost use Rattle.std.specs.Prelude.{IfOk};
 ghost use Rattle.trit_cubes.specs.declared.trits.Trit.TheVariants.{Unknown, One};
 ghost use Rattle.trit_cubes.specs.Filling.{is_unknown, same, trit_of};
 ghost use Rattle.trit_cubes.specs.Resolution.{res};
@@ -63,7 +64,8 @@ fn is_prime(cube: &Cube, set: &[bool]) -> bool
 /// Whether the place is free, or leads out of the set where it is freed.
 fn stays_fixed(cube: &Cube, i: usize, set: &[bool]) -> bool
     requires { i < length cube.now }
-    ensures { result ≡ (is_unknown (slice_index_or cube.now i Unknown) || not (is_inside (has set.now) (slice_set cube.now i Unknown))) }
+    ensures { result ≡ (is_unknown (slice_index_or cube.now i Unknown)
+        || not (is_inside (has set.now) (slice_set cube.now i Unknown))) }
 {
     cube.place(i).is_unknown() || !is_inside(&freed(cube, i), set)
 }

@@ -23,7 +23,8 @@ pub fn values_of<F: Fn(&[bool]) -> Trit>(
     requires callable { F.IsAlwaysCallable function.now }
     requires few { places ≤ 10 }
     ensures entries { IfOk result (λ values. length values.items ≡ 2 ^ places) }
-    ensures values { IfOk result (λ values. (f : List Bool → Trit) → Gives (λ p t. FnReturnsAt F.Fn function.now p t) places f → AreValuesOf places f values.items) }
+    ensures values { IfOk result (λ values. (f : List Bool → Trit) → Gives (λ p t. FnReturnsAt F.Fn function.now p t) places f
+        → AreValuesOf places f values.items) }
 {
     let mut values = Vec::with_capacity(alloc, 1 << places)?;
     for number in 0..1u32 << places {
@@ -42,7 +43,8 @@ pub fn primes_where(
 ) -> Result<Vec<Cube>, AllocError>
     requires short { n ≤ 10 }
     requires entries { length values.now ≡ 2 ^ n }
-    ensures { IfOk result (λ found. (f : List Bool → Trit) → AreValuesOf n f values.now → found.items ≡ prime_list n (gives value f)) }
+    ensures { IfOk result (λ found. (f : List Bool → Trit) → AreValuesOf n f values.now
+        → found.items ≡ prime_list n (gives value f)) }
 {
     let set = points_with(alloc, values, value)?;
     let found = primes(alloc, n, &set)?;

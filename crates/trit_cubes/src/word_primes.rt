@@ -1,7 +1,8 @@
 //! The primes of a set of points over at most six places, as a word: the upper half of its bits has the points with 1 at the
 //! first place.
 
-ghost use Rattle.std.specs.Prelude.{◌≡◌, ◌+◌, ◌*◌, ◌^◌, ◌<◌, ◌≤◌, suc, ℕ, Bool, List, ◌++◌, ◌∷◌, [], false, nat_eq, bit_and, map, take, length, slice_index_or, IfOk, OnOk};
+ghost use Rattle.std.specs.Prelude.{◌≡◌, ◌+◌, ◌*◌, ◌^◌, ◌<◌, ◌≤◌, suc, ℕ, Bool, List, ◌++◌, ◌∷◌, [], false, nat_eq, bit_and, map};
+ghost use Rattle.std.specs.Prelude.{take, length, slice_index_or, IfOk, OnOk};
 ghost use Rattle.std.specs.List.{list_any};
 ghost use Rattle.trit_cubes.specs.Filling.{number};
 ghost use Rattle.trit_cubes.specs.Sets.{has};
@@ -37,7 +38,8 @@ fn packed(set: &[bool], start: usize, step: usize, left: usize) -> u64
     requires entries { length set.now ≡ step * 2 ^ left }
     requires start { start < step }
     ensures below { result < 2 ^ 2 ^ left }
-    ensures values { (p : List Bool) → length p ≡ left → in_word left result p ≡ slice_index_or set.now (start + step * number p) false }
+    ensures values { (p : List Bool) → length p ≡ left
+        → in_word left result p ≡ slice_index_or set.now (start + step * number p) false }
 {
     if left == 0 {
         return u64::from(set[start]);
@@ -56,7 +58,8 @@ fn packed_pair(set: &[bool], start: usize, step: usize) -> u64
     requires entries { length set.now ≡ step * 2 }
     requires start { start < step }
     ensures below { result < 4 }
-    ensures values { (p : List Bool) → length p ≡ 1 → in_word 1 result p ≡ slice_index_or set.now (start + step * number p) false }
+    ensures values { (p : List Bool) → length p ≡ 1
+        → in_word 1 result p ≡ slice_index_or set.now (start + step * number p) false }
 {
     let zero = u64::from(set[start]);
     let one = u64::from(set[start + step]);
@@ -74,7 +77,8 @@ fn add_primes(
     requires few { left + length others.now ≤ 6 }
     requires front { length front + left ≤ 10 }
     requires below { set < 2 ^ 2 ^ left }
-    ensures { OnOk result (found.new.items ≡ found.old.items ++ map (λ cube. front ++ cube) (primes_outside left set others.now)) }
+    ensures { OnOk result (found.new.items ≡ found.old.items
+        ++ map (λ cube. front ++ cube) (primes_outside left set others.now)) }
 {
     if set == 0 {
         return Ok(());

@@ -1,5 +1,6 @@
 -- The cubes of changes: which changes they cover, and that the primes of a step decide it.
-use Rattle.std.proofs.Common.{◌≡◌, ◌≢◌, ℕ, zero, suc, ◌<◌, Bool, true, false, ◌&&◌, ◌||◌, ◌⊎◌, inl, inr, List, [], ◌∷◌, ◌++◌, map, length, refl, sym, ◌∙◌, ap, subst, arith}
+use Rattle.std.proofs.Common.{◌≡◌, ◌≢◌, ℕ, zero, suc, ◌<◌, Bool, true, false, ◌&&◌, ◌||◌, ◌⊎◌, inl, inr, List, [], ◌∷◌, ◌++◌, map}
+use Rattle.std.proofs.Common.{length, refl, sym, ◌∙◌, ap, subst, arith}
 use Rattle.std.proofs.lemmas.Bool.{and_parts, cases_lt, false_from_ne_true}
 use Rattle.std.proofs.lemmas.List.{length_push}
 use Rattle.trit_cubes.specs.declared.trits.Trit.{Trit}
@@ -8,7 +9,8 @@ use Rattle.trit_cubes.specs.Filling.{is_unknown, same, covers, IsFilling}
 use Rattle.trit_cubes.specs.Resolution.{res}
 use Rattle.trit_cubes.specs.Sets.{gives}
 use Rattle.trit_cubes.specs.Prime.{prime_list}
-use Rattle.trit_cubes.proofs.ListLemmas.{Among, among-append, among-map, map-among, among-filter, filter-among, append-among_left, append-among_right}
+use Rattle.trit_cubes.proofs.ListLemmas.{Among, among-append, among-map, map-among, among-filter, filter-among, append-among_left}
+use Rattle.trit_cubes.proofs.ListLemmas.{append-among_right}
 use Rattle.trit_cubes.proofs.SplitLemmas.{prime_list-gives, prime_list-length}
 use Rattle.trit_cubes.proofs.InsideLemmas.{res-fillings, fillings-res}
 use Rattle.cell_machine.specs.Machine.{Step, init, last, edge_value, machine_step}
@@ -42,7 +44,8 @@ pub prime-gives :
     (n : ℕ) (f : List Bool → Trit) (v : Trit) (c ts : List Trit)
     → v ≢ Unknown → length ts ≡ n → Among c (prime_list n (gives v f)) → covers c ts ≡ true → res f ts ≡ v
 prime-gives n f v c ts known long a h =
-    same-is v (res f ts) (sym (prime_list-gives n f v ts known long) ∙ found-any (λ d. covers d ts) c (prime_list n (gives v f)) a h)
+    same-is v (res f ts) (sym (prime_list-gives n f v ts known long)
+    ∙ found-any (λ d. covers d ts) c (prime_list n (gives v f)) a h)
 
 pub prime-found :
     (n : ℕ) (f : List Bool → Trit) (v : Trit) (ts : List Trit)
@@ -73,7 +76,8 @@ fixed-moves v a b rest n h =
     let one = and_parts (same v a) (same v b && rest) h in
     let clash : false ≡ true = sym n ∙ both-fixed v a b one.0 (and_parts (same v b) rest one.1).0 in cc
 
-pub covers-moves : (c : List Trit) (a b : Trit) (ts : List Trit) → same a b ≡ false → covers c (a ∷ b ∷ ts) ≡ true → moves c ≡ true
+pub covers-moves : (c : List Trit) (a b : Trit) (ts : List Trit) → same a b ≡ false → covers c (a ∷ b ∷ ts) ≡ true
+    → moves c ≡ true
 covers-moves [] a b ts n h = absurd cc
 covers-moves (old ∷ []) a b ts n h = let clash : false ≡ true = sym (and-false (admits old a)) ∙ h in absurd cc
 covers-moves (Unknown ∷ new ∷ rest) a b ts n h = refl
@@ -94,7 +98,8 @@ edge-long step n p v c a =
 pub edge-moves : (step : Step) (n p : ℕ) (v : Trit) (c : List Trit) → Among c (edge_cubes step n p v) → moves c ≡ true
 edge-moves step n p v c a = (among-filter moves c (prime_list (suc (suc n)) (gives v (edge_value step p))) a).1
 
-change-long : (a b : Trit) (others : List Trit) (s : Trit) (n : ℕ) → suc (length others) ≡ n → length (a ∷ b ∷ others ++ s ∷ []) ≡ suc (suc n)
+change-long : (a b : Trit) (others : List Trit) (s : Trit) (n : ℕ) → suc (length others) ≡ n
+    → length (a ∷ b ∷ others ++ s ∷ []) ≡ suc (suc n)
 change-long a b others s n e = omega (arith, length_push others s)
 
 pub edge-gives :
@@ -110,8 +115,13 @@ pub edge-found :
     → v ≢ Unknown → suc (length others) ≡ n → same a b ≡ false → machine_step step p a b others s ≡ v
     → (c : List Trit) × Among c (edge_cubes step n p v) × (covers c (a ∷ b ∷ others ++ s ∷ []) ≡ true)
 edge-found step n p v a b others s known long apart e =
-    let r = prime-found (suc (suc n)) (edge_value step p) v (a ∷ b ∷ others ++ s ∷ []) known (change-long a b others s n long) e in
-    (r.0, filter-among moves r.0 (prime_list (suc (suc n)) (gives v (edge_value step p))) r.1 (covers-moves r.0 a b (others ++ s ∷ []) apart r.2), r.2)
+    let r = prime-found (suc (suc n)) (edge_value step p) v (a ∷ b ∷ others ++ s ∷ []) known (change-long a b others s n long) e
+    in (
+      r.0,
+      filter-among moves r.0 (prime_list (suc (suc n)) (gives v (edge_value step p))) r.1
+          (covers-moves r.0 a b (others ++ s ∷ []) apart r.2),
+      r.2,
+    )
 
 -- rows of cubes of two values
 pub value_rows-among :
@@ -128,9 +138,11 @@ pub among-value_rows :
     {R : Type 0} (make : Trit → List Trit → R) (cubes : Trit → List (List Trit)) (v : Trit) (c : List Trit)
     → v ≢ Unknown → Among c (cubes v) → Among (make v c) (value_rows make (cubes One) (cubes Zero))
 among-value_rows make cubes Zero c known a =
-    append-among_right (make Zero c) (map (make One) (cubes One)) (map (make Zero) (cubes Zero)) (map-among (make Zero) c (cubes Zero) a)
+    append-among_right (make Zero c) (map (make One) (cubes One)) (map (make Zero) (cubes Zero))
+    (map-among (make Zero) c (cubes Zero) a)
 among-value_rows make cubes One c known a =
-    append-among_left (make One c) (map (make One) (cubes One)) (map (make Zero) (cubes Zero)) (map-among (make One) c (cubes One) a)
+    append-among_left (make One c) (map (make One) (cubes One)) (map (make Zero) (cubes Zero))
+    (map-among (make One) c (cubes One) a)
 among-value_rows make cubes Unknown c known a = absurd (known refl)
 
 -- the rows of all inputs
@@ -149,7 +161,8 @@ among-below rows zero p row l a = absurd (omega arith)
 among-below rows (suc n) p row l a =
     elim (cases_lt p n) [
       | inl h ↦ append-among_left row (each_below rows n) (rows n) (among-below rows n p row h a)
-      | inr h ↦ let e : p ≡ n = omega arith in append-among_right row (each_below rows n) (rows n) (subst (λ k. Among row (rows k)) e a)
+      | inr h ↦ let e : p ≡ n = omega arith
+          in append-among_right row (each_below rows n) (rows n) (subst (λ k. Among row (rows k)) e a)
     ]
 
 -- more fillings

@@ -1,5 +1,6 @@
 -- Numbers of cubes: two cubes of one number are equal, and a search among ascending numbers finds each.
-use Rattle.std.proofs.Common.{◌≡◌, ◌≢◌, ℕ, zero, suc, ◌+◌, ◌*◌, ◌^◌, ◌<◌, ◌≤◌, true, false, ◌||◌, List, [], ◌∷◌, map, length, get_or, drop, slice_get, Some, inl, inr, refl, sym, ◌∙◌, ap, arith, nat_eq}
+use Rattle.std.proofs.Common.{◌≡◌, ◌≢◌, ℕ, zero, suc, ◌+◌, ◌*◌, ◌^◌, ◌<◌, ◌≤◌, true, false, ◌||◌, List, [], ◌∷◌, map, length}
+use Rattle.std.proofs.Common.{get_or, drop, slice_get, Some, inl, inr, refl, sym, ◌∙◌, ap, arith, nat_eq}
 use Rattle.std.specs.List.{list_any}
 use Rattle.std.specs.List.Sorted.{IsBinarySearchResult}
 use Rattle.std.specs.Ordering.{nat_cmp}
@@ -42,17 +43,20 @@ number-same c d =
       | inl e ↦ eq-eqb (number_of c) (number_of d) (ap number_of (same_cube-is c d e)) ∙ sym e
       | inr e ↦
           ne_eqb (number_of c) (number_of d)
-          (λ g. let clash : false ≡ true = sym e ∙ ap (same_cube c) (sym (number-is c d g)) ∙ same_cube-self c in absurd cc) ∙ sym e
+          (λ g. let clash : false ≡ true = sym e ∙ ap (same_cube c) (sym (number-is c d g)) ∙ same_cube-self c in absurd cc)
+          ∙ sym e
     ]
 
-number-any : (d : List Trit) (cubes : List (List Trit)) → list_any (nat_eq (number_of d)) (map number_of cubes) ≡ list_any (same_cube d) cubes
+number-any : (d : List Trit) (cubes : List (List Trit))
+    → list_any (nat_eq (number_of d)) (map number_of cubes) ≡ list_any (same_cube d) cubes
 number-any d [] = refl
 number-any d (c ∷ cubes) = λ i. number-same d c i || number-any d cubes i
 
 -- the other cube of a pair by its number
 pub paired-number :
     (other : Trit) (cubes : List (List Trit)) (numbers : List ℕ) (c : List Trit)
-    → AreNumbers cubes numbers → list_any (nat_eq (number_of (with_last other c))) numbers ≡ list_any (same_cube (with_last other c)) cubes
+    → AreNumbers cubes numbers → list_any (nat_eq (number_of (with_last other c))) numbers ≡ list_any
+    (same_cube (with_last other c)) cubes
 paired-number other cubes numbers c are = are.same (number_of (with_last other c)) ∙ number-any (with_last other c) cubes
 
 -- numbers fit a word
@@ -78,7 +82,8 @@ length-with t [] = refl
 length-with t (x ∷ []) = refl
 length-with t (x ∷ y ∷ c) = ap suc (length-with t (y ∷ c))
 
-get-with : (t : Trit) (c : List Trit) (i : ℕ) (x : Trit) → i + 1 < length c → slice_get c i ≡ Some x → slice_get (with_last t c) i ≡ Some x
+get-with : (t : Trit) (c : List Trit) (i : ℕ) (x : Trit) → i + 1 < length c → slice_get c i ≡ Some x
+    → slice_get (with_last t c) i ≡ Some x
 get-with t [] i x l e = absurd (omega arith)
 get-with t (y ∷ []) i x l e = absurd (omega arith)
 get-with t (y ∷ z ∷ c) zero x l e = e

@@ -68,7 +68,8 @@ pub compact-among :
     → ((c : List Trit) × Among c (cubes One) × (is_paired One Zero (cubes Zero) c ≡ true) × (keep c ≡ row))
     ⊎ ((v : Trit) × (v ≢ Unknown) × (c : List Trit) × Among c (cubes v) × (make v c ≡ row))
 compact-among make keep cubes row m =
-    elim (among-append row (map (kept_or_one make keep (cubes Zero)) (cubes One)) (map (make Zero) (filter (λ c. not (is_paired Zero One (cubes One) c)) (cubes Zero))) m) [
+    elim (among-append row (map (kept_or_one make keep (cubes Zero)) (cubes One))
+    (map (make Zero) (filter (λ c. not (is_paired Zero One (cubes One) c)) (cubes Zero))) m) [
       | inl h ↦
           let r = among-map (kept_or_one make keep (cubes Zero)) row (cubes One) h in
           elim (cases_Bool (is_paired One Zero (cubes Zero) r.0)) [

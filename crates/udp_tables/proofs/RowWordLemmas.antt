@@ -1,5 +1,6 @@
 -- What the words of a row tell: they are words of 64 bits, and a row that matches is not ruled out by them.
-use Rattle.std.proofs.Common.{◌≡◌, ℕ, zero, suc, ◌+◌, ◌*◌, ◌^◌, ◌<◌, ◌≤◌, Bool, true, false, bit_and, List, [], ◌∷◌, length, map, take, drop, slice_get, Some, refl, sym, ◌∙◌, ap, subst, inl, inr, arith, pow-suc, length-drop, ◌-◌}
+use Rattle.std.proofs.Common.{◌≡◌, ℕ, zero, suc, ◌+◌, ◌*◌, ◌^◌, ◌<◌, ◌≤◌, Bool, true, false, bit_and, List, [], ◌∷◌, length, map}
+use Rattle.std.proofs.Common.{take, drop, slice_get, Some, refl, sym, ◌∙◌, ap, subst, inl, inr, arith, pow-suc, length-drop, ◌-◌}
 use Rattle.std.proofs.lemmas.Bool.{cases_Bool, false≢true, and_parts, eq-eqb}
 use Rattle.std.proofs.lemmas.List.{length-map}
 use Rattle.trit_cubes.specs.declared.trits.Trit.{Trit}
@@ -33,7 +34,11 @@ values-below (l ∷ ls) (suc k) h = rw pow-suc (omega (arith, value_bits-below l
 -- the words of the columns from one on, that column apart
 pub words-step : {E : Type 0} (f : E → Level) (es : List E) (i : ℕ) (e : E) → slice_get es i ≡ Some e
     → words_of (map f (drop i es))
-    ≡ record { asked = asked_bits (f e) + 4 * (words_of (map f (drop (suc i) es))).asked; values = value_bits (f e) + 4 * (words_of (map f (drop (suc i) es))).values }
+    ≡ record {
+      asked = asked_bits (f e) + 4 * (words_of (map f (drop (suc i) es))).asked;
+      values =
+          value_bits (f e) + 4 * (words_of (map f (drop (suc i) es))).values;
+    }
 words-step f [] i e is = absurd cc
 words-step f (x ∷ es) zero e is = let same : x ≡ e = cc in ap (λ y. words_of (map f (y ∷ es))) same
 words-step f (x ∷ es) (suc i) e is = words-step f es i e is
@@ -48,7 +53,8 @@ Fits {E} matches f = (e : E) (old new : Trit) → matches e old new ≡ true →
 
 module _ {E : Type 0} (matches : E → Trit → Trit → Bool) (f : E → Level) (fits : Fits matches f) where
   columns-fit : (n : ℕ) (es : List E) (os ts : List Trit) → columns_match matches es os ts ≡ true
-      → bit_and (words_of (map level_of (take n ts))).values (words_of (map f (take n es))).asked ≡ (words_of (map f (take n es))).values
+      → bit_and (words_of (map level_of (take n ts))).values
+      (words_of (map f (take n es))).asked ≡ (words_of (map f (take n es))).values
   columns-fit zero es os ts h = refl
   columns-fit (suc n) [] [] [] h = refl
   columns-fit (suc n) [] [] (t ∷ ts) h = absurd (false≢true h)
@@ -57,17 +63,20 @@ module _ {E : Type 0} (matches : E → Trit → Trit → Bool) (f : E → Level)
   columns-fit (suc n) (e ∷ es) (o ∷ os) [] h = absurd (false≢true h)
   columns-fit (suc n) (e ∷ es) (o ∷ os) (t ∷ ts) h =
       let parts = and_parts (matches e o t) (columns_match matches es os ts) h in
-      and-blocks 2 (value_bits (level_of t)) (asked_bits (f e)) (words_of (map level_of (take n ts))).values (words_of (map f (take n es))).asked
+      and-blocks 2 (value_bits (level_of t)) (asked_bits (f e)) (words_of (map level_of (take n ts))).values
+      (words_of (map f (take n es))).asked
       (value_bits-below (level_of t)) (asked_bits-below (f e))
       ∙ (λ i. bits-match (f e) t (fits e o t parts.0) i + 4 * columns-fit n es os ts parts.1 i)
 
   -- a row that matches may match by its words
-  pub columns-may_match : (es : List E) (os ts : List Trit) → columns_match matches es os ts ≡ true → may_match (row_words f es) (value_word ts) ≡ true
+  pub columns-may_match : (es : List E) (os ts : List Trit) → columns_match matches es os ts ≡ true
+      → may_match (row_words f es) (value_word ts) ≡ true
   columns-may_match es os ts h =
       eq-eqb (bit_and (value_word ts) (row_words f es).asked) (row_words f es).values (columns-fit 32 es os ts h)
 
   -- a row that may not match by its words does not match
-  pub columns-ruled_out : (es : List E) (os ts : List Trit) → may_match (row_words f es) (value_word ts) ≡ false → columns_match matches es os ts ≡ false
+  pub columns-ruled_out : (es : List E) (os ts : List Trit) → may_match (row_words f es) (value_word ts) ≡ false
+      → columns_match matches es os ts ≡ false
   columns-ruled_out es os ts h =
       elim (cases_Bool (columns_match matches es os ts)) [
         | inl e ↦ absurd (false≢true (sym h ∙ columns-may_match es os ts e))
@@ -84,7 +93,11 @@ words-more f es left e l w x some is level_is w-is x-is =
     let next : left ≡ suc (left - 1) = omega arith in
     let words = w-is ∙ ap (λ n. words_of (map f (drop n es))) next in
     x-is
-    ∙ (λ i. record { asked = asked_bits (level_is i) + 4 * (words i).asked; values = value_bits (level_is i) + 4 * (words i).values })
+    ∙ (λ i. record {
+      asked = asked_bits (level_is i) + 4 * (words i).asked;
+      values =
+          value_bits (level_is i) + 4 * (words i).values;
+    })
     ∙ sym (words-step f es (left - 1) e is)
 
 -- there is room for one column more

@@ -1,5 +1,6 @@
 -- The symbols of a row for the places of a cube, as they are put together.
-use Rattle.std.proofs.Common.{◌≡◌, ℕ, zero, suc, ◌+◌, ◌<◌, ◌≤◌, List, [], ◌∷◌, ◌++◌, map, take, drop, length, slice_get, Some, refl, sym, ◌∙◌, ap, arith, append_assoc}
+use Rattle.std.proofs.Common.{◌≡◌, ℕ, zero, suc, ◌+◌, ◌<◌, ◌≤◌, List, [], ◌∷◌, ◌++◌, map, take, drop, length, slice_get, Some}
+use Rattle.std.proofs.Common.{refl, sym, ◌∙◌, ap, arith, append_assoc}
 use Rattle.std.proofs.lemmas.List.{drop_more, length-map}
 use Rattle.std.proofs.lemmas.Option.{get_or_from_slice_get}
 use Rattle.trit_cubes.specs.declared.trits.Trit.{Trit}
@@ -33,7 +34,8 @@ pub init-long : {X : Type 0} (xs : List X) → 0 < length xs → length (init xs
 init-long [] l = absurd (omega arith)
 init-long (x ∷ xs) l = omega (arith, length-init x xs)
 
-pub get-init : {X : Type 0} (xs : List X) (i : ℕ) (x : X) → i + 1 < length xs → slice_get xs i ≡ Some x → slice_get (init xs) i ≡ Some x
+pub get-init : {X : Type 0} (xs : List X) (i : ℕ) (x : X) → i + 1 < length xs → slice_get xs i ≡ Some x
+    → slice_get (init xs) i ≡ Some x
 get-init [] i x l e = absurd (omega arith)
 get-init (y ∷ []) i x l e = absurd (omega arith)
 get-init (y ∷ z ∷ zs) zero x l e = e
@@ -47,7 +49,8 @@ get-last (y ∷ z ∷ zs) zero d x l e = absurd (omega arith)
 get-last (y ∷ z ∷ zs) (suc k) d x l e = get-last (z ∷ zs) k d x (omega arith) e
 
 -- the other inputs of a cube
-pub others-long : {E : Type 0} (place : Trit → E) (c : List Trit) → 3 ≤ length c → length (map place (drop 2 (init c))) + 3 ≡ length c
+pub others-long : {E : Type 0} (place : Trit → E) (c : List Trit) → 3 ≤ length c
+    → length (map place (drop 2 (init c))) + 3 ≡ length c
 others-long place [] l = absurd (omega arith)
 others-long place (old ∷ []) l = absurd (omega arith)
 others-long place (old ∷ new ∷ []) l = absurd (omega arith)

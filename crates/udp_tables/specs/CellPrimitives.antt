@@ -1,6 +1,7 @@
 -- The primitives of a cell. They are numbered (this project's choice): groups in order, conditions in order, then outputs
 -- with a support that is not empty, in order.
-use Rattle.std.specs.Prelude.{◌<◌, ℕ, ◌+◌, Bool, true, nat_lt, List, ◌++◌, length, take, count_by, slice_index_or, codes, decimal, if◌then◌else◌}
+use Rattle.std.specs.Prelude.{◌<◌, ℕ, ◌+◌, Bool, true, nat_lt, List, ◌++◌, length, take, count_by, slice_index_or, codes, decimal}
+use Rattle.std.specs.Prelude.{if◌then◌else◌}
 use Rattle.trit_cubes.specs.declared.trits.Trit.{Trit}
 use Rattle.bool_functions.specs.declared.tree.Node.{Node}
 use Rattle.bool_functions.specs.declared.tree.Node.TheVariants as node

@@ -1,5 +1,6 @@
 -- The rows of a function and of a step in any language, from the primes of the points at which it gives 1 and 0.
-use Rattle.std.specs.Prelude.{ℕ, zero, suc, Bool, true, false, not, ◌&&◌, ◌||◌, List, [], ◌∷◌, ◌++◌, map, filter, replicate, if◌then◌else◌}
+use Rattle.std.specs.Prelude.{ℕ, zero, suc, Bool, true, false, not, ◌&&◌, ◌||◌, List, [], ◌∷◌, ◌++◌, map, filter, replicate}
+use Rattle.std.specs.Prelude.{if◌then◌else◌}
 use Rattle.std.specs.List.{list_any}
 use Rattle.trit_cubes.specs.declared.trits.Trit.{Trit}
 use Rattle.trit_cubes.specs.declared.trits.Trit.TheVariants.{Zero, One, Unknown}
@@ -64,7 +65,8 @@ abbrev pub kept_or_one : {R : Type 0} → (Trit → List Trit → R) → (List T
 kept_or_one make keep zeros cube = if is_paired One Zero zeros cube then keep cube else make One cube
 
 -- the rows of two lists of cubes in compact form: two that hold the state are one
-abbrev pub compact_value_rows : {R : Type 0} → (Trit → List Trit → R) → (List Trit → R) → List (List Trit) → List (List Trit) → List R
+abbrev pub compact_value_rows : {R : Type 0} → (Trit → List Trit → R) → (List Trit → R) → List (List Trit) → List (List Trit)
+    → List R
 compact_value_rows make keep ones zeros =
     map (kept_or_one make keep zeros) ones ++ map (make Zero) (filter (λ c. not (is_paired Zero One ones c)) zeros)
 

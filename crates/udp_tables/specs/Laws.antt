@@ -57,7 +57,8 @@ abbrev pub GroupsAreMachines : Type 0
 GroupsAreMachines =
     (cell : CellData) (i p : ℕ) (old : Trit) (inputs : List Trit) (note state : Trit)
     → length inputs ≡ length (support_at cell i) → p < length inputs → old ≢ slice_index_or inputs p Unknown
-    → udp_next (group_primitive cell i).rows (noted (has_notifier cell) note (slice_set inputs p old)) (noted (has_notifier cell) note inputs) state
+    → udp_next (group_primitive cell i).rows (noted (has_notifier cell) note (slice_set inputs p old))
+    (noted (has_notifier cell) note inputs) state
     ≡ machine_step (step_at cell i) p old (slice_index_or inputs p Unknown) (without p inputs) state
 
 -- In a cell with checks it gives the forced value, else x, at each change of the notifier.

@@ -1,6 +1,6 @@
--- Two words of a row of a table, in any language, by which most rows that do not match are known without a look at their entries: which
--- bits of the word of the values the row asks for, and what these have to be. A value takes two bits, the first column the lowest; of
--- the columns behind the first 32 the words say nothing. (This project's choice.)
+-- Two words of a row of a table, in any language, by which most rows that do not match are known without a look at their entries:
+-- which bits of the word of the values the row asks for, and what these have to be. A value takes two bits, the first column the
+-- lowest; of the columns behind the first 32 the words say nothing. (This project's choice.)
 use Rattle.std.specs.Prelude.{ℕ, ◌+◌, ◌*◌, Bool, nat_eq, bit_and, List, [], ◌∷◌, map, take}
 use Rattle.trit_cubes.specs.declared.trits.Trit.{Trit}
 use Rattle.trit_cubes.specs.declared.trits.Trit.TheVariants as trit
@@ -14,8 +14,8 @@ level_of trit.Zero = level.Zero
 level_of trit.One = level.One
 level_of trit.Unknown = level.Unknown
 
--- Which of the two bits of a value a level asks for, and what these bits are: 0 is `00`, 1 is `01` and x is `10`. `b` asks for the one
--- that tells x apart.
+-- Which of the two bits of a value a level asks for, and what these bits are: 0 is `00`, 1 is `01` and x is `10`. `b` asks for
+-- the one that tells x apart.
 abbrev pub level_bits : Level → ℕ × ℕ
 level_bits level.Zero = (3, 0)
 level_bits level.One = (3, 1)

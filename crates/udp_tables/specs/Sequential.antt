@@ -1,6 +1,7 @@
 -- The tables of sequential primitives: what they mean, by IEEE 1364-2005, clause 8, and the rows that this project writes
 -- for a step.
-use Rattle.std.specs.Prelude.{◌≡◌, ◌≤◌, ℕ, count_by, Bool, true, false, not, ◌&&◌, All, List, [], ◌∷◌, ◌++◌, map, length, replicate}
+use Rattle.std.specs.Prelude.{◌≡◌, ◌≤◌, ℕ, count_by, Bool, true, false, not, ◌&&◌, All, List, [], ◌∷◌, ◌++◌, map, length}
+use Rattle.std.specs.Prelude.{replicate}
 use Rattle.std.specs.List.{list_all}
 use Rattle.trit_cubes.specs.declared.trits.Trit.{Trit}
 use Rattle.trit_cubes.specs.declared.trits.Trit.TheVariants as trit
@@ -86,7 +87,8 @@ state_row checks value cube =
 abbrev pub notifier_rows : Bool → ℕ → List UdpRow
 notifier_rows false n = []
 notifier_rows true n =
-    record { inputs = noted true entry.Star (map level_entry (replicate n trit.Unknown)); state = level.Any; next = next.Unknown } ∷ []
+    record { inputs = noted true entry.Star (map level_entry (replicate n trit.Unknown)); state = level.Any; next = next.Unknown }
+    ∷ []
 
 -- the entries of the inputs for the cube of a change of the one at place p
 abbrev pub edge_inputs : ℕ → List Trit → List Entry

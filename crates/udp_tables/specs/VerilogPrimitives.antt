@@ -1,5 +1,6 @@
 -- The grammar of primitives in Verilog text. (IEEE 1364-2005, 8.1, primitive definition, and A.5.)
-use Rattle.std.specs.Prelude.{ℕ, ◌+◌, Bool, true, false, not, ◌&&◌, ◌||◌, ◌==◌, nat_le, if◌then◌else◌, List, [], ◌∷◌, ◌++◌, length, slice_get, Option, Some, None, is_some, codes}
+use Rattle.std.specs.Prelude.{ℕ, ◌+◌, Bool, true, false, not, ◌&&◌, ◌||◌, ◌==◌, nat_le, if◌then◌else◌, List, [], ◌∷◌, ◌++◌}
+use Rattle.std.specs.Prelude.{length, slice_get, Option, Some, None, is_some, codes}
 use Rattle.std.specs.List.{list_any}
 use Rattle.std.specs.Option.{option_map}
 use Rattle.std.specs.Str.{bytes_eq}
@@ -69,7 +70,8 @@ declared_state output = do
 -- [ "reg" NAME ";" ], which tells whether the primitive has a state (8.1.3)
 unfoldable pub register : Header → Grammar Bool
 register h =
-    r.Choice (begins_where (nat_le (length h.inputs) most_inputs_with_state) Width (codes "reg")) (λ _. declared_state h.output) (r.Gives false)
+    r.Choice (begins_where (nat_le (length h.inputs) most_inputs_with_state) Width (codes "reg")) (λ _. declared_state h.output)
+    (r.Gives false)
 
 -- NAME ";" behind "input", where so many inputs are declared: the next one of the header
 unfoldable pub declared_input : List (List ℕ) → ℕ → Grammar ℕ

@@ -1,5 +1,5 @@
--- The words with which the grammar of Verilog text is written: a token stands for a word where it is spelled so, and names are those
--- of Verilog. Which forms of IEEE 1364-2005 are read, and which name stands at which place, is this project's subset.
+-- The words with which the grammar of Verilog text is written: a token stands for a word where it is spelled so, and names are
+-- those of Verilog. Which forms of IEEE 1364-2005 are read, and which name stands at which place, is this project's subset.
 use Rattle.std.specs.Prelude.{ℕ, Bool, List, Option, drop}
 use Rattle.std.specs.List.{position_from}
 use Rattle.std.specs.Str.{bytes_eq}

@@ -33,7 +33,8 @@ impl CubeIndex {
     /// and has the other state.
     pub fn pairs(&self, state: Trit, other: Trit, cube: &Cube) -> bool
         requires { 1 ≤ length cube.now }
-        ensures { (cubes : List (List Trit)) → AreNumbers cubes self.now.numbers.items → result ≡ is_paired state other cubes cube.now }
+        ensures { (cubes : List (List Trit)) → AreNumbers cubes self.now.numbers.items
+            → result ≡ is_paired state other cubes cube.now }
     {
         has_state(cube, state) && has_number(&self.numbers, number_with(cube, other))
     }

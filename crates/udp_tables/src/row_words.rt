@@ -1,5 +1,5 @@
-//! Two words of a row of a table, by which most rows that do not match are known without a look at their entries. A value takes two bits
-//! of a word, the first column the lowest; of the columns behind the first 32 the words say nothing.
+//! Two words of a row of a table, by which most rows that do not match are known without a look at their entries. A value takes
+//! two bits of a word, the first column the lowest; of the columns behind the first 32 the words say nothing.
 ghost use Rattle.std.specs.Prelude.{◌≡◌, ◌≤◌, ◌<◌, ◌+◌, ◌*◌, ◌^◌, length, map};
 ghost use Rattle.udp_tables.specs.RowWords.{value_word, words_of};
 

@@ -56,7 +56,8 @@ fn level_next(udp: &Udp, keys: &[RowKey], seen: &Seen) -> Trit
     requires entries { length seen.now.inputs.now ≡ length udp.now.inputs }
     requires keys { AreKept row_key keys.now udp.now.rows }
     requires word { seen.now.word ≡ value_word seen.now.inputs.now }
-    ensures { result ≡ udp_next udp.now.rows (slice_set seen.now.inputs.now seen.now.changed seen.now.old) seen.now.inputs.now seen.now.state }
+    ensures { result ≡ udp_next udp.now.rows (slice_set seen.now.inputs.now seen.now.changed seen.now.old) seen.now.inputs.now
+        seen.now.state }
 {
     for (i, row) in udp.rows.as_slice().iter().enumerate() {
         let key = RowKey::kept(keys, i, row);
@@ -73,7 +74,8 @@ fn edge_next(udp: &Udp, keys: &[RowKey], seen: &Seen) -> Trit
     requires entries { length seen.now.inputs.now ≡ length udp.now.inputs }
     requires keys { AreKept row_key keys.now udp.now.rows }
     requires word { seen.now.word ≡ value_word seen.now.inputs.now }
-    ensures { result ≡ first (edge_hit (slice_set seen.now.inputs.now seen.now.changed seen.now.old) seen.now.inputs.now seen.now.state) (row_next seen.now.state) udp.now.rows trit.Unknown }
+    ensures { result ≡ first (edge_hit (slice_set seen.now.inputs.now seen.now.changed seen.now.old) seen.now.inputs.now
+        seen.now.state) (row_next seen.now.state) udp.now.rows trit.Unknown }
 {
     for (i, row) in udp.rows.as_slice().iter().enumerate() {
         let key = RowKey::kept(keys, i, row);
@@ -112,7 +114,8 @@ impl UdpRow {
         requires entries { length self.now.inputs ≡ length seen.now.inputs.now }
         requires key { key ≡ row_key self.now }
         requires word { seen.now.word ≡ value_word seen.now.inputs.now }
-        ensures { result ≡ row_matches (slice_set seen.now.inputs.now seen.now.changed seen.now.old) seen.now.inputs.now seen.now.state self.now }
+        ensures { result ≡ row_matches (slice_set seen.now.inputs.now seen.now.changed seen.now.old) seen.now.inputs.now
+            seen.now.state self.now }
     {
         self.entries_match_change(key, seen) && self.state.matches(seen.state)
     }
@@ -123,7 +126,8 @@ impl UdpRow {
         requires entries { length self.now.inputs ≡ length seen.now.inputs.now }
         requires key { key ≡ row_key self.now }
         requires word { seen.now.word ≡ value_word seen.now.inputs.now }
-        ensures { result ≡ columns_match entry_matches self.now.inputs (slice_set seen.now.inputs.now seen.now.changed seen.now.old) seen.now.inputs.now }
+        ensures { result ≡ columns_match entry_matches self.now.inputs
+            (slice_set seen.now.inputs.now seen.now.changed seen.now.old) seen.now.inputs.now }
     {
         key.words.may_match(seen.word)
             && changes_match(self.inputs.as_slice(), seen.inputs, seen.changed, seen.old)

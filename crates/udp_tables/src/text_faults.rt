@@ -24,8 +24,8 @@ fn fault_at(refusal: Refusal, at: usize) -> ModelFault
     }
 }
 
-/// The fault of a text, in any language of models, with these tokens and this lexical fault, whose reader refuses it before the tokens
-/// that are left. Where none is left, the lexical fault counts, if there is one.
+/// The fault of a text, in any language of models, with these tokens and this lexical fault, whose reader refuses it before the
+/// tokens that are left. Where none is left, the lexical fault counts, if there is one.
 pub fn refusal_fault<L: Language>(
     text: &[u8],
     tokens: &[KeptSpan],

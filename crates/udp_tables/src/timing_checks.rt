@@ -13,6 +13,7 @@ pub struct TimingCheck {
     pub second: Event,
     /// The least distance, in picoseconds.
     pub limit: u64,
-    /// What has to be 1 at the later event, where there is one: in a module the number of a wire, in an entity that of a condition.
+    /// What has to be 1 at the later event, where there is one: in a module the number of a wire, in an entity that of a
+    /// condition.
     pub condition: Option<usize>,
 }

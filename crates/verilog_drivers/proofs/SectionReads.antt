@@ -13,16 +13,22 @@ use Rattle.verilog_drivers.specs.DriverSections.{Front, section_front, section_r
 use Rattle.verilog_drivers.specs.Sections.{front_of}
 
 -- A section whose front was read, by the tokens left.
-pub section_read : (names : List (List ℕ)) (cores : List Core) (text : List ℕ) (tokens : List Span) (front : Front) (left rest : List (List ℕ)) (driver : Result DriverModel Stop) (after : List (List ℕ))
-    → read (section_front names) (spelled text tokens) ≡ Ok (front, left) → rest ≡ drop (length tokens - length left) (spelled text tokens)
-    → Reads (read (section_rest cores front) rest) driver after → Reads (read (section names cores) (spelled text tokens)) driver after
+pub section_read : (names : List (List ℕ)) (cores : List Core) (text : List ℕ) (tokens : List Span) (front : Front)
+    (left rest : List (List ℕ)) (driver : Result DriverModel Stop) (after : List (List ℕ))
+    → read (section_front names) (spelled text tokens) ≡ Ok (front, left)
+    → rest ≡ drop (length tokens - length left) (spelled text tokens)
+    → Reads (read (section_rest cores front) rest) driver after
+    → Reads (read (section names cores) (spelled text tokens)) driver after
 unfolding section
 section_read names cores text tokens front left rest driver after e same h =
-    rw e (subst (λ q. Reads (read (section_rest cores front) q) driver after) (same ∙ left_where_read (section_front names) text tokens front left e) h)
+    rw e (subst (λ q. Reads (read (section_rest cores front) q) driver after)
+    (same ∙ left_where_read (section_front names) text tokens front left e) h)
 
 -- a section whose front was refused
-pub section_refused : (names : List (List ℕ)) (cores : List Core) (text : List ℕ) (tokens : List Span) (stop : Stop) (left rest : List (List ℕ))
-    → ReadsAs front_of (read (section_front names) (spelled text tokens)) (Err stop) left → rest ≡ drop (length tokens - length left) (spelled text tokens)
+pub section_refused : (names : List (List ℕ)) (cores : List Core) (text : List ℕ) (tokens : List Span) (stop : Stop)
+    (left rest : List (List ℕ))
+    → ReadsAs front_of (read (section_front names) (spelled text tokens)) (Err stop) left
+    → rest ≡ drop (length tokens - length left) (spelled text tokens)
     → Reads {A = DriverModel} (read (section names cores) (spelled text tokens)) (Err stop) rest
 unfolding section
 section_refused names cores text tokens Memory left rest e same = tt

@@ -1,5 +1,6 @@
 -- Drivers that are read are sound.
-use Rattle.std.proofs.Common.{◌≡◌, ℕ, ◌<◌, nat_eq, List, [], length, Option, Some, None, Result, Ok, Err, IfOk, refl, sym, ◌∙◌, arith}
+use Rattle.std.proofs.Common.{◌≡◌, ℕ, ◌<◌, nat_eq, List, [], length, Option, Some, None, Result, Ok, Err, IfOk, refl, sym, ◌∙◌}
+use Rattle.std.proofs.Common.{arith}
 use Rattle.std.specs.Prelude.{All, position}
 use Rattle.std.specs.Str.{bytes_eq}
 use Rattle.std.specs.Option.{option_and_then}
@@ -20,25 +21,32 @@ use Rattle.driver_models.specs.PathEnds.{output_from, input_number, drive_number
 use Rattle.driver_models.specs.Cores.{Core}
 use Rattle.driver_texts.proofs.SoundCores.{AnyToken, all_tokens, behind, known_values, AreDrives, terminals, input_within}
 use Rattle.verilog_drivers.specs.DriverText.{data_word, enable_word}
-use Rattle.verilog_drivers.specs.DriverSections.{core_call, drive_path, next_drive_path, drive_block, drive_paths, Body, Front, driver_of, section_body, section_rest, section_end, section, section_language, section_text}
+use Rattle.verilog_drivers.specs.DriverSections.{core_call, drive_path, next_drive_path, drive_block, drive_paths, Body, Front}
+use Rattle.verilog_drivers.specs.DriverSections.{driver_of, section_body, section_rest, section_end, section, section_language}
+use Rattle.verilog_drivers.specs.DriverSections.{section_text}
 
 -- The core.
 
-calls : (cores : List Core) (ports : List VPort) (count : ℕ) → Promises AnyToken (core_call cores ports count) (λ call. AreDrives (output_count ports) call.drives)
+calls : (cores : List Core) (ports : List VPort) (count : ℕ)
+    → Promises AnyToken (core_call cores ports count) (λ call. AreDrives (output_count ports) call.drives)
 unfolding core_call
 calls cores ports count =
-    behind (λ core. behind (λ a. behind (λ b. in_turn (terminals is_name bytes_eq data_word enable_word count ports) (λ drives h. behind (λ c. behind (λ d. gives h))))))
+    behind (λ core. behind (λ a. behind
+    (λ b. in_turn (terminals is_name bytes_eq data_word enable_word count ports)
+    (λ drives h. behind (λ c. behind (λ d. gives h))))))
 
 -- Paths.
 
 abbrev IsDrivePath : ℕ → ℕ → DrivePath → Type 0
 IsDrivePath inputs drives path = (path.from < inputs) × (path.drive < drives)
 
-drive_within : (drives : List ℕ) (o : Option ℕ) (k : ℕ) → option_and_then (λ place. position (λ driven. nat_eq driven place) drives) o ≡ Some k → k < length drives
+drive_within : (drives : List ℕ) (o : Option ℕ) (k : ℕ)
+    → option_and_then (λ place. position (λ driven. nat_eq driven place) drives) o ≡ Some k → k < length drives
 drive_within drives None k e = absurd cc
 drive_within drives (Some place) k e = (position-Some (λ driven. nat_eq driven place) drives k 0 e).0
 
-one_path : (ports : List VPort) (drives : List ℕ) → Promises AnyToken (drive_path ports drives) (IsDrivePath (input_count ports) (length drives))
+one_path : (ports : List VPort) (drives : List ℕ)
+    → Promises AnyToken (drive_path ports drives) (IsDrivePath (input_count ports) (length drives))
 unfolding drive_path
 one_path ports drives =
     in_turn (known_values is_name (input_number bytes_eq ports)) (λ from starts.
@@ -49,11 +57,14 @@ one_path ports drives =
     within : (from : ℕ) (f : (x : List ℕ) × (input_number bytes_eq ports x ≡ Some from)) → from < input_count ports
     within from f = let first = input_within bytes_eq 0 ports f.0 from f.1 in omega (arith, first)
 
-all_paths : (ports : List VPort) (drives : List ℕ) → Promises AnyToken (drive_paths ports drives) (All (IsDrivePath (input_count ports) (length drives)))
+all_paths : (ports : List VPort) (drives : List ℕ)
+    → Promises AnyToken (drive_paths ports drives) (All (IsDrivePath (input_count ports) (length drives)))
 unfolding drive_paths drive_block next_drive_path
 all_paths ports drives =
     choice (λ x a p e. in_turn
-    (many (λ k d h. absurd (omega arith)) (λ w x a q p e. in_turn (one_path ports drives) (λ path h. gives (All-push (IsDrivePath (input_count ports) (length drives)) w path q h))))
+    (many (λ k d h. absurd (omega arith))
+    (λ w x a q p e. in_turn (one_path ports drives)
+    (λ path h. gives (All-push (IsDrivePath (input_count ports) (length drives)) w path q h))))
     (λ paths h. behind (λ c. gives h)))
     (gives (λ k d h. absurd (omega arith)))
 
@@ -86,20 +97,24 @@ sections names cores =
     behind (λ front. in_turn (bodies cores front.ports) (λ body h. behind (λ a. gives (sound_driver front body h))))
 
 -- nothing stands behind a section
-section_ends : (names : List (List ℕ)) (cores : List Core) (s : List (List ℕ)) (a : DriverModel) (r : List (List ℕ)) → Takes (section names cores) s a r → r ≡ []
+section_ends : (names : List (List ℕ)) (cores : List Core) (s : List (List ℕ)) (a : DriverModel) (r : List (List ℕ))
+    → Takes (section names cores) s a r → r ≡ []
 unfolding section section_rest section_end
 section_ends names cores s a r (front, m, h, (body, n, i, (u, k, (v, p, x, (w, q, y, (l, e, j))), (g, f)))) = sym f ∙ j
 
 -- a section is a driver or has a fault, and not both
 pub section_answer : (names : List (List ℕ)) (cores : List Core) (bytes : List ℕ) → IsAnswer (section_language names cores) bytes
 section_answer names cores bytes =
-    answers.is_answer (section_language names cores) (record { place_of_lexical = λ at. refl; place_of_fault = place_of_fault; file_ends = section_ends names cores }) bytes
+    answers.is_answer (section_language names cores)
+    (record { place_of_lexical = λ at. refl; place_of_fault = place_of_fault; file_ends = section_ends names cores }) bytes
 
 -- the driver of a section is sound
-pub text_is_sound : (names : List (List ℕ)) (cores : List Core) (bytes : List ℕ) (driver : DriverModel) → section_text names cores bytes ≡ Ok driver → IsSound driver
+pub text_is_sound : (names : List (List ℕ)) (cores : List Core) (bytes : List ℕ) (driver : DriverModel)
+    → section_text names cores bytes ≡ Ok driver → IsSound driver
 unfolding section_text
 text_is_sound names cores bytes driver e =
-    ((sections names cores).kept (text_tokens bytes) driver [] (all_tokens (text_tokens bytes)) (((section_answer names cores bytes).value driver).1 e).takes).0
+    ((sections names cores).kept (text_tokens bytes) driver [] (all_tokens (text_tokens bytes))
+    (((section_answer names cores bytes).value driver).1 e).takes).0
 
 pub read_is_sound : {E : Type 0} (names : List (List ℕ)) (cores : List Core) (bytes : List ℕ) (r : Result DriverModel E)
     → IfOk r (λ found. section_text names cores bytes ≡ Ok found) → IfOk r (λ found. IsSound found)

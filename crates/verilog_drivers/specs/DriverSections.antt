@@ -1,6 +1,6 @@
--- The grammar of a section of Verilog text that holds a driver: a module of a cell with an instance of its core and a buffer at each
--- driven output. (IEEE 1364-2005, 7.4, three-state gates, 12.1 and 12.3, modules, their instances and ports, 14.2, paths, and 19.1,
--- `celldefine. The form of the module, and the names of its wires and of the core's instance, are this project's.)
+-- The grammar of a section of Verilog text that holds a driver: a module of a cell with an instance of its core and a buffer at
+-- each driven output. (IEEE 1364-2005, 7.4, three-state gates, 12.1 and 12.3, modules, their instances and ports, 14.2, paths,
+-- and 19.1, `celldefine. The form of the module, and the names of its wires and of the core's instance, are this project's.)
 use Rattle.std.specs.Prelude.{ℕ, ◌+◌, ◌==◌, List, [], ◌∷◌, ◌++◌, length, slice_get, Some, Result, codes}
 use Rattle.std.specs.Str.{bytes_eq}
 use Rattle.grammar_rules.specs.Rule.{Fits}
@@ -96,8 +96,8 @@ buffers outputs = do
   number ← r.Many (λ _. begins (codes "bufif1")) (λ number _. buffer outputs number) 0
   go_on_where (number == length outputs)
 
--- NAME "=>" NAME ")" "=" "(" NUM "," NUM ")" ";" behind "(": a path from an input to a driven output, with the delays of a rise and of
--- a fall (14.2.1, 14.3.1)
+-- NAME "=>" NAME ")" "=" "(" NUM "," NUM ")" ";" behind "(": a path from an input to a driven output, with the delays of a rise
+-- and of a fall (14.2.1, 14.3.1)
 unfoldable pub drive_path : List VPort → List ℕ → Grammar DrivePath
 drive_path ports drives = do
   from ← known (input_number bytes_eq ports)
@@ -160,7 +160,8 @@ driver_of front body = record {
   };
 }
 
--- The declarations of wires, the core, the buffers and the paths, behind these ports, where the models that may be cores are these.
+-- The declarations of wires, the core, the buffers and the paths, behind these ports, where the models that may be cores are
+-- these.
 unfoldable pub section_body : List Core → List VPort → Grammar Body
 section_body cores ports = do
   driven ← driver_wires

@@ -1,5 +1,6 @@
--- The text of a model of drivers, by the syntax of IEEE 1364-2005, clauses 7.4, three-state gates, 12.1, modules and their instances,
--- 14.2, paths, and 19.1, `celldefine. The layout is this project's: one declaration or instance a line, two spaces before it.
+-- The text of a model of drivers, by the syntax of IEEE 1364-2005, clauses 7.4, three-state gates, 12.1, modules and their
+-- instances, 14.2, paths, and 19.1, `celldefine. The layout is this project's: one declaration or instance a line, two spaces
+-- before it.
 use Rattle.std.specs.Prelude.{ℕ, nat_lt, List, [], ◌++◌, length, Option, Some, None, codes, decimal, if◌then◌else◌}
 use Rattle.std.specs.List.{flat_map}
 use Rattle.driven_traces.specs.declared.delays.DrivePath.{DrivePath}
@@ -41,7 +42,8 @@ drive_path_text m path =
 -- the specify block, where there is a path
 unfoldable pub drive_paths_text : DriverModel → List ℕ
 drive_paths_text m =
-    if nat_lt 0 (length m.driver.paths) then codes "  specify\n" ++ (flat_map (drive_path_text m) m.driver.paths ++ codes "  endspecify\n")
+    if nat_lt 0 (length m.driver.paths) then codes "  specify\n"
+    ++ (flat_map (drive_path_text m) m.driver.paths ++ codes "  endspecify\n")
     else []
 
 -- the header's line

@@ -1,6 +1,6 @@
 -- When a model of drivers is one of a section of Verilog text, where some names are taken and some models may be its core. (IEEE
--- 1364-2005, 3.7, identifiers, 3.12, name spaces, 7.4, three-state gates, and 12.1 to 12.3, modules, their instances and ports; the
--- names of wires and the limit of numbers are this project's.)
+-- 1364-2005, 3.7, identifiers, 3.12, name spaces, 7.4, three-state gates, and 12.1 to 12.3, modules, their instances and ports;
+-- the names of wires and the limit of numbers are this project's.)
 use Rattle.std.specs.Prelude.{◌≡◌, ℕ, ◌≤◌, true, false, All, List, length, None}
 use Rattle.std.specs.Str.{bytes_eq}
 use Rattle.udp_tables.specs.VerilogRules.{is_among}
@@ -23,8 +23,8 @@ pub record HasNumbers (path : DrivePath) : Type 0 where
 abbrev pub IsNoWire : ℕ → NumberedPort → Type 0
 IsNoWire count at = at.port.input ≡ false → at.number ≡ None → is_among (all_numbered data_word count) at.port.name ≡ false
 
--- A driver that a section can declare: its name is not taken, an output is driven, and the first core of its core's name has its ports
--- and one more output for each driven one.
+-- A driver that a section can declare: its name is not taken, an output is driven, and the first core of its core's name has its
+-- ports and one more output for each driven one.
 pub record IsWellFormedDriver (names : List (List ℕ)) (cores : List Core) (d : DriverModel) : Type 0 where
   pub name : IsName d.name
   pub new : is_among names d.name ≡ false

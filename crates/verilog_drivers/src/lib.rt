@@ -1,5 +1,5 @@
-//! Verilog text of models of three-state drivers: a core and a buffer for each of its driven outputs, in a module of a cell. (IEEE
-//! 1364-2005, clauses 7.4, 12, 14 and 19.1.)
+//! Verilog text of models of three-state drivers: a core and a buffer for each of its driven outputs, in a module of a cell.
+//! (IEEE 1364-2005, clauses 7.4, 12, 14 and 19.1.)
 #![tactic(auto)]
 
 mod buffers;

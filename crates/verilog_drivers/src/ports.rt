@@ -3,12 +3,12 @@
 ghost use Rattle.grammar_reader.specs.Reading.{read, Reads};
 ghost use Rattle.verilog_drivers.specs.DriverSections as spec;
 
-use verilog_header_reader::{Inputs, module_inputs, module_outputs, some_ports};
 use grammar_reader::{Read, Refusal, Stop, with_end};
 use sqlite_items::Items;
 use std::alloc::Global;
-use verilog_udp_reader::Cursor;
 use udp_tables::VPort;
+use verilog_header_reader::{Inputs, module_inputs, module_outputs, some_ports};
+use verilog_udp_reader::Cursor;
 
 /// A place where a name stands next.
 fn name_follows(cursor: &Cursor) -> Read<()>

@@ -12,8 +12,8 @@ use crate::section::{section_front, section_rest};
 use driver_models::{Cores, DriverModel, KnownNames};
 use driver_texts::cursor_before;
 use grammar_reader::{Read, Stop};
-use std::alloc::Global;
 use lexer::{KeptSpan, Scan};
+use std::alloc::Global;
 use udp_tables::{ModelFault, refusal_fault};
 use verilog_tokens::scan;
 
@@ -76,11 +76,11 @@ fn driver_of_text(
     }
 }
 
-/// The driver of a section of a Verilog text, where these names are taken and the models that may be cores are these. (IEEE 1364-2005,
-/// 7.4, 12.1 and 19.1; the form of the section is this project's.)
+/// The driver of a section of a Verilog text, where these names are taken and the models that may be cores are these. (IEEE
+/// 1364-2005, 7.4, 12.1 and 19.1; the form of the section is this project's.)
 ///
-/// The fault is the first: the place where no token begins, the first token with which no section goes on or that breaks a rule, or the
-/// end of the text. Its offset counts bytes from the section's beginning. A driver that is read is sound.
+/// The fault is the first: the place where no token begins, the first token with which no section goes on or that breaks a rule,
+/// or the end of the text. Its offset counts bytes from the section's beginning. A driver that is read is sound.
 pub fn read_driver(
     alloc: Global,
     text: &[u8],

@@ -3,7 +3,8 @@ ghost use Rattle.std.specs.Prelude.{IsTrue};
 ghost use Rattle.text_io.specs.declared.slots.OutSlot.TheVariants.{VerilogText};
 ghost use Rattle.text_io.specs.declared.slots.Slot.TheVariants.{Output};
 ghost use Rattle.text_io.specs.Desk.{is_bound, HasCause, WritesText};
-ghost use Rattle.verilog_drivers.specs.DriverText.{driver_header_text, driver_declarations_text, core_text, drive_paths_text, driver_text};
+ghost use Rattle.verilog_drivers.specs.DriverText.{driver_header_text, driver_declarations_text, core_text, drive_paths_text};
+ghost use Rattle.verilog_drivers.specs.DriverText.{driver_text};
 
 use crate::buffers::Buffers;
 use crate::paths::DrivePathLines;
@@ -12,9 +13,9 @@ use driver_texts::{CoreTerminals, EachPort, NumberedNames};
 use text_io::{Bytes, Desk, Each, Failed, Line, OutSlot, Part, Put, When, parts, write_part};
 use verilog_writer::{PortLines, Ports};
 
-/// Appends the text of a driver to the Verilog text, which is bound: a module of a cell (IEEE 1364-2005, 19.1) with its core and a
-/// buffer for each driven output. After `Failed`, which comes only where a write failed, a prefix of it was appended. It takes no
-/// memory. A number in the driver that names nothing is written as nothing; a sound driver has none.
+/// Appends the text of a driver to the Verilog text, which is bound: a module of a cell (IEEE 1364-2005, 19.1) with its core and
+/// a buffer for each driven output. After `Failed`, which comes only where a write failed, a prefix of it was appended. It takes
+/// no memory. A number in the driver that names nothing is written as nothing; a sound driver has none.
 pub fn write_driver<D: Desk>(desk: &mut D, model: &DriverModel) -> Result<(), Failed>
     requires { IsTrue (is_bound (D.state desk.old) (Output VerilogText)) }
     ensures text { WritesText (D.state desk.old) (D.state desk.new) VerilogText (driver_text model.now) result }

@@ -1,5 +1,6 @@
 -- Names of ports, at the next token.
-use Rattle.std.proofs.Common.{◌≡◌, ℕ, ◌+◌, true, false, slice_set, List, [], ◌∷◌, ◌++◌, Option, Some, None, Result, Ok, Err, OnOk, refl, sym, ap, subst, ◌∙◌}
+use Rattle.std.proofs.Common.{◌≡◌, ℕ, ◌+◌, true, false, slice_set, List, [], ◌∷◌, ◌++◌, Option, Some, None, Result, Ok, Err, OnOk}
+use Rattle.std.proofs.Common.{refl, sym, ap, subst, ◌∙◌}
 use Rattle.std.proofs.lemmas.List.{map-append}
 use Rattle.grammar_reader.specs.declared.refusal.Stop.{Stop}
 use Rattle.grammar_rules.specs.Reading.{Outcome, choose, read}
@@ -13,12 +14,14 @@ use Rattle.verilog_udp_reader.proofs.Words as words
 use Rattle.specify_blocks.specs.VerilogModules.{Inputs, with_input, first_port, port_names}
 
 -- a header has a port, where a name is next, and else none
-pub choose_port : {B : Type 0} (s : List (List ℕ)) (go : List ℕ → List (List ℕ) → Outcome (List ℕ) Refusal B) (other : Outcome (List ℕ) Refusal B) →
+pub choose_port : {B : Type 0} (s : List (List ℕ)) (go : List ℕ → List (List ℕ) → Outcome (List ℕ) Refusal B)
+    (other : Outcome (List ℕ) Refusal B) →
     is_name (next_bytes s) ≡ true → choose first_port s go other ≡ go (next_bytes s) (rest s)
 choose_port [] go other e = absurd cc
 choose_port (x ∷ s) go other e = rw e refl
 
-pub choose_no_port : {B : Type 0} (s : List (List ℕ)) (go : List ℕ → List (List ℕ) → Outcome (List ℕ) Refusal B) (other : Outcome (List ℕ) Refusal B) →
+pub choose_no_port : {B : Type 0} (s : List (List ℕ)) (go : List ℕ → List (List ℕ) → Outcome (List ℕ) Refusal B)
+    (other : Outcome (List ℕ) Refusal B) →
     is_name (next_bytes s) ≡ false → choose first_port s go other ≡ other
 choose_no_port [] go other e = refl
 choose_no_port (x ∷ s) go other e = rw e refl
@@ -41,8 +44,10 @@ pub input_found : (x name : List ℕ) (ports more : List VPort) (p : ℕ) (left 
 input_found x name ports more p left behind e f g = cc
 
 -- the names of ports with one more
-pub ports_named : (names new : List (List ℕ)) (ports more : List VPort) (port : VPort) (x : List ℕ) (r : Result (Unit {0}) Stop) → names ≡ port_names ports → port.name ≡ x
+pub ports_named : (names new : List (List ℕ)) (ports more : List VPort) (port : VPort) (x : List ℕ) (r : Result (Unit {0}) Stop)
+    → names ≡ port_names ports → port.name ≡ x
     → OnOk r (more ≡ ports ++ port ∷ []) → OnOk r (new ≡ names ++ x ∷ []) → OnOk r (new ≡ port_names more)
 ports_named names new ports more port x (Ok done) e f em en =
-    en ∙ ap (λ (ns : List (List ℕ)). ns ++ x ∷ []) e ∙ ap (λ (n : List ℕ). port_names ports ++ n ∷ []) (sym f) ∙ sym (map-append _ ports (port ∷ [])) ∙ sym (ap port_names em)
+    en ∙ ap (λ (ns : List (List ℕ)). ns ++ x ∷ []) e ∙ ap (λ (n : List ℕ). port_names ports ++ n ∷ []) (sym f)
+    ∙ sym (map-append _ ports (port ∷ [])) ∙ sym (ap port_names em)
 ports_named names new ports more port x (Err stop) e f em en = tt

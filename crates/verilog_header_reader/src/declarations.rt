@@ -12,9 +12,9 @@ use grammar_reader::{Read, Refusal, RepeatedPart, Stop, while_next, with_end};
 use specify_blocks::VModule;
 use sqlite_items::Items;
 use std::alloc::Global;
-use verilog_udp_reader::{Cursor, NamedItems, TextNames, Verilog, new_name};
 use udp_tables::{Udp, VPort};
 use verilog_tokens::is_name;
+use verilog_udp_reader::{Cursor, NamedItems, TextNames, Verilog, new_name};
 
 /// The ports of a header with those that are declared inputs, and the place behind the last of these.
 #[derive(Drop)]

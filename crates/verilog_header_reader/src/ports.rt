@@ -7,8 +7,8 @@ ghost use Rattle.specify_blocks.specs.VerilogModules.{port_names, output_place};
 
 use grammar_reader::{Language, is_among};
 use sqlite_items::Items;
-use verilog_udp_reader::Verilog;
 use udp_tables::VPort;
+use verilog_udp_reader::Verilog;
 
 /// Whether a name is one of a port.
 fn has_port(ports: &[VPort], name: &[u8]) -> bool

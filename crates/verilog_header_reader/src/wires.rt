@@ -11,8 +11,8 @@ use crate::ports::is_declared;
 use grammar_reader::{Read, Stop};
 use sqlite_items::Items;
 use std::alloc::Global;
-use verilog_udp_reader::{Cursor, NamedItems, TextNames};
 use udp_tables::VPort;
+use verilog_udp_reader::{Cursor, NamedItems, TextNames};
 
 /// A name that is declared here, behind those of ports and of wires.
 fn new_net_name(
@@ -81,7 +81,8 @@ fn wire_line(
     names: &TextNames<'_>,
 ) -> Read<Items<u8>>
     requires { HaveSame names.now (spec.port_names ports.now ++ wires.now) }
-    ensures reads { ReadsAs (λ name. wires.now ++ name ∷ []) (read (spec.declared_wire ports.now wires.now) cursor.old) result cursor.new }
+    ensures reads { ReadsAs (λ name. wires.now ++ name ∷ []) (read (spec.declared_wire ports.now wires.now) cursor.old) result
+        cursor.new }
     ensures named { IfOk result (λ name. name ≡ next_bytes cursor.old) }
     ensures fresh { IfOk result (λ _. is_among names.now (next_bytes cursor.old) ≡ false) }
 {
@@ -100,7 +101,8 @@ fn module_wire<'a>(
 ) -> Read<()>
     requires next { token.now ≡ next_bytes cursor.old }
     requires same { HaveSame found.old.names (spec.port_names ports.now ++ found.old.items) }
-    ensures reads { ReadsAs (λ _. found.new.items) (read (spec.declared_wire ports.now found.old.items) cursor.old) result cursor.new }
+    ensures reads { ReadsAs (λ _. found.new.items) (read (spec.declared_wire ports.now found.old.items) cursor.old) result
+        cursor.new }
     ensures named { OnOk result (HaveSame found.new.names (spec.port_names ports.now ++ found.new.items)) }
 {
     let name = wire_line(cursor, alloc, ports, found.items.as_slice(), &found.names)?;

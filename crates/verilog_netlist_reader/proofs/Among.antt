@@ -6,5 +6,7 @@ use Rattle.specify_blocks.specs.declared.model.VNet.{VNet}
 use Rattle.specify_blocks.specs.declared.model.VModule.{VModule}
 use Rattle.specify_blocks.specs.VerilogModules.{is_driven_already}
 
-pub all_appended : (m : VModule) (nets others : List VNet) → list_all (is_driven_already m) (nets ++ others) ≡ (list_all (is_driven_already m) nets && list_all (is_driven_already m) others)
+pub all_appended : (m : VModule) (nets others : List VNet)
+    → list_all (is_driven_already m)
+    (nets ++ others) ≡ (list_all (is_driven_already m) nets && list_all (is_driven_already m) others)
 all_appended m nets others = list_all-append (is_driven_already m) nets others

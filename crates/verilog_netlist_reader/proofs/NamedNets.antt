@@ -16,10 +16,12 @@ module _ (m : VModule) (is_allowed is_taken : VNet → Bool) (s : List (List ℕ
       by [] f = refl
       by (x ∷ q) f = rw f refl
 
-  pub no_net : is_name (next_bytes s) ≡ true → net_of m (next_bytes s) ≡ None → read (terminal m is_allowed is_taken) s ≡ Err (Undefined, s)
+  pub no_net : is_name (next_bytes s) ≡ true → net_of m (next_bytes s) ≡ None
+      → read (terminal m is_allowed is_taken) s ≡ Err (Undefined, s)
   no_net e f = by s e f
     where
-      by : (q : List (List ℕ)) → is_name (next_bytes q) ≡ true → net_of m (next_bytes q) ≡ None → read (terminal m is_allowed is_taken) q ≡ Err (Undefined, q)
+      by : (q : List (List ℕ)) → is_name (next_bytes q) ≡ true → net_of m (next_bytes q) ≡ None
+          → read (terminal m is_allowed is_taken) q ≡ Err (Undefined, q)
       by [] g h = absurd cc
       by (x ∷ q) g h = rw (g, h) refl
 
@@ -27,22 +29,27 @@ module _ (m : VModule) (is_allowed is_taken : VNet → Bool) (s : List (List ℕ
       read (terminal m is_allowed is_taken) s ≡ Err (Undefined, s)
   barred n e f a = by s e f
     where
-      by : (q : List (List ℕ)) → is_name (next_bytes q) ≡ true → net_of m (next_bytes q) ≡ Some n → read (terminal m is_allowed is_taken) q ≡ Err (Undefined, q)
+      by : (q : List (List ℕ)) → is_name (next_bytes q) ≡ true → net_of m (next_bytes q) ≡ Some n
+          → read (terminal m is_allowed is_taken) q ≡ Err (Undefined, q)
       by [] g h = absurd cc
       by (x ∷ q) g h = rw (g, h, a) refl
 
-  pub taken : (n : VNet) → is_name (next_bytes s) ≡ true → net_of m (next_bytes s) ≡ Some n → is_allowed n ≡ true → is_taken n ≡ true →
+  pub taken : (n : VNet) → is_name (next_bytes s) ≡ true → net_of m (next_bytes s) ≡ Some n → is_allowed n ≡ true
+      → is_taken n ≡ true →
       read (terminal m is_allowed is_taken) s ≡ Err (Twice, s)
   taken n e f a t = by s e f
     where
-      by : (q : List (List ℕ)) → is_name (next_bytes q) ≡ true → net_of m (next_bytes q) ≡ Some n → read (terminal m is_allowed is_taken) q ≡ Err (Twice, q)
+      by : (q : List (List ℕ)) → is_name (next_bytes q) ≡ true → net_of m (next_bytes q) ≡ Some n
+          → read (terminal m is_allowed is_taken) q ≡ Err (Twice, q)
       by [] g h = absurd cc
       by (x ∷ q) g h = rw (g, h, a, t) refl
 
-  pub fits : (n : VNet) → is_name (next_bytes s) ≡ true → net_of m (next_bytes s) ≡ Some n → is_allowed n ≡ true → is_taken n ≡ false →
+  pub fits : (n : VNet) → is_name (next_bytes s) ≡ true → net_of m (next_bytes s) ≡ Some n → is_allowed n ≡ true
+      → is_taken n ≡ false →
       read (terminal m is_allowed is_taken) s ≡ Ok (n, rest s)
   fits n e f a t = by s e f
     where
-      by : (q : List (List ℕ)) → is_name (next_bytes q) ≡ true → net_of m (next_bytes q) ≡ Some n → read (terminal m is_allowed is_taken) q ≡ Ok (n, rest q)
+      by : (q : List (List ℕ)) → is_name (next_bytes q) ≡ true → net_of m (next_bytes q) ≡ Some n
+          → read (terminal m is_allowed is_taken) q ≡ Ok (n, rest q)
       by [] g h = absurd cc
       by (x ∷ q) g h = rw (g, h, a, t) refl

@@ -1,5 +1,6 @@
 -- Terminals of an instance, by their names.
-use Rattle.std.proofs.Common.{◌≡◌, ℕ, Bool, true, false, ◌||◌, List, [], ◌∷◌, ◌++◌, map, get_or, position, Option, Some, None, Ok, Err, if◌then◌else◌, refl, sym, ap, subst, ◌∙◌}
+use Rattle.std.proofs.Common.{◌≡◌, ℕ, Bool, true, false, ◌||◌, List, [], ◌∷◌, ◌++◌, map, get_or, position, Option, Some, None, Ok}
+use Rattle.std.proofs.Common.{Err, if◌then◌else◌, refl, sym, ap, subst, ◌∙◌}
 use Rattle.std.specs.Prelude.{slice_get}
 use Rattle.std.specs.List.{list_any}
 use Rattle.std.specs.Option.{option_map, option_map_or}
@@ -25,12 +26,14 @@ use Rattle.verilog_netlist_reader.specs.Terminals.{AreNamed}
 use Rattle.verilog_netlist_reader.proofs.NamedNets as named
 
 -- what stands where a name was found has the name
-found_at : {X : Type 0} (name_of : X → List ℕ) (x : List ℕ) (things : List X) (i : ℕ) → position (λ y. bytes_eq x (name_of y)) things ≡ Some i
+found_at : {X : Type 0} (name_of : X → List ℕ) (x : List ℕ) (things : List X) (i : ℕ)
+    → position (λ y. bytes_eq x (name_of y)) things ≡ Some i
     → option_map name_of (slice_get things i) ≡ Some x
 found_at name_of x [] i e = absurd cc
 found_at name_of x (y ∷ things) i e =
     let found = position-Some (λ z. bytes_eq x (name_of z)) (y ∷ things) i y e in
-    ap (option_map name_of) (slice_get-get_or (y ∷ things) i y found.0) ∙ ap Some (sym ((bytes_eq-Decides x (name_of (get_or (y ∷ things) i y))).0 found.1))
+    ap (option_map name_of) (slice_get-get_or (y ∷ things) i y found.0)
+    ∙ ap Some (sym ((bytes_eq-Decides x (name_of (get_or (y ∷ things) i y))).0 found.1))
 
 -- the name of a net
 abbrev name_of_net : VModule → VNet → Option (List ℕ)
@@ -38,7 +41,8 @@ name_of_net m (net.Port p) = option_map port_name (slice_get m.ports p)
 name_of_net m (net.Wire w) = option_map own_name (slice_get m.wires w)
 name_of_net m net.Notifier = m.notifier
 
-by_register : (m : VModule) (x : List ℕ) (n : VNet) (o : Option (List ℕ)) → m.notifier ≡ o → (if option_map_or (bytes_eq x) o false then Some net.Notifier else None) ≡ Some n
+by_register : (m : VModule) (x : List ℕ) (n : VNet) (o : Option (List ℕ)) → m.notifier ≡ o
+    → (if option_map_or (bytes_eq x) o false then Some net.Notifier else None) ≡ Some n
     → name_of_net m n ≡ Some x
 by_register m x n None e f = absurd cc
 by_register m x n (Some y) e f = by (bytes_eq x y) refl f
@@ -49,12 +53,16 @@ by_register m x n (Some y) e f = by (bytes_eq x y) refl f
         let same : net.Notifier ≡ n = cc in
         subst (λ k. name_of_net m k ≡ Some x) same (e ∙ ap Some (sym ((bytes_eq-Decides x y).0 g)))
 
-by_wire : (m : VModule) (x : List ℕ) (n : VNet) (o : Option ℕ) → position (bytes_eq x) m.wires ≡ o → other_net m x o ≡ Some n → name_of_net m n ≡ Some x
-by_wire m x n (Some w) e f = let same : net.Wire w ≡ n = cc in subst (λ k. name_of_net m k ≡ Some x) same (found_at own_name x m.wires w e)
+by_wire : (m : VModule) (x : List ℕ) (n : VNet) (o : Option ℕ) → position (bytes_eq x) m.wires ≡ o → other_net m x o ≡ Some n
+    → name_of_net m n ≡ Some x
+by_wire m x n (Some w) e f = let same : net.Wire w ≡ n = cc
+    in subst (λ k. name_of_net m k ≡ Some x) same (found_at own_name x m.wires w e)
 by_wire m x n None e f = by_register m x n m.notifier refl f
 
-by_port : (m : VModule) (x : List ℕ) (n : VNet) (o : Option ℕ) → position (λ (port : VPort). bytes_eq x port.name) m.ports ≡ o → net_by m x o ≡ Some n → name_of_net m n ≡ Some x
-by_port m x n (Some p) e f = let same : net.Port p ≡ n = cc in subst (λ k. name_of_net m k ≡ Some x) same (found_at port_name x m.ports p e)
+by_port : (m : VModule) (x : List ℕ) (n : VNet) (o : Option ℕ) → position (λ (port : VPort). bytes_eq x port.name) m.ports ≡ o
+    → net_by m x o ≡ Some n → name_of_net m n ≡ Some x
+by_port m x n (Some p) e f = let same : net.Port p ≡ n = cc
+    in subst (λ k. name_of_net m k ≡ Some x) same (found_at port_name x m.ports p e)
 by_port m x n None e f = by_wire m x n (position (bytes_eq x) m.wires) refl f
 
 net_named : (m : VModule) (x : List ℕ) (n : VNet) → net_of m x ≡ Some n → name_of_net m n ≡ Some x
@@ -94,7 +102,8 @@ same_names m x y n k e f = by (bytes_eq x y) refl (same_net n k) refl
         sym g ∙ (bytes_eq-Decides x y).1 alike
 
 -- a net is one of the terminals where its name is one of theirs
-pub is_terminal : (m : VModule) (names : List (List ℕ)) (nets : List VNet) (x : List ℕ) (n : VNet) → AreNamed m names nets → net_of m x ≡ Some n
+pub is_terminal : (m : VModule) (names : List (List ℕ)) (nets : List VNet) (x : List ℕ) (n : VNet) → AreNamed m names nets
+    → net_of m x ≡ Some n
     → is_among names x ≡ list_any (same_net n) nets
 is_terminal m [] [] x n a e = refl
 is_terminal m [] (k ∷ nets) x n a e = absurd cc
@@ -102,15 +111,19 @@ is_terminal m (y ∷ names) [] x n a e = absurd cc
 is_terminal m (y ∷ names) (k ∷ nets) x n a e =
     let first : net_of m y ≡ Some k = cc in
     let others : map (net_of m) names ≡ map Some nets = cc in
-    ap (λ b. b || is_among names x) (same_names m x y n k e first) ∙ ap (λ b. same_net n k || b) (is_terminal m names nets x n others e)
+    ap (λ b. b || is_among names x) (same_names m x y n k e first)
+    ∙ ap (λ b. same_net n k || b) (is_terminal m names nets x n others e)
 
 -- with one terminal more
-pub named_more : (m : VModule) (names : List (List ℕ)) (nets : List VNet) (x : List ℕ) (n : VNet) → AreNamed m names nets → net_of m x ≡ Some n → AreNamed m (names ++ x ∷ []) (nets ++ n ∷ [])
+pub named_more : (m : VModule) (names : List (List ℕ)) (nets : List VNet) (x : List ℕ) (n : VNet) → AreNamed m names nets
+    → net_of m x ≡ Some n → AreNamed m (names ++ x ∷ []) (nets ++ n ∷ [])
 named_more m names nets x n a e =
-    map-append (net_of m) names (x ∷ []) ∙ ap (λ ns. ns ++ net_of m x ∷ []) a ∙ ap (λ o. map Some nets ++ o ∷ []) e ∙ sym (map-append Some nets (n ∷ []))
+    map-append (net_of m) names (x ∷ []) ∙ ap (λ ns. ns ++ net_of m x ∷ []) a ∙ ap (λ o. map Some nets ++ o ∷ []) e
+    ∙ sym (map-append Some nets (n ∷ []))
 
 -- the terminal that is next, where its name is one of theirs, and where it is none
-module _ (m : VModule) (is_allowed : VNet → Bool) (names : List (List ℕ)) (nets : List VNet) (s : List (List ℕ)) (n : VNet) (x : List ℕ) (next : x ≡ next_bytes s) where
+module _ (m : VModule) (is_allowed : VNet → Bool) (names : List (List ℕ)) (nets : List VNet) (s : List (List ℕ)) (n : VNet)
+    (x : List ℕ) (next : x ≡ next_bytes s) where
   pub taken : AreNamed m names nets → is_name x ≡ true → net_of m x ≡ Some n → is_allowed n ≡ true → is_among names x ≡ true →
       read (terminal m is_allowed (λ k. list_any (same_net k) nets)) s ≡ Err (Twice, s)
   taken a e f g h =

@@ -17,7 +17,8 @@ drives_port p i = same_net (net_driven i) (net.Port p)
 
 -- the instance is one with a state, or one without, and drives this wire
 abbrev pub drives_wire : Bool → List Udp → ℕ → Instance → Bool
-drives_wire stateful udps w i = (if stateful then has_state udps i else not (has_state udps i)) && same_net (net_driven i) (net.Wire w)
+drives_wire stateful udps w i = (if stateful then has_state udps i else not (has_state udps i))
+    && same_net (net_driven i) (net.Wire w)
 
 abbrev pub drives_state : List Udp → ℕ → Instance → Bool
 drives_state udps w i = drives_wire true udps w i
@@ -33,7 +34,8 @@ pub record AreDriven (found : DrivenNets) (udps : List Udp) (instances : List In
 
 -- with the mark of a net, by whether an instance with a state drives it
 abbrev pub driven_by : DrivenNets → Bool → VNet → DrivenNets
-driven_by found stateful (net.Port p) = record { ports = slice_set found.ports p true; states = found.states; values = found.values }
+driven_by found stateful (net.Port p) =
+    record { ports = slice_set found.ports p true; states = found.states; values = found.values }
 driven_by found true (net.Wire w) = record { ports = found.ports; states = slice_set found.states w true; values = found.values }
 driven_by found false (net.Wire w) = record { ports = found.ports; states = found.states; values = slice_set found.values w true }
 driven_by found stateful net.Notifier = found

@@ -13,8 +13,8 @@ use grammar_reader::{Read, Refusal, Stop};
 use specify_blocks::VNet;
 use sqlite_items::Items;
 use std::alloc::Global;
-use verilog_udp_reader::{Cursor, NamedItems, TextNames};
 use verilog_tokens::is_name;
+use verilog_udp_reader::{Cursor, NamedItems, TextNames};
 
 /// The nets that feed an instance so far, and the names of the net that it drives and of these, as they stand in the text.
 type Terminals<'a> = NamedItems<'a, VNet>;
@@ -51,7 +51,8 @@ fn feeding_terminal(
     before: &Terminals<'_>,
 ) -> Read<VNet>
     requires { AreNamed model.now before.now.names (output ∷ before.now.items) }
-    ensures reads { Reads (read (spec.feeding_terminal model.now sequential (output ∷ before.now.items)) cursor.old) result cursor.new }
+    ensures reads { Reads (read (spec.feeding_terminal model.now sequential (output ∷ before.now.items)) cursor.old) result
+        cursor.new }
     ensures named { IfOk result (λ net. spec.net_of model.now (next_bytes cursor.old) ≡ Some net) }
     ensures fresh { IfOk result (λ _. is_among before.now.names (next_bytes cursor.old) ≡ false) }
 {
@@ -82,7 +83,8 @@ fn next_terminal<'a>(
     found: &mut Terminals<'a>,
 ) -> Read<()>
     requires { AreNamed model.now found.old.names (output ∷ found.old.items) }
-    ensures reads { ReadsAs (λ _. found.new.items) (read (spec.next_input model.now sequential output found.old.items) cursor.old) result cursor.new }
+    ensures reads { ReadsAs (λ _. found.new.items) (read (spec.next_input model.now sequential output found.old.items) cursor.old)
+        result cursor.new }
     ensures named { OnOk result (AreNamed model.now found.new.names (output ∷ found.new.items)) }
 {
     let token = cursor.bytes();
@@ -100,7 +102,8 @@ pub fn first_terminal<'a>(
     name: &'a [u8],
 ) -> Read<Terminals<'a>>
     requires { spec.net_of model.now name.now ≡ Some output }
-    ensures reads { ReadsAs (λ more. more.items) (read (spec.next_input model.now sequential output []) cursor.old) result cursor.new }
+    ensures reads { ReadsAs (λ more. more.items) (read (spec.next_input model.now sequential output []) cursor.old) result
+        cursor.new }
     ensures named { IfOk result (λ more. AreNamed model.now more.names (output ∷ more.items)) }
 {
     let mut names = TextNames::new(alloc);
@@ -121,7 +124,8 @@ pub fn more_terminals<'a>(
     found: &mut Terminals<'a>,
 ) -> Read<()>
     requires { AreNamed model.now found.old.names (output ∷ found.old.items) }
-    ensures { ReadsAs (λ _. found.new.items) (read (spec.more_inputs model.now sequential output found.old.items) cursor.old) result cursor.new }
+    ensures { ReadsAs (λ _. found.new.items) (read (spec.more_inputs model.now sequential output found.old.items) cursor.old)
+        result cursor.new }
 {
     for _turn in 0..cursor.left() {
         if !cursor.is_next(b",") {

@@ -11,8 +11,8 @@ use specify_blocks::{VModule, VNet};
 use sqlite_items::Items;
 use std::alloc::Global;
 
-/// Which nets the instances of a module drive: a mark for each port, one for each wire that is driven as a state, and one for each
-/// wire that is driven without a state. Nothing is told of a net without a mark.
+/// Which nets the instances of a module drive: a mark for each port, one for each wire that is driven as a state, and one for
+/// each wire that is driven without a state. Nothing is told of a net without a mark.
 #[derive(Drop)]
 pub struct DrivenNets {
     pub ports: Items<bool>,

@@ -17,8 +17,8 @@ use first_names::FirstNames;
 use grammar_reader::{Language, Read, Refusal, Stop, value_of, where_read};
 use specify_blocks::{Instance, VModule};
 use std::alloc::Global;
-use verilog_udp_reader::{Cursor, NamedItems, Verilog};
 use verilog_tokens::is_name;
+use verilog_udp_reader::{Cursor, NamedItems, Verilog};
 
 /// The bit that a token stands for.
 fn bit(token: &[u8]) -> Option<bool>

@@ -1,5 +1,5 @@
-//! The nets and instances of Verilog modules: what stands at the terminals of each instance, and what drives each net. (IEEE 1364-2005,
-//! clauses 7 and 8.)
+//! The nets and instances of Verilog modules: what stands at the terminals of each instance, and what drives each net. (IEEE
+//! 1364-2005, clauses 7 and 8.)
 #![tactic(auto)]
 
 mod connections;

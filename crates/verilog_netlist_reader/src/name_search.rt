@@ -14,8 +14,8 @@ use first_names::FirstNames;
 use grammar_reader::{Language, Read, Stop};
 use sqlite_items::Items;
 use std::alloc::{AllocError, Global};
-use verilog_udp_reader::Verilog;
 use udp_tables::{Udp, VPort};
+use verilog_udp_reader::Verilog;
 
 /// A thing with a name.
 pub trait Named {

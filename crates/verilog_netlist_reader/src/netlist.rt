@@ -48,7 +48,8 @@ fn all_kept<P: Drop, W: Drop, D: Drop>(
     driven: Read<D>,
 ) -> Read<Kept<P, W, D>>
     ensures made { IfOk result (λ kept. (ports ≡ Ok kept.ports) × ((wires ≡ Ok kept.wires) × (driven ≡ Ok kept.driven))) }
-    ensures memory { IfErr ports (λ stop. stop ≡ Stop.Memory) → IfErr wires (λ stop. stop ≡ Stop.Memory) → IfErr driven (λ stop. stop ≡ Stop.Memory) → IfErr result (λ stop. stop ≡ Stop.Memory) }
+    ensures memory { IfErr ports (λ stop. stop ≡ Stop.Memory) → IfErr wires (λ stop. stop ≡ Stop.Memory)
+        → IfErr driven (λ stop. stop ≡ Stop.Memory) → IfErr result (λ stop. stop ≡ Stop.Memory) }
 {
     Ok(Kept {
         ports: ports?,

@@ -12,7 +12,8 @@ unfolding same_number
 number_found limit [] = refl
 number_found limit (x ∷ s) = by (number_of x)
   where
-    equal : (n : ℕ) (b : Bool) → (n == limit) ≡ b → judge (equal_to limit (Some n)) (λ a. Ok (a, s)) (λ k. Err (k, x ∷ s)) ≡ number_at limit (Some n) (x ∷ s)
+    equal : (n : ℕ) (b : Bool) → (n == limit) ≡ b
+        → judge (equal_to limit (Some n)) (λ a. Ok (a, s)) (λ k. Err (k, x ∷ s)) ≡ number_at limit (Some n) (x ∷ s)
     equal n true e = rw e refl
     equal n false e = rw e refl
 

@@ -7,8 +7,8 @@ ghost use Rattle.grammar_reader.specs.Reading.{read, Reads};
 
 use crate::paths::{condition_name, input_name};
 use cell_machine::{Edge, Event};
-use verilog_netlist_reader::Netlist;
 use grammar_reader::{Read, Stop, value_of};
+use verilog_netlist_reader::Netlist;
 use verilog_udp_reader::{Cursor, Verilog};
 
 /// The events that a word before a port allows.

@@ -10,12 +10,12 @@ use crate::numbers::number;
 use crate::paths::paths;
 use crate::period_lines::period_check;
 use cell_machine::{CheckKind, Edge, Event};
-use verilog_netlist_reader::Netlist;
 use grammar_reader::{Read, value_of, where_read};
 use sqlite_items::Items;
 use std::alloc::Global;
-use verilog_udp_reader::{Cursor, Verilog};
 use udp_tables::TimingCheck;
+use verilog_netlist_reader::Netlist;
+use verilog_udp_reader::{Cursor, Verilog};
 
 /// The edge with which a pulse ends that begins with this one.
 fn opposite(edge: Edge) -> Edge

@@ -5,17 +5,17 @@ ghost use Rattle.specify_blocks.specs.VerilogText as spec;
 ghost use Rattle.verilog_reader.specs.File.{before_of, modules_of, module_end};
 ghost use Rattle.grammar_reader.specs.Reading.{read, Reads, ReadsAs};
 
-use bool_functions::Names;
-use verilog_header_reader::module_declarations;
-use grammar_reader::{Language, Read, Refusal, Stop, where_read};
-use specify_blocks::VModule;
 use crate::nets::{Netlist, are_all_driven, module_instances};
 use crate::specify;
+use bool_functions::Names;
+use grammar_reader::{Language, Read, Refusal, Stop, where_read};
+use specify_blocks::VModule;
 use sqlite_items::Items;
 use std::alloc::Global;
 use std::mem::replace;
-use verilog_udp_reader::{Cursor, Verilog, declare, primitive};
 use udp_tables::Udp;
+use verilog_header_reader::module_declarations;
+use verilog_udp_reader::{Cursor, Verilog, declare, primitive};
 
 /// What stands before a place of a text: the modules, the names of all primitives and modules, and the primitives behind the
 /// last module.
@@ -47,7 +47,8 @@ fn prelude(cursor: &mut Cursor) -> Read<()>
 /// Adds one more primitive, behind its word.
 #[tactic(auto, unfolding(specify_blocks::specs::VerilogText::next_primitive))]
 fn next_primitive(cursor: &mut Cursor, alloc: Global, before: &mut Before) -> Read<()>
-    ensures { ReadsAs (λ _. before_of before.new) (read (spec.next_primitive (before_of before.old)) cursor.old) result cursor.new }
+    ensures { ReadsAs (λ _. before_of before.new) (read (spec.next_primitive (before_of before.old)) cursor.old) result
+        cursor.new }
 {
     let udp = primitive(cursor, alloc, &mut before.names)?;
     before.udps.push(udp)?;
@@ -57,7 +58,8 @@ fn next_primitive(cursor: &mut Cursor, alloc: Global, before: &mut Before) -> Re
 /// Adds the primitives behind these.
 #[tactic(auto, unfolding(specify_blocks::specs::VerilogText::more_primitives), using(grammar_reader::proofs::Repeats::turns))]
 fn more_primitives(cursor: &mut Cursor, alloc: Global, before: &mut Before) -> Read<()>
-    ensures { ReadsAs (λ _. before_of before.new) (read (spec.more_primitives (before_of before.old)) cursor.old) result cursor.new }
+    ensures { ReadsAs (λ _. before_of before.new) (read (spec.more_primitives (before_of before.old)) cursor.old) result
+        cursor.new }
 {
     for _turn in 0..cursor.left() {
         if !cursor.is_next(b"primitive") {
@@ -111,7 +113,8 @@ fn next_module(cursor: &mut Cursor, alloc: Global, before: &mut Before) -> Read<
 /// Adds primitives and their module, behind the word `primitive`.
 #[tactic(auto, unfolding(specify_blocks::specs::VerilogText::primitives_and_module))]
 fn primitives_and_module(cursor: &mut Cursor, alloc: Global, before: &mut Before) -> Read<()>
-    ensures { ReadsAs (λ _. before_of before.new) (read (spec.primitives_and_module (before_of before.old)) cursor.old) result cursor.new }
+    ensures { ReadsAs (λ _. before_of before.new) (read (spec.primitives_and_module (before_of before.old)) cursor.old) result
+        cursor.new }
 {
     next_primitive(cursor, alloc, before)?;
     more_primitives(cursor, alloc, before)?;
@@ -121,7 +124,8 @@ fn primitives_and_module(cursor: &mut Cursor, alloc: Global, before: &mut Before
 
 /// Adds primitives and their module, behind their first token.
 fn design(cursor: &mut Cursor, alloc: Global, before: &mut Before, first: &[u8]) -> Read<()>
-    ensures { ReadsAs (λ _. before_of before.new) (read (spec.design (before_of before.old) first.now) cursor.old) result cursor.new }
+    ensures { ReadsAs (λ _. before_of before.new) (read (spec.design (before_of before.old) first.now) cursor.old) result
+        cursor.new }
 {
     if Verilog::is_same(first, b"primitive") {
         primitives_and_module(cursor, alloc, before)

@@ -13,5 +13,5 @@ mod read;
 
 pub use checks::specify;
 pub use laws::{added_separators_change_no_module, fault_is_at_first_token, text_has_one_answer};
-pub use verilog_netlist_reader as nets;
 pub use read::read_models;
+pub use verilog_netlist_reader as nets;

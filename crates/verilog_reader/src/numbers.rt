@@ -4,8 +4,8 @@ ghost use Rattle.specify_blocks.specs.VerilogBlocks as spec;
 ghost use Rattle.grammar_reader.specs.Reading.{read, Reads};
 
 use grammar_reader::Read;
-use verilog_udp_reader::Cursor;
 use verilog_tokens::number_of;
+use verilog_udp_reader::Cursor;
 
 /// The number that stands next.
 #[tactic(auto, using(grammar_reader::proofs::Values::valued_found), unfolding(specify_blocks::specs::VerilogBlocks::a_number))]

@@ -10,13 +10,13 @@ ghost use Rattle.grammar_reader.specs.Reading.{read, Reads};
 ghost use Rattle.grammar_reader.specs.Next.{next_bytes, rest};
 
 use crate::numbers::number;
-use verilog_netlist_reader::{Netlist, is_output_port};
 use grammar_reader::{Language, Read, with_end};
 use specify_blocks::{Gate, VPath};
 use sqlite_items::Items;
 use std::alloc::Global;
-use verilog_udp_reader::{Cursor, Verilog};
 use udp_tables::is_input_port;
+use verilog_netlist_reader::{Netlist, is_output_port};
+use verilog_udp_reader::{Cursor, Verilog};
 
 /// Whether a path begins with this token.
 fn is_path_start(token: &[u8]) -> bool

@@ -11,11 +11,11 @@ use crate::check_parts::{check_end, condition};
 use crate::numbers::number;
 use crate::paths::input_name;
 use cell_machine::{CheckKind, Edge, Event};
-use verilog_netlist_reader::Netlist;
 use grammar_reader::{Read, Stop};
-use verilog_udp_reader::Cursor;
 use udp_tables::TimingCheck;
+use verilog_netlist_reader::Netlist;
 use verilog_tokens::number_of;
+use verilog_udp_reader::Cursor;
 
 /// The name of this wire.
 fn wire_name(cursor: &mut Cursor, model: &Netlist, wire: usize) -> Read<()>

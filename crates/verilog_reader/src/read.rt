@@ -9,12 +9,12 @@ ghost use Rattle.verilog_reader.specs.File.{IsFaultOf};
 
 use crate::file::{Before, file};
 use grammar_reader::{Cursor, Stop};
+use lexer::Scan;
 use specify_blocks::VModule;
 use std::alloc::Global;
-use lexer::Scan;
-use verilog_udp_reader::Verilog;
 use udp_tables::{ModelFault, refusal_fault};
 use verilog_tokens::scan;
+use verilog_udp_reader::Verilog;
 
 /// The modules of a Verilog text, or its first fault.
 #[tactic(auto, unfolding(specify_blocks::specs::VerilogText::verilog_text), using(lexer::proofs::Spelled::spelled))]
@@ -38,9 +38,9 @@ fn models_of(alloc: Global, text: &[u8]) -> Result<Vec<VModule>, ModelFault>
 
 /// The modules of a Verilog text. (IEEE 1364-2005, clauses 3, 8, 12, 14 and 15; the subset is this project's.)
 ///
-/// The fault is the first: the place where no token begins, the first token with which no text goes on or that breaks a rule, or the
-/// end of the text. Its offset counts bytes from 0. Modules that are read are well formed: each is sound, and no name stands twice
-/// where it must not.
+/// The fault is the first: the place where no token begins, the first token with which no text goes on or that breaks a rule, or
+/// the end of the text. Its offset counts bytes from 0. Modules that are read are well formed: each is sound, and no name stands
+/// twice where it must not.
 pub fn read_models(alloc: Global, text: &[u8]) -> Result<Vec<VModule>, ModelFault>
     ensures modules { IfOk result (λ found. verilog_text text.now ≡ Ok found.items) }
     ensures well_formed { IfOk result (λ found. AreWellFormed found.items) }

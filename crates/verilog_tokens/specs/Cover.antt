@@ -1,5 +1,6 @@
 -- How separators and tokens make up a Verilog text. (IEEE 1364-2005, clause 3; which tokens there are is this project's subset.)
-use Rattle.std.specs.Prelude.{◌≡◌, ℕ, nat_le, Bool, true, false, not, ◌&&◌, ◌||◌, ◌==◌, if◌then◌else◌, List, [], ◌∷◌, length, Some, codes}
+use Rattle.std.specs.Prelude.{◌≡◌, ℕ, nat_le, Bool, true, false, not, ◌&&◌, ◌||◌, ◌==◌, if◌then◌else◌, List, [], ◌∷◌, length}
+use Rattle.std.specs.Prelude.{Some, codes}
 use Rattle.std.specs.Char.{is_ascii_alphabetic, is_ascii_digit}
 use Rattle.std.specs.List.{list_all}
 use Rattle.std.specs.Str.{bytes_eq}
@@ -11,13 +12,16 @@ use Rattle.verilog_tokens.specs.Tokens.{lexis, is_blank, is_name_byte, is_one_of
 -- first slash right behind a star.
 pub data IsSeparator : List ℕ → List ℕ → Type 0 where
   blank : {rest : List ℕ} (b : ℕ) → is_blank b ≡ true → IsSeparator (b ∷ []) rest
-  line_comment : {rest : List ℕ} (body : List ℕ) → list_all (λ c. not (c == 10)) body ≡ true → EndsLine rest → IsSeparator (47 ∷ 47 ∷ body) rest
-  block_comment : {rest : List ℕ} (body : List ℕ) → comment_rest false body ≡ Some (length body) → IsSeparator (47 ∷ 42 ∷ body) rest
+  line_comment : {rest : List ℕ} (body : List ℕ) → list_all (λ c. not (c == 10)) body ≡ true → EndsLine rest
+      → IsSeparator (47 ∷ 47 ∷ body) rest
+  block_comment : {rest : List ℕ} (body : List ℕ) → comment_rest false body ≡ Some (length body)
+      → IsSeparator (47 ∷ 42 ∷ body) rest
 
 -- digits alone, at most 15; the time of a unit; or a bit
 abbrev pub spells_number : List ℕ → Bool
 spells_number bytes =
-    bytes_eq bytes (codes "1ps") || (bytes_eq bytes (codes "1'b0") || (bytes_eq bytes (codes "1'b1") || (list_all is_ascii_digit bytes && nat_le (length bytes) 15)))
+    bytes_eq bytes (codes "1ps") || (bytes_eq bytes (codes "1'b0")
+    || (bytes_eq bytes (codes "1'b1") || (list_all is_ascii_digit bytes && nat_le (length bytes) 15)))
 
 -- an identifier, or the name of a system task or of a directive, behind its first byte
 abbrev pub spells_word : ℕ → List ℕ → Bool
@@ -25,7 +29,8 @@ spells_word b bytes = if is_one_of (codes "$`") b then list_all is_ascii_alphabe
 
 -- a sign
 abbrev pub spells_sign : List ℕ → Bool
-spells_sign bytes = bytes_eq bytes (codes "&&&") || (bytes_eq bytes (codes "=>") || (bytes_eq bytes (codes "=") || bytes_eq bytes (codes "/")))
+spells_sign bytes = bytes_eq bytes (codes "&&&")
+    || (bytes_eq bytes (codes "=>") || (bytes_eq bytes (codes "=") || bytes_eq bytes (codes "/")))
 
 -- All these bytes are one token, in a table or outside: there a symbol is a token of its own.
 abbrev pub spells_token : Bool → List ℕ → Bool

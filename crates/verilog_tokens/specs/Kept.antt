@@ -19,7 +19,8 @@ is_numbered word name = starts_with nat_eq name word && is_number (drop (length 
 -- those that begin with `lib_`, and the given word followed by a number.
 unfoldable pub is_kept_name : List ℕ → List ℕ → Bool
 is_kept_name given name =
-    is_identifier name && (not (is_verilog_word name) && (not (starts_with nat_eq name (codes "lib_")) && not (is_numbered given name)))
+    is_identifier name && (not (is_verilog_word name)
+    && (not (starts_with nat_eq name (codes "lib_")) && not (is_numbered given name)))
 
 -- a cell's name is kept
 abbrev pub is_kept_cell_name : List ℕ → Bool

@@ -1,7 +1,8 @@
--- The tokens of Verilog text. (IEEE 1364-2005, clause 3, lexical conventions, and 8.1.4, the symbols of a primitive's table. Which
--- signs, numbers and symbols there are is this project's subset.) At each place outside a token a separator begins, or a token,
--- which is the longest that begins there, or neither, which is a lexical fault.
-use Rattle.std.specs.Prelude.{ℕ, ◌+◌, Bool, true, false, not, ◌&&◌, ◌||◌, ◌==◌, if◌then◌else◌, List, [], ◌∷◌, codes, Option, Some, None, unwrap_or}
+-- The tokens of Verilog text. (IEEE 1364-2005, clause 3, lexical conventions, and 8.1.4, the symbols of a primitive's table.
+-- Which signs, numbers and symbols there are is this project's subset.) At each place outside a token a separator begins, or a
+-- token, which is the longest that begins there, or neither, which is a lexical fault.
+use Rattle.std.specs.Prelude.{ℕ, ◌+◌, Bool, true, false, not, ◌&&◌, ◌||◌, ◌==◌, if◌then◌else◌, List, [], ◌∷◌, codes, Option, Some}
+use Rattle.std.specs.Prelude.{None, unwrap_or}
 use Rattle.std.specs.Char.{is_ascii_alphabetic, is_ascii_digit}
 use Rattle.std.specs.List.{prefix_len}
 use Rattle.std.specs.Str.{bytes_eq}
@@ -55,8 +56,8 @@ number_length bytes =
     else (if begins_with bytes (codes "1'b0") || begins_with bytes (codes "1'b1") then 4
     else tokens.decimal_length bytes)
 
--- how many bytes of an identifier (3.7, without `$`), or of the name of a system task (3.7.3) or of a directive (19), stand at the
--- front of these, where the first byte begins one
+-- how many bytes of an identifier (3.7, without `$`), or of the name of a system task (3.7.3) or of a directive (19), stand at
+-- the front of these, where the first byte begins one
 abbrev pub word_length : List ℕ → ℕ
 word_length [] = 0
 word_length (b ∷ bs) =

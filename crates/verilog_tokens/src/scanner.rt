@@ -6,8 +6,8 @@ ghost use Rattle.lexer.specs.Spans.{LieInside};
 ghost use Rattle.verilog_tokens.specs.Spans.{tokens_of};
 
 use crate::fronts::{is_open_after, separator_length, token_length};
-use std::alloc::{AllocError, Global};
 use lexer::{Lexicon, Scan, TokenState};
+use std::alloc::{AllocError, Global};
 
 /// Whether a table is open: what the tokens so far say of those that follow.
 #[derive(Clone, Copy)]

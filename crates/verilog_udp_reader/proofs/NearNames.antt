@@ -1,5 +1,6 @@
 -- The first names of a list and those behind them.
-use Rattle.std.proofs.Common.{◌≡◌, ℕ, zero, suc, ◌<◌, ◌≤◌, Bool, true, false, ◌||◌, List, [], ◌∷◌, ◌++◌, map, length, take, drop, Option, Some, None, refl, sym, ap, subst, ◌∙◌}
+use Rattle.std.proofs.Common.{◌≡◌, ℕ, zero, suc, ◌<◌, ◌≤◌, Bool, true, false, ◌||◌, List, [], ◌∷◌, ◌++◌, map, length, take, drop}
+use Rattle.std.proofs.Common.{Option, Some, None, refl, sym, ap, subst, ◌∙◌}
 use Rattle.std.specs.List.{list_any}
 use Rattle.std.specs.Option.{is_some}
 use Rattle.std.specs.Str.{bytes_eq}
@@ -12,7 +13,8 @@ use Rattle.grammar_reader.proofs.Places as places
 -- names that are shown, each by its bytes
 module _ {X Y : Type 0} (f : X → Y) where
   -- one of them passes exactly where one of the first does or one of those behind them
-  pub shown_parted : (p : Y → Bool) (n : ℕ) (xs : List X) → (list_any p (map f (take n xs)) || list_any p (drop n (map f xs))) ≡ list_any p (map f xs)
+  pub shown_parted : (p : Y → Bool) (n : ℕ) (xs : List X)
+      → (list_any p (map f (take n xs)) || list_any p (drop n (map f xs))) ≡ list_any p (map f xs)
   shown_parted p zero xs = refl
   shown_parted p (suc n) [] = refl
   shown_parted p (suc n) (x ∷ xs) = sym (either_of (p (f x)) _ _) ∙ ap (λ b. p (f x) || b) (shown_parted p n xs)
@@ -39,6 +41,7 @@ numbered names name = by (list_any (bytes_eq name) names) refl (number_of names 
     by false e None f = refl
 
 -- a name that is none of the names goes last
-pub added : (names : List (List ℕ)) (name : List ℕ) (found : Option ℕ) (new : List (List ℕ)) → Adds names name found new → list_any (bytes_eq name) names ≡ false → new ≡ names ++ name ∷ []
+pub added : (names : List (List ℕ)) (name : List ℕ) (found : Option ℕ) (new : List (List ℕ)) → Adds names name found new
+    → list_any (bytes_eq name) names ≡ false → new ≡ names ++ name ∷ []
 added names name (Some i) new a e = a.2
 added names name None new a e = absurd (a.0 (position-none (bytes_eq name) names e))

@@ -1,5 +1,6 @@
 -- Names that are declared, in a list that is looked up by name.
-use Rattle.std.proofs.Common.{◌≡◌, ℕ, Bool, true, false, not, List, [], ◌∷◌, ◌++◌, Option, Some, None, Result, Ok, Err, IfOk, refl, sym, ap, ◌∙◌}
+use Rattle.std.proofs.Common.{◌≡◌, ℕ, Bool, true, false, not, List, [], ◌∷◌, ◌++◌, Option, Some, None, Result, Ok, Err, IfOk}
+use Rattle.std.proofs.Common.{refl, sym, ap, ◌∙◌}
 use Rattle.std.specs.Option.{is_some, is_none}
 use Rattle.std.specs.Str.{bytes_eq}
 use Rattle.bool_functions.specs.NameList.{Adds}
@@ -14,7 +15,8 @@ use Rattle.verilog_tokens.specs.Tokens.{is_name}
 use Rattle.udp_tables.specs.VerilogRules.{is_among, any_name, new_name}
 
 -- a name is taken exactly where it has a number
-pub taken : (names : List (List ℕ)) (name : List ℕ) (found : Option ℕ) (new : List (List ℕ)) → Adds names name found new → is_none found ≡ is_among names name
+pub taken : (names : List (List ℕ)) (name : List ℕ) (found : Option ℕ) (new : List (List ℕ)) → Adds names name found new
+    → is_none found ≡ is_among names name
 taken names name found new a = by_among (is_among names name) refl found a
   where
     by_among : (b : Bool) → is_among names name ≡ b → (o : Option ℕ) → Adds names name o new → is_none o ≡ b
@@ -27,30 +29,36 @@ abbrev name_of : Outcome (List ℕ) Refusal (List ℕ) → List ℕ
 name_of (Ok p) = p.0
 name_of (Err e) = []
 
-name_fits : (x name : List ℕ) (s left : List (List ℕ)) → ◌≡◌ {A = Outcome (List ℕ) Refusal (List ℕ)} (Ok (x, s)) (Ok (name, left)) → name ≡ x
+name_fits : (x name : List ℕ) (s left : List (List ℕ)) → ◌≡◌ {A = Outcome (List ℕ) Refusal (List ℕ)} (Ok (x, s)) (Ok (name, left))
+    → name ≡ x
 name_fits x name s left e = sym (ap name_of e)
 
 -- the name that was read is the next token, which was none of the names
-pub name_read : (names s left : List (List ℕ)) (name : List ℕ) → read (new_name names) s ≡ Ok (name, left) → (name ≡ next_bytes s) × (is_among names (next_bytes s) ≡ false)
+pub name_read : (names s left : List (List ℕ)) (name : List ℕ) → read (new_name names) s ≡ Ok (name, left) → (name ≡ next_bytes s)
+    × (is_among names (next_bytes s) ≡ false)
 name_read names [] left name e = absurd cc
 name_read names (x ∷ s) left name e = by_tests (is_name x) (is_among names x) refl refl e
   where
-    by_tests : (named among : Bool) → is_name x ≡ named → is_among names x ≡ among → read (new_name names) (x ∷ s) ≡ Ok (name, left) → (name ≡ x) × (is_among names x ≡ false)
+    by_tests : (named among : Bool) → is_name x ≡ named → is_among names x ≡ among
+        → read (new_name names) (x ∷ s) ≡ Ok (name, left) → (name ≡ x) × (is_among names x ≡ false)
     by_tests false among e f g = absurd (let h = rw e at g in cc)
     by_tests true true e f g = absurd (let h = rw (e, f) at g in cc)
     by_tests true false e f g = (name_fits x name s left (rw (e, f) at g), f)
 
 -- so it is the last of them then
-pub name_added : (names new s left : List (List ℕ)) (name : List ℕ) (found : Option ℕ) → Adds names (next_bytes s) found new → read (new_name names) s ≡ Ok (name, left) → new ≡ names ++ name ∷ []
+pub name_added : (names new s left : List (List ℕ)) (name : List ℕ) (found : Option ℕ) → Adds names (next_bytes s) found new
+    → read (new_name names) s ≡ Ok (name, left) → new ≡ names ++ name ∷ []
 name_added names new s left name found a e =
     let (same, free) = name_read names s left name e in
     by_found found a (taken names (next_bytes s) found new a ∙ free) same
   where
-    by_found : (o : Option ℕ) → Adds names (next_bytes s) o new → is_none o ≡ false → name ≡ next_bytes s → new ≡ names ++ name ∷ []
+    by_found : (o : Option ℕ) → Adds names (next_bytes s) o new → is_none o ≡ false → name ≡ next_bytes s
+        → new ≡ names ++ name ∷ []
     by_found (Some i) h f g = h.2 ∙ ap (λ n. names ++ n ∷ []) (sym g)
     by_found None h f g = absurd cc
 
-pub added_by : (names new s left : List (List ℕ)) (found : Option ℕ) (r : Result (List ℕ) Stop) → Adds names (next_bytes s) found new → Reads (read (new_name names) s) r left
+pub added_by : (names new s left : List (List ℕ)) (found : Option ℕ) (r : Result (List ℕ) Stop)
+    → Adds names (next_bytes s) found new → Reads (read (new_name names) s) r left
     → IfOk r (λ name. new ≡ names ++ name ∷ [])
 added_by names new s left found (Ok name) a e = name_added names new s left name found a e
 added_by names new s left found (Err stop) a e = tt
@@ -64,11 +72,13 @@ missing none found e = twice none ∙ ap not (sym e)
     twice false = refl
 
 -- the name that is next, where it is declared
-pub new_fits : (names s : List (List ℕ)) → is_name (next_bytes s) ≡ true → is_among names (next_bytes s) ≡ false → read (new_name names) s ≡ Ok (next_bytes s, rest s)
+pub new_fits : (names s : List (List ℕ)) → is_name (next_bytes s) ≡ true → is_among names (next_bytes s) ≡ false
+    → read (new_name names) s ≡ Ok (next_bytes s, rest s)
 new_fits names [] e f = absurd cc
 new_fits names (x ∷ s) e f = rw (e, f) refl
 
-pub new_taken : (names s : List (List ℕ)) → is_name (next_bytes s) ≡ true → is_among names (next_bytes s) ≡ true → read (new_name names) s ≡ Err (Twice, s)
+pub new_taken : (names s : List (List ℕ)) → is_name (next_bytes s) ≡ true → is_among names (next_bytes s) ≡ true
+    → read (new_name names) s ≡ Err (Twice, s)
 new_taken names [] e f = absurd cc
 new_taken names (x ∷ s) e f = rw (e, f) refl
 

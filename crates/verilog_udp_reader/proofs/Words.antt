@@ -8,9 +8,11 @@ use Rattle.verilog_tokens.specs.Tokens.{is_name}
 use Rattle.udp_tables.specs.VerilogRules.{known}
 
 -- a name that stands for this value
-pub known_some : {A : Type 0} (find : List ℕ → Option A) (s : List (List ℕ)) (a : A) → is_name (next_bytes s) ≡ true → find (next_bytes s) ≡ Some a → read (known find) s ≡ Ok (a, rest s)
+pub known_some : {A : Type 0} (find : List ℕ → Option A) (s : List (List ℕ)) (a : A) → is_name (next_bytes s) ≡ true
+    → find (next_bytes s) ≡ Some a → read (known find) s ≡ Ok (a, rest s)
 known_some find s a e f = values.known_some is_name refl find s a e f
 
 -- a name that stands for no value
-pub known_none : {A : Type 0} (find : List ℕ → Option A) (s : List (List ℕ)) → is_name (next_bytes s) ≡ true → find (next_bytes s) ≡ None → read (known find) s ≡ Err (Undefined, s)
+pub known_none : {A : Type 0} (find : List ℕ → Option A) (s : List (List ℕ)) → is_name (next_bytes s) ≡ true
+    → find (next_bytes s) ≡ None → read (known find) s ≡ Err (Undefined, s)
 known_none find s e f = values.known_none is_name refl find s e f

@@ -65,7 +65,8 @@ fn next_input<'a>(
     found: &mut HeaderInputs<'a>,
 ) -> Read<()>
     requires { found.old.names ≡ output.now ∷ found.old.items }
-    ensures reads { ReadsAs (λ _. found.new.items) (read (spec.next_input output.now found.old.items) cursor.old) result cursor.new }
+    ensures reads { ReadsAs (λ _. found.new.items) (read (spec.next_input output.now found.old.items) cursor.old) result
+        cursor.new }
     ensures named { OnOk result (found.new.names ≡ output.now ∷ found.new.items) }
 {
     let token = cursor.bytes();
@@ -218,7 +219,8 @@ fn more_rows(
     inputs: usize,
     mut rows: Items<UdpRow>,
 ) -> Read<Items<UdpRow>>
-    ensures { Reads (read (Many (λ _. spec.begins_row sequential) (spec.next_row sequential inputs) rows) cursor.old) result cursor.new }
+    ensures { Reads (read (Many (λ _. spec.begins_row sequential) (spec.next_row sequential inputs) rows) cursor.old) result
+        cursor.new }
 {
     for _turn in 0..cursor.left() {
         let token = cursor.bytes();
@@ -233,7 +235,8 @@ fn more_rows(
 
 /// Goes behind the first token of a table's first row.
 fn begin_row(cursor: &mut Cursor<'_>, sequential: bool) -> Read<()>
-    ensures { ReadsAs (λ _. next_bytes cursor.old) (read (Token (spec.first_of_row sequential) Syntax) cursor.old) result cursor.new }
+    ensures { ReadsAs (λ _. next_bytes cursor.old) (read (Token (spec.first_of_row sequential) Syntax) cursor.old) result
+        cursor.new }
 {
     if !begins_entry(sequential, cursor.bytes()) {
         return Err(Stop::Refused(Refusal::Syntax));

@@ -21,8 +21,8 @@ const NEAR: usize = 16;
 /// For how many names there is room at first.
 const SOME_NAMES: usize = 8;
 
-/// Names that are declared, as they stand in a text, in order. Contracts see the list of them. The first of them are compared one by
-/// one, which takes no memory; those behind them stand in a list that finds a name at once too.
+/// Names that are declared, as they stand in a text, in order. Contracts see the list of them. The first of them are compared one
+/// by one, which takes no memory; those behind them stand in a list that finds a name at once too.
 #[derive(Drop)]
 pub struct TextNames<'a> {
     names: Vec<&'a [u8]>,

@@ -10,7 +10,8 @@ use Rattle.specify_blocks.specs.declared.model.VModule.{VModule}
 use Rattle.verilog_writer.specs.Timing.{kind_text, check_text}
 
 pub as_kind :
-    {T : Type 0} (s t : DeskState) (slot : OutSlot) (l n : List ℕ) (m : VModule) (k : TimingCheck) (kind : CheckKind) (r : Result T Failed)
+    {T : Type 0} (s t : DeskState) (slot : OutSlot) (l n : List ℕ) (m : VModule) (k : TimingCheck) (kind : CheckKind)
+    (r : Result T Failed)
     → k.kind ≡ kind → PutsText s t slot l (kind_text m k kind) n r → PutsText s t slot l (check_text m k) n r
 unfolding check_text
 as_kind s t slot l n m k kind r e p = subst (λ x. PutsText s t slot l (kind_text m k x) n r) (sym e) p

@@ -14,8 +14,11 @@ use Rattle.specify_blocks.specs.declared.model.VPath.{VPath}
 use Rattle.udp_tables.specs.declared.models.VPort.{VPort}
 use Rattle.udp_tables.specs.declared.timing_checks.TimingCheck.{TimingCheck}
 use Rattle.specify_blocks.specs.declared.model.VModule.{VModule}
-use Rattle.verilog_writer.specs.Timing.{gate_text, delays_text, path_text, ordered_text, turned_text, width_text, period_line, period_text, check_text, lines_text, block_text}
-use Rattle.verilog_writer.specs.Model.{module_opening_text, next_port_text, module_header_text, input_port_text, output_port_text, wire_text, declarations_text, terminal_text, driver_text, call_text, constant_text, module_only_text}
+use Rattle.verilog_writer.specs.Timing.{gate_text, delays_text, path_text, ordered_text, turned_text, width_text, period_line}
+use Rattle.verilog_writer.specs.Timing.{period_text, check_text, lines_text, block_text}
+use Rattle.verilog_writer.specs.Model.{module_opening_text, next_port_text, module_header_text, input_port_text, output_port_text}
+use Rattle.verilog_writer.specs.Model.{wire_text, declarations_text, terminal_text, driver_text, call_text, constant_text}
+use Rattle.verilog_writer.specs.Model.{module_only_text}
 
 abbrev port : List ℕ → Bool → VPort
 port name input = record { name = name; input = input }
@@ -25,7 +28,14 @@ primitive name sequential = record { name = name; output = codes "q"; inputs = [
 
 check : CheckKind → ℕ → ℕ → Edge → ℕ → Edge → Option ℕ → TimingCheck
 check kind limit p e q f condition =
-    record { kind = kind; first = record { pin = p; edge = e }; second = record { pin = q; edge = f }; limit = limit; condition = condition }
+    record {
+      kind = kind;
+      first = record { pin = p; edge = e };
+      second = record { pin = q; edge = f };
+      limit = limit;
+      condition =
+          condition;
+    }
 
 -- A flip-flop with a setup of 50 of D before rising CK, and delays of 100 and 120 from CK to Q.
 flip_flop : VModule
@@ -46,7 +56,9 @@ flip_flop =
 its-text :
     module_only_text flip_flop
     ≡ codes "module DFFT (CK, D, Q);\n  input CK;\n  input D;\n  output Q;\n  wire lib_s1;\n  reg lib_n;\n  lib_1_1 (lib_s1, CK, D, lib_n);\n  lib_1_2 (Q, lib_s1);\n  specify\n    (CK => Q) = (100, 120);\n    $setup(D, posedge CK, 50, lib_n);\n  endspecify\nendmodule\n"
-unfolding check flip_flop primitive digits gate_text delays_text path_text ordered_text check_text lines_text block_text module_opening_text next_port_text module_header_text input_port_text output_port_text wire_text declarations_text terminal_text driver_text call_text module_only_text
+unfolding check flip_flop primitive digits gate_text delays_text path_text ordered_text check_text lines_text block_text
+    module_opening_text next_port_text module_header_text input_port_text output_port_text wire_text declarations_text
+    terminal_text driver_text call_text module_only_text
 its-text = refl
 
 -- A cell with the one output Y, which is always 1.
@@ -64,7 +76,8 @@ tied =
     }
 
 tied-text : module_only_text tied ≡ codes "module TIE (Y);\n  output Y;\n  buf (Y, 1'b1);\nendmodule\n"
-unfolding tied lines_text block_text module_opening_text next_port_text module_header_text input_port_text output_port_text wire_text declarations_text constant_text module_only_text
+unfolding tied lines_text block_text module_opening_text next_port_text module_header_text input_port_text output_port_text
+    wire_text declarations_text constant_text module_only_text
 tied-text = refl
 
 -- a path from CK to Q under a condition, and beside conditions
@@ -81,19 +94,23 @@ other-path = refl
 
 -- Checks of CK and D.
 
-hold-text : check_text flip_flop (check check_kind.Hold 8 0 edge.Rise 1 edge.Any (Some 0)) ≡ codes "    $hold(posedge CK, D &&& lib_s1, 8, lib_n);\n"
+hold-text : check_text flip_flop (check check_kind.Hold 8 0 edge.Rise 1 edge.Any (Some 0)) ≡ codes
+    "    $hold(posedge CK, D &&& lib_s1, 8, lib_n);\n"
 unfolding flip_flop check digits ordered_text check_text
 hold-text = refl
 
-recovery-text : check_text flip_flop (check check_kind.Recovery 8 0 edge.Fall 1 edge.Rise None) ≡ codes "    $recovery(negedge CK, posedge D, 8, lib_n);\n"
+recovery-text : check_text flip_flop (check check_kind.Recovery 8 0 edge.Fall 1 edge.Rise None) ≡ codes
+    "    $recovery(negedge CK, posedge D, 8, lib_n);\n"
 unfolding flip_flop check digits ordered_text check_text
 recovery-text = refl
 
-removal-text : check_text flip_flop (check check_kind.Removal 8 0 edge.Rise 1 edge.Fall (Some 0)) ≡ codes "    $removal(negedge D &&& lib_s1, posedge CK, 8, lib_n);\n"
+removal-text : check_text flip_flop (check check_kind.Removal 8 0 edge.Rise 1 edge.Fall (Some 0)) ≡ codes
+    "    $removal(negedge D &&& lib_s1, posedge CK, 8, lib_n);\n"
 unfolding flip_flop check digits turned_text check_text
 removal-text = refl
 
-width-text : check_text flip_flop (check check_kind.Width 8 0 edge.Rise 1 edge.Fall (Some 0)) ≡ codes "    $width(posedge CK &&& lib_s1, 8, 0, lib_n);\n"
+width-text : check_text flip_flop (check check_kind.Width 8 0 edge.Rise 1 edge.Fall (Some 0)) ≡ codes
+    "    $width(posedge CK &&& lib_s1, 8, 0, lib_n);\n"
 unfolding flip_flop check digits width_text check_text
 width-text = refl
 

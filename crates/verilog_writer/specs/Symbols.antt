@@ -10,7 +10,14 @@ use Rattle.udp_tables.specs.declared.table.Next.TheVariants as next
 -- the symbol of a level
 abbrev pub level_text : Level → List ℕ
 level_text l =
-    elim l [ level.Zero ↦ codes "0" | level.One ↦ codes "1" | level.Unknown ↦ codes "x" | level.Any ↦ codes "?" | level.Binary ↦ codes "b" ]
+    elim l [
+      | level.Zero ↦ codes "0"
+      | level.One ↦ codes "1"
+      | level.Unknown ↦ codes "x"
+      | level.Any ↦ codes "?"
+      | level.Binary ↦
+          codes "b"
+    ]
 
 -- the entry of one input: a level, a change from one level to another in brackets, or the symbol of a change
 abbrev pub entry_text : Entry → List ℕ

@@ -1,7 +1,8 @@
 //! The lines of checks in a specify block.
 ghost use Rattle.std.specs.Prelude.{◌≡◌, ◌++◌, codes};
 ghost use Rattle.verilog_writer.specs.Nets.{port_at};
-ghost use Rattle.verilog_writer.specs.Timing.{edge_text, joint_text, condition_text, limit_text, conditional_text, ordered_text, turned_text, width_text, period_text, check_text};
+ghost use Rattle.verilog_writer.specs.Timing.{edge_text, joint_text, condition_text, limit_text, conditional_text, ordered_text};
+ghost use Rattle.verilog_writer.specs.Timing.{turned_text, width_text, period_text, check_text};
 
 use crate::nets::{notifier_in, port_at, wire_at};
 use cell_machine::{CheckKind, Edge, Event};

@@ -15,7 +15,9 @@ use crate::names::NameLines;
 use crate::paths::PathLines;
 use crate::primitive::write_udp;
 use specify_blocks::VModule;
-use text_io::{Bytes, Desk, Each, Failed, Line, OutSlot, Part, Put, When, parts, write_part, write_whole};
+use text_io::{
+    Bytes, Desk, Each, Failed, Line, OutSlot, Part, Put, When, parts, write_part, write_whole,
+};
 
 /// Appends what a text of modules begins with to the Verilog text, which is bound: times are in picoseconds. After `Failed`,
 /// which comes only where a write failed, a prefix of it was appended. It takes no memory.
@@ -68,7 +70,8 @@ fn has_block(model: &VModule) -> bool
     model.paths.len() > 0 || model.checks.len() > 0
 }
 
-/// A module behind its primitives: the line of its header, its declarations, its instances, and its specify block, where there is one.
+/// A module behind its primitives: the line of its header, its declarations, its instances, and its specify block, where there is
+/// one.
 #[derive(Drop)]
 struct Module<'a>(&'a VModule);
 

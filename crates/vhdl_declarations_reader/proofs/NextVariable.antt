@@ -1,5 +1,6 @@
 -- The next variable, by its name.
-use Rattle.std.proofs.Common.{◌≡◌, ℕ, Bool, true, false, not, ◌&&◌, List, [], ◌∷◌, ◌++◌, Some, None, Ok, Err, refl, sym, ap, codes}
+use Rattle.std.proofs.Common.{◌≡◌, ℕ, Bool, true, false, not, ◌&&◌, List, [], ◌∷◌, ◌++◌, Some, None, Ok, Err, refl, sym, ap}
+use Rattle.std.proofs.Common.{codes}
 use Rattle.std.specs.Option.{option_map}
 use Rattle.grammar_rules.specs.Rule.{Token}
 use Rattle.grammar_rules.specs.Reading.{read}
@@ -25,7 +26,8 @@ module _ (ports : List VPort) (tables : Tables) (v : Variables) where
   abbrev IsNoViolation : List (List ℕ) → Type 0
   IsNoViolation s = (awaits_violation v && is_next is_same (codes "viol") s) ≡ false
 
-  pub other : (s : List (List ℕ)) → IsNoViolation s → is_name (next_bytes s) ≡ false → read (Token (variable_by ports tables v) Syntax) s ≡ Err (Syntax, s)
+  pub other : (s : List (List ℕ)) → IsNoViolation s → is_name (next_bytes s) ≡ false
+      → read (Token (variable_by ports tables v) Syntax) s ≡ Err (Syntax, s)
   other [] e f = refl
   other (x ∷ s) e f = rw (e, f) refl
 
@@ -35,7 +37,8 @@ module _ (ports : List VPort) (tables : Tables) (v : Variables) where
   some [] kind e f g = absurd cc
   some (x ∷ s) kind e f g = rw (e, f, sym g) refl
 
-  pub none : (s : List (List ℕ)) → IsNoViolation s → is_name (next_bytes s) ≡ true → option_map variable_kind None ≡ variable_of ports tables v (next_bytes s) →
+  pub none : (s : List (List ℕ)) → IsNoViolation s → is_name (next_bytes s) ≡ true
+      → option_map variable_kind None ≡ variable_of ports tables v (next_bytes s) →
       read (Token (variable_by ports tables v) Syntax) s ≡ Err (Undefined, s)
   none [] e f g = absurd cc
   none (x ∷ s) e f g = rw (e, f, sym g) refl

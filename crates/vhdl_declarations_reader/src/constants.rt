@@ -14,8 +14,8 @@ use grammar_reader::{Read, Refusal, RepeatedPart, Stop, where_read, while_next, 
 use sqlite_items::Items;
 use std::alloc::{AllocError, Global};
 use vhdl_grammar::Tables;
-use vhdl_tokens::is_name;
 use vhdl_scope::{Cursor, Vhdl, is_numbered};
+use vhdl_tokens::is_name;
 use vital_models::TruthTable;
 
 /// What the next constant is a table of.
@@ -66,7 +66,8 @@ fn constant_name(cursor: &mut Cursor<'_>, alloc: Global, tables: &Tables) -> Rea
 /// A truth table, behind the `:` of its constant.
 #[tactic(auto, unfolding(vhdl_grammar::specs::VhdlTables::assigned_truth_table))]
 fn truth_constant(cursor: &mut Cursor<'_>, alloc: Global) -> Read<TruthTable>
-    ensures { Reads (read (Then (expect (codes "VitalTruthTableType")) (λ _. spec.assigned_truth_table)) cursor.old) result cursor.new }
+    ensures { Reads (read (Then (expect (codes "VitalTruthTableType")) (λ _. spec.assigned_truth_table)) cursor.old) result
+        cursor.new }
 {
     cursor.expect(b"VitalTruthTableType")?;
     cursor.expect(b":=")?;

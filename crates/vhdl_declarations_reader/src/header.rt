@@ -12,8 +12,8 @@ use grammar_reader::{Read, Refusal, RepeatedPart, Stop, one_or_more, with_read};
 use sqlite_items::Items;
 use std::alloc::Global;
 use udp_tables::VPort;
-use vhdl_tokens::{is_name, is_same};
 use vhdl_scope::{Cursor, Ports, Vhdl, either_word, expect_all};
+use vhdl_tokens::{is_name, is_same};
 
 /// The packages that an entity uses, behind its first word.
 #[tactic(auto, unfolding(vhdl_grammar::specs::VhdlDeclarations::packages))]
@@ -92,7 +92,8 @@ fn direction(cursor: &mut Cursor<'_>) -> Read<bool>
 /// A port of this entity, behind these ports, whose name is none of theirs.
 #[tactic(auto, unfolding(vhdl_grammar::specs::VhdlDeclarations::next_port))]
 fn a_port(cursor: &mut Cursor<'_>, alloc: Global, entity: &[u8], ports: &Ports) -> Read<VPort>
-    ensures reads { ReadsAs (λ port. ports.now ++ port ∷ []) (read (spec.next_port entity.now ports.now) cursor.old) result cursor.new }
+    ensures reads { ReadsAs (λ port. ports.now ++ port ∷ []) (read (spec.next_port entity.now ports.now) cursor.old) result
+        cursor.new }
     ensures named { IfOk result (λ port. is_name port.name ≡ true) }
     ensures fresh { IfOk result (λ port. rules.is_among (spec.port_names ports.now) port.name ≡ false) }
 {

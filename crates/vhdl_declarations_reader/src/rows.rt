@@ -60,7 +60,8 @@ fn row_end<R: TableRow>(cursor: &mut Cursor<'_>, rows: &[R], row: Option<R>) -> 
 
 /// A row of a table, behind these rows.
 fn a_row<R: TableRow>(cursor: &mut Cursor<'_>, alloc: Global, rows: &[R]) -> Read<R>
-    ensures { ReadsAs (λ row. rows.now ++ row ∷ []) (spec.row R.entries R.row_of R.is_as_long rows.now cursor.old) result cursor.new }
+    ensures { ReadsAs (λ row. rows.now ++ row ∷ []) (spec.row R.entries R.row_of R.is_as_long rows.now cursor.old) result
+        cursor.new }
 {
     cursor.expect(b"(")?;
     let entries = R::entries(cursor, alloc)?;

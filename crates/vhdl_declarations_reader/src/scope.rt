@@ -30,7 +30,8 @@ fn declared_inside(
     entity: &[u8],
     ports: &Ports,
 ) -> Read<Architecture>
-    ensures { ReadsAs (scope_with entity.now ports.now) (read (tails.behind_header entity.now ports.now) cursor.old) result cursor.new }
+    ensures { ReadsAs (scope_with entity.now ports.now) (read (tails.behind_header entity.now ports.now) cursor.old) result
+        cursor.new }
 {
     architecture_header(cursor, entity)?;
     let tables = constants(cursor, alloc)?;

@@ -12,8 +12,8 @@ ghost use Rattle.vhdl_declarations_reader.specs.declared.variable_names.Variable
 use grammar_reader::{Read, Refusal, Stop};
 use std::alloc::{AllocError, Global};
 use vhdl_grammar::{Tables, Variables};
-use vhdl_tokens::is_name;
 use vhdl_scope::{Cursor, Ports, is_numbered};
+use vhdl_tokens::is_name;
 
 /// What a variable is of.
 #[derive(Clone, Copy)]
@@ -62,7 +62,8 @@ fn variable_of(
     variables: &Variables,
     token: &[u8],
 ) -> Result<Option<VariableOf>, AllocError>
-    ensures value { IfOk result (λ found. option_map variable_kind found ≡ spec.variable_of ports.now tables.now variables.now token.now) }
+    ensures value { IfOk result (λ found. option_map variable_kind found ≡ spec.variable_of ports.now tables.now variables.now
+        token.now) }
     ensures within { IfOk result (λ found. found ≡ Some kind.State → variables.now.states < length tables.now.states) }
 {
     if is_before_states(variables) && !variables.violation {
@@ -99,7 +100,8 @@ pub fn variable_name(
     tables: &Tables,
     variables: &Variables,
 ) -> Read<VariableOf>
-    ensures value { ReadsAs variable_kind (read (Token (spec.variable_by ports.now tables.now variables.now) Syntax) cursor.old) result cursor.new }
+    ensures value { ReadsAs variable_kind (read (Token (spec.variable_by ports.now tables.now variables.now) Syntax) cursor.old)
+        result cursor.new }
     ensures within { IfOk result (λ of. of ≡ kind.State → variables.now.states < length tables.now.states) }
 {
     if awaits_violation(variables) && cursor.is_next(b"viol") {

@@ -39,7 +39,8 @@ fn first_data(is_period: bool) -> &'static [u8]
 
 /// The name of the data of the next check.
 fn data_name(cursor: &mut Cursor<'_>, alloc: Global, variables: &Variables) -> Read<()>
-    ensures { Reads (read (rules.this_name (Some (rules.numbered (codes "d_") (length variables.now.periods + 1)))) cursor.old) result cursor.new }
+    ensures { Reads (read (rules.this_name (Some (rules.numbered (codes "d_") (length variables.now.periods + 1)))) cursor.old)
+        result cursor.new }
 {
     let number = variables.periods.as_slice().len() + 1;
     numbered(cursor, alloc, true, b"d_", number)
@@ -67,7 +68,8 @@ fn state_variables(
     variables: &Variables,
 ) -> Read<()>
     requires { variables.now.states < length tables.now.states }
-    ensures { ReadsAs (λ _. spec.with_state variables.now) (read (spec.state_variables tables.now variables.now) cursor.old) result cursor.new }
+    ensures { ReadsAs (λ _. spec.with_state variables.now) (read (spec.state_variables tables.now variables.now) cursor.old)
+        result cursor.new }
 {
     let _bound = tables.states.as_slice().len();
     expect_all(
@@ -109,7 +111,8 @@ fn variable(
     tables: &Tables,
     variables: &mut Variables,
 ) -> Read<()>
-    ensures { ReadsAs (λ _. variables.new) (read (spec.variable ports.now tables.now variables.old) cursor.old) result cursor.new }
+    ensures { ReadsAs (λ _. variables.new) (read (spec.variable ports.now tables.now variables.old) cursor.old) result
+        cursor.new }
 {
     match variable_name(cursor, alloc, ports, tables, variables)? {
         VariableOf::Check => {

@@ -9,7 +9,8 @@ use Rattle.vhdl_drivers.specs.DriverText.{next_input_text}
 abbrev is_input : VPort → Bool
 is_input port = port.input
 
-one_more : (port : VPort) (ports : List VPort) → flat_map next_input_text ports ≡ flat_map next_name_text (input_names ports) → (b : Bool)
+one_more : (port : VPort) (ports : List VPort) → flat_map next_input_text ports ≡ flat_map next_name_text (input_names ports)
+    → (b : Bool)
     → (if b then next_name_text port.name else []) ++ flat_map next_input_text ports
     ≡ flat_map next_name_text (port_names (if b then port ∷ filter is_input ports else filter is_input ports))
 one_more port ports e true = ap (λ text. next_name_text port.name ++ text) e

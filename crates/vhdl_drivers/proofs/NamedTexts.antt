@@ -12,12 +12,14 @@ use Rattle.vhdl_drivers.specs.DriverSections.{text_of_name}
 at : List ℕ → List (List ℕ) → Bool → Outcome (List ℕ) Refusal (Unit {0})
 at x s b = judge (if b then Fits tt else Misfit Syntax) (λ a. Ok (a, s)) (λ k. Err (k, x ∷ s))
 
-pub text_fits : (name : List ℕ) (s : List (List ℕ)) → is_quoted (next_bytes s) name ≡ true → read (text_of_name name) s ≡ Ok (tt, rest s)
+pub text_fits : (name : List ℕ) (s : List (List ℕ)) → is_quoted (next_bytes s) name ≡ true
+    → read (text_of_name name) s ≡ Ok (tt, rest s)
 unfolding at
 text_fits name [] e = absurd cc
 text_fits name (x ∷ s) e = ap (at x s) e
 
-pub text_other : (name : List ℕ) (s : List (List ℕ)) → is_quoted (next_bytes s) name ≡ false → read (text_of_name name) s ≡ Err (Syntax, s)
+pub text_other : (name : List ℕ) (s : List (List ℕ)) → is_quoted (next_bytes s) name ≡ false
+    → read (text_of_name name) s ≡ Err (Syntax, s)
 unfolding at
 text_other name [] e = refl
 text_other name (x ∷ s) e = ap (at x s) e

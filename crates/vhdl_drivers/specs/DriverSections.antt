@@ -2,7 +2,8 @@
 -- core and a process with a buffer for each driven output. (IEEE 1076-1993, 1.1, 1.2, 4.3.1.2, 9.2 and 9.6; IEEE 1076.4-2000,
 -- VitalBUFIF1 and VitalPathDelay01. The form of the section, and the names of its signals, variables and of the core's
 -- instance, are this project's.)
-use Rattle.std.specs.Prelude.{ℕ, zero, suc, ◌+◌, ◌==◌, ◌&&◌, nat_lt, Bool, true, false, List, [], ◌∷◌, ◌++◌, length, slice_get, Option, Some, None, Result, codes, if◌then◌else◌}
+use Rattle.std.specs.Prelude.{ℕ, zero, suc, ◌+◌, ◌==◌, ◌&&◌, nat_lt, Bool, true, false, List, [], ◌∷◌, ◌++◌, length, slice_get}
+use Rattle.std.specs.Prelude.{Option, Some, None, Result, codes, if◌then◌else◌}
 use Rattle.std.specs.Option.{option_map_or}
 use Rattle.grammar_rules.specs.Rule.{Verdict, Fits, Misfit}
 use Rattle.grammar_rules.specs.Rule as r

@@ -31,7 +31,8 @@ driver_header_text m =
     codes "use work.all;\nlibrary IEEE;\nuse IEEE.std_logic_1164.all;\nuse IEEE.VITAL_Timing.all;\nuse IEEE.VITAL_Primitives.all;\nentity "
     ++ (m.name
     ++ (codes " is\n"
-    ++ (some_ports_text m.ports ++ (codes "end " ++ (m.name ++ (codes ";\narchitecture driven of " ++ (m.name ++ codes " is\n")))))))
+    ++ (some_ports_text m.ports ++ (codes "end "
+    ++ (m.name ++ (codes ";\narchitecture driven of " ++ (m.name ++ codes " is\n")))))))
 
 -- the declaration of a signal (4.3.1.2)
 unfoldable pub signal_text : List ℕ → List ℕ
@@ -56,7 +57,8 @@ unfoldable pub process_text : DriverModel → List ℕ
 process_text m =
     codes "  process ("
     ++ (flat_map next_name_text (input_names m.ports)
-    ++ (flat_map next_name_text (all_numbered data_word (driven_count m)) ++ (listed_names_text enable_word (driven_count m) ++ codes ")\n")))
+    ++ (flat_map next_name_text (all_numbered data_word (driven_count m))
+    ++ (listed_names_text enable_word (driven_count m) ++ codes ")\n")))
 
 -- the paths to the driven output with this number, from 0
 abbrev pub paths_to : ℕ → List DrivePath → List DrivePath
@@ -101,7 +103,8 @@ path_call_text m n name =
     ++ (name
     ++ (codes "\", OutTemp => z_"
     ++ (decimal n
-    ++ (codes ", Paths => (" ++ (numbered_texts (drive_path_text m.ports) 1 (own_paths m n) ++ codes "), Mode => VitalTransport);\n")))))))))
+    ++ (codes ", Paths => (" ++ (numbered_texts (drive_path_text m.ports) 1 (own_paths m n)
+    ++ codes "), Mode => VitalTransport);\n")))))))))
 
 -- the assignment of the driven output with this number, from 1, and this name, where it has no paths (8.4)
 unfoldable pub direct_text : ℕ → List ℕ → List ℕ
@@ -123,4 +126,5 @@ statements_text m =
 unfoldable pub driver_text : DriverModel → List ℕ
 driver_text m =
     driver_header_text m
-    ++ (signals_text (driven_count m) ++ (core_text m ++ (process_text m ++ (statements_text m ++ codes "  end process;\nend driven;\n"))))
+    ++ (signals_text (driven_count m)
+    ++ (core_text m ++ (process_text m ++ (statements_text m ++ codes "  end process;\nend driven;\n"))))

@@ -16,8 +16,8 @@ pub record HasNumbers (path : DrivePath) : Type 0 where
   pub rise : IsNumber path.rise
   pub fall : IsNumber path.fall
 
--- A driver that a text can tell, with an output that is driven. The place of each path, from 0, is a number of the text, and how many
--- outputs are driven is a count.
+-- A driver that a text can tell, with an output that is driven. The place of each path, from 0, is a number of the text, and how
+-- many outputs are driven is a count.
 pub record IsWrittenDriver (d : DriverModel) : Type 0 where
   pub name : IsEntityName d.name
   pub other : is_same d.name (codes "driven") ≡ false

@@ -53,7 +53,8 @@ impl Outputs<'_> {
         found: Items<DrivePath>,
     ) -> Read<Items<DrivePath>>
         requires { number < 2 ^ 63 }
-        ensures { Reads (read (spec.line_by self.now.ports.now number name.now found (spec.has_glitch self.now.glitches.now number)) cursor.old) result cursor.new }
+        ensures { Reads (read (spec.line_by self.now.ports.now number name.now found
+            (spec.has_glitch self.now.glitches.now number)) cursor.old) result cursor.new }
     {
         if has_glitch(self.glitches, number) {
             return path_call(cursor, self.alloc, self.ports, number, name, found);
@@ -64,7 +65,8 @@ impl Outputs<'_> {
 
     /// The lines of the driven outputs with these names: the paths to them.
     pub(crate) fn lines(&self, cursor: &mut Cursor, names: &[Items<u8>]) -> Read<Items<DrivePath>>
-        ensures { Reads (read (spec.driven_lines self.now.ports.now self.now.glitches.now 0 names.now []) cursor.old) result cursor.new }
+        ensures { Reads (read (spec.driven_lines self.now.ports.now self.now.glitches.now 0 names.now []) cursor.old) result
+            cursor.new }
     {
         let mut found = Items::new(self.alloc);
         for (number, name) in names.iter().enumerate() {

@@ -1,7 +1,8 @@
 //! The lines of driven outputs: their variables, their buffers, and their assignments.
 ghost use Rattle.std.specs.Prelude.{◌≡◌, nat_eq, nat_lt, length};
 ghost use Rattle.std.specs.List.{list_any};
-ghost use Rattle.vhdl_drivers.specs.DriverText.{own_paths, driven_variables_text, buffer_text, path_call_text, direct_text, driven_line};
+ghost use Rattle.vhdl_drivers.specs.DriverText.{own_paths, driven_variables_text, buffer_text, path_call_text, direct_text};
+ghost use Rattle.vhdl_drivers.specs.DriverText.{driven_line};
 
 use crate::path_lists::OwnPaths;
 use driven_traces::DrivePath;

@@ -13,8 +13,8 @@ use sqlite_items::Items;
 use std::alloc::Global;
 use udp_tables::VPort;
 use vhdl_outputs_reader::delays;
-use vhdl_tokens::is_quoted;
 use vhdl_scope::{Cursor, Vhdl, expect_all, this_number};
+use vhdl_tokens::is_quoted;
 
 /// The number of the path behind these.
 fn path_number(cursor: &mut Cursor, paths: &[DrivePath]) -> Read<()>

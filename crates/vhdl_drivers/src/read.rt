@@ -14,11 +14,11 @@ use crate::section::section_process;
 use driver_models::{Cores, DriverModel, KnownNames};
 use driver_texts::cursor_before;
 use grammar_reader::{Read, Stop};
-use std::alloc::Global;
 use lexer::{KeptSpan, Scan};
+use std::alloc::Global;
 use udp_tables::{ModelFault, VPort, refusal_fault};
-use vhdl_tokens::scan;
 use vhdl_scope::{Cursor, Vhdl};
+use vhdl_tokens::scan;
 
 /// What a core is read as, and a cursor where its reading stopped.
 #[derive(Drop)]
@@ -38,7 +38,8 @@ fn core_before<'a>(
     ports: &[VPort],
 ) -> CoreRead<'a>
     requires { LieInside text.now tokens.now }
-    ensures { ReadsAs call_of (read (spec.section_core cores.now ports.now) (last_tokens text.now tokens.now left)) result.call result.left }
+    ensures { ReadsAs call_of (read (spec.section_core cores.now ports.now) (last_tokens text.now tokens.now left)) result.call
+        result.left }
 {
     let mut inner = cursor_before::<VitalDrivers>(text, tokens, left);
     let call = section_core(&mut inner, alloc, cores, ports);
@@ -64,7 +65,8 @@ fn rest_before<'a>(
     front: SectionFront,
 ) -> SectionRead<'a>
     requires { LieInside text.now tokens.now }
-    ensures { Reads (read (spec.section_rest cores.now (front_of front)) (last_tokens text.now tokens.now left)) result.driver result.left }
+    ensures { Reads (read (spec.section_rest cores.now (front_of front)) (last_tokens text.now tokens.now left)) result.driver
+        result.left }
 {
     let CoreRead { call, mut left } = core_before(
         alloc,

@@ -3,7 +3,8 @@ ghost use Rattle.std.specs.Prelude.{IsTrue};
 ghost use Rattle.text_io.specs.declared.slots.OutSlot.TheVariants.{VitalText};
 ghost use Rattle.text_io.specs.declared.slots.Slot.TheVariants.{Output};
 ghost use Rattle.text_io.specs.Desk.{is_bound, HasCause, WritesText};
-ghost use Rattle.vhdl_drivers.specs.DriverText.{driver_header_text, signals_text, core_text, process_text, statements_text, driver_text};
+ghost use Rattle.vhdl_drivers.specs.DriverText.{driver_header_text, signals_text, core_text, process_text, statements_text};
+ghost use Rattle.vhdl_drivers.specs.DriverText.{driver_text};
 
 use crate::inputs::NextInputs;
 use crate::lines::{Buffers, DrivenLines, DrivenVariables};

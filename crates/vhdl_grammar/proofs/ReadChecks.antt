@@ -1,5 +1,6 @@
 -- The checks that are read, with their conditions.
-use Rattle.std.proofs.Common.{◌≡◌, ℕ, Bool, true, false, nat_eq, nat_lt, if◌then◌else◌, IsTrue, List, [], ◌∷◌, ◌++◌, length, ◌⊎◌, inl, inr, Option, Some, None, refl, sym, ap, subst, ◌∙◌, codes}
+use Rattle.std.proofs.Common.{◌≡◌, ℕ, Bool, true, false, nat_eq, nat_lt, if◌then◌else◌, IsTrue, List, [], ◌∷◌, ◌++◌, length, ◌⊎◌}
+use Rattle.std.proofs.Common.{inl, inr, Option, Some, None, refl, sym, ap, subst, ◌∙◌, codes}
 use Rattle.std.specs.Prelude.{All, flat_map}
 use Rattle.std.proofs.lemmas.Bool.{and_from, eq-eqb, eqb-true}
 use Rattle.std.proofs.lemmas.List.{append-nil}
@@ -19,7 +20,11 @@ use Rattle.vhdl_tokens.specs.Spelling.{is_same}
 use Rattle.vhdl_grammar.specs.declared.scope.Scope.{Scope}
 use Rattle.vhdl_grammar.specs.VhdlRules.{a_time}
 use Rattle.vhdl_grammar.specs.VhdlNames.{Uses}
-use Rattle.vhdl_grammar.specs.VhdlChecks.{Procedure, SetupHold, RecoveryRemoval, PeriodPulse, Checks, tested, referred, enabling_condition, always_enabled, enabled, reference_edge, transition, setup_or_hold, both_limits, check_with, with_check, setup_hold, recovery_or_removal, control_edge, one_limit, active_low, recovery_removal, Pulse, pulse_of, pulse_check, period_pulse, check, checks}
+use Rattle.vhdl_grammar.specs.VhdlChecks.{Procedure, SetupHold, RecoveryRemoval, PeriodPulse, Checks, tested, referred}
+use Rattle.vhdl_grammar.specs.VhdlChecks.{enabling_condition, always_enabled, enabled, reference_edge, transition, setup_or_hold}
+use Rattle.vhdl_grammar.specs.VhdlChecks.{both_limits, check_with, with_check, setup_hold, recovery_or_removal, control_edge}
+use Rattle.vhdl_grammar.specs.VhdlChecks.{one_limit, active_low, recovery_removal, Pulse, pulse_of, pulse_check, period_pulse}
+use Rattle.vhdl_grammar.specs.VhdlChecks.{check, checks}
 use Rattle.vhdl_grammar.specs.WellFormed.{IsNumber, conditions_of_check}
 use Rattle.vhdl_grammar.proofs.ReadNames.{IsSpelled, numbers, values, goes_on, behind}
 use Rattle.vhdl_grammar.proofs.ReadLists.{input_ports, AreLookedUp, none_looked_up, conditions}
@@ -29,10 +34,12 @@ use Rattle.vhdl_grammar.proofs.ReadLists.{input_ports, AreLookedUp, none_looked_
 abbrev IsInput : Scope → ℕ → Type 0
 IsInput scope p = IsTrue (is_input_port scope.ports p)
 
-tested_inputs : (scope : Scope) (is_period : Bool) (word : List ℕ) (j : ℕ) → Promises IsSpelled (tested scope is_period word j) (IsInput scope)
+tested_inputs : (scope : Scope) (is_period : Bool) (word : List ℕ) (j : ℕ)
+    → Promises IsSpelled (tested scope is_period word j) (IsInput scope)
 unfolding tested
 tested_inputs scope is_period word j =
-    behind (λ a. behind (λ b. behind (λ c. behind (λ d. behind (λ e. in_turn (input_ports scope.ports) (λ p h. behind (λ f. gives h)))))))
+    behind (λ a. behind (λ b. behind
+    (λ c. behind (λ d. behind (λ e. in_turn (input_ports scope.ports) (λ p h. behind (λ f. gives h)))))))
 
 referred_inputs : (scope : Scope) → Promises IsSpelled (referred scope) (IsInput scope)
 unfolding referred
@@ -56,12 +63,18 @@ record IsEnabling (scope : Scope) (is : List ℕ) (found : Option ℕ × Uses) :
   condition : IsTrue (is_enabled_in (length scope.tables.conditions) found.0)
   looked_up : AreLookedUp scope (is ++ numbers_in found.0) found.1
 
-enabling : (scope : Scope) (is : List ℕ) (uses : Uses) → AreLookedUp scope is uses → Promises IsSpelled (enabled scope uses) (IsEnabling scope is)
+enabling : (scope : Scope) (is : List ℕ) (uses : Uses) → AreLookedUp scope is uses
+    → Promises IsSpelled (enabled scope uses) (IsEnabling scope is)
 unfolding enabled enabling_condition always_enabled
 enabling scope is uses h =
     behind (λ a. choice
-    (λ x b p e. in_turn (conditions scope is uses h) (λ found f. behind (λ c. gives (record { condition = f.condition; looked_up = f.looked_up }))))
-    (behind (λ b. gives (record { condition = refl; looked_up = subst (λ (js : List ℕ). AreLookedUp scope js uses) (sym (append-nil is)) h }))))
+    (λ x b p e. in_turn (conditions scope is uses h)
+    (λ found f. behind (λ c. gives (record { condition = f.condition; looked_up = f.looked_up }))))
+    (behind (λ b. gives (record {
+      condition = refl;
+      looked_up =
+          subst (λ (js : List ℕ). AreLookedUp scope js uses) (sym (append-nil is)) h;
+    }))))
 
 one_of : {A : Type 0} (a b : Bool) (v w k : A) → (if a then Some v else (if b then Some w else None)) ≡ Some k → (v ≡ k) ⊎ (w ≡ k)
 one_of true b v w k e = inl cc
@@ -114,13 +127,15 @@ abbrev IsToldAs : Scope → CheckKind → Edge → Type 0
 IsToldAs scope kind test_edge =
     (test reference limit : ℕ) (e : Edge) (when : Option ℕ) → IsInput scope test → IsInput scope reference → is_one_edge e ≡ true
     → IsTrue (is_enabled_in (length scope.tables.conditions) when) → IsNumber limit
-    → IsToldCheck scope (check_with kind (record { pin = test; edge = test_edge }) (record { pin = reference; edge = e }) limit when)
+    → IsToldCheck scope (check_with kind (record { pin = test; edge = test_edge }) (record { pin = reference; edge = e }) limit
+    when)
 
 told_setup : (scope : Scope) → IsToldAs scope check_kind.Setup edge.Any
 told_setup scope test reference limit e when t r one w l = record { first = t; second = r; events = one; enabled = w; limit = l }
 
 told_hold : (scope : Scope) → IsToldAs scope check_kind.Hold edge.Any
-told_hold scope test reference limit e when t r one w l = record { first = r; second = t; events = and_from (is_one_edge e) true one refl; enabled = w; limit = l }
+told_hold scope test reference limit e when t r one w l =
+    record { first = r; second = t; events = and_from (is_one_edge e) true one refl; enabled = w; limit = l }
 
 told_recovery : (scope : Scope) (c : Edge) → is_one_edge c ≡ true → IsToldAs scope check_kind.Recovery c
 told_recovery scope c h test reference limit e when t r one w l =
@@ -131,25 +146,30 @@ told_removal scope c h test reference limit e when t r one w l =
     record { first = r; second = t; events = and_from (is_one_edge e) (is_one_edge c) one h; enabled = w; limit = l }
 
 setup_or_hold_told : (scope : Scope) (x : List ℕ) (kind : CheckKind) → setup_or_hold x ≡ Some kind → IsToldAs scope kind edge.Any
-setup_or_hold_told scope x kind h = elim (one_of (is_same x (codes "SetupHigh")) (is_same x (codes "HoldHigh")) check_kind.Setup check_kind.Hold kind h) [
-  | inl i ↦ subst (λ (kind : CheckKind). IsToldAs scope kind edge.Any) i (told_setup scope)
-  | inr i ↦ subst (λ (kind : CheckKind). IsToldAs scope kind edge.Any) i (told_hold scope)
-]
+setup_or_hold_told scope x kind h =
+    elim (one_of (is_same x (codes "SetupHigh")) (is_same x (codes "HoldHigh")) check_kind.Setup check_kind.Hold kind h) [
+      | inl i ↦ subst (λ (kind : CheckKind). IsToldAs scope kind edge.Any) i (told_setup scope)
+      | inr i ↦ subst (λ (kind : CheckKind). IsToldAs scope kind edge.Any) i (told_hold scope)
+    ]
 
-recovery_or_removal_told : (scope : Scope) (x : List ℕ) (kind : CheckKind) → recovery_or_removal x ≡ Some kind → (c : Edge) → is_one_edge c ≡ true → IsToldAs scope kind c
-recovery_or_removal_told scope x kind h c one = elim (one_of (is_same x (codes "Recovery")) (is_same x (codes "Removal")) check_kind.Recovery check_kind.Removal kind h) [
-  | inl i ↦ subst (λ (kind : CheckKind). IsToldAs scope kind c) i (told_recovery scope c one)
-  | inr i ↦ subst (λ (kind : CheckKind). IsToldAs scope kind c) i (told_removal scope c one)
-]
+recovery_or_removal_told : (scope : Scope) (x : List ℕ) (kind : CheckKind) → recovery_or_removal x ≡ Some kind → (c : Edge)
+    → is_one_edge c ≡ true → IsToldAs scope kind c
+recovery_or_removal_told scope x kind h c one =
+    elim (one_of (is_same x (codes "Recovery")) (is_same x (codes "Removal")) check_kind.Recovery check_kind.Removal kind h) [
+      | inl i ↦ subst (λ (kind : CheckKind). IsToldAs scope kind c) i (told_recovery scope c one)
+      | inr i ↦ subst (λ (kind : CheckKind). IsToldAs scope kind c) i (told_removal scope c one)
+    ]
 
 -- The condition of a check is the one that its text looks up.
 
 with_conditions : (kind : CheckKind) (first second : Event) (limit : ℕ) (when : Option ℕ)
-    → conditions_of_check (record { kind = kind; first = first; second = second; limit = limit; condition = when }) ≡ numbers_in when
+    → conditions_of_check (record { kind = kind; first = first; second = second; limit = limit; condition = when }) ≡ numbers_in
+    when
 with_conditions kind first second limit None = refl
 with_conditions kind first second limit (Some i) = refl
 
-kind_conditions : (kind : CheckKind) (test reference : Event) (limit : ℕ) (when : Option ℕ) → conditions_of_check (check_with kind test reference limit when) ≡ numbers_in when
+kind_conditions : (kind : CheckKind) (test reference : Event) (limit : ℕ) (when : Option ℕ)
+    → conditions_of_check (check_with kind test reference limit when) ≡ numbers_in when
 kind_conditions check_kind.Setup test reference limit when = with_conditions check_kind.Setup test reference limit when
 kind_conditions check_kind.Hold test reference limit when = with_conditions check_kind.Hold reference test limit when
 kind_conditions check_kind.Recovery test reference limit when = with_conditions check_kind.Recovery test reference limit when
@@ -162,50 +182,62 @@ pub record AreChecks (scope : Scope) (all : Checks) : Type 0 where
   pub told : All (IsToldCheck scope) all.checks
   pub looked_up : AreLookedUp scope (flat_map conditions_of_check all.checks) all.uses
 
-conditions-push : (all : List TimingCheck) (k : TimingCheck) → flat_map conditions_of_check (all ++ k ∷ []) ≡ flat_map conditions_of_check all ++ conditions_of_check k
+conditions-push : (all : List TimingCheck) (k : TimingCheck)
+    → flat_map conditions_of_check (all ++ k ∷ []) ≡ flat_map conditions_of_check all ++ conditions_of_check k
 conditions-push all k =
-    flat_map-append conditions_of_check all (k ∷ []) ∙ ap (λ (is : List ℕ). flat_map conditions_of_check all ++ is) (append-nil (conditions_of_check k))
+    flat_map-append conditions_of_check all (k ∷ []) ∙ ap (λ (is : List ℕ). flat_map conditions_of_check all ++ is)
+    (append-nil (conditions_of_check k))
 
-push_check : (scope : Scope) (before : Checks) (k : TimingCheck) (when : Option ℕ × Uses) → AreChecks scope before → IsToldCheck scope k → conditions_of_check k ≡ numbers_in when.0
+push_check : (scope : Scope) (before : Checks) (k : TimingCheck) (when : Option ℕ × Uses) → AreChecks scope before
+    → IsToldCheck scope k → conditions_of_check k ≡ numbers_in when.0
     → IsEnabling scope (flat_map conditions_of_check before.checks) when → AreChecks scope (with_check before k when.1)
 push_check scope before k when h told same looked = record {
   told = All-push (IsToldCheck scope) before.checks k h.told told;
   looked_up = subst (λ (is : List ℕ). AreLookedUp scope is when.1)
-      (sym (conditions-push before.checks k ∙ ap (λ (is : List ℕ). flat_map conditions_of_check before.checks ++ is) same)) looked.looked_up;
+      (sym (conditions-push before.checks k ∙ ap (λ (is : List ℕ). flat_map conditions_of_check before.checks ++ is) same))
+      looked.looked_up;
 }
 
-setup_holds : (scope : Scope) (before : Checks) → AreChecks scope before → Promises IsSpelled (setup_hold scope before) (AreChecks scope)
+setup_holds : (scope : Scope) (before : Checks) → AreChecks scope before
+    → Promises IsSpelled (setup_hold scope before) (AreChecks scope)
 unfolding setup_hold
 setup_holds scope before h =
-    in_turn (tested_inputs scope false (codes "TimingData") (length before.checks)) (λ test t. in_turn (referred_inputs scope) (λ reference r.
+    in_turn (tested_inputs scope false (codes "TimingData") (length before.checks))
+    (λ test t. in_turn (referred_inputs scope) (λ reference r.
     in_turn (values setup_or_hold) (λ kind f.
     in_turn (equal_limits kind) (λ limit l.
     in_turn (enabling scope (flat_map conditions_of_check before.checks) before.uses h.looked_up) (λ when w.
     in_turn transitions (λ e one.
-    gives (push_check scope before (check_with kind (record { pin = test; edge = edge.Any }) (record { pin = reference; edge = e }) limit when.0) when h
+    gives (push_check scope before (check_with kind (record { pin = test; edge = edge.Any })
+    (record { pin = reference; edge = e }) limit when.0) when h
     (setup_or_hold_told scope f.0 kind f.1 test reference limit e when.0 t r one w.condition l)
     (kind_conditions kind (record { pin = test; edge = edge.Any }) (record { pin = reference; edge = e }) limit when.0) w)))))))
 
-recovery_removals : (scope : Scope) (before : Checks) → AreChecks scope before → Promises IsSpelled (recovery_removal scope before) (AreChecks scope)
+recovery_removals : (scope : Scope) (before : Checks) → AreChecks scope before
+    → Promises IsSpelled (recovery_removal scope before) (AreChecks scope)
 unfolding recovery_removal
 recovery_removals scope before h =
-    in_turn (tested_inputs scope false (codes "TimingData") (length before.checks)) (λ test t. in_turn (referred_inputs scope) (λ reference r.
+    in_turn (tested_inputs scope false (codes "TimingData") (length before.checks))
+    (λ test t. in_turn (referred_inputs scope) (λ reference r.
     in_turn (values recovery_or_removal) (λ kind f.
     in_turn limits (λ limit l.
     in_turn controls (λ control c.
     in_turn (enabling scope (flat_map conditions_of_check before.checks) before.uses h.looked_up) (λ when w.
     in_turn transitions (λ e one.
-    gives (push_check scope before (check_with kind (record { pin = test; edge = control }) (record { pin = reference; edge = e }) limit when.0) when h
+    gives (push_check scope before (check_with kind (record { pin = test; edge = control }) (record { pin = reference; edge = e })
+    limit when.0) when h
     (recovery_or_removal_told scope f.0 kind f.1 control c test reference limit e when.0 t r one w.condition l)
     (kind_conditions kind (record { pin = test; edge = control }) (record { pin = reference; edge = e }) limit when.0) w))))))))
 
 -- a check of one signal
 abbrev IsToldPulse : Scope → Pulse → Type 0
 IsToldPulse scope pulse =
-    (p limit : ℕ) (when : Option ℕ) → IsInput scope p → IsTrue (is_enabled_in (length scope.tables.conditions) when) → IsNumber limit
+    (p limit : ℕ) (when : Option ℕ) → IsInput scope p → IsTrue (is_enabled_in (length scope.tables.conditions) when)
+    → IsNumber limit
     → IsToldCheck scope (pulse_check pulse p limit when)
 
-one_of_three : {A : Type 0} (a b c : Bool) (v w x k : A) → (if a then Some v else (if b then Some w else (if c then Some x else None))) ≡ Some k → (v ≡ k) ⊎ ((w ≡ k) ⊎ (x ≡ k))
+one_of_three : {A : Type 0} (a b c : Bool) (v w x k : A)
+    → (if a then Some v else (if b then Some w else (if c then Some x else None))) ≡ Some k → (v ≡ k) ⊎ ((w ≡ k) ⊎ (x ≡ k))
 one_of_three true b c v w x k e = inl cc
 one_of_three false true c v w x k e = inr (inl cc)
 one_of_three false false true v w x k e = inr (inr cc)
@@ -215,24 +247,53 @@ pulses_told : (scope : Scope) (word : List ℕ) (pulse : Pulse) → pulse_of wor
 pulses_told scope word pulse h =
     elim
     (one_of_three (is_same word (codes "PulseWidthHigh")) (is_same word (codes "PulseWidthLow")) (is_same word (codes "Period"))
-    (record { kind = check_kind.Width; first = edge.Rise; second = edge.Fall }) (record { kind = check_kind.Width; first = edge.Fall; second = edge.Rise })
+    (record { kind = check_kind.Width; first = edge.Rise; second = edge.Fall })
+    (record { kind = check_kind.Width; first = edge.Fall; second = edge.Rise })
     (record { kind = check_kind.Period; first = edge.Any; second = edge.Any }) pulse h) [
-      | inl i ↦ subst (IsToldPulse scope) i (λ p limit when t w l. record { first = t; second = t; events = and_from (nat_eq p p) true (eq-eqb p p refl) refl; enabled = w; limit = l })
-      | inr (inl i) ↦ subst (IsToldPulse scope) i (λ p limit when t w l. record { first = t; second = t; events = and_from (nat_eq p p) true (eq-eqb p p refl) refl; enabled = w; limit = l })
-      | inr (inr i) ↦ subst (IsToldPulse scope) i (λ p limit when t w l. record { first = t; second = t; events = and_from (nat_eq p p) true (eq-eqb p p refl) refl; enabled = w; limit = l })
+      | inl i ↦ subst (IsToldPulse scope) i
+          (λ p limit when t w l. record {
+            first = t;
+            second = t;
+            events =
+                and_from (nat_eq p p) true (eq-eqb p p refl) refl;
+            enabled = w;
+            limit = l;
+          })
+      | inr (inl i) ↦ subst (IsToldPulse scope) i
+          (λ p limit when t w l. record {
+            first = t;
+            second = t;
+            events =
+                and_from (nat_eq p p) true (eq-eqb p p refl) refl;
+            enabled = w;
+            limit = l;
+          })
+      | inr (inr i) ↦ subst (IsToldPulse scope) i
+          (λ p limit when t w l. record {
+            first = t;
+            second = t;
+            events =
+                and_from (nat_eq p p) true (eq-eqb p p refl) refl;
+            enabled = w;
+            limit = l;
+          })
     ]
 
-period_pulses : (scope : Scope) (before : Checks) → AreChecks scope before → Promises IsSpelled (period_pulse scope before) (AreChecks scope)
+period_pulses : (scope : Scope) (before : Checks) → AreChecks scope before
+    → Promises IsSpelled (period_pulse scope before) (AreChecks scope)
 unfolding period_pulse
 period_pulses scope before h =
     in_turn (tested_inputs scope true (codes "PeriodData") (length before.checks)) (λ test t.
     in_turn (values pulse_of) (λ pulse f.
     in_turn limits (λ limit l.
     in_turn (enabling scope (flat_map conditions_of_check before.checks) before.uses h.looked_up) (λ when w.
-    behind (λ a. gives (push_check scope before (pulse_check pulse test limit when.0) when h (pulses_told scope f.0 pulse f.1 test limit when.0 t w.condition l)
-    (with_conditions pulse.kind (record { pin = test; edge = pulse.first }) (record { pin = test; edge = pulse.second }) limit when.0) w))))))
+    behind (λ a. gives (push_check scope before (pulse_check pulse test limit when.0) when h
+    (pulses_told scope f.0 pulse f.1 test limit when.0 t w.condition l)
+    (with_conditions pulse.kind (record { pin = test; edge = pulse.first }) (record { pin = test; edge = pulse.second }) limit
+    when.0) w))))))
 
-one_check : (scope : Scope) (before : Checks) → AreChecks scope before → (of : Procedure) → Promises IsSpelled (check scope before of) (AreChecks scope)
+one_check : (scope : Scope) (before : Checks) → AreChecks scope before → (of : Procedure)
+    → Promises IsSpelled (check scope before of) (AreChecks scope)
 one_check scope before h SetupHold = setup_holds scope before h
 one_check scope before h RecoveryRemoval = recovery_removals scope before h
 one_check scope before h PeriodPulse = period_pulses scope before h
@@ -245,6 +306,7 @@ pub record AreAllChecks (scope : Scope) (all : Checks) : Type 0 where
 pub all_checks : (scope : Scope) → Promises IsSpelled (checks scope) (AreAllChecks scope)
 unfolding checks
 all_checks scope =
-    in_turn (many {Q = AreChecks scope} (record { told = All-nil (IsToldCheck scope); looked_up = none_looked_up scope }) (λ w x of q p e. one_check scope w q of)) (λ all h.
+    in_turn (many {Q = AreChecks scope} (record { told = All-nil (IsToldCheck scope); looked_up = none_looked_up scope })
+    (λ w x of q p e. one_check scope w q of)) (λ all h.
     in_turn (goes_on (nat_eq (length all.checks) (length scope.variables.periods))) (λ a n.
     gives (record { are = h; count = eqb-true (length all.checks) (length scope.variables.periods) n })))

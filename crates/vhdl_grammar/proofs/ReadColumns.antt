@@ -1,5 +1,6 @@
 -- The columns of states and the sources of outputs that are read.
-use Rattle.std.proofs.Common.{◌≡◌, ℕ, ◌+◌, ◌<◌, Bool, true, false, ◌&&◌, nat_eq, nat_lt, if◌then◌else◌, IsTrue, List, [], ◌∷◌, ◌++◌, length, slice_get, Option, Some, None, refl, ap, subst, ◌∙◌, arith, codes}
+use Rattle.std.proofs.Common.{◌≡◌, ℕ, ◌+◌, ◌<◌, Bool, true, false, ◌&&◌, nat_eq, nat_lt, if◌then◌else◌, IsTrue, List, [], ◌∷◌}
+use Rattle.std.proofs.Common.{◌++◌, length, slice_get, Option, Some, None, refl, ap, subst, ◌∙◌, arith, codes}
 use Rattle.std.specs.Cmp.{IsEquivalence}
 use Rattle.std.specs.List.{IsDistinct, list_any, list_all}
 use Rattle.std.specs.Option.{option_map, option_map_or}
@@ -23,7 +24,9 @@ use Rattle.vhdl_grammar.specs.declared.scope.Scope.{Scope}
 use Rattle.vhdl_grammar.specs.VhdlRules.{this_name, numbered_where, place_among}
 use Rattle.vhdl_grammar.specs.VhdlTables.{state_width}
 use Rattle.vhdl_grammar.specs.VhdlDeclarations.{width_at}
-use Rattle.vhdl_grammar.specs.VhdlNames.{input_of, listed_by, input_by, violated_columns, no_columns, with_input, column_count, behind_input, takes_violation, next_column, columns_of, same_source, source_or_state, source_of, listed_source, sources_of}
+use Rattle.vhdl_grammar.specs.VhdlNames.{input_of, listed_by, input_by, violated_columns, no_columns, with_input, column_count}
+use Rattle.vhdl_grammar.specs.VhdlNames.{behind_input, takes_violation, next_column, columns_of, same_source, source_or_state}
+use Rattle.vhdl_grammar.specs.VhdlNames.{source_of, listed_source, sources_of}
 use Rattle.vhdl_grammar.specs.VhdlChecks.{state_call_start, state_call, state_calls}
 use Rattle.vhdl_grammar.proofs.ReadNames.{IsSpelled, fits_if, known_values, where_holds, goes_on, behind, surely}
 use Rattle.vhdl_grammar.proofs.ReadTables.{all_elements}
@@ -36,13 +39,16 @@ pub record AreColumns (scope : Scope) (columns : Columns) : Type 0 where
   pub inputs : AreInputs scope.ports columns.inputs
   pub violated : IsTrue (if columns.violation then nat_lt 0 (length scope.variables.periods) else true)
 
-behind_fits : (scope : Scope) (columns c : Columns) (v : Verdict ℕ Refusal) → behind_input columns v ≡ Fits c → ((p : ℕ) → v ≡ Fits p → AreColumns scope (with_input columns p)) → AreColumns scope c
+behind_fits : (scope : Scope) (columns c : Columns) (v : Verdict ℕ Refusal) → behind_input columns v ≡ Fits c
+    → ((p : ℕ) → v ≡ Fits p → AreColumns scope (with_input columns p)) → AreColumns scope c
 behind_fits scope columns c (Fits p) e h = let same : with_input columns p ≡ c = cc in subst (AreColumns scope) same (h p refl)
 behind_fits scope columns c (Foul k p) e h = absurd cc
 behind_fits scope columns c (Misfit k) e h = absurd cc
 
-column_fits : (scope : Scope) (columns c : Columns) (x : List ℕ) (b : Bool) → (takes_violation scope columns && is_same x (codes "viol")) ≡ b → AreColumns scope columns
-    → (if b then Fits violated_columns else name_by is_name (λ x. behind_input columns (input_by scope.ports columns.inputs x)) x) ≡ Fits c → AreColumns scope c
+column_fits : (scope : Scope) (columns c : Columns) (x : List ℕ) (b : Bool)
+    → (takes_violation scope columns && is_same x (codes "viol")) ≡ b → AreColumns scope columns
+    → (if b then Fits violated_columns
+    else name_by is_name (λ x. behind_input columns (input_by scope.ports columns.inputs x)) x) ≡ Fits c → AreColumns scope c
 column_fits scope columns c x true t h e =
     let takes = (and_parts (takes_violation scope columns) (is_same x (codes "viol")) t).0 in
     let checks = (and_parts (nat_lt 0 (length scope.variables.periods)) (nat_eq (column_count columns) 0) takes).0 in
@@ -51,9 +57,13 @@ column_fits scope columns c x true t h e =
 column_fits scope columns c x false t h e =
     behind_fits scope columns c (input_by scope.ports columns.inputs x)
     (fits_if (is_name x) (behind_input columns (input_by scope.ports columns.inputs x)) Syntax c e).1
-    (λ p f. record { inputs = push_input scope.ports columns.inputs p h.inputs (new_input scope.ports columns.inputs x p f); violated = h.violated })
+    (λ p f. record {
+      inputs = push_input scope.ports columns.inputs p h.inputs (new_input scope.ports columns.inputs x p f);
+      violated = h.violated;
+    })
 
-one_column : (scope : Scope) (columns : Columns) → AreColumns scope columns → Promises IsSpelled (next_column scope columns) (AreColumns scope)
+one_column : (scope : Scope) (columns : Columns) → AreColumns scope columns
+    → Promises IsSpelled (next_column scope columns) (AreColumns scope)
 unfolding next_column
 one_column scope columns h =
     token (λ x c p e. column_fits scope columns c x (takes_violation scope columns && is_same x (codes "viol")) refl h e)
@@ -67,7 +77,8 @@ all_columns : (scope : Scope) (g : ℕ) → Promises IsSpelled (columns_of scope
 unfolding columns_of
 all_columns scope g =
     in_turn
-    (all_elements (next_column scope) (AreColumns scope) (AreColumns scope) no_columns (record { inputs = no_inputs scope.ports; violated = refl }) (one_column scope) (λ w r. r))
+    (all_elements (next_column scope) (AreColumns scope) (AreColumns scope) no_columns
+    (record { inputs = no_inputs scope.ports; violated = refl }) (one_column scope) (λ w r. r))
     (λ columns h.
     in_turn (where_holds (nat_eq (column_count columns) (width_at scope.tables g)) Width (codes ")")) (λ a w.
     gives (record { all = h; count = eqb-true (column_count columns) (width_at scope.tables g) w })))
@@ -76,18 +87,22 @@ all_columns scope g =
 abbrev pub AreStates : Scope → List VStateTable → List Columns → Type 0
 AreStates scope tables [] = Unit {0}
 AreStates scope [] (columns ∷ states) = ⊥
-AreStates scope (table ∷ tables) (columns ∷ states) = AreSoMany scope (state_width table.rows) columns × AreStates scope tables states
+AreStates scope (table ∷ tables) (columns ∷ states) = AreSoMany scope (state_width table.rows) columns
+    × AreStates scope tables states
 
 abbrev pub width_in : List VStateTable → ℕ → ℕ
 width_in tables g = option_map_or (λ (table : VStateTable). state_width table.rows) (slice_get tables g) 0
 
-push_state : (scope : Scope) (tables : List VStateTable) (states : List Columns) (columns : Columns) → AreStates scope tables states → length states < length tables
+push_state : (scope : Scope) (tables : List VStateTable) (states : List Columns) (columns : Columns)
+    → AreStates scope tables states → length states < length tables
     → AreSoMany scope (width_in tables (length states)) columns → AreStates scope tables (states ++ columns ∷ [])
 push_state scope [] states columns h below is = absurd (omega arith)
 push_state scope (table ∷ tables) [] columns h below is = (is, tt)
-push_state scope (table ∷ tables) (other ∷ states) columns h below is = (h.0, push_state scope tables states columns h.1 (omega arith) is)
+push_state scope (table ∷ tables) (other ∷ states) columns h below is =
+    (h.0, push_state scope tables states columns h.1 (omega arith) is)
 
-holds_where : (b : Bool) (word : List ℕ) (n : ℕ) (x : List ℕ) (a : Unit {0}) → is_this is_same (numbered_where b word n) x ≡ Some a → b ≡ true
+holds_where : (b : Bool) (word : List ℕ) (n : ℕ) (x : List ℕ) (a : Unit {0})
+    → is_this is_same (numbered_where b word n) x ≡ Some a → b ≡ true
 holds_where true word n x a e = refl
 holds_where false word n x a e = absurd cc
 
@@ -95,12 +110,14 @@ holds_where false word n x a e = absurd cc
 pub named_where : (b : Bool) (word : List ℕ) (n : ℕ) → Promises IsSpelled (this_name (numbered_where b word n)) (λ _. b ≡ true)
 named_where b word n = weaker (known_values (is_this is_same (numbered_where b word n))) (λ a f. holds_where b word n f.0 a f.1)
 
-starts : (scope : Scope) (g : ℕ) → Promises IsSpelled (state_call_start scope g) (λ _. nat_lt g (length scope.tables.states) ≡ true)
+starts : (scope : Scope) (g : ℕ) → Promises IsSpelled (state_call_start scope g)
+    (λ _. nat_lt g (length scope.tables.states) ≡ true)
 unfolding state_call_start
 starts scope g =
     behind (λ a. in_turn (named_where (nat_lt g (length scope.tables.states)) (codes "s_") (g + 1)) (λ b h. surely (λ c. h)))
 
-one_call : (scope : Scope) (states : List Columns) → AreStates scope scope.tables.states states → Promises IsSpelled (state_call scope states) (AreStates scope scope.tables.states)
+one_call : (scope : Scope) (states : List Columns) → AreStates scope scope.tables.states states
+    → Promises IsSpelled (state_call scope states) (AreStates scope scope.tables.states)
 unfolding state_call
 one_call scope states h =
     in_turn (starts scope (length states)) (λ a t.
@@ -144,18 +161,26 @@ same_source-symm (source.State g) (source.Pin p) = refl
 same_source-symm (source.State g) (source.State h) = nat_eq-symm g h
 
 source_equivalence : IsEquivalence same_source
-source_equivalence = record { refl = same_source-refl; symm = same_source-symm; congr = λ x y z e. ap (λ (t : Source). same_source t z) (same_source-is x y e) }
+source_equivalence = record {
+  refl = same_source-refl;
+  symm = same_source-symm;
+  congr =
+      λ x y z e. ap (λ (t : Source). same_source t z) (same_source-is x y e);
+}
 
 -- an input, or a state
 abbrev pub feeds_in : Scope → Source → Bool
 feeds_in scope (source.Pin p) = is_input_port scope.ports p
 feeds_in scope (source.State g) = nat_lt g (length scope.tables.states)
 
-source_feeds : (scope : Scope) (x : List ℕ) (s : Source) (o : Option ℕ) → input_of scope.ports x ≡ o → source_or_state scope x o ≡ Some s → feeds_in scope s ≡ true
-source_feeds scope x s (Some p) i e = let same : source.Pin p ≡ s = cc in subst (λ (s : Source). feeds_in scope s ≡ true) same (input_port scope.ports x p i)
+source_feeds : (scope : Scope) (x : List ℕ) (s : Source) (o : Option ℕ) → input_of scope.ports x ≡ o
+    → source_or_state scope x o ≡ Some s → feeds_in scope s ≡ true
+source_feeds scope x s (Some p) i e = let same : source.Pin p ≡ s = cc
+    in subst (λ (s : Source). feeds_in scope s ≡ true) same (input_port scope.ports x p i)
 source_feeds scope x s None i e = by_state (place_among (codes "s_") (length scope.tables.states) x) refl e
   where
-    by_state : (o : Option ℕ) → place_among (codes "s_") (length scope.tables.states) x ≡ o → option_map source.State o ≡ Some s → feeds_in scope s ≡ true
+    by_state : (o : Option ℕ) → place_among (codes "s_") (length scope.tables.states) x ≡ o → option_map source.State o ≡ Some s
+        → feeds_in scope s ≡ true
     by_state None f e = absurd cc
     by_state (Some g) f e =
         let below = place_below (codes "s_") (length scope.tables.states) x g f in
@@ -175,22 +200,28 @@ record IsNewSource (scope : Scope) (sources : List Source) (s : Source) : Type 0
   feeds : feeds_in scope s ≡ true
   new : list_any (same_source s) sources ≡ false
 
-new_source : (scope : Scope) (sources : List Source) (x : List ℕ) (s : Source) → listed_by (λ s. list_any (same_source s) sources) (source_of scope x) ≡ Fits s → IsNewSource scope sources s
+new_source : (scope : Scope) (sources : List Source) (x : List ℕ) (s : Source)
+    → listed_by (λ s. list_any (same_source s) sources) (source_of scope x) ≡ Fits s → IsNewSource scope sources s
 new_source scope sources x s e =
     let f = listed_fits (λ s. list_any (same_source s) sources) (source_of scope x) s e in
     record { feeds = source_feeds scope x s (input_of scope.ports x) refl f.0; new = f.1 }
 
-push_source : (scope : Scope) (sources : List Source) (s : Source) → AreSources scope sources → IsNewSource scope sources s → AreSources scope (sources ++ s ∷ [])
+push_source : (scope : Scope) (sources : List Source) (s : Source) → AreSources scope sources → IsNewSource scope sources s
+    → AreSources scope (sources ++ s ∷ [])
 push_source scope sources s h n = record {
-  fed = list_all-append (feeds_in scope) sources (s ∷ []) ∙ and_from (list_all (feeds_in scope) sources) (feeds_in scope s && true) h.fed (rw n.feeds refl);
+  fed = list_all-append (feeds_in scope) sources (s ∷ [])
+      ∙ and_from (list_all (feeds_in scope) sources) (feeds_in scope s && true) h.fed (rw n.feeds refl);
   apart = IsDistinct-push source_equivalence sources s h.apart n.new;
 }
 
-one_source : (scope : Scope) (sources : List Source) → AreSources scope sources → Promises IsSpelled (listed_source scope sources) (AreSources scope)
+one_source : (scope : Scope) (sources : List Source) → AreSources scope sources
+    → Promises IsSpelled (listed_source scope sources) (AreSources scope)
 unfolding listed_source
 one_source scope sources h =
     in_turn
-    (token {Q = IsNewSource scope sources} (λ x s q e. new_source scope sources x s (fits_if (is_name x) (listed_by (λ s. list_any (same_source s) sources) (source_of scope x)) Syntax s e).1))
+    (token {Q = IsNewSource scope sources}
+    (λ x s q e. new_source scope sources x s
+    (fits_if (is_name x) (listed_by (λ s. list_any (same_source s) sources) (source_of scope x)) Syntax s e).1))
     (λ s n. gives (push_source scope sources s h n))
 
 -- so many sources
@@ -201,6 +232,7 @@ pub record IsSourceList (scope : Scope) (width : ℕ) (sources : List Source) : 
 pub source_lists : (scope : Scope) (width : ℕ) → Promises IsSpelled (sources_of scope width) (IsSourceList scope width)
 unfolding sources_of
 source_lists scope width =
-    in_turn (all_elements (listed_source scope) (AreSources scope) (AreSources scope) [] (no_sources scope) (one_source scope) (λ w r. r)) (λ sources h.
+    in_turn (all_elements (listed_source scope) (AreSources scope) (AreSources scope) [] (no_sources scope) (one_source scope)
+    (λ w r. r)) (λ sources h.
     in_turn (where_holds (nat_eq (length sources) width) Width (codes ")")) (λ a w.
     gives (record { all = h; count = eqb-true (length sources) width w })))

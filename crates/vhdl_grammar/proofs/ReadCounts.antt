@@ -1,5 +1,6 @@
 -- What is read has no more parts than the text has tokens.
-use Rattle.std.proofs.Common.{◌≡◌, ℕ, zero, suc, ◌+◌, ◌≤◌, ◌<◌, Bool, false, List, [], ◌∷◌, length, take, get_or, inl, inr, Option, ap, arith, length-append}
+use Rattle.std.proofs.Common.{◌≡◌, ℕ, zero, suc, ◌+◌, ◌≤◌, ◌<◌, Bool, false, List, [], ◌∷◌, length, take, get_or, inl, inr}
+use Rattle.std.proofs.Common.{Option, ap, arith, length-append}
 use Rattle.std.specs.Prelude.{sum_by}
 use Rattle.std.proofs.lemmas.List.{length-map}
 use Rattle.std.proofs.lemmas.List.Sums.{sum_by-append, sum_by-cons}
@@ -16,10 +17,13 @@ use Rattle.vhdl_grammar.specs.declared.scope.Columns.{Columns}
 use Rattle.vhdl_grammar.specs.declared.scope.Scope.{Scope}
 use Rattle.vhdl_grammar.specs.declared.scope.Tables.{Tables}
 use Rattle.vhdl_grammar.specs.VhdlDeclarations.{next_port, port_list, ports_of, entity_header, scope_of}
-use Rattle.vhdl_grammar.specs.VhdlTables.{condition_constant, output_constant, state_constant, ConstantOf, StateOrOutput, Condition, constant_by, constant, constants}
+use Rattle.vhdl_grammar.specs.VhdlTables.{condition_constant, output_constant, state_constant, ConstantOf, StateOrOutput}
+use Rattle.vhdl_grammar.specs.VhdlTables.{Condition, constant_by, constant, constants}
 use Rattle.vhdl_grammar.specs.VhdlNames.{Uses}
-use Rattle.vhdl_grammar.specs.VhdlChecks.{Checks, Procedure, SetupHold, RecoveryRemoval, PeriodPulse, check_with, pulse_check, setup_hold, recovery_removal, period_pulse, check, checks}
-use Rattle.vhdl_grammar.specs.VhdlText.{states_with, conditions_with, statements, entity, entity_names, next_entity, file, text_tokens}
+use Rattle.vhdl_grammar.specs.VhdlChecks.{Checks, Procedure, SetupHold, RecoveryRemoval, PeriodPulse, check_with, pulse_check}
+use Rattle.vhdl_grammar.specs.VhdlChecks.{setup_hold, recovery_removal, period_pulse, check, checks}
+use Rattle.vhdl_grammar.specs.VhdlText.{states_with, conditions_with, statements, entity, entity_names, next_entity, file}
+use Rattle.vhdl_grammar.specs.VhdlText.{text_tokens}
 use Rattle.vhdl_grammar.specs.WellFormed.{part_count}
 
 -- A rule, begun with so many parts, makes no more of them than tokens that it takes. The second number counts those of a value.
@@ -42,7 +46,8 @@ last {a = a} {n = n} {count = count} h = record {
       omega (arith, h, same, none);
 }
 
-token : {T K A : Type 0} {f : T → Verdict A K} {k : K} {n : ℕ} {count : A → ℕ} → ((a : A) → count a ≤ n + 1) → Counts (r.Token f k) n count
+token : {T K A : Type 0} {f : T → Verdict A K} {k : K} {n : ℕ} {count : A → ℕ} → ((a : A) → count a ≤ n + 1)
+    → Counts (r.Token f k) n count
 token {n = n} {count = count} h = record {
   counted = λ s b left t.
       let one : length s ≡ suc (length left) = ap length t.1 in
@@ -61,7 +66,8 @@ in_turn {n = n} {count = count} {more = more} first next = record {
 
 times : {T K A S : Type 0} (count : S → ℕ) (f : S → T → Option (Verdict A K)) (g : S → A → Rule T K S)
     → ((w : S) (a : A) → Counts (g w a) (count w + 1) count)
-    → (n : ℕ) (u : S) (s : List T) (v : S) (left : List T) → Times f (λ w a m. Takes (g w a) m) n u s v left → count v + length left ≤ count u + length s
+    → (n : ℕ) (u : S) (s : List T) (v : S) (left : List T) → Times f (λ w a m. Takes (g w a) m) n u s v left
+    → count v + length left ≤ count u + length s
 times count f g h zero u s v left t =
     let same : count u ≡ count v = ap count t.0 in
     let rest : length s ≡ length left = ap length t.1 in
@@ -90,8 +96,12 @@ choice : {T K A B : Type 0} {f : T → Option (Verdict A K)} {g : A → Rule T K
 choice {f = f} {g = g} {p = p} {n = n} {count = count} one other = record { counted = chosen f g p n count one other }
 
 -- fewer parts, begun with more
-fewer : {T K A : Type 0} {p : Rule T K A} {n m : ℕ} {count less : A → ℕ} → Counts p n count → n ≤ m → ((a : A) → less a ≤ count a) → Counts p m less
-fewer h few each = record { counted = λ s a left t. let here = h.counted s a left t in let below = each a in omega (arith, here, few, below) }
+fewer : {T K A : Type 0} {p : Rule T K A} {n m : ℕ} {count less : A → ℕ} → Counts p n count → n ≤ m → ((a : A) → less a ≤ count a)
+    → Counts p m less
+fewer h few each = record {
+  counted = λ s a left t. let here = h.counted s a left t in let below = each a
+      in omega (arith, here, few, below);
+}
 
 -- whatever a rule takes, it makes no parts of which it says nothing
 none : {T K A : Type 0} (p : Rule T K A) (n : ℕ) → Counts p n (λ _. n)
@@ -110,23 +120,30 @@ begun n h = record { counted = λ s a left t. let here = h.counted s a left t in
 
 -- The parts of declarations.
 
-one_counted : (entity : List ℕ) (ports : List VPort) → Counts (next_port entity ports) (length ports + 1) (λ (ports : List VPort). length ports)
+one_counted : (entity : List ℕ) (ports : List VPort)
+    → Counts (next_port entity ports) (length ports + 1) (λ (ports : List VPort). length ports)
 unfolding next_port
 one_counted entity ports =
-    in_turn (none _ (length ports + 1)) (λ name. in_turn (none _ (length ports + 1)) (λ a. in_turn (none _ (length ports + 1)) (λ input. in_turn (none _ (length ports + 1)) (λ b.
+    in_turn (none _ (length ports + 1))
+    (λ name. in_turn (none _ (length ports + 1))
+    (λ a. in_turn (none _ (length ports + 1)) (λ input. in_turn (none _ (length ports + 1)) (λ b.
     gives (omega (arith, length-append ports (record { name = name; input = input } ∷ [])))))))
 
 ports_counted : (entity : List ℕ) → Counts (ports_of entity) 0 (λ (ports : List VPort). length ports)
 unfolding ports_of port_list
 ports_counted entity =
     choice
-    (λ a. in_turn (none _ 1) (λ b. in_turn (one_counted entity []) (λ first. in_turn (many (λ w a. one_counted entity w)) (λ ports. in_turn (none _ (length ports)) (λ c. gives (omega arith))))))
+    (λ a. in_turn (none _ 1) (λ b. in_turn (one_counted entity [])
+    (λ first. in_turn (many (λ w a. one_counted entity w))
+    (λ ports. in_turn (none _ (length ports)) (λ c. gives (omega arith))))))
     (gives (omega arith))
 
 header_counted : (entity : List ℕ) → Counts (entity_header entity) 0 (λ (ports : List VPort). length ports)
 unfolding entity_header
 header_counted entity =
-    in_turn (none _ 0) (λ a. in_turn (ports_counted entity) (λ ports. in_turn (none _ (length ports)) (λ b. in_turn (none _ (length ports)) (λ c. in_turn (none _ (length ports)) (λ d. gives (omega arith))))))
+    in_turn (none _ 0) (λ a. in_turn (ports_counted entity)
+    (λ ports. in_turn (none _ (length ports))
+    (λ b. in_turn (none _ (length ports)) (λ c. in_turn (none _ (length ports)) (λ d. gives (omega arith))))))
 
 abbrev table_count : Tables → ℕ
 table_count tables = length tables.states + length tables.conditions
@@ -135,14 +152,20 @@ kind_counted : (tables : Tables) (of : ConstantOf) → Counts (constant_by table
 unfolding state_constant output_constant condition_constant
 kind_counted tables StateOrOutput =
     choice
-    (λ a. in_turn (none _ (table_count tables + 1 + 1)) (λ b. in_turn (none _ (table_count tables + 1 + 1)) (λ table. in_turn (none _ (table_count tables + 1 + 1)) (λ c. gives (omega (arith, length-append tables.states (table ∷ [])))))))
+    (λ a. in_turn (none _ (table_count tables + 1 + 1))
+    (λ b. in_turn (none _ (table_count tables + 1 + 1))
+    (λ table. in_turn (none _ (table_count tables + 1 + 1))
+    (λ c. gives (omega (arith, length-append tables.states (table ∷ [])))))))
     (in_turn (none _ (table_count tables + 1)) (λ b. in_turn (none _ (table_count tables + 1)) (λ table. gives (omega arith))))
 kind_counted tables Condition =
-    in_turn (none _ (table_count tables + 1)) (λ b. in_turn (none _ (table_count tables + 1)) (λ table. gives (omega (arith, length-append tables.conditions (table ∷ [])))))
+    in_turn (none _ (table_count tables + 1))
+    (λ b. in_turn (none _ (table_count tables + 1))
+    (λ table. gives (omega (arith, length-append tables.conditions (table ∷ [])))))
 
 constants_counted : Counts constants 0 table_count
 unfolding constants constant
-constants_counted = many (λ w a. in_turn (none _ (table_count w + 1)) (λ of. in_turn (none _ (table_count w + 1)) (λ b. kind_counted w of)))
+constants_counted = many (λ w a. in_turn (none _ (table_count w + 1))
+    (λ of. in_turn (none _ (table_count w + 1)) (λ b. kind_counted w of)))
 
 abbrev scope_count : Scope → ℕ
 scope_count scope = length scope.ports + table_count scope.tables
@@ -161,24 +184,41 @@ scope_counted entity =
 
 -- The parts of entities.
 
-check_counted : (scope : Scope) (before : Checks) (of : Procedure) → Counts (check scope before of) (length before.checks + 1) (λ (all : Checks). length all.checks)
+check_counted : (scope : Scope) (before : Checks) (of : Procedure)
+    → Counts (check scope before of) (length before.checks + 1) (λ (all : Checks). length all.checks)
 unfolding setup_hold recovery_removal period_pulse
 check_counted scope before SetupHold =
     let n : ℕ = length before.checks + 1 in
-    in_turn (none _ n) (λ test. in_turn (none _ n) (λ reference. in_turn (none _ n) (λ kind. in_turn (none _ n) (λ limit. in_turn (none _ n) (λ when. in_turn (none _ n) (λ e.
-    gives (omega (arith, length-append before.checks (check_with kind (record { pin = test; edge = edge.Any }) (record { pin = reference; edge = e }) limit when.0 ∷ [])))))))))
+    in_turn (none _ n) (λ test. in_turn (none _ n)
+    (λ reference. in_turn (none _ n)
+    (λ kind. in_turn (none _ n) (λ limit. in_turn (none _ n) (λ when. in_turn (none _ n) (λ e.
+    gives (omega (
+      arith,
+      length-append before.checks
+          (check_with kind (record { pin = test; edge = edge.Any }) (record { pin = reference; edge = e }) limit when.0
+          ∷ []),
+    ))))))))
 check_counted scope before RecoveryRemoval =
     let n : ℕ = length before.checks + 1 in
-    in_turn (none _ n) (λ test. in_turn (none _ n) (λ reference. in_turn (none _ n) (λ kind. in_turn (none _ n) (λ limit. in_turn (none _ n) (λ control. in_turn (none _ n) (λ when. in_turn (none _ n) (λ e.
-    gives (omega (arith, length-append before.checks (check_with kind (record { pin = test; edge = control }) (record { pin = reference; edge = e }) limit when.0 ∷ []))))))))))
+    in_turn (none _ n) (λ test. in_turn (none _ n)
+    (λ reference. in_turn (none _ n)
+    (λ kind. in_turn (none _ n) (λ limit. in_turn (none _ n) (λ control. in_turn (none _ n) (λ when. in_turn (none _ n) (λ e.
+    gives (omega (
+      arith,
+      length-append before.checks
+          (check_with kind (record { pin = test; edge = control }) (record { pin = reference; edge = e }) limit when.0
+          ∷ []),
+    )))))))))
 check_counted scope before PeriodPulse =
     let n : ℕ = length before.checks + 1 in
-    in_turn (none _ n) (λ test. in_turn (none _ n) (λ pulse. in_turn (none _ n) (λ limit. in_turn (none _ n) (λ when. in_turn (none _ n) (λ a.
+    in_turn (none _ n) (λ test. in_turn (none _ n)
+    (λ pulse. in_turn (none _ n) (λ limit. in_turn (none _ n) (λ when. in_turn (none _ n) (λ a.
     gives (omega (arith, length-append before.checks (pulse_check pulse test limit when.0 ∷ []))))))))
 
 checks_counted : (scope : Scope) → Counts (checks scope) 0 (λ (all : Checks). length all.checks)
 unfolding checks
-checks_counted scope = in_turn (many {count = λ (all : Checks). length all.checks} (check_counted scope)) (λ all. in_turn (none _ (length all.checks)) (λ a. gives (omega arith)))
+checks_counted scope = in_turn (many {count = λ (all : Checks). length all.checks} (check_counted scope))
+    (λ all. in_turn (none _ (length all.checks)) (λ a. gives (omega arith)))
 
 states_few : (tables : List VStateTable) (columns : List Columns) → length (states_with tables columns) ≤ length tables
 states_few [] columns = omega arith
@@ -204,7 +244,8 @@ statements_counted scope =
 entity_counted : (names : List (List ℕ)) → Counts (entity names) 0 part_count
 unfolding entity
 entity_counted names =
-    in_turn (none _ 0) (λ a. in_turn (none _ 0) (λ b. in_turn (none _ 0) (λ name. in_turn (scope_counted name) (λ scope. statements_counted scope))))
+    in_turn (none _ 0) (λ a. in_turn (none _ 0)
+    (λ b. in_turn (none _ 0) (λ name. in_turn (scope_counted name) (λ scope. statements_counted scope))))
 
 abbrev all_parts : List VEntity → ℕ
 all_parts es = sum_by part_count es
@@ -227,25 +268,30 @@ file_counted = in_turn (many {count = all_parts} (λ es a. next_counted es)) (λ
 after_short : (t : Token) (found : List Token × Option ℕ) (n : ℕ) → length found.0 ≤ n → length (after t found).0 ≤ suc n
 after_short t (ts, fault) n h = omega (arith, h)
 
-front_short : (t : Bool) (at : ℕ) (bytes : List ℕ) (f : Bool → ℕ → List Token × Option ℕ) (n m k : ℕ) → ((o : Bool) (j : ℕ) → length (f o j).0 ≤ k) → length (at_front t at bytes f n m).0 ≤ suc k
+front_short : (t : Bool) (at : ℕ) (bytes : List ℕ) (f : Bool → ℕ → List Token × Option ℕ) (n m k : ℕ)
+    → ((o : Bool) (j : ℕ) → length (f o j).0 ≤ k) → length (at_front t at bytes f n m).0 ≤ suc k
 front_short t at bytes f zero zero k h = omega arith
 front_short t at bytes f zero (suc m) k h =
-    after_short (record { at = at; bytes = take (suc m) bytes }) (f (is_name (take (suc m) bytes)) m) k (h (is_name (take (suc m) bytes)) m)
+    after_short (record { at = at; bytes = take (suc m) bytes }) (f (is_name (take (suc m) bytes)) m) k
+    (h (is_name (take (suc m) bytes)) m)
 front_short t at bytes f (suc n) m k h = let rest = h t n in omega (arith, rest)
 
 scan_short : (t : Bool) (at n : ℕ) (bytes : List ℕ) → length (scan t at n bytes).0 ≤ length bytes
 scan_short t at n [] = omega arith
 scan_short t at (suc n) (b ∷ bs) = let rest = scan_short t (at + 1) n bs in omega (arith, rest)
 scan_short t at zero (b ∷ bs) =
-    front_short t at (b ∷ bs) (λ o k. scan o (at + 1) k bs) (separator_length (b ∷ bs)) (token_length t (b ∷ bs)) (length bs) (λ o j. scan_short o (at + 1) j bs)
+    front_short t at (b ∷ bs) (λ o k. scan o (at + 1) k bs) (separator_length (b ∷ bs)) (token_length t (b ∷ bs)) (length bs)
+    (λ o j. scan_short o (at + 1) j bs)
 
 part_below : (es : List VEntity) (k : ℕ) (d : VEntity) → k < length es → part_count (get_or es k d) ≤ all_parts es
 part_below [] k d h = absurd (omega arith)
 part_below (e ∷ es) zero d h = let first = sum_by-cons part_count e es in omega (arith, first)
-part_below (e ∷ es) (suc k) d h = let rest = part_below es k d (omega arith) in let first = sum_by-cons part_count e es in omega (arith, rest, first)
+part_below (e ∷ es) (suc k) d h = let rest = part_below es k d (omega arith) in let first = sum_by-cons part_count e es
+    in omega (arith, rest, first)
 
 -- an entity of a text has no more parts than the text has bytes
-pub parts_in_text : (bytes : List ℕ) (es : List VEntity) → Takes file (text_tokens bytes) es [] → (k : ℕ) (d : VEntity) → k < length es → part_count (get_or es k d) ≤ length bytes
+pub parts_in_text : (bytes : List ℕ) (es : List VEntity) → Takes file (text_tokens bytes) es [] → (k : ℕ) (d : VEntity)
+    → k < length es → part_count (get_or es k d) ≤ length bytes
 parts_in_text bytes es h k d below =
     let whole = file_counted.counted (text_tokens bytes) es [] h in
     let tokens : length (text_tokens bytes) ≡ length (scan_of bytes).0 = length-map (scan_of bytes).0 (λ (t : Token). t.bytes) in

@@ -1,5 +1,6 @@
 -- Entities that are read: the parts that declarations and statements give make up an entity that a text can tell.
-use Rattle.std.proofs.Common.{◌≡◌, ℕ, suc, ◌<◌, ◌≤◌, Bool, true, ◌&&◌, nat_lt, if◌then◌else◌, IsTrue, List, [], ◌∷◌, ◌++◌, length, map, get_or, Option, Some, None, refl, sym, ap, subst, ◌∙◌, arith}
+use Rattle.std.proofs.Common.{◌≡◌, ℕ, suc, ◌<◌, ◌≤◌, Bool, true, ◌&&◌, nat_lt, if◌then◌else◌, IsTrue, List, [], ◌∷◌, ◌++◌, length}
+use Rattle.std.proofs.Common.{map, get_or, Option, Some, None, refl, sym, ap, subst, ◌∙◌, arith}
 use Rattle.std.specs.Prelude.{All, flat_map}
 use Rattle.std.specs.List.{list_all}
 use Rattle.std.proofs.lemmas.Bool.{eq-eqb}
@@ -21,7 +22,8 @@ use Rattle.vital_models.specs.declared.model.HGate.TheVariants as gate
 use Rattle.vital_models.specs.declared.model.HPath.{HPath}
 use Rattle.udp_tables.specs.declared.timing_checks.TimingCheck.{TimingCheck}
 use Rattle.vital_models.specs.declared.model.VEntity.{VEntity}
-use Rattle.vital_models.specs.Sound.{output_ports_from, IsState, IsTruth, feeds, IsValue, is_gate, IsPath, IsOutput, is_enabling, IsCheck}
+use Rattle.vital_models.specs.Sound.{output_ports_from, IsState, IsTruth, feeds, IsValue, is_gate, IsPath, IsOutput, is_enabling}
+use Rattle.vital_models.specs.Sound.{IsCheck}
 use Rattle.udp_tables.specs.Ports.{is_input_port}
 use Rattle.vhdl_grammar.specs.declared.scope.Columns.{Columns}
 use Rattle.vhdl_grammar.specs.declared.scope.Assigned.{Assigned}
@@ -33,13 +35,16 @@ use Rattle.vhdl_grammar.specs.VhdlNames.{Uses}
 use Rattle.vhdl_grammar.specs.VhdlChecks.{Checks}
 use Rattle.vhdl_grammar.specs.VhdlOutputs.{Lines}
 use Rattle.vhdl_grammar.specs.VhdlText.{states_with, conditions_with, values_with, outputs_with, entity_with, are_looked_up}
-use Rattle.vhdl_grammar.specs.WellFormed.{part_count, IsWellFormedEntity, IsEntityName, AreApart, IsNumber, IsCount, IsWrittenState, IsWrittenTruth, IsWrittenValue, IsWrittenOutput, conditions_of_check, conditions_of_output, looked_up, looks_up_in_order}
+use Rattle.vhdl_grammar.specs.WellFormed.{part_count, IsWellFormedEntity, IsEntityName, AreApart, IsNumber, IsCount}
+use Rattle.vhdl_grammar.specs.WellFormed.{IsWrittenState, IsWrittenTruth, IsWrittenValue, IsWrittenOutput, conditions_of_check}
+use Rattle.vhdl_grammar.specs.WellFormed.{conditions_of_output, looked_up, looks_up_in_order}
 use Rattle.vhdl_grammar.proofs.ReadTables.{HasStateRows, HasTruthRows}
 use Rattle.vhdl_grammar.proofs.ReadHeaders.{IsScope}
 use Rattle.vhdl_grammar.proofs.ReadLists.{AreUses}
 use Rattle.vhdl_grammar.proofs.ReadChecks.{IsToldCheck, is_enabled_in, AreAllChecks}
 use Rattle.vhdl_grammar.proofs.ReadColumns.{AreSoMany, AreStates, width_in, AreAllStates, feeds_in}
-use Rattle.vhdl_grammar.proofs.ReadOutputs.{AreValues, AreAllValues, is_gate_in, IsToldPath, IsToldLine, conditions_of_line, AreAllLines}
+use Rattle.vhdl_grammar.proofs.ReadOutputs.{AreValues, AreAllValues, is_gate_in, IsToldPath, IsToldLine, conditions_of_line}
+use Rattle.vhdl_grammar.proofs.ReadOutputs.{AreAllLines}
 
 -- An entity that has these ports, and as many checks, states and conditions as its declarations say.
 record IsOf (scope : Scope) (e : VEntity) : Type 0 where
@@ -54,8 +59,10 @@ record IsGoodState (e : VEntity) (state : VState) : Type 0 where
   sound : IsState e state
   written : IsWrittenState state
 
-one_state : (scope : Scope) (e : VEntity) → IsOf scope e → (table : VStateTable) (columns : Columns) → HasStateRows table → IsNumber (state_width table.rows)
-    → AreSoMany scope (state_width table.rows) columns → IsGoodState e (record { table = table; violation = columns.violation; inputs = columns.inputs })
+one_state : (scope : Scope) (e : VEntity) → IsOf scope e → (table : VStateTable) (columns : Columns) → HasStateRows table
+    → IsNumber (state_width table.rows)
+    → AreSoMany scope (state_width table.rows) columns
+    → IsGoodState e (record { table = table; violation = columns.violation; inputs = columns.inputs })
 one_state scope e of table columns rows number h = record {
   sound = record {
     rows = subst (λ (n : ℕ). All (λ (row : VStateRow). length row.inputs ≡ n) table.rows) (sym h.count) rows.even;
@@ -71,21 +78,27 @@ one_state scope e of table columns rows number h = record {
   };
 }
 
-good_states : (scope : Scope) (e : VEntity) → IsOf scope e → (tables : List VStateTable) (states : List Columns) → All HasStateRows tables
-    → ((g : ℕ) → g < length tables → IsNumber (width_in tables g)) → AreStates scope tables states → All (IsGoodState e) (states_with tables states)
+good_states : (scope : Scope) (e : VEntity) → IsOf scope e → (tables : List VStateTable) (states : List Columns)
+    → All HasStateRows tables
+    → ((g : ℕ) → g < length tables → IsNumber (width_in tables g)) → AreStates scope tables states
+    → All (IsGoodState e) (states_with tables states)
 good_states scope e of [] states rows numbers h = All-nil (IsGoodState e)
 good_states scope e of (table ∷ tables) [] rows numbers h = All-nil (IsGoodState e)
 good_states scope e of (table ∷ tables) (columns ∷ states) rows numbers h =
-    All-cons (IsGoodState e) (record { table = table; violation = columns.violation; inputs = columns.inputs }) (states_with tables states)
+    All-cons (IsGoodState e) (record { table = table; violation = columns.violation; inputs = columns.inputs })
+    (states_with tables states)
     (one_state scope e of table columns (All-head HasStateRows table tables rows) (numbers 0 (omega arith)) h.0)
-    (good_states scope e of tables states (All-tail HasStateRows table tables rows) (λ g below. numbers (suc g) (omega arith)) h.1)
+    (good_states scope e of tables states (All-tail HasStateRows table tables rows) (λ g below. numbers (suc g) (omega arith))
+    h.1)
 
-states_count : (tables : List VStateTable) (states : List Columns) → length states ≡ length tables → length (states_with tables states) ≡ length tables
+states_count : (tables : List VStateTable) (states : List Columns) → length states ≡ length tables
+    → length (states_with tables states) ≡ length tables
 states_count [] states h = refl
 states_count (table ∷ tables) [] h = absurd (omega arith)
 states_count (table ∷ tables) (columns ∷ states) h = let rest = states_count tables states (omega arith) in omega (arith, rest)
 
-conditions_count : (tables : List TruthTable) (uses : Uses) → length uses ≡ length tables → length (conditions_with tables uses) ≡ length tables
+conditions_count : (tables : List TruthTable) (uses : Uses) → length uses ≡ length tables
+    → length (conditions_with tables uses) ≡ length tables
 conditions_count [] uses h = refl
 conditions_count (table ∷ tables) [] h = absurd (omega arith)
 conditions_count (table ∷ tables) (inputs ∷ uses) h = let rest = conditions_count tables uses (omega arith) in omega (arith, rest)
@@ -96,7 +109,8 @@ record IsGoodTruth (e : VEntity) (truth : VTruth) : Type 0 where
   sound : IsTruth e truth
   written : IsWrittenTruth truth
 
-good_conditions : (scope : Scope) (e : VEntity) → IsOf scope e → (tables : List TruthTable) (uses : Uses) → All HasTruthRows tables
+good_conditions : (scope : Scope) (e : VEntity) → IsOf scope e → (tables : List TruthTable) (uses : Uses)
+    → All HasTruthRows tables
     → AreUses scope.ports tables uses → All (IsGoodTruth e) (conditions_with tables uses)
 good_conditions scope e of [] uses rows h = All-nil (IsGoodTruth e)
 good_conditions scope e of (table ∷ tables) [] rows h = All-nil (IsGoodTruth e)
@@ -108,7 +122,12 @@ good_conditions scope e of (table ∷ tables) (inputs ∷ uses) rows h =
         rows = subst (λ (n : ℕ). All (λ (row : TruthRow). length row.inputs ≡ n) table.rows) (sym h.0.count) first.even;
         fed = subst (λ (ports : List VPort). IsTrue (list_all (is_input_port ports) inputs)) (sym of.ports) h.0.all.fed;
       };
-      written = record { rows = first.some; columns = subst (λ (n : ℕ). 1 ≤ n) (sym h.0.count) first.wide; apart = h.0.all.apart };
+      written = record {
+        rows = first.some;
+        columns = subst (λ (n : ℕ). 1 ≤ n) (sym h.0.count) first.wide;
+        apart =
+            h.0.all.apart;
+      };
     })
     (good_conditions scope e of tables uses (All-tail HasTruthRows table tables rows) h.1)
 
@@ -122,31 +141,47 @@ feeds_same : (scope : Scope) (e : VEntity) → IsOf scope e → (s : Source) →
 feeds_same scope e of (source.Pin p) = ap (λ (ports : List VPort). is_input_port ports p) (sym of.ports)
 feeds_same scope e of (source.State g) = ap (λ (n : ℕ). nat_lt g n) (sym of.states)
 
-all_feed : (scope : Scope) (e : VEntity) → IsOf scope e → (sources : List Source) → list_all (feeds_in scope) sources ≡ list_all (feeds e) sources
+all_feed : (scope : Scope) (e : VEntity) → IsOf scope e → (sources : List Source)
+    → list_all (feeds_in scope) sources ≡ list_all (feeds e) sources
 all_feed scope e of [] = refl
 all_feed scope e of (s ∷ sources) =
-    ap (λ (b : Bool). b && list_all (feeds_in scope) sources) (feeds_same scope e of s) ∙ ap (λ (b : Bool). feeds e s && b) (all_feed scope e of sources)
+    ap (λ (b : Bool). b && list_all (feeds_in scope) sources) (feeds_same scope e of s)
+    ∙ ap (λ (b : Bool). feeds e s && b) (all_feed scope e of sources)
 
-good_values : (scope : Scope) (e : VEntity) → IsOf scope e → (tables : List TruthTable) (values : List Assigned) → All HasTruthRows tables
+good_values : (scope : Scope) (e : VEntity) → IsOf scope e → (tables : List TruthTable) (values : List Assigned)
+    → All HasTruthRows tables
     → AreValues scope tables values → All (IsGoodValue e) (values_with tables values)
 good_values scope e of tables [] rows h = All-nil (IsGoodValue e)
 good_values scope e of tables (assigned.Constant one ∷ values) rows h =
-    All-cons (IsGoodValue e) _ (values_with tables values) (record { sound = tt; written = tt }) (good_values scope e of tables values rows h)
+    All-cons (IsGoodValue e) _ (values_with tables values) (record { sound = tt; written = tt })
+    (good_values scope e of tables values rows h)
 good_values scope e of [] (assigned.Lookup sources ∷ values) rows h = All-nil (IsGoodValue e)
 good_values scope e of (table ∷ tables) (assigned.Lookup sources ∷ values) rows h =
     let first = All-head HasTruthRows table tables rows in
     All-cons (IsGoodValue e) _ (values_with tables values)
     (record {
-      sound = (subst (λ (n : ℕ). All (λ (row : TruthRow). length row.inputs ≡ n) table.rows) (sym h.0.count) first.even, sym (all_feed scope e of sources) ∙ h.0.all.fed);
-      written = record { rows = first.some; columns = subst (λ (n : ℕ). 1 ≤ n) (sym h.0.count) first.wide; apart = h.0.all.apart };
+      sound = (
+        subst (λ (n : ℕ). All (λ (row : TruthRow). length row.inputs ≡ n) table.rows) (sym h.0.count) first.even,
+        sym
+            (all_feed scope e of sources) ∙ h.0.all.fed,
+      );
+      written = record {
+        rows = first.some;
+        columns = subst (λ (n : ℕ). 1 ≤ n) (sym h.0.count) first.wide;
+        apart =
+            h.0.all.apart;
+      };
     })
     (good_values scope e of tables values (All-tail HasTruthRows table tables rows) h.1)
 
-values_count : (scope : Scope) (tables : List TruthTable) (values : List Assigned) → AreValues scope tables values → length (values_with tables values) ≡ length values
+values_count : (scope : Scope) (tables : List TruthTable) (values : List Assigned) → AreValues scope tables values
+    → length (values_with tables values) ≡ length values
 values_count scope tables [] h = refl
-values_count scope tables (assigned.Constant one ∷ values) h = let rest = values_count scope tables values h in omega (arith, rest)
+values_count scope tables (assigned.Constant one ∷ values) h = let rest = values_count scope tables values h
+    in omega (arith, rest)
 values_count scope [] (assigned.Lookup sources ∷ values) h = absurd h
-values_count scope (table ∷ tables) (assigned.Lookup sources ∷ values) h = let rest = values_count scope tables values h.1 in omega (arith, rest)
+values_count scope (table ∷ tables) (assigned.Lookup sources ∷ values) h = let rest = values_count scope tables values h.1
+    in omega (arith, rest)
 
 -- Outputs.
 
@@ -165,7 +200,8 @@ record IsGoodOutput (e : VEntity) (output : VOutput) : Type 0 where
   sound : IsOutput e output
   written : IsWrittenOutput output
 
-good_outputs : (scope : Scope) (e : VEntity) → IsOf scope e → (ports : List ℕ) (values : List OutValue) (lines : List (List HPath))
+good_outputs : (scope : Scope) (e : VEntity) → IsOf scope e
+    → (ports : List ℕ) (values : List OutValue) (lines : List (List HPath))
     → All (IsGoodValue e) values → All (IsToldLine scope) lines → All (IsGoodOutput e) (outputs_with ports values lines)
 good_outputs scope e of [] values lines h told = All-nil (IsGoodOutput e)
 good_outputs scope e of (p ∷ ports) [] lines h told = All-nil (IsGoodOutput e)
@@ -175,19 +211,27 @@ good_outputs scope e of (p ∷ ports) (v ∷ values) (line ∷ lines) h told =
     let paths = All-head (IsToldLine scope) line lines told in
     All-cons (IsGoodOutput e) (record { port = p; value = v; paths = line }) (outputs_with ports values lines)
     (record {
-      sound = record { valued = first.sound; paths = λ k d below. path_sound scope e of (get_or line k d) (paths.told k d below) };
+      sound = record {
+        valued = first.sound;
+        paths =
+            λ k d below. path_sound scope e of (get_or line k d) (paths.told k d below);
+      };
       written = record { valued = first.written; paths = λ k d below. (paths.told k d below).written; few = paths.few };
     })
-    (good_outputs scope e of ports values lines (All-tail (IsGoodValue e) v values h) (All-tail (IsToldLine scope) line lines told))
+    (good_outputs scope e of ports values lines (All-tail (IsGoodValue e) v values h)
+    (All-tail (IsToldLine scope) line lines told))
 
-driven_ports : (ports : List ℕ) (values : List OutValue) (lines : List (List HPath)) → length values ≡ length ports → length lines ≡ length ports
+driven_ports : (ports : List ℕ) (values : List OutValue) (lines : List (List HPath)) → length values ≡ length ports
+    → length lines ≡ length ports
     → map (λ (output : VOutput). output.port) (outputs_with ports values lines) ≡ ports
 driven_ports [] values lines h k = refl
 driven_ports (p ∷ ports) [] lines h k = absurd (omega arith)
 driven_ports (p ∷ ports) (v ∷ values) [] h k = absurd (omega arith)
-driven_ports (p ∷ ports) (v ∷ values) (line ∷ lines) h k = ap (λ (ps : List ℕ). p ∷ ps) (driven_ports ports values lines (omega arith) (omega arith))
+driven_ports (p ∷ ports) (v ∷ values) (line ∷ lines) h k =
+    ap (λ (ps : List ℕ). p ∷ ps) (driven_ports ports values lines (omega arith) (omega arith))
 
-output_conditions : (ports : List ℕ) (values : List OutValue) (lines : List (List HPath)) → length values ≡ length ports → length lines ≡ length ports
+output_conditions : (ports : List ℕ) (values : List OutValue) (lines : List (List HPath)) → length values ≡ length ports
+    → length lines ≡ length ports
     → flat_map conditions_of_output (outputs_with ports values lines) ≡ flat_map conditions_of_line lines
 output_conditions [] values [] h k = refl
 output_conditions [] values (line ∷ lines) h k = absurd (omega arith)
@@ -207,7 +251,8 @@ check_sound scope e of k h = record {
   first = subst (λ (ports : List VPort). IsTrue (is_input_port ports k.first.pin)) (sym of.ports) h.first;
   second = subst (λ (ports : List VPort). IsTrue (is_input_port ports k.second.pin)) (sym of.ports) h.second;
   events = h.events;
-  enabled = sym (enabled_same e k.condition) ∙ subst (λ (n : ℕ). IsTrue (is_enabled_in n k.condition)) (sym of.conditions) h.enabled;
+  enabled = sym (enabled_same e k.condition)
+      ∙ subst (λ (n : ℕ). IsTrue (is_enabled_in n k.condition)) (sym of.conditions) h.enabled;
 }
 
 -- Entities.
@@ -217,14 +262,16 @@ abbrev pub IsReadEntity : VEntity → Type 0
 IsReadEntity e = IsCount (part_count e) → IsWellFormedEntity e
 
 -- the statements of an entity of these declarations
-pub record AreStatements (scope : Scope) (all : Checks) (columns : List Columns) (values : List Assigned) (lines : Lines) : Type 0 where
+pub record AreStatements (scope : Scope) (all : Checks) (columns : List Columns) (values : List Assigned) (lines : Lines) :
+    Type 0 where
   pub checks : AreAllChecks scope all
   pub states : AreAllStates scope columns
   pub valued : AreAllValues scope values
   pub lined : AreAllLines scope (flat_map conditions_of_check all.checks) lines
   pub looked_up : are_looked_up scope lines.1 ≡ true
 
-is_of : (scope : Scope) (all : Checks) (columns : List Columns) (values : List Assigned) (lines : Lines) → AreStatements scope all columns values lines
+is_of : (scope : Scope) (all : Checks) (columns : List Columns) (values : List Assigned) (lines : Lines)
+    → AreStatements scope all columns values lines
     → length lines.1 ≡ length scope.tables.conditions → IsOf scope (entity_with scope all.checks columns values lines)
 is_of scope all columns values lines h n = record {
   ports = refl;
@@ -233,25 +280,35 @@ is_of scope all columns values lines h n = record {
   conditions = conditions_count scope.tables.conditions lines.1 n;
 }
 
-in_order : (scope : Scope) (all : Checks) (columns : List Columns) (values : List Assigned) (lines : Lines) → AreStatements scope all columns values lines
+in_order : (scope : Scope) (all : Checks) (columns : List Columns) (values : List Assigned) (lines : Lines)
+    → AreStatements scope all columns values lines
     → length lines.1 ≡ length scope.tables.conditions
-    → IsTrue (looks_up_in_order (length (conditions_with scope.tables.conditions lines.1)) 0 (looked_up (entity_with scope all.checks columns values lines)))
+    → IsTrue (looks_up_in_order (length (conditions_with scope.tables.conditions lines.1)) 0
+    (looked_up (entity_with scope all.checks columns values lines)))
 in_order scope all columns values lines h n =
-    let values_are : length (values_with scope.tables.outputs values) ≡ output_count scope.ports = values_count scope scope.tables.outputs values h.valued.are ∙ h.valued.count in
-    let outputs = output_conditions (output_ports_from 0 scope.ports) (values_with scope.tables.outputs values) lines.0 values_are h.lined.count in
+    let values_are : length (values_with scope.tables.outputs values) ≡ output_count scope.ports =
+    values_count scope scope.tables.outputs values h.valued.are ∙ h.valued.count in
+    let outputs = output_conditions (output_ports_from 0 scope.ports) (values_with scope.tables.outputs values) lines.0 values_are
+    h.lined.count in
     let is : List ℕ = flat_map conditions_of_check all.checks in
-    ap (λ (m : ℕ). looks_up_in_order m 0 (looked_up (entity_with scope all.checks columns values lines))) (conditions_count scope.tables.conditions lines.1 n)
-    ∙ ap (λ (js : List ℕ). looks_up_in_order (length scope.tables.conditions) 0 (flat_map conditions_of_check all.checks ++ js)) outputs
-    ∙ ap (looks_up_in_order (length scope.tables.conditions) 0) (sym (append-nil (flat_map conditions_of_check all.checks ++ flat_map conditions_of_line lines.0)))
+    ap (λ (m : ℕ). looks_up_in_order m 0 (looked_up (entity_with scope all.checks columns values lines)))
+    (conditions_count scope.tables.conditions lines.1 n)
+    ∙ ap (λ (js : List ℕ). looks_up_in_order (length scope.tables.conditions) 0 (flat_map conditions_of_check all.checks ++ js))
+    outputs
+    ∙ ap (looks_up_in_order (length scope.tables.conditions) 0)
+    (sym (append-nil (flat_map conditions_of_check all.checks ++ flat_map conditions_of_line lines.0)))
     ∙ h.lined.are.looked_up.order []
     ∙ eq-eqb (length lines.1) (length scope.tables.conditions) n
 
-pub read_entity : (name : List ℕ) (scope : Scope) (all : Checks) (columns : List Columns) (values : List Assigned) (lines : Lines) → IsEntityName name → IsScope name scope
-    → AreStatements scope all columns values lines → length lines.1 ≡ length scope.tables.conditions → IsReadEntity (entity_with scope all.checks columns values lines)
+pub read_entity : (name : List ℕ) (scope : Scope) (all : Checks) (columns : List Columns) (values : List Assigned) (lines : Lines)
+    → IsEntityName name → IsScope name scope
+    → AreStatements scope all columns values lines → length lines.1 ≡ length scope.tables.conditions
+    → IsReadEntity (entity_with scope all.checks columns values lines)
 read_entity name scope all columns values lines named s h n few =
     let e : VEntity = entity_with scope all.checks columns values lines in
     let of : IsOf scope e = is_of scope all columns values lines h n in
-    let values_are : length (values_with scope.tables.outputs values) ≡ output_count scope.ports = values_count scope scope.tables.outputs values h.valued.are ∙ h.valued.count in
+    let values_are : length (values_with scope.tables.outputs values) ≡ output_count scope.ports =
+    values_count scope scope.tables.outputs values h.valued.are ∙ h.valued.count in
     let states = good_states scope e of scope.tables.states columns s.tables.states s.variables.numbers h.states.are in
     let conditions = good_conditions scope e of scope.tables.conditions lines.1 s.tables.conditions h.lined.are.looked_up.lists in
     let outputs = good_outputs scope e of (output_ports_from 0 scope.ports) (values_with scope.tables.outputs values) lines.0
@@ -263,7 +320,8 @@ read_entity name scope all columns values lines named s h n few =
       sound = record {
         states = λ k d below. (states k d below).sound;
         conditions = λ k d below. (conditions k d below).sound;
-        driven = driven_ports (output_ports_from 0 scope.ports) (values_with scope.tables.outputs values) lines.0 values_are h.lined.count;
+        driven = driven_ports (output_ports_from 0 scope.ports) (values_with scope.tables.outputs values) lines.0 values_are
+            h.lined.count;
         outputs = λ k d below. (outputs k d below).sound;
         checks = λ k d below. check_sound scope e of (get_or all.checks k d) (h.checks.are.told k d below);
       };

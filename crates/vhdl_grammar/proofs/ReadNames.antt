@@ -1,5 +1,6 @@
 -- The tokens and the names that are read.
-use Rattle.std.proofs.Common.{◌≡◌, ℕ, Bool, true, false, not, ◌||◌, ◌==◌, nat_eq, if◌then◌else◌, IsTrue, List, [], ◌∷◌, ◌++◌, Option, Some, None, refl, sym, ap, subst, ◌∙◌, arith}
+use Rattle.std.proofs.Common.{◌≡◌, ℕ, Bool, true, false, not, ◌||◌, ◌==◌, nat_eq, if◌then◌else◌, IsTrue, List, [], ◌∷◌, ◌++◌}
+use Rattle.std.proofs.Common.{Option, Some, None, refl, sym, ap, subst, ◌∙◌, arith}
 use Rattle.std.specs.Char.{is_ascii_alphabetic}
 use Rattle.std.specs.Str.{bytes_eq, str_eq_ignore_ascii_case, str_to_ascii_lowercase}
 use Rattle.std.specs.Cmp.{IsEquivalence}
@@ -40,7 +41,8 @@ same_congr x y z e =
 
 bytes_symm : (x y : List ℕ) → bytes_eq x y ≡ bytes_eq y x
 bytes_symm x y =
-    same_from_decides (bytes_eq x y) (bytes_eq y x) (bytes_eq-Decides x y) (λ e. sym ((bytes_eq-Decides y x).0 e), λ e. (bytes_eq-Decides y x).1 (sym e))
+    same_from_decides (bytes_eq x y) (bytes_eq y x) (bytes_eq-Decides x y)
+    (λ e. sym ((bytes_eq-Decides y x).0 e), λ e. (bytes_eq-Decides y x).1 (sym e))
 
 pub same_equivalence : IsEquivalence str_eq_ignore_ascii_case
 same_equivalence = record {
@@ -50,7 +52,12 @@ same_equivalence = record {
 }
 
 pub nat_equivalence : IsEquivalence nat_eq
-nat_equivalence = record { refl = λ x. eq-eqb x x refl; symm = λ x y. grind (arith, nat_tests); congr = λ x y z e. ap (λ t. nat_eq t z) (eqb-true x y e) }
+nat_equivalence = record {
+  refl = λ x. eq-eqb x x refl;
+  symm = λ x y. grind (arith, nat_tests);
+  congr =
+      λ x y z e. ap (λ t. nat_eq t z) (eqb-true x y e);
+}
 
 -- a name is no character literal
 pub same_name : (x y : List ℕ) → IsTrue (is_name x) → is_same x y ≡ str_eq_ignore_ascii_case x y
@@ -60,15 +67,19 @@ same_name (b ∷ bs) y e = by (b == 39) refl
     letter : is_ascii_alphabetic b ≡ true
     letter = (and_parts (is_ascii_alphabetic b) (not (is_vhdl_word (b ∷ bs))) e).0
 
-    by : (q : Bool) → (b == 39) ≡ q → (if q then bytes_eq (b ∷ bs) y else str_eq_ignore_ascii_case (b ∷ bs) y) ≡ str_eq_ignore_ascii_case (b ∷ bs) y
+    by : (q : Bool) → (b == 39) ≡ q → (if q then bytes_eq (b ∷ bs) y
+        else str_eq_ignore_ascii_case (b ∷ bs) y) ≡ str_eq_ignore_ascii_case (b ∷ bs) y
     by true h = absurd (true≢false (sym (subst (λ (c : ℕ). is_ascii_alphabetic c ≡ true) (eqb-true b 39 h) letter)))
     by false h = refl
 
-among_same : (names : List (List ℕ)) (x : List ℕ) → IsTrue (is_name x) → is_among names x ≡ list_any (str_eq_ignore_ascii_case x) names
+among_same : (names : List (List ℕ)) (x : List ℕ) → IsTrue (is_name x)
+    → is_among names x ≡ list_any (str_eq_ignore_ascii_case x) names
 among_same [] x e = refl
-among_same (y ∷ names) x e = ap (λ b. b || is_among names x) (same_name x y e) ∙ ap (λ b. str_eq_ignore_ascii_case x y || b) (among_same names x e)
+among_same (y ∷ names) x e = ap (λ b. b || is_among names x) (same_name x y e)
+    ∙ ap (λ b. str_eq_ignore_ascii_case x y || b) (among_same names x e)
 
-pub push_apart : (names : List (List ℕ)) (x : List ℕ) → AreApart names → IsTrue (is_name x) → is_among names x ≡ false → AreApart (names ++ x ∷ [])
+pub push_apart : (names : List (List ℕ)) (x : List ℕ) → AreApart names → IsTrue (is_name x) → is_among names x ≡ false
+    → AreApart (names ++ x ∷ [])
 push_apart names x h e new = IsDistinct-push same_equivalence names x h (sym (among_same names x e) ∙ new)
 
 -- What the words of the grammar promise.
@@ -91,7 +102,8 @@ goes_on true = gives refl
 goes_on false = token (λ x a p e. absurd cc)
 
 -- behind a part of which nothing is said
-pub behind : {A B : Type 0} {p : Grammar A} {g : A → Grammar B} {Q : B → Type 0} → ((a : A) → Promises IsSpelled (g a) Q) → Promises IsSpelled (r.Then p g) Q
+pub behind : {A B : Type 0} {p : Grammar A} {g : A → Grammar B} {Q : B → Type 0} → ((a : A) → Promises IsSpelled (g a) Q)
+    → Promises IsSpelled (r.Then p g) Q
 behind {p = p} more = in_turn (keeps IsSpelled p) (λ a _. more a)
 
 -- what each value has

@@ -1,5 +1,7 @@
 -- The tables of constants that are read.
-use Rattle.std.proofs.Common.{◌≡◌, ℕ, zero, suc, ◌+◌, ◌-◌, ◌≤◌, ◌<◌, Bool, true, false, ◌&&◌, ◌||◌, nat_lt, if◌then◌else◌, cond, List, [], ◌∷◌, ◌++◌, length, take, slice_get, ◌⊎◌, inl, inr, Option, Some, None, refl, sym, ap, subst, arith}
+use Rattle.std.proofs.Common.{◌≡◌, ℕ, zero, suc, ◌+◌, ◌-◌, ◌≤◌, ◌<◌, Bool, true, false, ◌&&◌, ◌||◌, nat_lt, if◌then◌else◌, cond}
+use Rattle.std.proofs.Common.{List, [], ◌∷◌, ◌++◌, length, take, slice_get, ◌⊎◌, inl, inr, Option, Some, None, refl, sym, ap}
+use Rattle.std.proofs.Common.{subst, arith}
 use Rattle.std.specs.Prelude.{All, count_by}
 use Rattle.std.specs.List.{list_any}
 use Rattle.std.specs.Option.{option_and_then}
@@ -23,7 +25,11 @@ use Rattle.vhdl_tokens.specs.Spelling.{is_same}
 use Rattle.vhdl_grammar.specs.declared.scope.Tables.{Tables}
 use Rattle.std.specs.Prelude.{codes}
 use Rattle.vhdl_grammar.specs.VhdlRules.{only_element, more_elements, several_elements, elements}
-use Rattle.vhdl_grammar.specs.VhdlTables.{symbol_of, is_edge, next_by, next_symbol, symbols, state_in, next_in, state_row_with, state_row_of, row_end, state_width, is_as_long_as_state_rows, state_row, state_table, value_of, truth_row_with, truth_row_of, truth_width, is_as_long_as_truth_rows, truth_row, truth_table, ConstantOf, StateOrOutput, Condition, assigned_truth_table, condition_constant, output_constant, state_constant, constant_by, constant, constants}
+use Rattle.vhdl_grammar.specs.VhdlTables.{symbol_of, is_edge, next_by, next_symbol, symbols, state_in, next_in, state_row_with}
+use Rattle.vhdl_grammar.specs.VhdlTables.{state_row_of, row_end, state_width, is_as_long_as_state_rows, state_row, state_table}
+use Rattle.vhdl_grammar.specs.VhdlTables.{value_of, truth_row_with, truth_row_of, truth_width, is_as_long_as_truth_rows}
+use Rattle.vhdl_grammar.specs.VhdlTables.{truth_row, truth_table, ConstantOf, StateOrOutput, Condition, assigned_truth_table}
+use Rattle.vhdl_grammar.specs.VhdlTables.{condition_constant, output_constant, state_constant, constant_by, constant, constants}
 use Rattle.vhdl_grammar.specs.WellFormed.{HasOneEdge}
 use Rattle.vhdl_grammar.proofs.ReadNames.{IsSpelled, fits_if, fits_unless, fits_where, behind}
 
@@ -47,7 +53,8 @@ edges-cons s all = sum_by-cons (λ s. cond (is_edge s) 1 0) s all
 
 edges-push : (all : List VSymbol) (s : VSymbol) → count_by is_edge (all ++ s ∷ []) ≡ count_by is_edge all + cond (is_edge s) 1 0
 edges-push all s =
-    let split : count_by is_edge (all ++ s ∷ []) ≡ count_by is_edge all + count_by is_edge (s ∷ []) = sum_by-append (λ s. cond (is_edge s) 1 0) all (s ∷ []) in
+    let split : count_by is_edge (all ++ s ∷ []) ≡ count_by is_edge all + count_by is_edge (s ∷ []) =
+    sum_by-append (λ s. cond (is_edge s) 1 0) all (s ∷ []) in
     let one : count_by is_edge (s ∷ []) ≡ cond (is_edge s) 1 0 + 0 = edges-cons s [] in
     omega (arith, split, one)
 
@@ -70,7 +77,8 @@ not_both : (a b : Bool) → (a && b) ≡ false → a ≡ true → b ≡ false
 not_both true b h e = h
 not_both false b h e = absurd cc
 
-push_symbol : (all : List VSymbol) (s : VSymbol) → FewEdges all → (is_edge s && list_any is_edge all) ≡ false → FewEdges (all ++ s ∷ [])
+push_symbol : (all : List VSymbol) (s : VSymbol) → FewEdges all → (is_edge s && list_any is_edge all) ≡ false
+    → FewEdges (all ++ s ∷ [])
 push_symbol all s h second =
     elim (cases_Bool (is_edge s)) [
       | inl t ↦
@@ -82,7 +90,8 @@ push_symbol all s h second =
           omega (arith, edges-push all s, here, h)
     ]
 
-next_fits : (all : List VSymbol) (o : Option VSymbol) (s : VSymbol) → next_by all o ≡ Fits s → (is_edge s && list_any is_edge all) ≡ false
+next_fits : (all : List VSymbol) (o : Option VSymbol) (s : VSymbol) → next_by all o ≡ Fits s
+    → (is_edge s && list_any is_edge all) ≡ false
 next_fits all None s e = absurd cc
 next_fits all (Some t) s e =
     let f = fits_unless (is_edge t && list_any is_edge all) TwoEdges t s e in
@@ -109,7 +118,8 @@ abbrev inputs_of : Option VStateRow → List VSymbol
 inputs_of None = []
 inputs_of (Some row) = row.inputs
 
-state_inputs : (all : List VSymbol) (s : Option Trits) (n : Option VNext) (row : VStateRow) → state_row_with all s n ≡ Some row → row.inputs ≡ all
+state_inputs : (all : List VSymbol) (s : Option Trits) (n : Option VNext) (row : VStateRow) → state_row_with all s n ≡ Some row
+    → row.inputs ≡ all
 state_inputs all None n row e = absurd cc
 state_inputs all (Some s) None row e = absurd cc
 state_inputs all (Some s) (Some n) row e = ap inputs_of (sym e)
@@ -122,12 +132,16 @@ record IsStateRow (row : VStateRow) : Type 0 where
 state_row_is : (all : List VSymbol) (row : VStateRow) → FewEdges all → state_row_of all ≡ Some row → IsStateRow row
 state_row_is all row few e =
     let n = length all - 2 in
-    let f = none_unless (nat_lt 2 (length all)) (state_row_with (take (length all - 2) all) (option_and_then state_in (slice_get all (length all - 2))) (option_and_then next_in (slice_get all (length all - 1)))) row e in
-    let same = state_inputs (take (length all - 2) all) (option_and_then state_in (slice_get all (length all - 2))) (option_and_then next_in (slice_get all (length all - 1))) row f.1 in
+    let f = none_unless (nat_lt 2 (length all))
+    (state_row_with (take (length all - 2) all) (option_and_then state_in (slice_get all (length all - 2)))
+    (option_and_then next_in (slice_get all (length all - 1)))) row e in
+    let same = state_inputs (take (length all - 2) all) (option_and_then state_in (slice_get all (length all - 2)))
+    (option_and_then next_in (slice_get all (length all - 1))) row f.1 in
     let more : 2 < length all = grind (arith, nat_tests, f.0) in
     let count = took (length all - 2) all (omega arith) in
     record {
-      edge = subst (λ (xs : List VSymbol). count_by is_edge xs ≤ 1) (sym same) (omega (arith, few, sum_by-take-le (λ s. cond (is_edge s) 1 0) all (length all - 2)));
+      edge = subst (λ (xs : List VSymbol). count_by is_edge xs ≤ 1) (sym same)
+          (omega (arith, few, sum_by-take-le (λ s. cond (is_edge s) 1 0) all (length all - 2)));
       wide = subst (λ (xs : List VSymbol). 1 ≤ length xs) (sym same) (omega (arith, count, more));
     }
 
@@ -144,7 +158,8 @@ pub record AreStateRows (rows : List VStateRow) : Type 0 where
 abbrev MayBeStateRows : List VStateRow → Type 0
 MayBeStateRows rows = (rows ≡ []) ⊎ AreStateRows rows
 
-push_state_row : (rows : List VStateRow) (row : VStateRow) → MayBeStateRows rows → IsStateRow row → is_as_long_as_state_rows rows row ≡ true → AreStateRows (rows ++ row ∷ [])
+push_state_row : (rows : List VStateRow) (row : VStateRow) → MayBeStateRows rows → IsStateRow row
+    → is_as_long_as_state_rows rows row ≡ true → AreStateRows (rows ++ row ∷ [])
 push_state_row [] row h is long = record {
   some = omega arith;
   edges = All-push HasOneEdge [] row (All-nil HasOneEdge) is.edge;
@@ -156,11 +171,13 @@ push_state_row (first ∷ rows) row (inr h) is long = record {
   some = omega arith;
   edges = All-push HasOneEdge (first ∷ rows) row h.edges is.edge;
   wide = h.wide;
-  even = All-push (HasWidth (length first.inputs)) (first ∷ rows) row h.even (eqb-true (length row.inputs) (length first.inputs) long);
+  even = All-push (HasWidth (length first.inputs)) (first ∷ rows) row h.even
+      (eqb-true (length row.inputs) (length first.inputs) long);
 }
 
 -- the end of a row that passes
-row_ends : {R : Type 0} (test : R → Bool) (o : Option R) (x : List ℕ) (row : R) → row_end test o x ≡ Fits row → (o ≡ Some row) × (test row ≡ true)
+row_ends : {R : Type 0} (test : R → Bool) (o : Option R) (x : List ℕ) (row : R) → row_end test o x ≡ Fits row → (o ≡ Some row)
+    × (test row ≡ true)
 row_ends test None x row e = absurd cc
 row_ends test (Some r) x row e =
     let f = fits_if (is_same x (codes ")")) (if test r then Fits r else Foul Width r) Syntax row e in
@@ -182,7 +199,9 @@ HasStateRows table = AreStateRows table.rows
 
 state_tables : Promises IsSpelled state_table HasStateRows
 unfolding state_table
-state_tables = behind (λ a. in_turn (all_elements state_row MayBeStateRows AreStateRows [] (inl refl) one_state_row (λ w r. inr r)) (λ rows h. behind (λ b. gives h)))
+state_tables = behind (λ a. in_turn
+    (all_elements state_row MayBeStateRows AreStateRows [] (inl refl) one_state_row (λ w r. inr r))
+    (λ rows h. behind (λ b. gives h)))
 
 -- Rows of a truth table.
 
@@ -196,7 +215,8 @@ truth_inputs all (Some r) row e = ap truth_inputs_of (sym e)
 
 truth_row_is : (all : List Trits) (row : TruthRow) → truth_row_of all ≡ Some row → 1 ≤ length row.inputs
 truth_row_is all row e =
-    let f = none_unless (nat_lt 1 (length all)) (truth_row_with (take (length all - 1) all) (option_and_then value_of (slice_get all (length all - 1)))) row e in
+    let f = none_unless (nat_lt 1 (length all))
+    (truth_row_with (take (length all - 1) all) (option_and_then value_of (slice_get all (length all - 1)))) row e in
     let same = truth_inputs (take (length all - 1) all) (option_and_then value_of (slice_get all (length all - 1))) row f.1 in
     let more : 1 < length all = grind (arith, nat_tests, f.0) in
     let count = took (length all - 1) all (omega arith) in
@@ -214,7 +234,8 @@ pub record AreTruthRows (rows : List TruthRow) : Type 0 where
 abbrev MayBeTruthRows : List TruthRow → Type 0
 MayBeTruthRows rows = (rows ≡ []) ⊎ AreTruthRows rows
 
-push_truth_row : (rows : List TruthRow) (row : TruthRow) → MayBeTruthRows rows → 1 ≤ length row.inputs → is_as_long_as_truth_rows rows row ≡ true → AreTruthRows (rows ++ row ∷ [])
+push_truth_row : (rows : List TruthRow) (row : TruthRow) → MayBeTruthRows rows → 1 ≤ length row.inputs
+    → is_as_long_as_truth_rows rows row ≡ true → AreTruthRows (rows ++ row ∷ [])
 push_truth_row [] row h wide long = record {
   some = omega arith;
   wide = wide;
@@ -224,7 +245,8 @@ push_truth_row (first ∷ rows) row (inl e) wide long = absurd cc
 push_truth_row (first ∷ rows) row (inr h) wide long = record {
   some = omega arith;
   wide = h.wide;
-  even = All-push (HasTruthWidth (length first.inputs)) (first ∷ rows) row h.even (eqb-true (length row.inputs) (length first.inputs) long);
+  even = All-push (HasTruthWidth (length first.inputs)) (first ∷ rows) row h.even
+      (eqb-true (length row.inputs) (length first.inputs) long);
 }
 
 one_truth_row : (rows : List TruthRow) → MayBeTruthRows rows → Promises IsSpelled (truth_row rows) AreTruthRows
@@ -241,7 +263,9 @@ HasTruthRows table = AreTruthRows table.rows
 
 truth_tables : Promises IsSpelled truth_table HasTruthRows
 unfolding truth_table
-truth_tables = behind (λ a. in_turn (all_elements truth_row MayBeTruthRows AreTruthRows [] (inl refl) one_truth_row (λ w r. inr r)) (λ rows h. behind (λ b. gives h)))
+truth_tables = behind (λ a. in_turn
+    (all_elements truth_row MayBeTruthRows AreTruthRows [] (inl refl) one_truth_row (λ w r. inr r))
+    (λ rows h. behind (λ b. gives h)))
 
 -- Constants.
 
@@ -258,12 +282,28 @@ by_kind : (tables : Tables) → AreTables tables → (of : ConstantOf) → Promi
 unfolding state_constant output_constant condition_constant
 by_kind tables h StateOrOutput =
     choice
-    (λ x a p e. behind (λ b. in_turn state_tables (λ table t. behind (λ c. gives (record { states = All-push HasStateRows tables.states table h.states t; conditions = h.conditions; outputs = h.outputs })))))
+    (λ x a p e. behind (λ b. in_turn state_tables
+    (λ table t. behind (λ c. gives (record {
+      states = All-push HasStateRows tables.states table h.states t;
+      conditions =
+          h.conditions;
+      outputs = h.outputs;
+    })))))
     (behind (λ b. in_turn assigned (λ table t.
-    gives (record { states = h.states; conditions = h.conditions; outputs = All-push HasTruthRows tables.outputs table h.outputs t }))))
+    gives (record {
+      states = h.states;
+      conditions = h.conditions;
+      outputs =
+          All-push HasTruthRows tables.outputs table h.outputs t;
+    }))))
 by_kind tables h Condition =
     behind (λ b. in_turn assigned (λ table t.
-    gives (record { states = h.states; conditions = All-push HasTruthRows tables.conditions table h.conditions t; outputs = h.outputs })))
+    gives (record {
+      states = h.states;
+      conditions = All-push HasTruthRows tables.conditions table h.conditions t;
+      outputs =
+          h.outputs;
+    })))
 
 one_constant : (tables : Tables) → AreTables tables → Promises IsSpelled (constant tables) AreTables
 unfolding constant
@@ -272,4 +312,5 @@ one_constant tables h = behind (λ of. behind (λ a. by_kind tables h of))
 pub all_tables : Promises IsSpelled constants AreTables
 unfolding constants
 all_tables =
-    many (record { states = All-nil HasStateRows; conditions = All-nil HasTruthRows; outputs = All-nil HasTruthRows }) (λ w x a q p e. one_constant w q)
+    many (record { states = All-nil HasStateRows; conditions = All-nil HasTruthRows; outputs = All-nil HasTruthRows })
+    (λ w x a q p e. one_constant w q)

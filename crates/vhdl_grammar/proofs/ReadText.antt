@@ -1,5 +1,6 @@
 -- The entities of a text are well formed.
-use Rattle.std.proofs.Common.{◌≡◌, ℕ, ◌<◌, ◌^◌, true, false, if◌then◌else◌, IsTrue, List, [], ◌∷◌, ◌++◌, length, get_or, sym, subst, arith, codes}
+use Rattle.std.proofs.Common.{◌≡◌, ℕ, ◌<◌, ◌^◌, true, false, if◌then◌else◌, IsTrue, List, [], ◌∷◌, ◌++◌, length, get_or, sym}
+use Rattle.std.proofs.Common.{subst, arith, codes}
 use Rattle.std.specs.Prelude.{All, flat_map}
 use Rattle.std.specs.List.{IsDistinct}
 use Rattle.std.proofs.lemmas.Bool.{eqb-true}
@@ -13,7 +14,8 @@ use Rattle.vhdl_tokens.specs.Tokens.{is_name}
 use Rattle.vhdl_grammar.specs.declared.scope.Scope.{Scope}
 use Rattle.vhdl_grammar.specs.VhdlRules.{is_among, new_name}
 use Rattle.vhdl_grammar.specs.VhdlNames.{Uses}
-use Rattle.vhdl_grammar.specs.VhdlText.{are_looked_up, entity_end, statements, entity, entity_names, next_entity, file, IsVhdlText, text_tokens}
+use Rattle.vhdl_grammar.specs.VhdlText.{are_looked_up, entity_end, statements, entity, entity_names, next_entity, file}
+use Rattle.vhdl_grammar.specs.VhdlText.{IsVhdlText, text_tokens}
 use Rattle.vhdl_grammar.specs.WellFormed.{IsEntityName, AreApart, IsCount, part_count, conditions_of_check, AreWellFormed}
 use Rattle.vhdl_grammar.proofs.ReadNames.{IsSpelled, a_name, fits_if, fits_unless, push_apart, where_holds, behind, surely}
 use Rattle.vhdl_grammar.proofs.ReadTokens.{tokens_spelled}
@@ -47,7 +49,8 @@ record IsNewEntity (names : List (List ℕ)) (e : VEntity) : Type 0 where
   token : IsTrue (is_name e.name)
   new : is_among names e.name ≡ false
 
-stated : (names : List (List ℕ)) (name : List ℕ) (scope : Scope) → IsNewName names name → IsScope name scope → Promises IsSpelled (statements scope) (IsNewEntity names)
+stated : (names : List (List ℕ)) (name : List ℕ) (scope : Scope) → IsNewName names name → IsScope name scope
+    → Promises IsSpelled (statements scope) (IsNewEntity names)
 unfolding statements
 stated names name scope new s =
     in_turn (all_checks scope) (λ all c.
@@ -56,7 +59,8 @@ stated names name scope new s =
     in_turn (all_lines scope (flat_map conditions_of_check all.checks) all.uses c.are.looked_up) (λ lines l.
     in_turn (ends scope lines.1) (λ b u.
     gives (record {
-      read = read_entity name scope all columns values lines new.name s (record { checks = c; states = states; valued = v; lined = l; looked_up = u })
+      read = read_entity name scope all columns values lines new.name s
+          (record { checks = c; states = states; valued = v; lined = l; looked_up = u })
           (eqb-true (length lines.1) (length scope.tables.conditions) u);
       token = subst (λ (x : List ℕ). IsTrue (is_name x)) (sym s.named) new.token;
       new = subst (λ (x : List ℕ). is_among names x ≡ false) (sym s.named) new.new;
@@ -80,7 +84,8 @@ none_read = record { entities = All-nil IsReadEntity; apart = tt }
 push_entity : (es : List VEntity) (e : VEntity) → AreRead es → IsNewEntity (entity_names es) e → AreRead (es ++ e ∷ [])
 push_entity es e h new = record {
   entities = All-push IsReadEntity es e h.entities new.read;
-  apart = subst AreApart (sym (map_push (λ (e : VEntity). e.name) es e)) (push_apart (entity_names es) e.name h.apart new.token new.new);
+  apart = subst AreApart (sym (map_push (λ (e : VEntity). e.name) es e))
+      (push_apart (entity_names es) e.name h.apart new.token new.new);
 }
 
 one_entity : (es : List VEntity) → AreRead es → Promises IsSpelled (next_entity es) AreRead
@@ -100,4 +105,5 @@ text_entities bytes es number h =
     }
   where
     few : (k : ℕ) (d : VEntity) → k < length es → IsCount (part_count (get_or es k d))
-    few k d below = let part = parts_in_text bytes es h.takes k d below in let bound : length bytes < 2 ^ 64 = number in omega (arith, part, bound)
+    few k d below = let part = parts_in_text bytes es h.takes k d below in let bound : length bytes < 2 ^ 64 = number
+        in omega (arith, part, bound)

@@ -14,4 +14,6 @@ file_ends s a r (all, n, i, (e, j, k)) = k
 -- a text is entities, or it has a fault, and not both, as the function of its bytes says
 pub is_answer : (bytes : List ℕ) → IsVhdlAnswer bytes
 unfolding vhdl_text
-is_answer bytes = let a = answers.is_answer language (record { place_of_lexical = λ at. refl; place_of_fault = place_of_fault; file_ends = file_ends }) bytes in record { entities = a.value; fault = a.fault }
+is_answer bytes = let a = answers.is_answer language
+    (record { place_of_lexical = λ at. refl; place_of_fault = place_of_fault; file_ends = file_ends }) bytes
+    in record { entities = a.value; fault = a.fault }

@@ -5,7 +5,8 @@ use Rattle.trit_cubes.specs.declared.trits.Trit.TheVariants as trit
 use Rattle.cell_machine.specs.declared.outputs.Source.TheVariants as source
 use Rattle.cell_machine.specs.declared.checks.CheckKind.TheVariants as check_kind
 use Rattle.cell_machine.specs.declared.checks.Edge.TheVariants as edge
-use Rattle.udp_tables.specs.declared.models.ModelFault.TheVariants.{Lexical, Syntax, Twice, TwoEdges, Undefined, Undriven, Unequal, Width}
+use Rattle.udp_tables.specs.declared.models.ModelFault.TheVariants.{Lexical, Syntax, Twice, TwoEdges, Undefined, Undriven}
+use Rattle.udp_tables.specs.declared.models.ModelFault.TheVariants.{Unequal, Width}
 use Rattle.udp_tables.proofs.FaultCases.{at, behind, AreFaults}
 use Rattle.vhdl_tokens.specs.Words.{vhdl_words, used_words, is_reserved, is_used}
 use Rattle.vital_models.specs.declared.table.Trits.TheVariants as trits
@@ -24,8 +25,8 @@ use Rattle.vhdl_grammar.specs.VhdlOutputs as output
 use Rattle.vhdl_grammar.specs.VhdlText as text
 use Rattle.vhdl_grammar.specs.VhdlText.{vhdl_text}
 
--- A flip-flop with a setup of 50 of D before rising CK, and delays of 100 and 120 from CK to Q: its ports, its tables, its variables
--- and its statements.
+-- A flip-flop with a setup of 50 of D before rising CK, and delays of 100 and 120 from CK to Q: its ports, its tables, its
+-- variables and its statements.
 abbrev flip-flop-head : List ℕ
 flip-flop-head = codes "library IEEE;\nuse IEEE.std_logic_1164.all;\nuse IEEE.VITAL_Timing.all;\nuse IEEE.VITAL_Primitives.all;\nentity DFFT is\n  port (CK : in std_ulogic; D : in std_ulogic; Q : out std_ulogic);\nend DFFT;\narchitecture vital of DFFT is\n"
 
@@ -40,21 +41,52 @@ flip-flop-statements = codes "  begin\n    VitalSetupHoldCheck (Violation => x_1
 
 -- the value of a state
 kept : OutValue
-kept = value.Table (record { rows = record { inputs = trits.One ∷ []; result = trit.One } ∷ record { inputs = trits.Zero ∷ []; result = trit.Zero } ∷ [] }) (source.State 0 ∷ [])
+kept = value.Table (record {
+  rows =
+      record { inputs = trits.One ∷ []; result = trit.One } ∷ record { inputs = trits.Zero ∷ []; result = trit.Zero } ∷ [];
+})
+    (source.State 0 ∷ [])
 
 flip-flop : VEntity
 flip-flop =
     record {
       name = codes "DFFT";
-      ports = record { name = codes "CK"; input = true } ∷ record { name = codes "D"; input = true } ∷ record { name = codes "Q"; input = false } ∷ [];
+      ports = record { name = codes "CK"; input = true } ∷ record { name = codes "D"; input = true } ∷ record {
+        name =
+            codes "Q";
+        input = false;
+      } ∷ [];
       states = record { table = record { rows = state_rows true 2 flip_flop }; violation = true; inputs = 0 ∷ 1 ∷ [] } ∷ [];
       conditions = [];
-      outputs = record { port = 2; value = kept; paths = record { from = 0; rise = 100; fall = 120; gate = gate.Always } ∷ [] } ∷ [];
-      checks = record { kind = check_kind.Setup; first = record { pin = 1; edge = edge.Any }; second = record { pin = 0; edge = edge.Rise }; limit = 50; condition = None } ∷ [];
+      outputs = record { port = 2; value = kept; paths = record { from = 0; rise = 100; fall = 120; gate = gate.Always } ∷ [] }
+          ∷ [];
+      checks = record {
+        kind = check_kind.Setup;
+        first = record { pin = 1; edge = edge.Any };
+        second =
+            record { pin = 0; edge = edge.Rise };
+        limit = 50;
+        condition = None;
+      } ∷ [];
     }
 
-reads-flip-flop : vhdl_text (flip-flop-head ++ (flip-flop-tables ++ (flip-flop-variables ++ flip-flop-statements))) ≡ Ok (flip-flop ∷ [])
-unfolding kept flip-flop digits vhdl_words used_words is_reserved is_used rule.a_number rule.a_time rule.only_element rule.more_elements rule.several_elements rule.elements table.next_symbol table.symbols table.state_row table.state_table table.next_level table.levels table.truth_row table.truth_table table.assigned_truth_table table.condition_constant table.output_constant table.state_constant table.constant table.constants declared.packages declared.next_port declared.port_list declared.ports_of declared.entity_header declared.architecture_header declared.listed_name declared.listed_names declared.check_variables declared.violation_variable declared.state_variables declared.output_variable declared.glitch_variable declared.variable declared.variables declared.scope_of name.an_input name.listed_input name.first_list name.same_input name.same_list name.list_by name.condition name.next_column name.columns_of name.listed_source name.sources_of check.tested check.referred check.enabling_condition check.always_enabled check.enabled check.transition check.same_number check.both_limits check.setup_hold check.one_limit check.active_low check.recovery_removal check.period_pulse check.checks check.next_report check.any_report check.state_call_start check.state_call check.state_calls output.lookup output.a_constant output.next_value output.values_of output.next_zero output.all_zero output.not_zero output.equals_zero output.gate_of_conditions output.always output.gate_of output.delays output.next_path output.paths output.path_call_start output.path_call output.assigned_value output.assignment output.call_or_assignment output.output_lines text.entity_end text.statements text.entity text.next_entity text.file text.vhdl_text
+reads-flip-flop : vhdl_text (flip-flop-head ++ (flip-flop-tables ++ (flip-flop-variables ++ flip-flop-statements))) ≡ Ok
+    (flip-flop ∷ [])
+unfolding kept flip-flop digits vhdl_words used_words is_reserved is_used rule.a_number rule.a_time rule.only_element
+    rule.more_elements rule.several_elements rule.elements table.next_symbol table.symbols table.state_row table.state_table
+    table.next_level table.levels table.truth_row table.truth_table table.assigned_truth_table table.condition_constant
+    table.output_constant table.state_constant table.constant table.constants declared.packages declared.next_port
+    declared.port_list declared.ports_of declared.entity_header declared.architecture_header declared.listed_name
+    declared.listed_names declared.check_variables declared.violation_variable declared.state_variables declared.output_variable
+    declared.glitch_variable declared.variable declared.variables declared.scope_of name.an_input name.listed_input
+    name.first_list name.same_input name.same_list name.list_by name.condition name.next_column name.columns_of name.listed_source
+    name.sources_of check.tested check.referred check.enabling_condition check.always_enabled check.enabled check.transition
+    check.same_number check.both_limits check.setup_hold check.one_limit check.active_low check.recovery_removal
+    check.period_pulse check.checks check.next_report check.any_report check.state_call_start check.state_call check.state_calls
+    output.lookup output.a_constant output.next_value output.values_of output.next_zero output.all_zero output.not_zero
+    output.equals_zero output.gate_of_conditions output.always output.gate_of output.delays output.next_path output.paths
+    output.path_call_start output.path_call output.assigned_value output.assignment output.call_or_assignment output.output_lines
+    text.entity_end text.statements text.entity text.next_entity text.file text.vhdl_text
 reads-flip-flop = refl
 
 -- the packages of an entity
@@ -71,7 +103,8 @@ in-statements = flip-flop-head ++ (flip-flop-tables ++ flip-flop-variables)
 
 -- the flip-flop behind its check and its violation
 abbrev behind-checks : List ℕ
-behind-checks = in-statements ++ codes "begin VitalSetupHoldCheck (Violation => x_1, TimingData => d_1, TestSignal => D, RefSignal => CK, SetupHigh => 50 ps, SetupLow => 050 ps, CheckEnabled => true, RefTransition => 'R'); viol := x_1; "
+behind-checks = in-statements ++ codes
+    "begin VitalSetupHoldCheck (Violation => x_1, TimingData => d_1, TestSignal => D, RefSignal => CK, SetupHigh => 50 ps, SetupLow => 050 ps, CheckEnabled => true, RefTransition => 'R'); viol := x_1; "
 
 -- an entity with two conditions up to the gate of its first path
 abbrev in-gate : List ℕ
@@ -79,7 +112,8 @@ in-gate = codes "library IEEE;\nuse IEEE.std_logic_1164.all;\nuse IEEE.VITAL_Tim
 
 -- an entity whose output has the name of the procedure of path delays and no paths, up to the line of the output
 abbrev in-assignment : List ℕ
-in-assignment = packages ++ codes "entity E is port (vitalpathdelay01 : out std_ulogic); end E; architecture vital of E is begin process variable z_1 : std_logic := 'X'; begin z_1 := '1'; "
+in-assignment = packages ++ codes
+    "entity E is port (vitalpathdelay01 : out std_ulogic); end E; architecture vital of E is begin process variable z_1 : std_logic := 'X'; begin z_1 := '1'; "
 
 -- the same with a path
 abbrev in-call : List ℕ
@@ -127,7 +161,8 @@ faults : AreFaults vhdl_text (
     ∷ at "(CK, D) variable y_1" Undefined 17
     ∷ at "(CK, D) variable viol" Syntax 17
     ∷ at "(CK, D) variable s_1 : std_logic := 'X'; variable p_1 : std_logic_vector (1 to 2)" Syntax 79
-    ∷ at "(CK, D) variable x_1 : X01 := '0'; variable d_1 : VitalTimingDataType := VitalTimingDataInit; variable s_1" Undefined 103
+    ∷ at "(CK, D) variable x_1 : X01 := '0'; variable d_1 : VitalTimingDataType := VitalTimingDataInit; variable s_1" Undefined
+    103
     ∷ at "(CK, D) variable x_1 : X01 := '0'; variable d_1 : VitalTimingDataType := VitalPeriodDataInit" Syntax 73 ∷ []
     )
     -- Calls of checks, and the violation.
@@ -135,14 +170,21 @@ faults : AreFaults vhdl_text (
     at "begin VitalPeriodPulseCheck (Violation => x_1, PeriodData => d_1" Undefined 61
     ∷ at "begin VitalSetupHoldCheck (Violation => x_2" Undefined 40
     ∷ at "begin VitalSetupHoldCheck (Violation => x_1, TimingData => d_1, TestSignal => Q" Undefined 78
-    ∷ at "begin VitalSetupHoldCheck (Violation => x_1, TimingData => d_1, TestSignal => D, RefSignal => CK, SetupHigh => 50 ps, SetupLow => 51 ps" Unequal 130
-    ∷ at "begin VitalSetupHoldCheck (Violation => x_1, TimingData => d_1, TestSignal => D, RefSignal => CK, SetupHigh => 50 ps, HoldLow => 50 ps" Syntax 118
-    ∷ at "begin VitalSetupHoldCheck (Violation => x_1, TimingData => d_1, TestSignal => D, RefSignal => CK, SetupHigh => 0000000000000050 ps" Lexical 111
-    ∷ at "begin VitalSetupHoldCheck (Violation => x_1, TimingData => d_1, TestSignal => D, RefSignal => CK, SetupHigh => 50 ps, SetupLow => 50 ps, CheckEnabled => false" Syntax 153
+    ∷ at "begin VitalSetupHoldCheck (Violation => x_1, TimingData => d_1, TestSignal => D, RefSignal => CK, SetupHigh => 50 ps, SetupLow => 51 ps"
+    Unequal 130
+    ∷ at "begin VitalSetupHoldCheck (Violation => x_1, TimingData => d_1, TestSignal => D, RefSignal => CK, SetupHigh => 50 ps, HoldLow => 50 ps"
+    Syntax 118
+    ∷ at "begin VitalSetupHoldCheck (Violation => x_1, TimingData => d_1, TestSignal => D, RefSignal => CK, SetupHigh => 0000000000000050 ps"
+    Lexical 111
+    ∷ at "begin VitalSetupHoldCheck (Violation => x_1, TimingData => d_1, TestSignal => D, RefSignal => CK, SetupHigh => 50 ps, SetupLow => 50 ps, CheckEnabled => false"
+    Syntax 153
     ∷ at "begin viol" Syntax 6
-    ∷ at "begin VitalSetupHoldCheck (Violation => x_1, TimingData => d_1, TestSignal => D, RefSignal => CK, SetupHigh => 50 ps, SetupLow => 050 ps, CheckEnabled => true, RefTransition => 'R'); VitalSetupHoldCheck (Violation => x_2" Undefined 217
-    ∷ at "begin VitalSetupHoldCheck (Violation => x_1, TimingData => d_1, TestSignal => D, RefSignal => CK, SetupHigh => 50 ps, SetupLow => 050 ps, CheckEnabled => true, RefTransition => 'R'); viol := x_2" Undefined 191
-    ∷ at "begin VitalSetupHoldCheck (Violation => x_1, TimingData => d_1, TestSignal => D, RefSignal => CK, SetupHigh => 50 ps, SetupLow => 050 ps, CheckEnabled => true, RefTransition => 'R'); viol := x_1 or x_2" Undefined 198 ∷ []
+    ∷ at "begin VitalSetupHoldCheck (Violation => x_1, TimingData => d_1, TestSignal => D, RefSignal => CK, SetupHigh => 50 ps, SetupLow => 050 ps, CheckEnabled => true, RefTransition => 'R'); VitalSetupHoldCheck (Violation => x_2"
+    Undefined 217
+    ∷ at "begin VitalSetupHoldCheck (Violation => x_1, TimingData => d_1, TestSignal => D, RefSignal => CK, SetupHigh => 50 ps, SetupLow => 050 ps, CheckEnabled => true, RefTransition => 'R'); viol := x_2"
+    Undefined 191
+    ∷ at "begin VitalSetupHoldCheck (Violation => x_1, TimingData => d_1, TestSignal => D, RefSignal => CK, SetupHigh => 50 ps, SetupLow => 050 ps, CheckEnabled => true, RefTransition => 'R'); viol := x_1 or x_2"
+    Undefined 198 ∷ []
     )
     -- Calls of tables, and the lines of outputs.
     ++ behind behind-checks (
@@ -152,18 +194,29 @@ faults : AreFaults vhdl_text (
     ∷ at "VitalStateTable (Result => s_1, PreviousDataIn => p_1, StateTable => k_1, DataIn => (CK, Q" Undefined 89
     ∷ at "VitalStateTable (Result => s_1, PreviousDataIn => p_1, StateTable => k_1, DataIn => (CK)" Syntax 87
     ∷ at "z_1" Syntax 0
-    ∷ at "VitalStateTable (Result => s_1, PreviousDataIn => p_1, StateTable => k_1, DataIn => (viol, CK, D)); VitalStateTable (Result => s_2" Undefined 127
+    ∷ at "VitalStateTable (Result => s_1, PreviousDataIn => p_1, StateTable => k_1, DataIn => (viol, CK, D)); VitalStateTable (Result => s_2"
+    Undefined 127
     ∷ at "VitalStateTable (Result => s_1, PreviousDataIn => p_1, StateTable => k_1, DataIn => (viol, CK, D)); z_2" Undefined 100
-    ∷ at "VitalStateTable (Result => s_1, PreviousDataIn => p_1, StateTable => k_1, DataIn => (viol, CK, D)); z_1 := VitalTruthTable (TruthTable => k_1" Undefined 138
-    ∷ at "VitalStateTable (Result => s_1, PreviousDataIn => p_1, StateTable => k_1, DataIn => (viol, CK, D)); z_1 := VitalTruthTable (TruthTable => k_2, DataIn => (s_1)" Syntax 157
-    ∷ at "VitalStateTable (Result => s_1, PreviousDataIn => p_1, StateTable => k_1, DataIn => (viol, CK, D)); z_1 := '0'; Q" Undefined 112
-    ∷ at "VitalStateTable (Result => s_1, PreviousDataIn => p_1, StateTable => k_1, DataIn => (viol, CK, D)); z_1 := '0'; end" Syntax 112
-    ∷ at "VitalStateTable (Result => s_1, PreviousDataIn => p_1, StateTable => k_1, DataIn => (viol, CK, D)); z_1 := VitalTruthTable (TruthTable => k_2, DataIn => (0 => s_1)); Q" Undefined 166
-    ∷ at "VitalStateTable (Result => s_1, PreviousDataIn => p_1, StateTable => k_1, DataIn => (viol, CK, D)); z_1 := VitalTruthTable (TruthTable => k_2, DataIn => (0 => s_1)); end" Syntax 166
-    ∷ at "VitalStateTable (Result => s_1, PreviousDataIn => p_1, StateTable => k_1, DataIn => (viol, CK, D)); z_1 := VitalTruthTable (TruthTable => k_2, DataIn => (0 => s_1)); VitalPathDelay01 (OutSignal => Q, GlitchData => g_1, OutSignalName => \"R\"" Undefined 236
-    ∷ at "VitalStateTable (Result => s_1, PreviousDataIn => p_1, StateTable => k_1, DataIn => (viol, CK, D)); z_1 := VitalTruthTable (TruthTable => k_2, DataIn => (0 => s_1)); VitalPathDelay01 (OutSignal => Q, GlitchData => g_1, OutSignalName => Q" Syntax 236
-    ∷ at "VitalStateTable (Result => s_1, PreviousDataIn => p_1, StateTable => k_1, DataIn => (viol, CK, D)); z_1 := VitalTruthTable (TruthTable => k_2, DataIn => (0 => s_1)); VitalPathDelay01 (OutSignal => Q, GlitchData => g_1, OutSignalName => \"q\", OutTemp => z_1, Paths => (1 =>" Syntax 267
-    ∷ at "VitalStateTable (Result => s_1, PreviousDataIn => p_1, StateTable => k_1, DataIn => (viol, CK, D)); z_1 := VitalTruthTable (TruthTable => k_2, DataIn => (0 => s_1)); VitalPathDelay01 (OutSignal => Q, GlitchData => g_1, OutSignalName => \"q\", OutTemp => z_1, Paths => (0 => (Q" Undefined 273 ∷ []
+    ∷ at "VitalStateTable (Result => s_1, PreviousDataIn => p_1, StateTable => k_1, DataIn => (viol, CK, D)); z_1 := VitalTruthTable (TruthTable => k_1"
+    Undefined 138
+    ∷ at "VitalStateTable (Result => s_1, PreviousDataIn => p_1, StateTable => k_1, DataIn => (viol, CK, D)); z_1 := VitalTruthTable (TruthTable => k_2, DataIn => (s_1)"
+    Syntax 157
+    ∷ at "VitalStateTable (Result => s_1, PreviousDataIn => p_1, StateTable => k_1, DataIn => (viol, CK, D)); z_1 := '0'; Q"
+    Undefined 112
+    ∷ at "VitalStateTable (Result => s_1, PreviousDataIn => p_1, StateTable => k_1, DataIn => (viol, CK, D)); z_1 := '0'; end"
+    Syntax 112
+    ∷ at "VitalStateTable (Result => s_1, PreviousDataIn => p_1, StateTable => k_1, DataIn => (viol, CK, D)); z_1 := VitalTruthTable (TruthTable => k_2, DataIn => (0 => s_1)); Q"
+    Undefined 166
+    ∷ at "VitalStateTable (Result => s_1, PreviousDataIn => p_1, StateTable => k_1, DataIn => (viol, CK, D)); z_1 := VitalTruthTable (TruthTable => k_2, DataIn => (0 => s_1)); end"
+    Syntax 166
+    ∷ at "VitalStateTable (Result => s_1, PreviousDataIn => p_1, StateTable => k_1, DataIn => (viol, CK, D)); z_1 := VitalTruthTable (TruthTable => k_2, DataIn => (0 => s_1)); VitalPathDelay01 (OutSignal => Q, GlitchData => g_1, OutSignalName => \"R\""
+    Undefined 236
+    ∷ at "VitalStateTable (Result => s_1, PreviousDataIn => p_1, StateTable => k_1, DataIn => (viol, CK, D)); z_1 := VitalTruthTable (TruthTable => k_2, DataIn => (0 => s_1)); VitalPathDelay01 (OutSignal => Q, GlitchData => g_1, OutSignalName => Q"
+    Syntax 236
+    ∷ at "VitalStateTable (Result => s_1, PreviousDataIn => p_1, StateTable => k_1, DataIn => (viol, CK, D)); z_1 := VitalTruthTable (TruthTable => k_2, DataIn => (0 => s_1)); VitalPathDelay01 (OutSignal => Q, GlitchData => g_1, OutSignalName => \"q\", OutTemp => z_1, Paths => (1 =>"
+    Syntax 267
+    ∷ at "VitalStateTable (Result => s_1, PreviousDataIn => p_1, StateTable => k_1, DataIn => (viol, CK, D)); z_1 := VitalTruthTable (TruthTable => k_2, DataIn => (0 => s_1)); VitalPathDelay01 (OutSignal => Q, GlitchData => g_1, OutSignalName => \"q\", OutTemp => z_1, Paths => (0 => (Q"
+    Undefined 273 ∷ []
     )
     -- Look-ups of conditions: their order, their lists, and one that is not used.
     ++ behind in-gate (
@@ -171,9 +224,12 @@ faults : AreFaults vhdl_text (
     ∷ at "VitalTruthTable (TruthTable => c_1, DataIn => (0 => A)" Width 53
     ∷ at "VitalTruthTable (TruthTable => c_1, DataIn => (A)" Syntax 48
     ∷ at "VitalTruthTable (TruthTable => c_1, DataIn => (A, Y" Undefined 50
-    ∷ at "VitalTruthTable (TruthTable => c_1, DataIn => (A, B)) = '0' and VitalTruthTable (TruthTable => C_1, DataIn => (B" Undefined 111
-    ∷ at "VitalTruthTable (TruthTable => c_1, DataIn => (A, B)) = '0' and VitalTruthTable (TruthTable => c_1, DataIn => (0 => A)" Syntax 117
-    ∷ at "VitalTruthTable (TruthTable => c_1, DataIn => (A, B)) = '0' and VitalTruthTable (TruthTable => c_1, DataIn => (A, B, A" Undefined 117
+    ∷ at "VitalTruthTable (TruthTable => c_1, DataIn => (A, B)) = '0' and VitalTruthTable (TruthTable => C_1, DataIn => (B"
+    Undefined 111
+    ∷ at "VitalTruthTable (TruthTable => c_1, DataIn => (A, B)) = '0' and VitalTruthTable (TruthTable => c_1, DataIn => (0 => A)"
+    Syntax 117
+    ∷ at "VitalTruthTable (TruthTable => c_1, DataIn => (A, B)) = '0' and VitalTruthTable (TruthTable => c_1, DataIn => (A, B, A"
+    Undefined 117
     ∷ at "VitalTruthTable (TruthTable => c_1, DataIn => (A, B)) = '1'" Syntax 56
     ∷ at "VitalTruthTable (TruthTable => c_1, DataIn => (A, B)) /= '0')), Mode => VitalTransport); end process" Undriven 89
     ∷ at "true)), Mode => VitalTransport); end process" Undriven 33 ∷ []
@@ -189,7 +245,21 @@ faults : AreFaults vhdl_text (
     at "VitalPathDelay01 <= z_1" Syntax 17 ∷ []
     )
     )
-unfolding digits vhdl_words used_words is_reserved is_used rule.a_number rule.a_time rule.only_element rule.more_elements rule.several_elements rule.elements table.next_symbol table.symbols table.state_row table.state_table table.next_level table.levels table.truth_row table.truth_table table.assigned_truth_table table.condition_constant table.output_constant table.state_constant table.constant table.constants declared.packages declared.next_port declared.port_list declared.ports_of declared.entity_header declared.architecture_header declared.listed_name declared.listed_names declared.check_variables declared.violation_variable declared.state_variables declared.output_variable declared.glitch_variable declared.variable declared.variables declared.scope_of name.an_input name.listed_input name.first_list name.same_input name.same_list name.list_by name.condition name.next_column name.columns_of name.listed_source name.sources_of check.tested check.referred check.enabling_condition check.always_enabled check.enabled check.transition check.same_number check.both_limits check.setup_hold check.one_limit check.active_low check.recovery_removal check.period_pulse check.checks check.next_report check.any_report check.state_call_start check.state_call check.state_calls output.lookup output.a_constant output.next_value output.values_of output.next_zero output.all_zero output.not_zero output.equals_zero output.gate_of_conditions output.always output.gate_of output.delays output.next_path output.paths output.path_call_start output.path_call output.assigned_value output.assignment output.call_or_assignment output.output_lines text.entity_end text.statements text.entity text.next_entity text.file text.vhdl_text
+unfolding digits vhdl_words used_words is_reserved is_used rule.a_number rule.a_time rule.only_element rule.more_elements
+    rule.several_elements rule.elements table.next_symbol table.symbols table.state_row table.state_table table.next_level
+    table.levels table.truth_row table.truth_table table.assigned_truth_table table.condition_constant table.output_constant
+    table.state_constant table.constant table.constants declared.packages declared.next_port declared.port_list declared.ports_of
+    declared.entity_header declared.architecture_header declared.listed_name declared.listed_names declared.check_variables
+    declared.violation_variable declared.state_variables declared.output_variable declared.glitch_variable declared.variable
+    declared.variables declared.scope_of name.an_input name.listed_input name.first_list name.same_input name.same_list
+    name.list_by name.condition name.next_column name.columns_of name.listed_source name.sources_of check.tested check.referred
+    check.enabling_condition check.always_enabled check.enabled check.transition check.same_number check.both_limits
+    check.setup_hold check.one_limit check.active_low check.recovery_removal check.period_pulse check.checks check.next_report
+    check.any_report check.state_call_start check.state_call check.state_calls output.lookup output.a_constant output.next_value
+    output.values_of output.next_zero output.all_zero output.not_zero output.equals_zero output.gate_of_conditions output.always
+    output.gate_of output.delays output.next_path output.paths output.path_call_start output.path_call output.assigned_value
+    output.assignment output.call_or_assignment output.output_lines text.entity_end text.statements text.entity text.next_entity
+    text.file text.vhdl_text
 faults = refl
 
 -- Outputs with the name of the procedure of path delays: one without paths that is assigned 1, and one that a call gives 0.
@@ -211,7 +281,12 @@ called-so-named =
       ports = record { name = codes "A"; input = true } ∷ record { name = codes "VITALPATHDELAY01"; input = false } ∷ [];
       states = [];
       conditions = [];
-      outputs = record { port = 1; value = value.Constant false; paths = record { from = 0; rise = 1; fall = 2; gate = gate.Always } ∷ [] } ∷ [];
+      outputs = record {
+        port = 1;
+        value = value.Constant false;
+        paths =
+            record { from = 0; rise = 1; fall = 2; gate = gate.Always } ∷ [];
+      } ∷ [];
       checks = [];
     }
 
@@ -222,11 +297,40 @@ assignment-end = codes "VitalPathDelay01 <= z_1; wait; end process; end vital;\n
 abbrev call-end : List ℕ
 call-end = codes "VitalPathDelay01 (OutSignal => VitalPathDelay01, GlitchData => g_1, OutSignalName => \"VitalPathDelay01\", OutTemp => z_1, Paths => (0 => (A'last_event, (1 ps, 2 ps), true)), Mode => VitalTransport); end process; end vital;\n"
 
-reads-so-named : vhdl_text (in-assignment ++ (assignment-end ++ (in-call ++ call-end))) ≡ Ok (assigned-so-named ∷ called-so-named ∷ [])
-unfolding assigned-so-named called-so-named digits vhdl_words used_words is_reserved is_used rule.a_number rule.a_time rule.only_element rule.more_elements rule.several_elements rule.elements table.next_symbol table.symbols table.state_row table.state_table table.next_level table.levels table.truth_row table.truth_table table.assigned_truth_table table.condition_constant table.output_constant table.state_constant table.constant table.constants declared.packages declared.next_port declared.port_list declared.ports_of declared.entity_header declared.architecture_header declared.listed_name declared.listed_names declared.check_variables declared.violation_variable declared.state_variables declared.output_variable declared.glitch_variable declared.variable declared.variables declared.scope_of name.an_input name.listed_input name.first_list name.same_input name.same_list name.list_by name.condition name.next_column name.columns_of name.listed_source name.sources_of check.tested check.referred check.enabling_condition check.always_enabled check.enabled check.transition check.same_number check.both_limits check.setup_hold check.one_limit check.active_low check.recovery_removal check.period_pulse check.checks check.next_report check.any_report check.state_call_start check.state_call check.state_calls output.lookup output.a_constant output.next_value output.values_of output.next_zero output.all_zero output.not_zero output.equals_zero output.gate_of_conditions output.always output.gate_of output.delays output.next_path output.paths output.path_call_start output.path_call output.assigned_value output.assignment output.call_or_assignment output.output_lines text.entity_end text.statements text.entity text.next_entity text.file text.vhdl_text
+reads-so-named : vhdl_text (in-assignment ++ (assignment-end ++ (in-call ++ call-end))) ≡ Ok
+    (assigned-so-named ∷ called-so-named ∷ [])
+unfolding assigned-so-named called-so-named digits vhdl_words used_words is_reserved is_used rule.a_number rule.a_time
+    rule.only_element rule.more_elements rule.several_elements rule.elements table.next_symbol table.symbols table.state_row
+    table.state_table table.next_level table.levels table.truth_row table.truth_table table.assigned_truth_table
+    table.condition_constant table.output_constant table.state_constant table.constant table.constants declared.packages
+    declared.next_port declared.port_list declared.ports_of declared.entity_header declared.architecture_header
+    declared.listed_name declared.listed_names declared.check_variables declared.violation_variable declared.state_variables
+    declared.output_variable declared.glitch_variable declared.variable declared.variables declared.scope_of name.an_input
+    name.listed_input name.first_list name.same_input name.same_list name.list_by name.condition name.next_column name.columns_of
+    name.listed_source name.sources_of check.tested check.referred check.enabling_condition check.always_enabled check.enabled
+    check.transition check.same_number check.both_limits check.setup_hold check.one_limit check.active_low check.recovery_removal
+    check.period_pulse check.checks check.next_report check.any_report check.state_call_start check.state_call check.state_calls
+    output.lookup output.a_constant output.next_value output.values_of output.next_zero output.all_zero output.not_zero
+    output.equals_zero output.gate_of_conditions output.always output.gate_of output.delays output.next_path output.paths
+    output.path_call_start output.path_call output.assigned_value output.assignment output.call_or_assignment output.output_lines
+    text.entity_end text.statements text.entity text.next_entity text.file text.vhdl_text
 reads-so-named = refl
 
 -- no bytes are no entities
 reads-nothing : vhdl_text [] ≡ Ok []
-unfolding vhdl_words used_words is_reserved is_used rule.a_number rule.a_time rule.only_element rule.more_elements rule.several_elements rule.elements table.next_symbol table.symbols table.state_row table.state_table table.next_level table.levels table.truth_row table.truth_table table.assigned_truth_table table.condition_constant table.output_constant table.state_constant table.constant table.constants declared.packages declared.next_port declared.port_list declared.ports_of declared.entity_header declared.architecture_header declared.listed_name declared.listed_names declared.check_variables declared.violation_variable declared.state_variables declared.output_variable declared.glitch_variable declared.variable declared.variables declared.scope_of name.an_input name.listed_input name.first_list name.same_input name.same_list name.list_by name.condition name.next_column name.columns_of name.listed_source name.sources_of check.tested check.referred check.enabling_condition check.always_enabled check.enabled check.transition check.same_number check.both_limits check.setup_hold check.one_limit check.active_low check.recovery_removal check.period_pulse check.checks check.next_report check.any_report check.state_call_start check.state_call check.state_calls output.lookup output.a_constant output.next_value output.values_of output.next_zero output.all_zero output.not_zero output.equals_zero output.gate_of_conditions output.always output.gate_of output.delays output.next_path output.paths output.path_call_start output.path_call output.assigned_value output.assignment output.call_or_assignment output.output_lines text.entity_end text.statements text.entity text.next_entity text.file text.vhdl_text
+unfolding vhdl_words used_words is_reserved is_used rule.a_number rule.a_time rule.only_element rule.more_elements
+    rule.several_elements rule.elements table.next_symbol table.symbols table.state_row table.state_table table.next_level
+    table.levels table.truth_row table.truth_table table.assigned_truth_table table.condition_constant table.output_constant
+    table.state_constant table.constant table.constants declared.packages declared.next_port declared.port_list declared.ports_of
+    declared.entity_header declared.architecture_header declared.listed_name declared.listed_names declared.check_variables
+    declared.violation_variable declared.state_variables declared.output_variable declared.glitch_variable declared.variable
+    declared.variables declared.scope_of name.an_input name.listed_input name.first_list name.same_input name.same_list
+    name.list_by name.condition name.next_column name.columns_of name.listed_source name.sources_of check.tested check.referred
+    check.enabling_condition check.always_enabled check.enabled check.transition check.same_number check.both_limits
+    check.setup_hold check.one_limit check.active_low check.recovery_removal check.period_pulse check.checks check.next_report
+    check.any_report check.state_call_start check.state_call check.state_calls output.lookup output.a_constant output.next_value
+    output.values_of output.next_zero output.all_zero output.not_zero output.equals_zero output.gate_of_conditions output.always
+    output.gate_of output.delays output.next_path output.paths output.path_call_start output.path_call output.assigned_value
+    output.assignment output.call_or_assignment output.output_lines text.entity_end text.statements text.entity text.next_entity
+    text.file text.vhdl_text
 reads-nothing = refl

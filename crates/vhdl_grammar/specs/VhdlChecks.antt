@@ -1,6 +1,7 @@
 -- The grammar of the calls of timing checks in VHDL text, and of the calls of state tables behind them. (IEEE 1076.4-2000,
 -- VitalSetupHoldCheck, VitalRecoveryRemovalCheck, VitalPeriodPulseCheck and VitalStateTable.)
-use Rattle.std.specs.Prelude.{ℕ, zero, suc, ◌+◌, Bool, true, false, not, nat_eq, nat_lt, if◌then◌else◌, List, [], ◌∷◌, ◌++◌, length, slice_get, Option, Some, None, codes}
+use Rattle.std.specs.Prelude.{ℕ, zero, suc, ◌+◌, Bool, true, false, not, nat_eq, nat_lt, if◌then◌else◌, List, [], ◌∷◌, ◌++◌}
+use Rattle.std.specs.Prelude.{length, slice_get, Option, Some, None, codes}
 use Rattle.std.specs.Option.{option_map_or}
 use Rattle.grammar_rules.specs.Rule as r
 use Rattle.cell_machine.specs.declared.checks.CheckKind.{CheckKind}
@@ -46,8 +47,8 @@ abbrev pub has_data : Scope → Bool → ℕ → Bool
 has_data scope is_period j =
     option_map_or (λ (b : Bool). if is_period then b else not b) (slice_get scope.variables.periods j) false
 
--- "(" "Violation" "=>" NAME "," WORD "=>" NAME "," "TestSignal" "=>" NAME ",": the variables of the next check, behind so many, of
--- which the data are of the procedure's type, and the input that is tested
+-- "(" "Violation" "=>" NAME "," WORD "=>" NAME "," "TestSignal" "=>" NAME ",": the variables of the next check, behind so many,
+-- of which the data are of the procedure's type, and the input that is tested
 unfoldable pub tested : Scope → Bool → List ℕ → ℕ → Grammar ℕ
 tested scope is_period word j = do
   _ ← expect_all (codes "(" ∷ codes "Violation" ∷ codes "=>" ∷ [])
@@ -101,7 +102,8 @@ transition = do
 -- The kind of a check of setup or hold, by its first limit, and the word of its second one. The test signal is the data.
 abbrev pub setup_or_hold : List ℕ → Option CheckKind
 setup_or_hold x =
-    if is_same x (codes "SetupHigh") then Some check_kind.Setup else (if is_same x (codes "HoldHigh") then Some check_kind.Hold else None)
+    if is_same x (codes "SetupHigh") then Some check_kind.Setup
+    else (if is_same x (codes "HoldHigh") then Some check_kind.Hold else None)
 
 abbrev pub low_word : CheckKind → List ℕ
 low_word check_kind.Hold = codes "HoldLow"
@@ -127,7 +129,8 @@ check_with check_kind.Hold test reference limit when =
     record { kind = check_kind.Hold; first = reference; second = test; limit = limit; condition = when }
 check_with check_kind.Removal test reference limit when =
     record { kind = check_kind.Removal; first = reference; second = test; limit = limit; condition = when }
-check_with kind test reference limit when = record { kind = kind; first = test; second = reference; limit = limit; condition = when }
+check_with kind test reference limit when =
+    record { kind = kind; first = test; second = reference; limit = limit; condition = when }
 
 abbrev pub with_check : Checks → TimingCheck → Uses → Checks
 with_check before k uses = record { checks = before.checks ++ k ∷ []; uses = uses }
@@ -141,12 +144,14 @@ setup_hold scope before = do
   limit ← both_limits kind
   when ← enabled scope before.uses
   e ← transition
-  r.Gives (with_check before (check_with kind (record { pin = test; edge = edge.Any }) (record { pin = reference; edge = e }) limit when.0) when.1)
+  r.Gives (with_check before (check_with kind (record { pin = test; edge = edge.Any }) (record { pin = reference; edge = e })
+      limit when.0) when.1)
 
 -- The kind of a check of recovery or removal, by its limit. The test signal is the control.
 abbrev pub recovery_or_removal : List ℕ → Option CheckKind
 recovery_or_removal x =
-    if is_same x (codes "Recovery") then Some check_kind.Recovery else (if is_same x (codes "Removal") then Some check_kind.Removal else None)
+    if is_same x (codes "Recovery") then Some check_kind.Recovery
+    else (if is_same x (codes "Removal") then Some check_kind.Removal else None)
 
 -- the edge with which the control ends: a rise, where it is active low
 abbrev pub control_edge : List ℕ → Option Edge
@@ -178,7 +183,8 @@ recovery_removal scope before = do
   control ← active_low
   when ← enabled scope before.uses
   e ← transition
-  r.Gives (with_check before (check_with kind (record { pin = test; edge = control }) (record { pin = reference; edge = e }) limit when.0) when.1)
+  r.Gives (with_check before (check_with kind (record { pin = test; edge = control }) (record { pin = reference; edge = e }) limit
+      when.0) when.1)
 
 -- what is checked of one signal, by the word of the limit: the kind, and the edges of the earlier and of the later event
 pub record Pulse : Type 0 where
@@ -189,7 +195,8 @@ pub record Pulse : Type 0 where
 abbrev pub pulse_of : List ℕ → Option Pulse
 pulse_of x =
     if is_same x (codes "PulseWidthHigh") then Some (record { kind = check_kind.Width; first = edge.Rise; second = edge.Fall })
-    else (if is_same x (codes "PulseWidthLow") then Some (record { kind = check_kind.Width; first = edge.Fall; second = edge.Rise })
+    else (if is_same x (codes "PulseWidthLow")
+    then Some (record { kind = check_kind.Width; first = edge.Fall; second = edge.Rise })
     else (if is_same x (codes "Period") then Some (record { kind = check_kind.Period; first = edge.Any; second = edge.Any })
     else None))
 
@@ -246,8 +253,8 @@ abbrev pub violation : ℕ → Grammar (Unit {0})
 violation zero = r.Gives tt
 violation (suc n) = any_report (suc n)
 
--- "(" "Result" "=>" NAME "," "PreviousDataIn" "=>" NAME "," "StateTable" "=>" NAME "," "DataIn" "=>" "(" behind "VitalStateTable", where
--- so many calls stand before: the variables and the table of the next state
+-- "(" "Result" "=>" NAME "," "PreviousDataIn" "=>" NAME "," "StateTable" "=>" NAME "," "DataIn" "=>" "(" behind
+-- "VitalStateTable", where so many calls stand before: the variables and the table of the next state
 unfoldable pub state_call_start : Scope → ℕ → Grammar (Unit {0})
 state_call_start scope g = do
   _ ← expect_all (codes "(" ∷ codes "Result" ∷ codes "=>" ∷ [])

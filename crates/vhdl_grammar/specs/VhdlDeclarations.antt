@@ -1,6 +1,7 @@
 -- The grammar of declarations in VHDL text: an entity with its ports, its architecture up to the statements of its process. (IEEE
 -- 1076-1993, 1.1, entities, 1.2, architectures, 4.3.1.3, variables, 9.2, processes.)
-use Rattle.std.specs.Prelude.{ℕ, ◌+◌, Bool, true, false, not, ◌&&◌, nat_eq, nat_lt, if◌then◌else◌, List, [], ◌∷◌, ◌++◌, length, map, filter, slice_get, Option, Some, None, codes}
+use Rattle.std.specs.Prelude.{ℕ, ◌+◌, Bool, true, false, not, ◌&&◌, nat_eq, nat_lt, if◌then◌else◌, List, [], ◌∷◌, ◌++◌, length}
+use Rattle.std.specs.Prelude.{map, filter, slice_get, Option, Some, None, codes}
 use Rattle.std.specs.List.{list_any}
 use Rattle.std.specs.Option.{option_map_or}
 use Rattle.grammar_rules.specs.Rule.{Verdict, Fits, Foul, Misfit}
@@ -162,12 +163,13 @@ awaits_violation v = nat_lt 0 (length v.periods) && not v.violation
 abbrev pub output_count : List VPort → ℕ
 output_count ports = length (output_ports_from 0 ports)
 
--- The variable that a name declares behind these: of the next check, of the next state, of the next output, or of the delays of the
--- last output. The violation stands behind the checks, where there are any.
+-- The variable that a name declares behind these: of the next check, of the next state, of the next output, or of the delays of
+-- the last output. The violation stands behind the checks, where there are any.
 abbrev pub state_or_output : List VPort → Tables → Variables → List ℕ → Option VariableOf
 state_or_output ports tables v x =
     if nat_lt v.states (length tables.states) then (if is_same x (numbered (codes "s_") (v.states + 1)) then Some State else None)
-    else (if nat_lt (length v.glitches) (output_count ports) && is_same x (numbered (codes "z_") (length v.glitches + 1)) then Some Output
+    else (if nat_lt (length v.glitches) (output_count ports) && is_same x (numbered (codes "z_") (length v.glitches + 1))
+    then Some Output
     else (if is_last_false v.glitches && is_same x (numbered (codes "g_") (length v.glitches)) then Some Glitch
     else None))
 
@@ -176,7 +178,8 @@ variable_of ports tables v x =
     if is_before_states v && (not v.violation && is_same x (numbered (codes "x_") (length v.periods + 1))) then Some Check
     else (if awaits_violation v then None else state_or_output ports tables v x)
 
--- what a token declares at the place of a variable's name: that of the violation is no name, and is taken where it is the next one
+-- what a token declares at the place of a variable's name: that of the violation is no name, and is taken where it is the next
+-- one
 abbrev pub variable_by : List VPort → Tables → Variables → List ℕ → Verdict VariableOf Refusal
 variable_by ports tables v x =
     if awaits_violation v && is_same x (codes "viol") then Fits Violation

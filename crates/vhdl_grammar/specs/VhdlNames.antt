@@ -1,6 +1,7 @@
 -- The names that statements of VHDL text speak of, the lists of them in calls, and the calls that look up conditions. (IEEE
 -- 1076.4-2000, VitalTruthTable; which name stands at which place is this project's subset.)
-use Rattle.std.specs.Prelude.{ℕ, ◌+◌, Bool, true, false, ◌&&◌, nat_eq, nat_lt, min, if◌then◌else◌, List, [], ◌∷◌, ◌++◌, length, slice_get, Option, Some, None, codes}
+use Rattle.std.specs.Prelude.{ℕ, ◌+◌, Bool, true, false, ◌&&◌, nat_eq, nat_lt, min, if◌then◌else◌, List, [], ◌∷◌, ◌++◌, length}
+use Rattle.std.specs.Prelude.{slice_get, Option, Some, None, codes}
 use Rattle.std.specs.List.{list_any, position}
 use Rattle.std.specs.Option.{option_map, option_map_or}
 use Rattle.grammar_rules.specs.Rule.{Verdict, Fits, Foul, Misfit}

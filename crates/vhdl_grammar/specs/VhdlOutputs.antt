@@ -1,6 +1,7 @@
 -- The grammar of the statements that assign outputs in VHDL text. (IEEE 1076.4-2000, VitalTruthTable and VitalPathDelay01; IEEE
 -- 1076-1993, 8.4, signal assignments, and 8.5, assignments of variables.)
-use Rattle.std.specs.Prelude.{ℕ, ◌+◌, Bool, true, false, not, ◌&&◌, nat_eq, nat_lt, if◌then◌else◌, List, [], ◌∷◌, ◌++◌, length, count_by, slice_get, Option, Some, None, codes}
+use Rattle.std.specs.Prelude.{ℕ, ◌+◌, Bool, true, false, not, ◌&&◌, nat_eq, nat_lt, if◌then◌else◌, List, [], ◌∷◌, ◌++◌, length}
+use Rattle.std.specs.Prelude.{count_by, slice_get, Option, Some, None, codes}
 use Rattle.std.specs.Option.{option_map, option_map_or, option_and_then}
 use Rattle.grammar_rules.specs.Rule.{Verdict, Fits, Misfit}
 use Rattle.grammar_rules.specs.Rule as r
@@ -17,7 +18,8 @@ use Rattle.vhdl_tokens.specs.Spelling.{is_same, is_string, is_quoted}
 use Rattle.vhdl_grammar.specs.declared.scope.Assigned.{Assigned}
 use Rattle.vhdl_grammar.specs.declared.scope.Assigned.TheVariants as assigned
 use Rattle.vhdl_grammar.specs.declared.scope.Scope.{Scope}
-use Rattle.vhdl_grammar.specs.VhdlRules.{expect, expect_all, begins, this_name, go_on_unnamed, numbered, numbered_where, this_number, a_time}
+use Rattle.vhdl_grammar.specs.VhdlRules.{expect, expect_all, begins, this_name, go_on_unnamed, numbered, numbered_where}
+use Rattle.vhdl_grammar.specs.VhdlRules.{this_number, a_time}
 use Rattle.vhdl_grammar.specs.VhdlTables.{truth_width}
 use Rattle.vhdl_grammar.specs.VhdlDeclarations.{name_of_port, output_count}
 use Rattle.vhdl_grammar.specs.VhdlNames.{Uses, an_input, condition, sources_of}
@@ -37,7 +39,8 @@ output_width scope t = option_map_or (λ (table : TruthTable). truth_width table
 
 -- the name of the table of an output with this number, from 0, where there is one: they stand behind those of the states
 abbrev pub output_table_name : Scope → ℕ → Option (List ℕ)
-output_table_name scope t = numbered_where (nat_lt t (length scope.tables.outputs)) (codes "k_") (length scope.tables.states + t + 1)
+output_table_name scope t = numbered_where (nat_lt t (length scope.tables.outputs)) (codes "k_")
+    (length scope.tables.states + t + 1)
 
 -- "(" "TruthTable" "=>" NAME "," "DataIn" "=>" "(" .. ")" ")" behind "VitalTruthTable": the next table, behind so many
 unfoldable pub lookup : Scope → ℕ → Grammar Assigned
@@ -177,8 +180,8 @@ is_text_of (Some name) x = is_quoted x name
 abbrev pub text_by : Option (List ℕ) → List ℕ → Verdict (Unit {0}) Refusal
 text_by name x = if is_string x then (if is_text_of name x then Fits tt else Misfit Undefined) else Misfit Syntax
 
--- "(" "OutSignal" "=>" NAME "," "GlitchData" "=>" NAME "," "OutSignalName" "=>" TEXT "," "OutTemp" "=>" NAME ",": of the output with this
--- number, from 0, which has to have data of its delays
+-- "(" "OutSignal" "=>" NAME "," "GlitchData" "=>" NAME "," "OutSignalName" "=>" TEXT "," "OutTemp" "=>" NAME ",": of the output
+-- with this number, from 0, which has to have data of its delays
 unfoldable pub path_call_start : Scope → ℕ → Grammar (Unit {0})
 path_call_start scope o = do
   _ ← expect_all (codes "(" ∷ codes "OutSignal" ∷ codes "=>" ∷ [])
@@ -221,13 +224,14 @@ is_unpathed scope o x = not (has_glitch scope o) && option_map_or (λ name. is_s
 abbrev pub assigns_so_named : Scope → ℕ → List ℕ → Bool
 assigns_so_named scope o x = is_same x (codes "<=") && is_unpathed scope o (codes "VitalPathDelay01")
 
--- What stands behind "VitalPathDelay01" and behind the lines of other outputs: the assignment of an output of this name, or a call.
+-- What stands behind "VitalPathDelay01" and behind the lines of other outputs: the assignment of an output of this name, or a
+-- call.
 unfoldable pub call_or_assignment : Scope → Lines → Grammar Lines
 call_or_assignment scope lines =
     r.Choice (begins_by (assigns_so_named scope (length lines.0))) (λ _. assigned_value lines) (path_call scope lines)
 
--- What a token begins among the lines of outputs: "VitalPathDelay01" a call or an assignment, which is said by true, and another name
--- an assignment. That is the name of the next output, which has to have no paths.
+-- What a token begins among the lines of outputs: "VitalPathDelay01" a call or an assignment, which is said by true, and another
+-- name an assignment. That is the name of the next output, which has to have no paths.
 abbrev pub begins_line : Scope → Lines → List ℕ → Option (Verdict Bool Refusal)
 begins_line scope lines x =
     if is_same x (codes "VitalPathDelay01") then Some (Fits true)

@@ -1,6 +1,7 @@
--- The words with which the grammar of VHDL text is written: words and names are compared whatever the case of their letters. Which
--- forms of IEEE 1076-1993 and IEEE 1076.4-2000 are read, and which name stands at which place, is this project's subset.
-use Rattle.std.specs.Prelude.{ℕ, zero, suc, Bool, true, false, if◌then◌else◌, nat_eq, List, [], ◌∷◌, ◌++◌, Option, Some, None, codes, decimal}
+-- The words with which the grammar of VHDL text is written: words and names are compared whatever the case of their letters.
+-- Which forms of IEEE 1076-1993 and IEEE 1076.4-2000 are read, and which name stands at which place, is this project's subset.
+use Rattle.std.specs.Prelude.{ℕ, zero, suc, Bool, true, false, if◌then◌else◌, nat_eq, List, [], ◌∷◌, ◌++◌, Option, Some, None}
+use Rattle.std.specs.Prelude.{codes, decimal}
 use Rattle.std.specs.Option.{option_map_or}
 use Rattle.grammar_rules.specs.Rule.{Verdict, Fits, Misfit}
 use Rattle.grammar_rules.specs.Rule as r
@@ -105,7 +106,8 @@ several_elements element start = do
   first ← element start
   more_elements element first
 
--- The elements of an aggregate behind "(", each from what there is so far. One that stands alone has its index before it, which is 0
--- (IEEE 1076-1993, 7.3.2: an aggregate of one element is written by a named association).
+-- The elements of an aggregate behind "(", each from what there is so far. One that stands alone has its index before it, which
+-- is 0 (IEEE 1076-1993, 7.3.2: an aggregate of one element is written by a named association).
 unfoldable pub elements : {S : Type 0} → (S → Grammar S) → S → Grammar S
-elements element start = r.Choice (words.begins_by (is_number_token 0)) (λ _. only_element element start) (several_elements element start)
+elements element start = r.Choice (words.begins_by (is_number_token 0)) (λ _. only_element element start)
+    (several_elements element start)

@@ -1,6 +1,7 @@
--- The grammar of tables in VHDL text: the constants of an architecture. (IEEE 1076.4-2000, the VITAL table types and symbols; IEEE
--- 1076-1993, 4.3.1.1, constants, and 7.3.2, aggregates.)
-use Rattle.std.specs.Prelude.{ℕ, ◌+◌, ◌-◌, Bool, true, false, ◌&&◌, nat_eq, nat_lt, if◌then◌else◌, List, [], ◌∷◌, ◌++◌, length, take, slice_get, Option, Some, None, codes}
+-- The grammar of tables in VHDL text: the constants of an architecture. (IEEE 1076.4-2000, the VITAL table types and symbols;
+-- IEEE 1076-1993, 4.3.1.1, constants, and 7.3.2, aggregates.)
+use Rattle.std.specs.Prelude.{ℕ, ◌+◌, ◌-◌, Bool, true, false, ◌&&◌, nat_eq, nat_lt, if◌then◌else◌, List, [], ◌∷◌, ◌++◌, length}
+use Rattle.std.specs.Prelude.{take, slice_get, Option, Some, None, codes}
 use Rattle.std.specs.List.{list_any}
 use Rattle.std.specs.Option.{option_and_then}
 use Rattle.std.specs.Str.{bytes_eq}
@@ -116,10 +117,12 @@ state_row_of all =
     (option_and_then next_in (slice_get all (length all - 1)))
     else None
 
--- The token behind the symbols of a row. They have to be a row, and it breaks a strict rule unless it is as long as the first one.
+-- The token behind the symbols of a row. They have to be a row, and it breaks a strict rule unless it is as long as the first
+-- one.
 abbrev pub row_end : {R : Type 0} → (R → Bool) → Option R → List ℕ → Verdict R Refusal
 row_end is_as_long None x = Misfit Syntax
-row_end is_as_long (Some row) x = if is_same x (codes ")") then (if is_as_long row then Fits row else Foul Width row) else Misfit Syntax
+row_end is_as_long (Some row) x = if is_same x (codes ")") then (if is_as_long row then Fits row else Foul Width row)
+    else Misfit Syntax
 
 -- how many inputs the first row has
 abbrev pub state_width : List VStateRow → ℕ
@@ -174,7 +177,8 @@ truth_row_with inputs (Some result) = Some (record { inputs = inputs; result = r
 -- The row of these levels: the last is what it gives. The others are its inputs, of which there is at least one.
 abbrev pub truth_row_of : List Trits → Option TruthRow
 truth_row_of all =
-    if nat_lt 1 (length all) then truth_row_with (take (length all - 1) all) (option_and_then value_of (slice_get all (length all - 1)))
+    if nat_lt 1 (length all) then truth_row_with (take (length all - 1) all)
+    (option_and_then value_of (slice_get all (length all - 1)))
     else None
 
 abbrev pub truth_width : List TruthRow → ℕ
@@ -206,14 +210,24 @@ abbrev pub no_tables : Tables
 no_tables = record { states = []; conditions = []; outputs = [] }
 
 abbrev pub with_state_table : Tables → VStateTable → Tables
-with_state_table tables table = record { states = tables.states ++ table ∷ []; conditions = tables.conditions; outputs = tables.outputs }
+with_state_table tables table = record {
+  states = tables.states ++ table ∷ [];
+  conditions = tables.conditions;
+  outputs =
+      tables.outputs;
+}
 
 abbrev pub with_condition_table : Tables → TruthTable → Tables
 with_condition_table tables table =
     record { states = tables.states; conditions = tables.conditions ++ table ∷ []; outputs = tables.outputs }
 
 abbrev pub with_output_table : Tables → TruthTable → Tables
-with_output_table tables table = record { states = tables.states; conditions = tables.conditions; outputs = tables.outputs ++ table ∷ [] }
+with_output_table tables table = record {
+  states = tables.states;
+  conditions = tables.conditions;
+  outputs =
+      tables.outputs ++ table ∷ [];
+}
 
 -- the name of the constant with this number, from 1, among the tables of states and of outputs
 abbrev pub table_name : ℕ → List ℕ

@@ -55,7 +55,8 @@ abbrev pub outputs_with : List ℕ → List OutValue → List (List HPath) → L
 outputs_with [] values paths = []
 outputs_with (p ∷ ports) [] paths = []
 outputs_with (p ∷ ports) (v ∷ values) [] = []
-outputs_with (p ∷ ports) (v ∷ values) (these ∷ paths) = record { port = p; value = v; paths = these } ∷ outputs_with ports values paths
+outputs_with (p ∷ ports) (v ∷ values) (these ∷ paths) =
+    record { port = p; value = v; paths = these } ∷ outputs_with ports values paths
 
 -- the entity of these declarations and statements
 abbrev pub entity_with : Scope → List TimingCheck → List Columns → List Assigned → Lines → VEntity

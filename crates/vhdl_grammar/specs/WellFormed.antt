@@ -1,6 +1,7 @@
--- When a list of entities is one of a VHDL text of this project's subset. (IEEE 1076-1993, 13.3, identifiers, 10.3, declarations that
--- are apart; IEEE 1076.4-2000, tables; the limits are this project's.)
-use Rattle.std.specs.Prelude.{ℕ, ◌+◌, ◌<◌, ◌≤◌, ◌^◌, Bool, true, false, not, ◌&&◌, nat_eq, nat_lt, if◌then◌else◌, IsTrue, All, ⊤, List, [], ◌∷◌, ◌++◌, length, count_by, Option, Some, None}
+-- When a list of entities is one of a VHDL text of this project's subset. (IEEE 1076-1993, 13.3, identifiers, 10.3, declarations
+-- that are apart; IEEE 1076.4-2000, tables; the limits are this project's.)
+use Rattle.std.specs.Prelude.{ℕ, ◌+◌, ◌<◌, ◌≤◌, ◌^◌, Bool, true, false, not, ◌&&◌, nat_eq, nat_lt, if◌then◌else◌, IsTrue, All, ⊤}
+use Rattle.std.specs.Prelude.{List, [], ◌∷◌, ◌++◌, length, count_by, Option, Some, None}
 use Rattle.std.specs.List.{IsDistinct, list_all, flat_map}
 use Rattle.std.specs.Char.{is_ascii_alphabetic}
 use Rattle.std.specs.Str.{str_eq_ignore_ascii_case}
@@ -57,8 +58,8 @@ IsNumber n = n < 10 ^ 15
 abbrev pub IsCount : ℕ → Type 0
 IsCount n = n < 2 ^ 64
 
--- A state that a text can tell: its table has a row and a column, and no input stands twice among its columns. How many columns there
--- are is a number of the text, the bound of the variable of the columns before.
+-- A state that a text can tell: its table has a row and a column, and no input stands twice among its columns. How many columns
+-- there are is a number of the text, the bound of the variable of the columns before.
 pub record IsWrittenState (state : VState) : Type 0 where
   pub rows : 1 ≤ length state.table.rows
   pub columns : 1 ≤ columns_of state
@@ -122,8 +123,8 @@ conditions_of_output output = flat_map conditions_of_path output.paths
 abbrev pub looked_up : VEntity → List ℕ
 looked_up e = flat_map conditions_of_check e.checks ++ flat_map conditions_of_output e.outputs
 
--- Behind look-ups of the conditions below this number these go on: each is of one of these conditions, or of the next one, and at the
--- end each of so many has been looked up.
+-- Behind look-ups of the conditions below this number these go on: each is of one of these conditions, or of the next one, and at
+-- the end each of so many has been looked up.
 abbrev pub looks_up_in_order : ℕ → ℕ → List ℕ → Bool
 looks_up_in_order all seen [] = nat_eq seen all
 looks_up_in_order all seen (i ∷ is) =
@@ -134,8 +135,8 @@ looks_up_in_order all seen (i ∷ is) =
 abbrev pub part_count : VEntity → ℕ
 part_count e = length e.ports + length e.states + (length e.conditions + length e.checks)
 
--- An entity that a text in memory can tell. The names of its parts end in their numbers, so how many parts there are is a count as
--- well (IEEE 1076-1993, 13.3, bounds no name).
+-- An entity that a text in memory can tell. The names of its parts end in their numbers, so how many parts there are is a count
+-- as well (IEEE 1076-1993, 13.3, bounds no name).
 pub record IsWellFormedEntity (e : VEntity) : Type 0 where
   pub name : IsEntityName e.name
   pub ports : All IsPortName (port_names e.ports)

@@ -9,8 +9,8 @@ pub fn vhdl_text_has_one_answer()
     ensures { VhdlTextHasOneAnswer }
 {}
 
-/// The entities of a VHDL text are well formed, where its length has at most 64 bits, as that of every slice: each is sound, its names
-/// are identifiers of which none stands twice, its conditions are looked up in order, and its numbers stay in their limits.
+/// The entities of a VHDL text are well formed, where its length has at most 64 bits, as that of every slice: each is sound, its
+/// names are identifiers of which none stands twice, its conditions are looked up in order, and its numbers stay in their limits.
 #[tactic(auto, using(crate::proofs::ReadText::text_entities))]
 pub fn texts_are_well_formed()
     ensures { TextsAreWellFormed }

@@ -11,9 +11,11 @@ use Rattle.grammar_reader.proofs.Repeats.{choose_begun, choose_other}
 pub gated : (scope : Scope) (uses : Uses) (s : List (List ℕ)) → is_next is_same (codes "VitalTruthTable") s ≡ true →
     read (gate_of scope uses) s ≡ read (gate_of_conditions scope uses) (rest s)
 unfolding gate_of
-gated scope uses s e = choose_begun is_same (codes "VitalTruthTable") s (λ _ r. read (gate_of_conditions scope uses) r) (read (always uses) s) e
+gated scope uses s e = choose_begun is_same (codes "VitalTruthTable") s (λ _ r. read (gate_of_conditions scope uses) r)
+    (read (always uses) s) e
 
 pub ungated : (scope : Scope) (uses : Uses) (s : List (List ℕ)) → is_next is_same (codes "VitalTruthTable") s ≡ false →
     read (gate_of scope uses) s ≡ read (always uses) s
 unfolding gate_of
-ungated scope uses s e = choose_other is_same (codes "VitalTruthTable") s (λ _ r. read (gate_of_conditions scope uses) r) (read (always uses) s) e
+ungated scope uses s e = choose_other is_same (codes "VitalTruthTable") s (λ _ r. read (gate_of_conditions scope uses) r)
+    (read (always uses) s) e

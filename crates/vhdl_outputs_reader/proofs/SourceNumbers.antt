@@ -6,18 +6,21 @@ use Rattle.cell_machine.specs.declared.outputs.Source.TheVariants as source
 use Rattle.vhdl_grammar.specs.VhdlNames.{same_source}
 use Rattle.vhdl_outputs_reader.specs.SourceParts.{pins_of, states_of, is_numbered, pins_with, states_with}
 
-pin_found : (p : ℕ) (sources : List Source) → list_any (nat_eq p) (pins_of sources) ≡ list_any (same_source (source.Pin p)) sources
+pin_found : (p : ℕ) (sources : List Source)
+    → list_any (nat_eq p) (pins_of sources) ≡ list_any (same_source (source.Pin p)) sources
 pin_found p [] = refl
 pin_found p (source.Pin q ∷ sources) = ap (λ b. nat_eq p q || b) (pin_found p sources)
 pin_found p (source.State g ∷ sources) = pin_found p sources
 
-state_found : (g : ℕ) (sources : List Source) → list_any (nat_eq g) (states_of sources) ≡ list_any (same_source (source.State g)) sources
+state_found : (g : ℕ) (sources : List Source)
+    → list_any (nat_eq g) (states_of sources) ≡ list_any (same_source (source.State g)) sources
 state_found g [] = refl
 state_found g (source.Pin q ∷ sources) = state_found g sources
 state_found g (source.State h ∷ sources) = ap (λ b. nat_eq g h || b) (state_found g sources)
 
 -- a source is one of others exactly where its number is among theirs
-pub source_found : (s : Source) (sources : List Source) → is_numbered s (pins_of sources) (states_of sources) ≡ list_any (same_source s) sources
+pub source_found : (s : Source) (sources : List Source)
+    → is_numbered s (pins_of sources) (states_of sources) ≡ list_any (same_source s) sources
 unfolding is_numbered
 source_found (source.Pin p) sources = pin_found p sources
 source_found (source.State g) sources = state_found g sources

@@ -8,14 +8,15 @@ ghost use Rattle.vhdl_grammar.specs.VhdlOutputs as spec;
 use crate::outputs::{Lines, assignment, call_or_assignment, is_next_unpathed};
 use grammar_reader::{Read, Refusal, Stop};
 use sqlite_items::Items;
-use vhdl_tokens::is_name;
 use vhdl_scope::{Cursor, Declarations, Uses};
+use vhdl_tokens::is_name;
 use vital_models::HPath;
 
 /// The lines of outputs, which stand behind these then.
 #[tactic(auto, using(grammar_reader::proofs::Repeats::turn, crate::proofs::NextLine::so_named, crate::proofs::NextLine::no_line, crate::proofs::NextLine::other_line, crate::proofs::NextLine::this_line))]
 fn more_lines(cursor: &mut Cursor, scope: &Declarations, lines: &mut Lines) -> Read<()>
-    ensures { ReadsAs (λ _. lines.new) (read (Many (spec.begins_line scope.now) (spec.line_by scope.now) lines.old) cursor.old) result cursor.new }
+    ensures { ReadsAs (λ _. lines.new) (read (Many (spec.begins_line scope.now) (spec.line_by scope.now) lines.old) cursor.old)
+        result cursor.new }
 {
     for _turn in 0..cursor.left() {
         if cursor.is_next(b"VitalPathDelay01") {

@@ -14,8 +14,8 @@ use grammar_reader::{Read, Refusal, Stop};
 use sqlite_items::Items;
 use std::alloc::{AllocError, Global};
 use udp_tables::VPort;
-use vhdl_tokens::{is_quoted, is_same, is_string};
 use vhdl_scope::{Cursor, Declarations, Uses, expect_all, numbered};
+use vhdl_tokens::{is_quoted, is_same, is_string};
 use vital_models::HPath;
 
 /// The paths of each output so far, and the lists of the conditions that were looked up.
@@ -84,7 +84,8 @@ fn output_text(cursor: &mut Cursor, scope: &Declarations, output: usize) -> Read
 /// The data of the delays of the output with this number, from 0, which has to have them.
 fn glitch_name(cursor: &mut Cursor, scope: &Declarations, output: usize) -> Read<()>
     requires { output < 2 ^ 63 }
-    ensures { Reads (read (rules.this_name (rules.numbered_where (spec.has_glitch scope.now output) (codes "g_") (output + 1))) cursor.old) result cursor.new }
+    ensures { Reads (read (rules.this_name (rules.numbered_where (spec.has_glitch scope.now output) (codes "g_") (output + 1)))
+        cursor.old) result cursor.new }
 {
     let has_paths = has_glitch(scope, output);
     numbered(cursor, scope.alloc(), has_paths, b"g_", output + 1)
@@ -124,7 +125,8 @@ fn next_start(cursor: &mut Cursor, scope: &Declarations, lines: &[Items<HPath>])
 
 /// The variable of the output behind these lines of other outputs.
 fn next_value_name(cursor: &mut Cursor, alloc: Global, lines: &[Items<HPath>]) -> Read<()>
-    ensures { Reads (read (rules.this_name (Some (rules.numbered (codes "z_") (length lines.now + 1)))) cursor.old) result cursor.new }
+    ensures { Reads (read (rules.this_name (Some (rules.numbered (codes "z_") (length lines.now + 1)))) cursor.old) result
+        cursor.new }
 {
     value_name(cursor, alloc, lines.len())
 }
@@ -185,16 +187,16 @@ pub fn is_next_unpathed(scope: &Declarations, lines: &[Items<HPath>], name: &[u8
     is_unpathed(scope, lines.len(), name)
 }
 
-/// Whether a token behind `VitalPathDelay01` assigns the output behind these lines of other outputs, which has the same name and no
-/// paths.
+/// Whether a token behind `VitalPathDelay01` assigns the output behind these lines of other outputs, which has the same name and
+/// no paths.
 fn assigns_so_named(scope: &Declarations, lines: &[Items<HPath>], token: &[u8]) -> bool
     ensures { result ≡ spec.assigns_so_named scope.now (length lines.now) token.now }
 {
     is_same(token, b"<=") && is_next_unpathed(scope, lines, b"VitalPathDelay01")
 }
 
-/// What stands behind `VitalPathDelay01`: the assignment of an output of this name, or a call. Its line stands behind those of other
-/// outputs then.
+/// What stands behind `VitalPathDelay01`: the assignment of an output of this name, or a call. Its line stands behind those of
+/// other outputs then.
 #[tactic(auto, unfolding(vhdl_grammar::specs::VhdlOutputs::call_or_assignment), using(grammar_reader::proofs::Choices::choose_by, grammar_reader::proofs::Choices::choose_not_by))]
 pub fn call_or_assignment(cursor: &mut Cursor, scope: &Declarations, lines: &mut Lines) -> Read<()>
     ensures { ReadsAs (λ _. lines.new) (read (spec.call_or_assignment scope.now lines.old) cursor.old) result cursor.new }

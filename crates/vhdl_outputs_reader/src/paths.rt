@@ -27,7 +27,8 @@ fn zero(
     conditions: &mut Items<usize>,
     uses: &mut Uses,
 ) -> Read<()>
-    ensures { ReadsAs (λ _. (conditions.new, uses.new)) (read (spec.next_zero scope.now (conditions.old, uses.old)) cursor.old) result cursor.new }
+    ensures { ReadsAs (λ _. (conditions.new, uses.new)) (read (spec.next_zero scope.now (conditions.old, uses.old)) cursor.old)
+        result cursor.new }
 {
     cursor.expect(b"VitalTruthTable")?;
     let number = condition(cursor, scope.alloc(), scope, uses)?;
@@ -70,7 +71,8 @@ fn all_zero(cursor: &mut Cursor, scope: &Declarations, first: usize, uses: &mut 
 /// A gate, behind the first word of a look-up; the lists have those of its conditions, too, then.
 #[tactic(auto, unfolding(vhdl_grammar::specs::VhdlOutputs::gate_of_conditions, vhdl_grammar::specs::VhdlOutputs::not_zero, vhdl_grammar::specs::VhdlOutputs::equals_zero), using(grammar_reader::proofs::Repeats::choose_begun, grammar_reader::proofs::Repeats::choose_other))]
 fn gate_of_conditions(cursor: &mut Cursor, scope: &Declarations, uses: &mut Uses) -> Read<HGate>
-    ensures { ReadsAs (λ gate. (gate, uses.new)) (read (spec.gate_of_conditions scope.now uses.old) cursor.old) result cursor.new }
+    ensures { ReadsAs (λ gate. (gate, uses.new)) (read (spec.gate_of_conditions scope.now uses.old) cursor.old) result
+        cursor.new }
 {
     let number = condition(cursor, scope.alloc(), scope, uses)?;
     if cursor.is_next(b"/=") {
@@ -123,7 +125,8 @@ fn path(
     paths: &mut Items<HPath>,
     uses: &mut Uses,
 ) -> Read<()>
-    ensures { ReadsAs (λ _. (paths.new, uses.new)) (read (spec.next_path scope.now (paths.old, uses.old)) cursor.old) result cursor.new }
+    ensures { ReadsAs (λ _. (paths.new, uses.new)) (read (spec.next_path scope.now (paths.old, uses.old)) cursor.old) result
+        cursor.new }
 {
     path_number(cursor, paths.as_slice())?;
     expect_all(cursor, &[b"=>", b"("])?;

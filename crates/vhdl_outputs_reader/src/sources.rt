@@ -31,7 +31,9 @@ fn source_of(scope: &Declarations, token: &[u8]) -> Result<Option<Source>, Alloc
 /// The name of a source behind these in a list.
 #[tactic(auto, using(vhdl_scope::proofs::NextWords::named_fits, vhdl_scope::proofs::NextWords::named_foul, vhdl_scope::proofs::NextWords::named_misfit, vhdl_scope::proofs::NextWords::named_other))]
 fn source_name(cursor: &mut Cursor, scope: &Declarations, sources: &ListedSources) -> Read<Source>
-    ensures reads { Reads (read (rules.named (λ x. names.listed_by (λ s. list_any (names.same_source s) sources.now) (names.source_of scope.now x))) cursor.old) result cursor.new }
+    ensures reads { Reads (read (rules.named
+        (λ x. names.listed_by (λ s. list_any (names.same_source s) sources.now) (names.source_of scope.now x))) cursor.old) result
+        cursor.new }
     ensures fresh { IfOk result (λ source. list_any (names.same_source source) sources.now ≡ false) }
 {
     unlisted!(

@@ -14,10 +14,10 @@ use grammar_reader::{Read, Refusal, Stop};
 use sqlite_items::Items;
 use std::alloc::{AllocError, Global};
 use vhdl_grammar::Assigned;
-use vhdl_tokens::is_name;
 use vhdl_scope::{
     Cursor, Declarations, either_word, expect_all, is_numbered, numbered, truth_width,
 };
+use vhdl_tokens::is_name;
 
 /// How many inputs the table of an output with this number has.
 fn output_width(scope: &Declarations, table: usize) -> usize
@@ -79,7 +79,8 @@ fn a_constant(cursor: &mut Cursor) -> Read<Assigned>
 /// A value, behind these.
 #[tactic(auto, using(grammar_reader::proofs::Repeats::choose_begun, grammar_reader::proofs::Repeats::choose_other))]
 fn a_value(cursor: &mut Cursor, scope: &Declarations, values: &Values) -> Read<Assigned>
-    ensures { Reads (read (Choice (rules.begins (codes "VitalTruthTable")) (λ _. spec.lookup scope.now (spec.lookups values.now)) spec.a_constant) cursor.old) result cursor.new }
+    ensures { Reads (read (Choice (rules.begins (codes "VitalTruthTable")) (λ _. spec.lookup scope.now (spec.lookups values.now))
+        spec.a_constant) cursor.old) result cursor.new }
 {
     if !cursor.is_next(b"VitalTruthTable") {
         return a_constant(cursor);
@@ -117,7 +118,8 @@ fn is_value_name(alloc: Global, token: &[u8], values: &Values) -> Result<bool, A
 /// The values behind these.
 #[tactic(auto, using(grammar_reader::proofs::Repeats::turn, crate::proofs::NextValue::no_value, crate::proofs::NextValue::no_name, crate::proofs::NextValue::other_value, crate::proofs::NextValue::this_value))]
 fn more_values(cursor: &mut Cursor, scope: &Declarations, mut values: Values) -> Read<Values>
-    ensures { Reads (read (Many (spec.begins_value scope.now) (λ found _. spec.next_value scope.now found) values) cursor.old) result cursor.new }
+    ensures { Reads (read (Many (spec.begins_value scope.now) (λ found _. spec.next_value scope.now found) values) cursor.old)
+        result cursor.new }
 {
     for _turn in 0..cursor.left() {
         if !awaits_value(scope, &values) {

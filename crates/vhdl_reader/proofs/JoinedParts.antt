@@ -19,7 +19,8 @@ states (table ∷ tables) (c ∷ columns) = ap (λ (more : List VState). state_o
 pub conditions : (tables : List TruthTable) (uses : List (List ℕ)) → joined condition_of tables uses ≡ conditions_with tables uses
 conditions [] uses = refl
 conditions (table ∷ tables) [] = refl
-conditions (table ∷ tables) (inputs ∷ uses) = ap (λ (more : List VTruth). condition_of table inputs ∷ more) (conditions tables uses)
+conditions (table ∷ tables) (inputs ∷ uses) =
+    ap (λ (more : List VTruth). condition_of table inputs ∷ more) (conditions tables uses)
 
 pub outputs : (ports : List ℕ) (values : List OutValue) (paths : List (List HPath)) →
     joined output_of ports (joined driven_of values paths) ≡ outputs_with ports values paths

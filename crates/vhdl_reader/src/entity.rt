@@ -69,7 +69,8 @@ fn behind_values(
     columns: Items<Columns>,
     values: Items<Assigned>,
 ) -> Read<Statements>
-    ensures { ReadsAs (entity_of scope.now) (read (tails.behind_values scope.now (checks_of checked) columns values) cursor.old) result cursor.new }
+    ensures { ReadsAs (entity_of scope.now) (read (tails.behind_values scope.now (checks_of checked) columns values) cursor.old)
+        result cursor.new }
 {
     let Checks { checks, uses } = checked;
     let lines = output_lines(cursor, scope, uses)?;
@@ -85,7 +86,8 @@ fn behind_values(
 /// The statements behind the checks.
 #[tactic(auto, unfolding(crate::specs::Tails::behind_checks))]
 fn behind_checks(cursor: &mut Cursor, scope: &Declarations, checked: Checks) -> Read<Statements>
-    ensures { ReadsAs (entity_of scope.now) (read (tails.behind_checks scope.now (checks_of checked)) cursor.old) result cursor.new }
+    ensures { ReadsAs (entity_of scope.now) (read (tails.behind_checks scope.now (checks_of checked)) cursor.old) result
+        cursor.new }
 {
     violation(cursor, scope)?;
     let columns = state_calls(cursor, scope)?;

@@ -71,7 +71,8 @@ fn outputs_with(
     assigned: Items<Assigned>,
     paths: Items<Items<HPath>>,
 ) -> Result<Items<VOutput>, AllocError>
-    ensures { IfOk result (λ outputs. outputs ≡ spec.outputs_with (output_ports_from 0 ports.now) (spec.values_with tables assigned) paths) }
+    ensures { IfOk result (λ outputs. outputs ≡ spec.outputs_with (output_ports_from 0 ports.now)
+        (spec.values_with tables assigned) paths) }
 {
     let values = values_with(alloc, tables, assigned)?;
     let driven = joined::<Driven>(alloc, values, paths);

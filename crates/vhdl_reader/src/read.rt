@@ -8,8 +8,8 @@ ghost use Rattle.vhdl_reader.specs.File.{IsFaultOf};
 
 use crate::entity::file;
 use grammar_reader::{Cursor, Stop};
-use std::alloc::Global;
 use lexer::Scan;
+use std::alloc::Global;
 use vhdl_declarations_reader::entities::VEntity;
 use vhdl_declarations_reader::grammar::{texts_are_well_formed, vhdl_text_has_one_answer};
 use vhdl_declarations_reader::primitives::{ModelFault, refusal_fault};
@@ -38,9 +38,9 @@ fn entities_of(alloc: Global, text: &[u8]) -> Result<Vec<VEntity>, ModelFault>
 
 /// The entities of a VHDL text. (IEEE 1076-1993, 1.1 and 1.2; IEEE 1076.4-2000; the subset is this project's.)
 ///
-/// The fault is the first: the place where no token begins, the first token with which no text goes on or that breaks a rule, or the
-/// end of the text. Its offset counts bytes from 0. Entities that are read are well formed: each is sound, and no name stands twice
-/// where it must not.
+/// The fault is the first: the place where no token begins, the first token with which no text goes on or that breaks a rule, or
+/// the end of the text. Its offset counts bytes from 0. Entities that are read are well formed: each is sound, and no name stands
+/// twice where it must not.
 pub fn read_entities(alloc: Global, text: &[u8]) -> Result<Vec<VEntity>, ModelFault>
     ensures entities { IfOk result (λ found. vhdl_text text.now ≡ Ok found.items) }
     ensures well_formed { IfOk result (λ found. AreWellFormed found.items) }

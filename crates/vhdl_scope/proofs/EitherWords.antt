@@ -10,7 +10,8 @@ use Rattle.vhdl_scope.specs.EitherWord.{either_word}
 
 -- what is read at a token, by the one of the words that it is
 pub either_found : {A : Type 0} (first second : List ℕ) (one other : A) (s : List (List ℕ)) →
-    read (valued (either_word first one second other)) s ≡ found_at (if is_next is_same first s then Some one else (if is_next is_same second s then Some other else None)) s
+    read (valued (either_word first one second other)) s ≡ found_at
+    (if is_next is_same first s then Some one else (if is_next is_same second s then Some other else None)) s
 either_found first second one other [] = refl
 either_found {A} first second one other (x ∷ s) = by (either_word first one second other x)
   where

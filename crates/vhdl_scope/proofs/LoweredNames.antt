@@ -45,7 +45,8 @@ no_character (b ∷ bs) e = letter_no_apostrophe b (first_true (is_ascii_alphabe
 pub same_lowered : (x y : List ℕ) → is_name x ≡ true → is_same x y ≡ bytes_eq (lowered x) (lowered y)
 same_lowered x y e = ap (λ (b : Bool). if b then bytes_eq x y else str_eq_ignore_ascii_case x y) (no_character x e)
 
-among_lowered : (names : List (List ℕ)) (x : List ℕ) → is_name x ≡ true → is_among names x ≡ list_any (bytes_eq (lowered x)) (all_lowered names)
+among_lowered : (names : List (List ℕ)) (x : List ℕ) → is_name x ≡ true
+    → is_among names x ≡ list_any (bytes_eq (lowered x)) (all_lowered names)
 among_lowered names x e =
     (λ i. list_any (λ (y : List ℕ). same_lowered x y e i) names) ∙ sym (list_any-map lowered (bytes_eq (lowered x)) names)
 
@@ -60,50 +61,64 @@ some_position p xs = by (list_any p xs) refl (position p xs) refl
     by false e None f = refl
 
 -- a name is one of others exactly where it is found in lower case
-pub found_among : (known others : List (List ℕ)) (x : List ℕ) → HaveSame known others → is_name x ≡ true → is_some (number_of known (lowered x)) ≡ is_among others x
+pub found_among : (known others : List (List ℕ)) (x : List ℕ) → HaveSame known others → is_name x ≡ true
+    → is_some (number_of known (lowered x)) ≡ is_among others x
 found_among known others x h e = some_position (bytes_eq (lowered x)) known ∙ h (lowered x) ∙ sym (among_lowered others x e)
 
-any_added : (names : List (List ℕ)) (name x : List ℕ) → list_any (bytes_eq x) (all_lowered (names ++ name ∷ [])) ≡ (list_any (bytes_eq x) (all_lowered names) || list_any (bytes_eq x) (lowered name ∷ []))
-any_added names name x = ap (list_any (bytes_eq x)) (map-append lowered names (name ∷ [])) ∙ list_any-append (bytes_eq x) (all_lowered names) (lowered name ∷ [])
+any_added : (names : List (List ℕ)) (name x : List ℕ)
+    → list_any (bytes_eq x) (all_lowered (names ++ name ∷ [])) ≡ (list_any (bytes_eq x) (all_lowered names)
+    || list_any (bytes_eq x) (lowered name ∷ []))
+any_added names name x = ap (list_any (bytes_eq x)) (map-append lowered names (name ∷ []))
+    ∙ list_any-append (bytes_eq x) (all_lowered names) (lowered name ∷ [])
 
 -- a name is added in lower case, unless it is there
-added_same : (old new others : List (List ℕ)) (name : List ℕ) (found : Option ℕ) → Adds old (lowered name) found new → HaveSame old others → HaveSame new (others ++ name ∷ [])
+added_same : (old new others : List (List ℕ)) (name : List ℕ) (found : Option ℕ) → Adds old (lowered name) found new
+    → HaveSame old others → HaveSame new (others ++ name ∷ [])
 added_same old new others name (Some i) a h = λ x.
-    ap (list_any (bytes_eq x)) a.2 ∙ list_any-append (bytes_eq x) old (lowered name ∷ []) ∙ ap (λ b. b || list_any (bytes_eq x) (lowered name ∷ [])) (h x)
+    ap (list_any (bytes_eq x)) a.2 ∙ list_any-append (bytes_eq x) old (lowered name ∷ [])
+    ∙ ap (λ b. b || list_any (bytes_eq x) (lowered name ∷ [])) (h x)
     ∙ sym (any_added others name x)
 added_same old new others name None a h = λ x.
-    ap (list_any (bytes_eq x)) a.1 ∙ by_name x (bytes_eq x (lowered name)) refl ∙ ap (λ b. b || list_any (bytes_eq x) (lowered name ∷ [])) (h x)
+    ap (list_any (bytes_eq x)) a.1 ∙ by_name x (bytes_eq x (lowered name)) refl
+    ∙ ap (λ b. b || list_any (bytes_eq x) (lowered name ∷ [])) (h x)
     ∙ sym (any_added others name x)
   where
     among : (b : Bool) → list_any (bytes_eq (lowered name)) old ≡ b → list_any (bytes_eq (lowered name)) old ≡ true
     among true e = e
     among false e = absurd (a.0 (position-none (bytes_eq (lowered name)) old e))
 
-    by_name : (x : List ℕ) (b : Bool) → bytes_eq x (lowered name) ≡ b → list_any (bytes_eq x) old ≡ (list_any (bytes_eq x) old || list_any (bytes_eq x) (lowered name ∷ []))
+    by_name : (x : List ℕ) (b : Bool) → bytes_eq x (lowered name) ≡ b
+        → list_any (bytes_eq x) old ≡ (list_any (bytes_eq x) old || list_any (bytes_eq x) (lowered name ∷ []))
     by_name x true e =
         there (list_any (bytes_eq x) old) (list_any (bytes_eq x) (lowered name ∷ []))
-        (ap (λ (y : List ℕ). list_any (bytes_eq y) old) ((bytes_eq-Decides x (lowered name)).0 e) ∙ among (list_any (bytes_eq (lowered name)) old) refl)
+        (ap (λ (y : List ℕ). list_any (bytes_eq y) old) ((bytes_eq-Decides x (lowered name)).0 e)
+        ∙ among (list_any (bytes_eq (lowered name)) old) refl)
     by_name x false e = not_there (list_any (bytes_eq x) old) (list_any (bytes_eq x) (lowered name ∷ [])) (ap (λ b. b || false) e)
 
 -- one more entity
-pub entity_added : (old new : List (List ℕ)) (entities : List VEntity) (entity : VEntity) (found : Option ℕ) → Adds old (lowered entity.name) found new
+pub entity_added : (old new : List (List ℕ)) (entities : List VEntity) (entity : VEntity) (found : Option ℕ)
+    → Adds old (lowered entity.name) found new
     → HaveSame old (entity_names entities) → HaveSame new (entity_names (entities ++ entity ∷ []))
 entity_added old new entities entity found a h =
-    subst (HaveSame new) (sym (map-append (λ (e : VEntity). e.name) entities (entity ∷ []))) (added_same old new (entity_names entities) entity.name found a h)
+    subst (HaveSame new) (sym (map-append (λ (e : VEntity). e.name) entities (entity ∷ [])))
+    (added_same old new (entity_names entities) entity.name found a h)
 
 module _ (ports : List VPort) (names : List (List ℕ)) (outputs : List ℕ) (kept : AreKeptOf ports names outputs) where
   -- the number of a port, by its name
   pub port_number : (x : List ℕ) → is_name x ≡ true → number_of names (lowered x) ≡ port_of ports x
   port_number x e =
-      ap (λ (l : List (List ℕ)). number_of l (lowered x)) kept.named ∙ position-map lowered (bytes_eq (lowered x)) (port_names ports)
+      ap (λ (l : List (List ℕ)). number_of l (lowered x)) kept.named
+      ∙ position-map lowered (bytes_eq (lowered x)) (port_names ports)
       ∙ position-map name_of_port (λ (y : List ℕ). bytes_eq (lowered x) (lowered y)) ports
       ∙ sym (λ i. position (λ (port : VPort). same_lowered x port.name e i) ports)
 
 -- a name is one of a port's
 pub port_found : (ports : List VPort) (x : List ℕ) → is_some (port_of ports x) ≡ is_among (port_names ports) x
-port_found ports x = some_position (λ (port : VPort). is_same x port.name) ports ∙ sym (list_any-map name_of_port (is_same x) ports)
+port_found ports x = some_position (λ (port : VPort). is_same x port.name) ports
+    ∙ sym (list_any-map name_of_port (is_same x) ports)
 
-by_input : (b : Bool) (k : ℕ) (longer outputs last : List ℕ) → longer ≡ outputs ++ last → (if b then longer else k ∷ longer) ≡ (if b then outputs else k ∷ outputs) ++ last
+by_input : (b : Bool) (k : ℕ) (longer outputs last : List ℕ) → longer ≡ outputs ++ last
+    → (if b then longer else k ∷ longer) ≡ (if b then outputs else k ∷ outputs) ++ last
 by_input true k longer outputs last e = e
 by_input false k longer outputs last e = ap (λ (l : List ℕ). k ∷ l) e
 
@@ -111,30 +126,36 @@ outputs_append : (k n : ℕ) (ports : List VPort) (port : VPort) → n ≡ k + l
     → output_ports_from k (ports ++ port ∷ []) ≡ output_ports_from k ports ++ (if port.input then [] else n ∷ [])
 outputs_append k n [] port e = let same : k ≡ n = omega arith in ap (λ (m : ℕ). if port.input then [] else m ∷ []) same
 outputs_append k n (p ∷ ports) port e =
-    by_input p.input k (output_ports_from (k + 1) (ports ++ port ∷ [])) (output_ports_from (k + 1) ports) (if port.input then [] else n ∷ [])
+    by_input p.input k (output_ports_from (k + 1) (ports ++ port ∷ [])) (output_ports_from (k + 1) ports)
+    (if port.input then [] else n ∷ [])
     (outputs_append (k + 1) n ports port (omega arith))
 
 -- the outputs with a port's number, where it is one
-by_output : (b : Bool) (outputs others : List ℕ) (n : ℕ) → outputs ≡ others → (if b then outputs else outputs ++ n ∷ []) ≡ others ++ (if b then [] else n ∷ [])
+by_output : (b : Bool) (outputs others : List ℕ) (n : ℕ) → outputs ≡ others
+    → (if b then outputs else outputs ++ n ∷ []) ≡ others ++ (if b then [] else n ∷ [])
 by_output true outputs others n e = e ∙ sym (append-nil others)
 by_output false outputs others n e = ap (λ (l : List ℕ). l ++ n ∷ []) e
 
 -- one more port, whose name is new
-pub port_added : (ports : List VPort) (names new : List (List ℕ)) (outputs : List ℕ) (port : VPort) (found : Option ℕ) → AreKeptOf ports names outputs
+pub port_added : (ports : List VPort) (names new : List (List ℕ)) (outputs : List ℕ) (port : VPort) (found : Option ℕ)
+    → AreKeptOf ports names outputs
     → is_name port.name ≡ true → is_among (port_names ports) port.name ≡ false → Adds names (lowered port.name) found new
     → AreKeptOf (ports ++ port ∷ []) new (if port.input then outputs else outputs ++ length ports ∷ [])
 port_added ports names new outputs port found kept is_named is_new a = record {
   named = by found a;
-  counted = by_output port.input outputs (output_ports_from 0 ports) (length ports) kept.counted ∙ sym (outputs_append 0 (length ports) ports port (omega arith));
+  counted = by_output port.input outputs (output_ports_from 0 ports) (length ports) kept.counted
+      ∙ sym (outputs_append 0 (length ports) ports port (omega arith));
 }
   where
     fresh : number_of names (lowered port.name) ≡ None
     fresh =
         position-none (bytes_eq (lowered port.name)) names
-        (ap (list_any (bytes_eq (lowered port.name))) kept.named ∙ sym (among_lowered (port_names ports) port.name is_named) ∙ is_new)
+        (ap (list_any (bytes_eq (lowered port.name))) kept.named ∙ sym (among_lowered (port_names ports) port.name is_named)
+        ∙ is_new)
 
     by : (o : Option ℕ) → Adds names (lowered port.name) o new → new ≡ all_lowered (port_names (ports ++ port ∷ []))
     by (Some i) h =
-        h.2 ∙ ap (λ (l : List (List ℕ)). l ++ lowered port.name ∷ []) kept.named ∙ sym (map-append lowered (port_names ports) (port.name ∷ []))
+        h.2 ∙ ap (λ (l : List (List ℕ)). l ++ lowered port.name ∷ []) kept.named
+        ∙ sym (map-append lowered (port_names ports) (port.name ∷ []))
         ∙ ap all_lowered (sym (map-append name_of_port ports (port ∷ [])))
     by None h = absurd (h.0 fresh)

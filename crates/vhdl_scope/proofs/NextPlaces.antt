@@ -36,7 +36,8 @@ same_lower x y e =
     (λ h. ap lowered ((bytes_eq-Decides x y).0 h)) (λ h. (bytes_eq-Decides (lowered x) (lowered y)).0 h) e
 
 -- the number of a numbered name stands behind its word
-number_stands : (word x : List ℕ) (n : ℕ) → n < 2 ^ 64 → is_same x (numbered word n) ≡ true → drop (length word) (lowered x) ≡ decimal n
+number_stands : (word x : List ℕ) (n : ℕ) → n < 2 ^ 64 → is_same x (numbered word n) ≡ true
+    → drop (length word) (lowered x) ≡ decimal n
 number_stands word x n h e =
     ap (λ (l : List ℕ). drop (length word) l) (same_lower x (numbered word n) e ∙ map-append to_ascii_lowercase word (decimal n))
     ∙ ap (λ (k : ℕ). drop k (lowered word ++ lowered (decimal n))) (sym (length-map word to_ascii_lowercase))
@@ -47,25 +48,31 @@ abbrev pub IsOnly : List ℕ → List ℕ → Option ℕ → Type 0
 IsOnly word x found = (n : ℕ) → n < 2 ^ 64 → is_same x (numbered word n) ≡ true → found ≡ Some n
 
 -- the number that was found behind as many bytes as the word has is the only one
-pub only_number : (word x lower : List ℕ) (found : Option ℕ) → lower ≡ lowered x → ((n : ℕ) → n < 2 ^ 64 → drop (length word) lower ≡ decimal n → found ≡ Some n) → IsOnly word x found
-only_number word x lower found same there n h e = there n h (ap (λ (l : List ℕ). drop (length word) l) same ∙ number_stands word x n h e)
+pub only_number : (word x lower : List ℕ) (found : Option ℕ) → lower ≡ lowered x
+    → ((n : ℕ) → n < 2 ^ 64 → drop (length word) lower ≡ decimal n → found ≡ Some n) → IsOnly word x found
+only_number word x lower found same there n h e =
+    there n h (ap (λ (l : List ℕ). drop (length word) l) same ∙ number_stands word x n h e)
 
-if_same : (b : Bool) (place other outcome : Option ℕ) → (b ≡ true → place ≡ outcome) → (b ≡ false → other ≡ outcome) → (if b then place else other) ≡ outcome
+if_same : (b : Bool) (place other outcome : Option ℕ) → (b ≡ true → place ≡ outcome) → (b ≡ false → other ≡ outcome)
+    → (if b then place else other) ≡ outcome
 if_same true place other outcome f g = f refl
 if_same false place other outcome f g = g refl
 
-no_place : (word x : List ℕ) (most : ℕ) → ((n : ℕ) → 0 < n → n ≤ most → is_same x (numbered word n) ≡ true → ⊥) → place_among word most x ≡ None
+no_place : (word x : List ℕ) (most : ℕ) → ((n : ℕ) → 0 < n → n ≤ most → is_same x (numbered word n) ≡ true → ⊥)
+    → place_among word most x ≡ None
 no_place word x zero h = refl
 no_place word x (suc n) h =
     if_same (is_same x (numbered word (suc n))) (Some n) (place_among word n x) None
-    (λ e. absurd (h (suc n) (omega arith) (omega arith) e)) (λ e. no_place word x n (λ m above below. h m above (omega (arith, below))))
+    (λ e. absurd (h (suc n) (omega arith) (omega arith) e))
+    (λ e. no_place word x n (λ m above below. h m above (omega (arith, below))))
 
 one_place : (word x : List ℕ) (k most : ℕ) → k < most → is_same x (numbered word (suc k)) ≡ true
     → ((n : ℕ) → n ≤ most → is_same x (numbered word n) ≡ true → n ≡ suc k) → place_among word most x ≡ Some k
 one_place word x k zero h e only = absurd (omega (arith, h))
 one_place word x k (suc n) h e only =
     if_same (is_same x (numbered word (suc n))) (Some n) (place_among word n x) (Some k)
-    (λ f. let same : suc n ≡ suc k = only (suc n) (omega arith) f in let less : n ≡ k = omega (arith, same) in ap (λ (m : ℕ). Some m) less)
+    (λ f. let same : suc n ≡ suc k = only (suc n) (omega arith) f in let less : n ≡ k = omega (arith, same)
+    in ap (λ (m : ℕ). Some m) less)
     (λ f. one_place word x k n (below f) e (λ m below same. only m (omega (arith, below)) same))
   where
     below : is_same x (numbered word (suc n)) ≡ false → k < n
@@ -80,30 +87,38 @@ one_place word x k (suc n) h e only =
 -- a place of no name, where no number within the most is that of the token
 pub none_found : (word x : List ℕ) (most : ℕ) (found : Option ℕ) → most < 2 ^ 64 → IsOnly word x found
     → ((n : ℕ) → found ≡ Some n → 0 < n → n ≤ most → is_same x (numbered word n) ≡ true → ⊥) → place_among word most x ≡ None
-none_found word x most found few only others = no_place word x most (λ n above below e. others n (only n (omega (arith, few, below)) e) above below e)
+none_found word x most found few only others =
+    no_place word x most (λ n above below e. others n (only n (omega (arith, few, below)) e) above below e)
 
 some_is : (m k : ℕ) → ◌≡◌ {A = Option ℕ} (Some k) (Some m) → m ≡ k
 some_is m k f = cc
 
-pub zero_found : (word x : List ℕ) (most number : ℕ) → most < 2 ^ 64 → IsOnly word x (Some number) → number ≡ 0 → place_among word most x ≡ None
+pub zero_found : (word x : List ℕ) (most number : ℕ) → most < 2 ^ 64 → IsOnly word x (Some number) → number ≡ 0
+    → place_among word most x ≡ None
 zero_found word x most number few only none =
-    none_found word x most (Some number) few only (λ n e above below same. let its : n ≡ number = some_is n number e in absurd (omega (arith, its, above, none)))
+    none_found word x most (Some number) few only (λ n e above below same. let its : n ≡ number = some_is n number e
+    in absurd (omega (arith, its, above, none)))
 
-pub beyond_found : (word x : List ℕ) (most number : ℕ) → most < 2 ^ 64 → IsOnly word x (Some number) → most < number → place_among word most x ≡ None
+pub beyond_found : (word x : List ℕ) (most number : ℕ) → most < 2 ^ 64 → IsOnly word x (Some number) → most < number
+    → place_among word most x ≡ None
 beyond_found word x most number few only more =
-    none_found word x most (Some number) few only (λ n e above below same. let its : n ≡ number = some_is n number e in absurd (omega (arith, its, below, more)))
+    none_found word x most (Some number) few only (λ n e above below same. let its : n ≡ number = some_is n number e
+    in absurd (omega (arith, its, below, more)))
 
 -- the place of the only number
-one_found : (word x : List ℕ) (most n : ℕ) → most < 2 ^ 64 → IsOnly word x (Some n) → 0 < n → n ≤ most → is_same x (numbered word n) ≡ true
+one_found : (word x : List ℕ) (most n : ℕ) → most < 2 ^ 64 → IsOnly word x (Some n) → 0 < n → n ≤ most
+    → is_same x (numbered word n) ≡ true
     → place_among word most x ≡ Some (n - 1)
 one_found word x most zero few only above below e = absurd (omega (arith, above))
 one_found word x most (suc n) few only above below e =
     let same : n ≡ suc n - 1 = omega arith in
-    one_place word x n most (omega (arith, below)) e (λ m less its. some_is m (suc n) (only m (omega (arith, few, less)) its)) ∙ ap (λ (k : ℕ). Some k) same
+    one_place word x n most (omega (arith, below)) e (λ m less its. some_is m (suc n) (only m (omega (arith, few, less)) its))
+    ∙ ap (λ (k : ℕ). Some k) same
 
 pub place_found : (word x : List ℕ) (most n : ℕ) → most < 2 ^ 64 → IsOnly word x (Some n) → 0 < n → n ≤ most
     → (if is_same x (numbered word n) then Some (n - 1) else None) ≡ place_among word most x
 place_found word x most n few only above below =
     if_same (is_same x (numbered word n)) (Some (n - 1)) None (place_among word most x)
     (λ e. sym (one_found word x most n few only above below e))
-    (λ e. sym (none_found word x most (Some n) few only (λ m f _ _ same. true≢false (sym (subst (λ (k : ℕ). is_same x (numbered word k) ≡ true) (some_is m n f) same) ∙ e))))
+    (λ e. sym (none_found word x most (Some n) few only
+    (λ m f _ _ same. true≢false (sym (subst (λ (k : ℕ). is_same x (numbered word k) ≡ true) (some_is m n f) same) ∙ e))))

@@ -1,5 +1,5 @@
--- The elements of aggregates, where an element is read by a function of what there is so far and of the tokens left. A rule that is
--- told by `elements` of the grammar is read as this says. (IEEE 1076-1993, 7.3.2.)
+-- The elements of aggregates, where an element is read by a function of what there is so far and of the tokens left. A rule that
+-- is told by `elements` of the grammar is read as this says. (IEEE 1076-1993, 7.3.2.)
 use Rattle.std.specs.Prelude.{codes}
 use Rattle.grammar_rules.specs.Reading.{and_then, choose, read}
 use Rattle.grammar_reader.specs.Words.{begins_by}
@@ -14,7 +14,8 @@ only_element element start s = and_then (read (expect (codes "=>")) s) (λ _ r. 
 -- "," ELEMENT { "," ELEMENT }
 abbrev pub more_elements : {S : Type 0} → Part S → Part S
 more_elements element first s =
-    and_then (read (expect (codes ",")) s) (λ _ r. and_then (element first r) (λ second q. repeated is_same (codes ",") element second q))
+    and_then (read (expect (codes ",")) s)
+    (λ _ r. and_then (element first r) (λ second q. repeated is_same (codes ",") element second q))
 
 -- ELEMENT "," ELEMENT { "," ELEMENT }
 abbrev pub several_elements : {S : Type 0} → Part S → Part S
@@ -22,4 +23,5 @@ several_elements element start s = and_then (element start s) (λ first r. more_
 
 -- the elements of an aggregate, behind its bracket
 abbrev pub elements : {S : Type 0} → Part S → Part S
-elements element start s = choose (begins_by (is_number_token 0)) s (λ _ r. only_element element start r) (several_elements element start s)
+elements element start s = choose (begins_by (is_number_token 0)) s (λ _ r. only_element element start r)
+    (several_elements element start s)

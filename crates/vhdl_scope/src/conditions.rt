@@ -44,7 +44,8 @@ fn place_at(
     token: &[u8],
 ) -> Result<Option<usize>, AllocError>
     requires { 0 < number }
-    ensures { IfOk result (λ place. place ≡ (if is_same token.now (rules.numbered word.now number) then Some (number - 1) else None)) }
+    ensures { IfOk result (λ place. place ≡ (if is_same token.now (rules.numbered word.now number) then Some (number - 1)
+        else None)) }
 {
     if is_numbered(alloc, token, word, number)? {
         Ok(Some(number - 1))
@@ -87,8 +88,8 @@ fn last_condition(scope: &Declarations, uses: &[Items<usize>]) -> usize
     if next < all { next } else { all }
 }
 
-/// The condition of a name: one that was looked up before, or the next one, where there is one. An `Err` comes only where memory is
-/// wanting.
+/// The condition of a name: one that was looked up before, or the next one, where there is one. An `Err` comes only where memory
+/// is wanting.
 fn condition_of(
     alloc: Global,
     scope: &Declarations,
@@ -140,7 +141,8 @@ fn first_list(
 
 /// The name of the input at this place of a list.
 fn same_name(cursor: &mut Cursor<'_>, ports: &Ports, inputs: &[usize], place: usize) -> Read<usize>
-    ensures { Reads (read (rules.known (λ x. spec.kept (spec.stands_at inputs.now place) (spec.input_of ports.now x))) cursor.old) result cursor.new }
+    ensures { Reads (read (rules.known (λ x. spec.kept (spec.stands_at inputs.now place) (spec.input_of ports.now x))) cursor.old)
+        result cursor.new }
 {
     let found = input_at(ports, inputs, place, cursor.bytes())?;
     cursor.known(found)
@@ -192,7 +194,8 @@ fn list_of(
     uses: &mut Uses,
     condition: usize,
 ) -> Read<()>
-    ensures { ReadsAs (λ _. uses.new) (read (spec.list_by scope.now uses.old condition (slice_get uses.old condition)) cursor.old) result cursor.new }
+    ensures { ReadsAs (λ _. uses.new) (read (spec.list_by scope.now uses.old condition (slice_get uses.old condition)) cursor.old)
+        result cursor.new }
 {
     if let Some(inputs) = uses.as_slice().get(condition) {
         same_list(cursor, scope, inputs.as_slice())?;
@@ -203,8 +206,8 @@ fn list_of(
     Ok(())
 }
 
-/// A look-up of a condition, behind its word: the condition's number. Where it is the first one of this condition, its list stands
-/// behind these then.
+/// A look-up of a condition, behind its word: the condition's number. Where it is the first one of this condition, its list
+/// stands behind these then.
 #[tactic(auto, unfolding(vhdl_grammar::specs::VhdlNames::condition))]
 pub fn condition(
     cursor: &mut Cursor<'_>,

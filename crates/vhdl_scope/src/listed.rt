@@ -11,8 +11,8 @@ use std::marker::Model;
 /// How many numbers of a list are compared one by one.
 const NEAR: usize = 16;
 
-/// Numbers in the order in which they were listed. Contracts see the list of them. The first of them are compared one by one, which
-/// takes no memory; those behind them stand in a set too.
+/// Numbers in the order in which they were listed. Contracts see the list of them. The first of them are compared one by one,
+/// which takes no memory; those behind them stand in a set too.
 #[derive(Drop)]
 pub struct Listed {
     numbers: Items<usize>,

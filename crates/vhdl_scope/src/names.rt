@@ -38,15 +38,16 @@ fn stands_at(inputs: &[usize], place: usize, port: usize) -> bool
     }
 }
 
-/// The input of a name that stands at this place of a list. What is found of a token that is no name means nothing. An `Err` comes
-/// only where memory is wanting.
+/// The input of a name that stands at this place of a list. What is found of a token that is no name means nothing. An `Err`
+/// comes only where memory is wanting.
 pub fn input_at(
     ports: &Ports,
     inputs: &[usize],
     place: usize,
     name: &[u8],
 ) -> Result<Option<usize>, AllocError>
-    ensures { is_name name.now ≡ true → IfOk result (λ found. found ≡ spec.kept (spec.stands_at inputs.now place) (spec.input_of ports.now name.now)) }
+    ensures { is_name name.now ≡ true
+        → IfOk result (λ found. found ≡ spec.kept (spec.stands_at inputs.now place) (spec.input_of ports.now name.now)) }
 {
     match input_of(ports, name)? {
         Some(port) if stands_at(inputs, place, port) => Ok(Some(port)),

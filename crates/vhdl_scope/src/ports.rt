@@ -31,7 +31,8 @@ impl Model for Ports {
     ghost invariant = { λ p. AreKeptOf p.ports p.lowered p.outputs };
 }
 
-/// The numbers of outputs, and the number of a port behind them where it is an output. An `Err` comes only where memory is wanting.
+/// The numbers of outputs, and the number of a port behind them where it is an output. An `Err` comes only where memory is
+/// wanting.
 fn outputs_with(
     mut outputs: Items<usize>,
     number: usize,
@@ -85,8 +86,8 @@ impl Ports {
         self.outputs.as_slice()
     }
 
-    /// The number of the port with this name, in the time of one look-up. What is found of a token that is no name means nothing. An
-    /// `Err` comes only where memory is wanting.
+    /// The number of the port with this name, in the time of one look-up. What is found of a token that is no name means nothing.
+    /// An `Err` comes only where memory is wanting.
     pub fn number(&self, name: &[u8]) -> Result<Option<usize>, AllocError>
         ensures { is_name name.now ≡ true → IfOk result (λ found. found ≡ port_of self.now name.now) }
     {

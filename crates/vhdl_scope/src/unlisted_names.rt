@@ -1,7 +1,7 @@
 //! Names that a list does not have twice.
 
-/// Reads the name of a thing that a list does not have yet: `$thing` becomes what is found of the name, which is `$token`. It stands in
-/// a function that answers by `Stop`.
+/// Reads the name of a thing that a list does not have yet: `$thing` becomes what is found of the name, which is `$token`. It
+/// stands in a function that answers by `Stop`.
 #[macro_export]
 macro_rules! unlisted {
     ($cursor:ident, $token:ident, $thing:ident = $found:expr, $listed:expr) => {

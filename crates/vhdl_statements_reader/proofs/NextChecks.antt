@@ -14,18 +14,22 @@ use Rattle.vhdl_statements_reader.specs.declared.pulses.Pulse.{Pulse}
 use Rattle.vhdl_statements_reader.specs.declared.checks.Procedure.{Procedure}
 use Rattle.vhdl_statements_reader.specs.Checked.{pulse_as, procedure_kind}
 
-pub pulse_some : (s : List (List ℕ)) (p : Pulse) → option_map pulse_as (Some p) ≡ pulse_of (next_bytes s) → read (valued pulse_of) s ≡ Ok (pulse_as p, rest s)
+pub pulse_some : (s : List (List ℕ)) (p : Pulse) → option_map pulse_as (Some p) ≡ pulse_of (next_bytes s)
+    → read (valued pulse_of) s ≡ Ok (pulse_as p, rest s)
 pulse_some s p e = values.valued_some pulse_of s (pulse_as p) (sym e) refl
 
-pub pulse_none : (s : List (List ℕ)) → option_map pulse_as None ≡ pulse_of (next_bytes s) → read (valued pulse_of) s ≡ Err (Syntax, s)
+pub pulse_none : (s : List (List ℕ)) → option_map pulse_as None ≡ pulse_of (next_bytes s)
+    → read (valued pulse_of) s ≡ Err (Syntax, s)
 pulse_none s e = values.valued_none pulse_of s (sym e)
 
 module _ {B : Type 0} (s : List (List ℕ)) (other : Outcome (List ℕ) Refusal B) where
-  pub procedure_begun : (go : spec.Procedure → List (List ℕ) → Outcome (List ℕ) Refusal B) (p : Procedure) → option_map procedure_kind (Some p) ≡ procedure_of (next_bytes s) →
+  pub procedure_begun : (go : spec.Procedure → List (List ℕ) → Outcome (List ℕ) Refusal B) (p : Procedure)
+      → option_map procedure_kind (Some p) ≡ procedure_of (next_bytes s) →
       choose (begins_as procedure_of) s go other ≡ go (procedure_kind p) (rest s)
   procedure_begun go p e = choices.choose_as procedure_of s go other (procedure_kind p) (sym e) refl
 
-  pub no_procedure : (go : spec.Procedure → List (List ℕ) → Outcome (List ℕ) Refusal B) → option_map procedure_kind None ≡ procedure_of (next_bytes s) →
+  pub no_procedure : (go : spec.Procedure → List (List ℕ) → Outcome (List ℕ) Refusal B)
+      → option_map procedure_kind None ≡ procedure_of (next_bytes s) →
       choose (begins_as procedure_of) s go other ≡ other
   no_procedure go e = choices.choose_not_as procedure_of s go other (sym e)
 

@@ -1,5 +1,6 @@
 -- The next column of a state's table.
-use Rattle.std.proofs.Common.{◌≡◌, ℕ, ◌+◌, Bool, ◌&&◌, if◌then◌else◌, true, false, nat_eq, nat_lt, length, List, [], ◌∷◌, Some, None, Ok, Err, refl, codes, arith}
+use Rattle.std.proofs.Common.{◌≡◌, ℕ, ◌+◌, Bool, ◌&&◌, if◌then◌else◌, true, false, nat_eq, nat_lt, length, List, [], ◌∷◌, Some}
+use Rattle.std.proofs.Common.{None, Ok, Err, refl, codes, arith}
 use Rattle.std.proofs.lemmas.Bool.{eqb-true}
 use Rattle.std.specs.List.{list_any}
 use Rattle.grammar_rules.specs.Rule.{Token}
@@ -22,28 +23,34 @@ module _ (scope : Scope) (columns : Columns) where
   violation [] e f = absurd cc
   violation (x ∷ s) e f = rw (e, f) refl
 
-  pub other : (s : List (List ℕ)) → IsNoViolation s → is_name (next_bytes s) ≡ false → read (Token (column_by scope columns) Syntax) s ≡ Err (Syntax, s)
+  pub other : (s : List (List ℕ)) → IsNoViolation s → is_name (next_bytes s) ≡ false
+      → read (Token (column_by scope columns) Syntax) s ≡ Err (Syntax, s)
   other [] e f = refl
   other (x ∷ s) e f = rw (e, f) refl
 
-  pub undefined : (s : List (List ℕ)) → IsNoViolation s → is_name (next_bytes s) ≡ true → input_of scope.ports (next_bytes s) ≡ None →
+  pub undefined : (s : List (List ℕ)) → IsNoViolation s → is_name (next_bytes s) ≡ true
+      → input_of scope.ports (next_bytes s) ≡ None →
       read (Token (column_by scope columns) Syntax) s ≡ Err (Undefined, s)
   undefined [] e f g = absurd cc
   undefined (x ∷ s) e f g = rw (e, f, g) refl
 
-  pub twice : (s : List (List ℕ)) (p : ℕ) → IsNoViolation s → is_name (next_bytes s) ≡ true → input_of scope.ports (next_bytes s) ≡ Some p →
+  pub twice : (s : List (List ℕ)) (p : ℕ) → IsNoViolation s → is_name (next_bytes s) ≡ true
+      → input_of scope.ports (next_bytes s) ≡ Some p →
       list_any (nat_eq p) columns.inputs ≡ true → read (Token (column_by scope columns) Syntax) s ≡ Err (Twice, s)
   twice [] p e f g h = absurd cc
   twice (x ∷ s) p e f g h = rw (e, f, g, h) refl
 
-  pub fits : (s : List (List ℕ)) (p : ℕ) → IsNoViolation s → is_name (next_bytes s) ≡ true → input_of scope.ports (next_bytes s) ≡ Some p →
-      list_any (nat_eq p) columns.inputs ≡ false → read (Token (column_by scope columns) Syntax) s ≡ Ok (with_input columns p, rest s)
+  pub fits : (s : List (List ℕ)) (p : ℕ) → IsNoViolation s → is_name (next_bytes s) ≡ true
+      → input_of scope.ports (next_bytes s) ≡ Some p →
+      list_any (nat_eq p) columns.inputs ≡ false
+      → read (Token (column_by scope columns) Syntax) s ≡ Ok (with_input columns p, rest s)
   fits [] p e f g h = absurd cc
   fits (x ∷ s) p e f g h = rw (e, f, g, h) refl
 
   -- no column stands before the violation
   pub none_before : takes_violation scope columns ≡ true → columns.inputs ≡ []
-  none_before e = by columns.violation columns.inputs (eqb-true (column_count columns) 0 (right (nat_lt 0 (length scope.variables.periods)) (nat_eq (column_count columns) 0) e))
+  none_before e = by columns.violation columns.inputs
+      (eqb-true (column_count columns) 0 (right (nat_lt 0 (length scope.variables.periods)) (nat_eq (column_count columns) 0) e))
     where
       right : (a b : Bool) → (a && b) ≡ true → b ≡ true
       right true b f = f

@@ -13,8 +13,8 @@ use cell_machine::{CheckKind, Edge, Event};
 use grammar_reader::Read;
 use sqlite_items::Items;
 use udp_tables::TimingCheck;
-use vhdl_tokens::is_same;
 use vhdl_scope::{Cursor, Declarations, Uses, either_word, expect_all};
+use vhdl_tokens::is_same;
 
 /// The checks so far, and the lists of the conditions that were looked up.
 #[derive(Drop)]
@@ -74,8 +74,8 @@ fn check_with(
     }
 }
 
-/// The rest of the call of a check of this event and of one of this reference, from where it says when the check counts. The check
-/// stands behind the others then.
+/// The rest of the call of a check of this event and of one of this reference, from where it says when the check counts. The
+/// check stands behind the others then.
 #[tactic(auto, unfolding(crate::specs::Checked::timed))]
 fn timed(
     cursor: &mut Cursor,
@@ -86,7 +86,8 @@ fn timed(
     reference: usize,
     limit: u64,
 ) -> Read<()>
-    ensures { ReadsAs (λ _. checks_of found.new) (read (timed scope.now (checks_of found.old) kind test reference limit) cursor.old) result cursor.new }
+    ensures { ReadsAs (λ _. checks_of found.new)
+        (read (timed scope.now (checks_of found.old) kind test reference limit) cursor.old) result cursor.new }
 {
     let when = enabled(cursor, scope, &mut found.uses)?;
     let edge = transition(cursor)?;
@@ -111,7 +112,8 @@ fn next_tested(
 
 /// The variables of the check of two signals behind these, and the input that is tested.
 fn timing_data(cursor: &mut Cursor, scope: &Declarations, before: &Checks) -> Read<usize>
-    ensures { Reads (read (spec.tested scope.now false (codes "TimingData") (length before.now.checks)) cursor.old) result cursor.new }
+    ensures { Reads (read (spec.tested scope.now false (codes "TimingData") (length before.now.checks)) cursor.old) result
+        cursor.new }
 {
     next_tested(
         cursor,
@@ -125,7 +127,8 @@ fn timing_data(cursor: &mut Cursor, scope: &Declarations, before: &Checks) -> Re
 /// A call of VitalSetupHoldCheck, behind its word, whose check stands behind these then.
 #[tactic(auto, unfolding(vhdl_grammar::specs::VhdlChecks::setup_hold, crate::specs::Checked::timed))]
 fn setup_hold(cursor: &mut Cursor, scope: &Declarations, found: &mut Checks) -> Read<()>
-    ensures { ReadsAs (λ _. checks_of found.new) (read (spec.setup_hold scope.now (checks_of found.old)) cursor.old) result cursor.new }
+    ensures { ReadsAs (λ _. checks_of found.new) (read (spec.setup_hold scope.now (checks_of found.old)) cursor.old) result
+        cursor.new }
 {
     let pin = timing_data(cursor, scope, found)?;
     let edge = Edge::Any;
@@ -139,7 +142,8 @@ fn setup_hold(cursor: &mut Cursor, scope: &Declarations, found: &mut Checks) -> 
 /// A call of VitalRecoveryRemovalCheck, behind its word, whose check stands behind these then.
 #[tactic(auto, unfolding(vhdl_grammar::specs::VhdlChecks::recovery_removal, crate::specs::Checked::timed))]
 fn recovery_removal(cursor: &mut Cursor, scope: &Declarations, found: &mut Checks) -> Read<()>
-    ensures { ReadsAs (λ _. checks_of found.new) (read (spec.recovery_removal scope.now (checks_of found.old)) cursor.old) result cursor.new }
+    ensures { ReadsAs (λ _. checks_of found.new) (read (spec.recovery_removal scope.now (checks_of found.old)) cursor.old) result
+        cursor.new }
 {
     let pin = timing_data(cursor, scope, found)?;
     let reference = referred(cursor, scope)?;
@@ -159,7 +163,8 @@ fn recovery_removal(cursor: &mut Cursor, scope: &Declarations, found: &mut Check
 /// A call of VitalPeriodPulseCheck, behind its word, whose check stands behind these then.
 #[tactic(auto, unfolding(vhdl_grammar::specs::VhdlChecks::period_pulse))]
 fn period_pulse(cursor: &mut Cursor, scope: &Declarations, found: &mut Checks) -> Read<()>
-    ensures { ReadsAs (λ _. checks_of found.new) (read (spec.period_pulse scope.now (checks_of found.old)) cursor.old) result cursor.new }
+    ensures { ReadsAs (λ _. checks_of found.new) (read (spec.period_pulse scope.now (checks_of found.old)) cursor.old) result
+        cursor.new }
 {
     let pin = next_tested(cursor, scope, true, b"PeriodData", found.checks.as_slice())?;
     let pulse = a_pulse(cursor)?;
@@ -192,7 +197,8 @@ fn check(
     found: &mut Checks,
     procedure: Procedure,
 ) -> Read<()>
-    ensures { ReadsAs (λ _. checks_of found.new) (read (spec.check scope.now (checks_of found.old) (procedure_kind procedure)) cursor.old) result cursor.new }
+    ensures { ReadsAs (λ _. checks_of found.new)
+        (read (spec.check scope.now (checks_of found.old) (procedure_kind procedure)) cursor.old) result cursor.new }
 {
     match procedure {
         Procedure::SetupHold => setup_hold(cursor, scope, found),
@@ -204,7 +210,9 @@ fn check(
 /// The checks, which stand behind these then.
 #[tactic(auto, using(grammar_reader::proofs::Repeats::turn, crate::proofs::NextChecks::procedure_begun, crate::proofs::NextChecks::no_procedure))]
 fn more_checks(cursor: &mut Cursor, scope: &Declarations, found: &mut Checks) -> Read<()>
-    ensures { ReadsAs (λ _. checks_of found.new) (read (Many (λ _. begins_as spec.procedure_of) (spec.check scope.now) (checks_of found.old)) cursor.old) result cursor.new }
+    ensures { ReadsAs (λ _. checks_of found.new)
+        (read (Many (λ _. begins_as spec.procedure_of) (spec.check scope.now) (checks_of found.old)) cursor.old) result
+        cursor.new }
 {
     for _turn in 0..cursor.left() {
         let Some(procedure) = procedure_of(cursor.bytes()) else {

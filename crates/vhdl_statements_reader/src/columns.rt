@@ -77,7 +77,8 @@ fn a_column(
     scope: &Declarations,
     columns: &ListedColumns,
 ) -> Read<Option<usize>>
-    ensures reads { ReadsAs (with_column columns.now) (read (spec.next_column scope.now columns.now) cursor.old) result cursor.new }
+    ensures reads { ReadsAs (with_column columns.now) (read (spec.next_column scope.now columns.now) cursor.old) result
+        cursor.new }
     ensures allowed { IfOk result (MayStand columns.now) }
 {
     if takes_violation(scope, columns) && cursor.is_next(b"viol") {

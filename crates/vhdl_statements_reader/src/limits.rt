@@ -10,10 +10,10 @@ ghost use Rattle.vhdl_grammar.specs.VhdlChecks as spec;
 use cell_machine::{CheckKind, Edge};
 use grammar_reader::Read;
 use std::alloc::Global;
-use vhdl_tokens::number_of;
 use vhdl_scope::{
     Cursor, Declarations, Uses, an_input, condition, either_word, expect_all, numbered, time,
 };
+use vhdl_tokens::number_of;
 
 /// Whether the data of the check with this number, from 0, are of this type.
 fn has_data(scope: &Declarations, is_period: bool, check: usize) -> bool
@@ -28,7 +28,8 @@ fn has_data(scope: &Declarations, is_period: bool, check: usize) -> bool
 /// The variable that tells of the check with this number, from 0, of so many.
 pub fn report(cursor: &mut Cursor, alloc: Global, checks: usize, check: usize) -> Read<()>
     requires { check < 2 ^ 63 }
-    ensures { Reads (read (rules.this_name (rules.numbered_where (nat_lt check checks) (codes "x_") (check + 1))) cursor.old) result cursor.new }
+    ensures { Reads (read (rules.this_name (rules.numbered_where (nat_lt check checks) (codes "x_") (check + 1))) cursor.old)
+        result cursor.new }
 {
     numbered(cursor, alloc, check < checks, b"x_", check + 1)
 }
@@ -36,7 +37,9 @@ pub fn report(cursor: &mut Cursor, alloc: Global, checks: usize, check: usize) -
 /// The variable that tells of the check with this number, from 0, of those that are declared.
 fn declared_report(cursor: &mut Cursor, scope: &Declarations, check: usize) -> Read<()>
     requires { check < 2 ^ 63 }
-    ensures { Reads (read (rules.this_name (rules.numbered_where (nat_lt check (length scope.now.variables.periods)) (codes "x_") (check + 1))) cursor.old) result cursor.new }
+    ensures { Reads (read (rules.this_name
+        (rules.numbered_where (nat_lt check (length scope.now.variables.periods)) (codes "x_") (check + 1))) cursor.old) result
+        cursor.new }
 {
     let checks = scope.variables().periods.len();
     report(cursor, scope.alloc(), checks, check)
@@ -45,7 +48,8 @@ fn declared_report(cursor: &mut Cursor, scope: &Declarations, check: usize) -> R
 /// The data of the check with this number, from 0, which are of this type.
 fn data(cursor: &mut Cursor, scope: &Declarations, is_period: bool, check: usize) -> Read<()>
     requires { check < 2 ^ 63 }
-    ensures { Reads (read (rules.this_name (rules.numbered_where (spec.has_data scope.now is_period check) (codes "d_") (check + 1))) cursor.old) result cursor.new }
+    ensures { Reads (read (rules.this_name
+        (rules.numbered_where (spec.has_data scope.now is_period check) (codes "d_") (check + 1))) cursor.old) result cursor.new }
 {
     let is_there = has_data(scope, is_period, check);
     numbered(cursor, scope.alloc(), is_there, b"d_", check + 1)
@@ -87,7 +91,8 @@ pub fn referred(cursor: &mut Cursor, scope: &Declarations) -> Read<usize>
 /// The condition that has to be 1, behind the word of its look-up; the lists have its own, too, then.
 #[tactic(auto, unfolding(vhdl_grammar::specs::VhdlChecks::enabling_condition))]
 fn enabling(cursor: &mut Cursor, scope: &Declarations, uses: &mut Uses) -> Read<Option<usize>>
-    ensures { ReadsAs (λ when. (when, uses.new)) (read (spec.enabling_condition scope.now uses.old) cursor.old) result cursor.new }
+    ensures { ReadsAs (λ when. (when, uses.new)) (read (spec.enabling_condition scope.now uses.old) cursor.old) result
+        cursor.new }
 {
     let number = condition(cursor, scope.alloc(), scope, uses)?;
     expect_all(cursor, &[b"=", b"'1'"])?;

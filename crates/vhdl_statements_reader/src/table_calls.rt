@@ -63,7 +63,9 @@ pub fn violation(cursor: &mut Cursor, scope: &Declarations) -> Read<()>
 /// The name of a word for the state with this number, from 0.
 fn state_word(cursor: &mut Cursor, scope: &Declarations, word: &[u8], state: usize) -> Read<()>
     requires { state < 2 ^ 63 }
-    ensures { Reads (read (rules.this_name (rules.numbered_where (nat_lt state (length scope.now.tables.states)) word.now (state + 1))) cursor.old) result cursor.new }
+    ensures { Reads (read (rules.this_name
+        (rules.numbered_where (nat_lt state (length scope.now.tables.states)) word.now (state + 1))) cursor.old) result
+        cursor.new }
 {
     let is_there = state < scope.tables().states.len();
     numbered(cursor, scope.alloc(), is_there, word, state + 1)

@@ -11,7 +11,8 @@ separator_here : (b k : ℕ) (s : List ℕ) → separator_length (b ∷ s) ≡ s
 separator_here b k s e = by (is_blank b) (begins_with (b ∷ s) (codes "--")) refl refl e
   where
     by : (blank line : Bool) → is_blank b ≡ blank → begins_with (b ∷ s) (codes "--") ≡ line →
-        (if blank then 1 else (if line then prefix_len (λ c. not (c == 10)) (b ∷ s) else 0)) ≡ suc k → AsSeparator IsSeparator b s k
+        (if blank then 1 else (if line then prefix_len (λ c. not (c == 10)) (b ∷ s) else 0)) ≡ suc k
+        → AsSeparator IsSeparator b s k
     by true line f g e = blank_here IsSeparator b k s (cover.blank b f) e
     by false true f g e = line_here IsSeparator 45 refl (λ rest body. cover.comment body) b k s g e
     by false false f g e = absurd (omega arith)

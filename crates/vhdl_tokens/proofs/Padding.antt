@@ -12,7 +12,8 @@ use Rattle.vhdl_tokens.proofs.TokenFirst.{no_separator}
 pub any_offset : (t : Bool) (at z n : ℕ) (s : List ℕ) → spelled (scan t at n s) ≡ spelled (scan t z n s)
 any_offset = padding.any_offset lexis
 
-pub over_token : (t : Bool) (at z b : ℕ) (w r : List ℕ) → separator_length (b ∷ w ++ r) ≡ 0 → token_length t (b ∷ w ++ r) ≡ suc (length w) →
+pub over_token : (t : Bool) (at z b : ℕ) (w r : List ℕ) → separator_length (b ∷ w ++ r) ≡ 0
+    → token_length t (b ∷ w ++ r) ≡ suc (length w) →
     spelled (scan t at 0 (b ∷ w ++ r)) ≡ word_before (b ∷ w) (spelled (scan (is_name (b ∷ w)) z 0 r))
 over_token = padding.over_token lexis
 
@@ -22,4 +23,10 @@ blank_length b s e = rw e refl
 
 -- what must be known of the language
 pub lets : Lets lexis IsComment
-lets = record { blank_length = blank_length; over_comment = padding.over_line lexis blank_length 45 (λ s. refl); token_first = no_separator; token_stays = token_stays }
+lets = record {
+  blank_length = blank_length;
+  over_comment = padding.over_line lexis blank_length 45 (λ s. refl);
+  token_first =
+      no_separator;
+  token_stays = token_stays;
+}

@@ -27,17 +27,22 @@ from_eq xs ys e = (bytes_eq-Decides xs ys).0 e
 
 -- a name whose second byte is that of no word is none of these
 none_of : (name : List ℕ) → has_second (str_to_ascii_lowercase name) ≡ false → (words : List (List ℕ)) →
-    list_all (λ word. has_second (str_to_ascii_lowercase word)) words ≡ true → list_any (str_eq_ignore_ascii_case name) words ≡ false
+    list_all (λ word. has_second (str_to_ascii_lowercase word)) words ≡ true
+    → list_any (str_eq_ignore_ascii_case name) words ≡ false
 none_of name e [] h = refl
 none_of name e (w ∷ words) h =
-    by (str_eq_ignore_ascii_case name w) refl (none_of name e words (and_right (has_second (str_to_ascii_lowercase w)) (list_all (λ word. has_second (str_to_ascii_lowercase word)) words) h))
+    by (str_eq_ignore_ascii_case name w) refl
+    (none_of name e words (and_right (has_second (str_to_ascii_lowercase w))
+    (list_all (λ word. has_second (str_to_ascii_lowercase word)) words) h))
   where
-    by : (b : Bool) → str_eq_ignore_ascii_case name w ≡ b → list_any (str_eq_ignore_ascii_case name) words ≡ false → list_any (str_eq_ignore_ascii_case name) (w ∷ words) ≡ false
+    by : (b : Bool) → str_eq_ignore_ascii_case name w ≡ b → list_any (str_eq_ignore_ascii_case name) words ≡ false
+        → list_any (str_eq_ignore_ascii_case name) (w ∷ words) ≡ false
     by false f others = rw f others
     by true f others = absurd
         (let s : false ≡ true =
         sym e ∙ ap has_second (from_eq (str_to_ascii_lowercase name) (str_to_ascii_lowercase w) f)
-        ∙ and_left (has_second (str_to_ascii_lowercase w)) (list_all (λ word. has_second (str_to_ascii_lowercase word)) words) h in
+        ∙ and_left (has_second (str_to_ascii_lowercase w)) (list_all (λ word. has_second (str_to_ascii_lowercase word)) words) h
+        in
         cc)
 
 reserved_seconds : list_all (λ word. has_second (str_to_ascii_lowercase word)) vhdl_words ≡ true
@@ -59,7 +64,8 @@ short (a ∷ []) h = no_word (a ∷ []) refl
 short (a ∷ b ∷ bs) h = absurd (omega arith)
 
 -- a longer one, whose second byte is one of these
-pub second : (name : List ℕ) (l : ℕ) (found : Bool) → 1 < length name → l ≡ to_ascii_lowercase (get_or name 1 0) → found ≡ is_one_of (codes "dgjkqvwz123456789_") l → not found ≡ false →
+pub second : (name : List ℕ) (l : ℕ) (found : Bool) → 1 < length name → l ≡ to_ascii_lowercase (get_or name 1 0)
+    → found ≡ is_one_of (codes "dgjkqvwz123456789_") l → not found ≡ false →
     is_vhdl_word name ≡ false
 second [] l found h k f e = absurd (omega arith)
 second (a ∷ []) l found h k f e = absurd (omega arith)

@@ -1,5 +1,6 @@
 -- How separators and tokens make up a VHDL text. (IEEE 1076-1993, clause 13; which tokens there are is this project's subset.)
-use Rattle.std.specs.Prelude.{◌≡◌, ℕ, nat_le, Bool, true, false, not, ◌&&◌, ◌||◌, ◌==◌, if◌then◌else◌, List, [], ◌∷◌, length, codes}
+use Rattle.std.specs.Prelude.{◌≡◌, ℕ, nat_le, Bool, true, false, not, ◌&&◌, ◌||◌, ◌==◌, if◌then◌else◌, List, [], ◌∷◌, length}
+use Rattle.std.specs.Prelude.{codes}
 use Rattle.std.specs.Char.{is_ascii_alphabetic, is_ascii_digit}
 use Rattle.std.specs.List.{list_all}
 use Rattle.std.specs.Str.{bytes_eq}
@@ -10,7 +11,8 @@ use Rattle.vhdl_tokens.specs.Tokens.{lexis, is_blank, is_mark, is_name_byte, is_
 -- The first bytes are one separator, where the second follow: a blank, or a comment.
 pub data IsSeparator : List ℕ → List ℕ → Type 0 where
   blank : {rest : List ℕ} (b : ℕ) → is_blank b ≡ true → IsSeparator (b ∷ []) rest
-  comment : {rest : List ℕ} (body : List ℕ) → list_all (λ c. not (c == 10)) body ≡ true → EndsLine rest → IsSeparator (45 ∷ 45 ∷ body) rest
+  comment : {rest : List ℕ} (body : List ℕ) → list_all (λ c. not (c == 10)) body ≡ true → EndsLine rest
+      → IsSeparator (45 ∷ 45 ∷ body) rest
 
 -- digits alone, at most 15
 abbrev pub spells_number : List ℕ → Bool

@@ -9,7 +9,8 @@ use Rattle.vhdl_tokens.specs.Tokens.{lexis}
 abbrev pub IsComment : List ℕ → Type 0
 IsComment = separators.IsLineComment 45
 
--- The second bytes are the first with separations added outside tokens and comments. The flag says whether the token before is a name.
+-- The second bytes are the first with separations added outside tokens and comments. The flag says whether the token before is a
+-- name.
 abbrev pub Padded : Bool → List ℕ → List ℕ → Type 0
 Padded = separators.Padded lexis (separators.IsSeparation IsComment)
 

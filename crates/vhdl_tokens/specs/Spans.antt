@@ -5,7 +5,7 @@ use Rattle.lexer.specs.Spans as spans
 use Rattle.lexer.specs.declared.span.Span.{Span}
 use Rattle.vhdl_tokens.specs.Tokens.{Token, lexis}
 
--- What a scan of a text gives that stands at an offset: the tokens found so far, and those that begin from there on, where no token
--- begins before the offset `next`. The flag says whether the token before is a name.
+-- What a scan of a text gives that stands at an offset: the tokens found so far, and those that begin from there on, where no
+-- token begins before the offset `next`. The flag says whether the token before is a name.
 abbrev pub from_here : List ℕ → List Span → Bool → ℕ → ℕ → List Token × Option ℕ
 from_here = spans.from_here lexis

@@ -1,14 +1,15 @@
--- The tokens of VHDL text. (IEEE 1076-1993, clause 13, lexical elements. Which delimiters and literals there are is this project's
--- subset.) At each place outside a token a separator begins, or a token, which is the longest that begins there, or neither, which
--- is a lexical fault.
-use Rattle.std.specs.Prelude.{ℕ, ◌+◌, Bool, false, not, ◌&&◌, ◌||◌, ◌==◌, if◌then◌else◌, List, [], ◌∷◌, codes, Option, Some, None, unwrap_or}
+-- The tokens of VHDL text. (IEEE 1076-1993, clause 13, lexical elements. Which delimiters and literals there are is this
+-- project's subset.) At each place outside a token a separator begins, or a token, which is the longest that begins there, or
+-- neither, which is a lexical fault.
+use Rattle.std.specs.Prelude.{ℕ, ◌+◌, Bool, false, not, ◌&&◌, ◌||◌, ◌==◌, if◌then◌else◌, List, [], ◌∷◌, codes, Option, Some, None}
+use Rattle.std.specs.Prelude.{unwrap_or}
 use Rattle.std.specs.Char.{is_ascii_alphabetic, is_ascii_digit, is_ascii_graphic}
 use Rattle.vhdl_tokens.specs.Words.{is_vhdl_word}
 use Rattle.lexer.specs.Tokens as tokens
 pub use Rattle.lexer.specs.Tokens.{Token, Lexis, begins_with, is_one_of, is_blank, is_name_byte, later, after, spellings}
 
--- How many bytes of a separator stand at the front of these: a blank, or a comment before its line end (13.8). None where there is
--- no separator.
+-- How many bytes of a separator stand at the front of these: a blank, or a comment before its line end (13.8). None where there
+-- is no separator.
 abbrev pub separator_length : List ℕ → ℕ
 separator_length = tokens.line_separator_length 45
 
@@ -40,7 +41,8 @@ abbrev pub string_rest : List ℕ → Option ℕ
 string_rest [] = None
 string_rest (b ∷ bs) = if b == 34 then Some 1 else (if b == 10 then None else later 1 (string_rest bs))
 
--- how many bytes of a string stand at the front of these, where the first is a quotation mark; none where it does not close (13.6)
+-- how many bytes of a string stand at the front of these, where the first is a quotation mark; none where it does not close
+-- (13.6)
 abbrev pub string_length : List ℕ → ℕ
 string_length [] = 0
 string_length (b ∷ bs) = unwrap_or (later 1 (string_rest bs)) 0

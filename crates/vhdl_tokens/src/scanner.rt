@@ -6,8 +6,8 @@ ghost use Rattle.lexer.specs.Spans.{LieInside};
 ghost use Rattle.vhdl_tokens.specs.Spans.{tokens_of};
 
 use crate::fronts::token_length;
-use std::alloc::{AllocError, Global};
 use lexer::{Lexicon, Scan, TokenState, line_separator_length};
+use std::alloc::{AllocError, Global};
 
 /// The bytes of the last token, of which it is asked only at an apostrophe whether they are a name. None stand before the first.
 #[derive(Clone, Copy)]

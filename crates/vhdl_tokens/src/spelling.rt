@@ -20,8 +20,8 @@ pub fn is_name(token: &[u8]) -> bool
     }
 }
 
-/// Whether the second byte of a token is that of a word of VHDL, whatever the case of its letter. It spares most names the look-up
-/// among the words.
+/// Whether the second byte of a token is that of a word of VHDL, whatever the case of its letter. It spares most names the
+/// look-up among the words.
 fn could_be_word(token: &[u8]) -> bool
     ensures { result ≡ false → is_vhdl_word token.now ≡ false }
 {

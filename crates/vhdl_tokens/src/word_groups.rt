@@ -115,7 +115,8 @@ static USED: [&[&[u8]]; 26] = [
 /// Reserved words among which each stands that begins with this byte, whatever its case.
 #[tactic(auto, unfolding(crate::specs::Words::is_reserved, crate::specs::Words::vhdl_words))]
 pub fn reserved_from(first: u8) -> &'static [&'static [u8]]
-    ensures { (rest : List ℕ) → list_any (λ word. str_eq_ignore_ascii_case (first ∷ rest) word.now) result.now ≡ is_reserved (first ∷ rest) }
+    ensures { (rest : List ℕ) → list_any (λ word. str_eq_ignore_ascii_case (first ∷ rest) word.now) result.now ≡ is_reserved
+        (first ∷ rest) }
 {
     let letter = first.to_ascii_lowercase();
     if !letter.is_ascii_lowercase() {
@@ -127,7 +128,8 @@ pub fn reserved_from(first: u8) -> &'static [&'static [u8]]
 /// Other words that the text of an entity uses, among which each stands that begins with this byte, whatever its case.
 #[tactic(auto, unfolding(crate::specs::Words::is_used, crate::specs::Words::used_words))]
 pub fn used_from(first: u8) -> &'static [&'static [u8]]
-    ensures { (rest : List ℕ) → list_any (λ word. str_eq_ignore_ascii_case (first ∷ rest) word.now) result.now ≡ is_used (first ∷ rest) }
+    ensures { (rest : List ℕ) → list_any (λ word. str_eq_ignore_ascii_case (first ∷ rest) word.now) result.now ≡ is_used
+        (first ∷ rest) }
 {
     let letter = first.to_ascii_lowercase();
     if !letter.is_ascii_lowercase() {

@@ -1,4 +1,5 @@
--- The texts of checks, of gates of paths and of short lists, by computing. Those of whole entities are compared with what is written.
+-- The texts of checks, of gates of paths and of short lists, by computing. Those of whole entities are compared with what is
+-- written.
 use Rattle.std.proofs.Common.{◌≡◌, ℕ, Bool, true, List, [], ◌∷◌, None, codes, refl}
 use Rattle.std.specs.Fmt.{digits}
 use Rattle.trit_cubes.specs.declared.trits.Trit.TheVariants as trit
@@ -11,11 +12,18 @@ use Rattle.vital_models.specs.declared.model.HGate.TheVariants as gate
 use Rattle.udp_tables.specs.declared.models.VPort.{VPort}
 use Rattle.udp_tables.specs.declared.timing_checks.TimingCheck.{TimingCheck}
 use Rattle.vital_models.specs.declared.model.VEntity.{VEntity}
-use Rattle.vhdl_writer.specs.Names.{input_text, inputs_text, next_input_text, violated_text, source_name, source_text, sources_text, condition_text}
-use Rattle.vhdl_writer.specs.Tables.{symbol_apart_text, level_apart_text, state_row_text, truth_row_text, truth_rows_text, state_rows_text, state_constant_text, condition_constant_text, is_looked_up, output_table_text, constants_text}
-use Rattle.vhdl_writer.specs.Declarations.{port_text, some_ports_text, header_text, signal_text, process_text, check_variables_text, state_variables_text, glitch_data_text, output_variables_text, variables_text}
-use Rattle.vhdl_writer.specs.Statements.{one_text, setup_hold_text, recovery_removal_text, period_pulse_text, check_text, report_text, reports_text, state_text}
-use Rattle.vhdl_writer.specs.Outputs.{lookup_text, value_line, not_zero_text, zero_text, all_zero_text, path_text, paths_text, direct_text}
+use Rattle.vhdl_writer.specs.Names.{input_text, inputs_text, next_input_text, violated_text, source_name, source_text}
+use Rattle.vhdl_writer.specs.Names.{sources_text, condition_text}
+use Rattle.vhdl_writer.specs.Tables.{symbol_apart_text, level_apart_text, state_row_text, truth_row_text, truth_rows_text}
+use Rattle.vhdl_writer.specs.Tables.{state_rows_text, state_constant_text, condition_constant_text, is_looked_up}
+use Rattle.vhdl_writer.specs.Tables.{output_table_text, constants_text}
+use Rattle.vhdl_writer.specs.Declarations.{port_text, some_ports_text, header_text, signal_text, process_text}
+use Rattle.vhdl_writer.specs.Declarations.{check_variables_text, state_variables_text, glitch_data_text, output_variables_text}
+use Rattle.vhdl_writer.specs.Declarations.{variables_text}
+use Rattle.vhdl_writer.specs.Statements.{one_text, setup_hold_text, recovery_removal_text, period_pulse_text, check_text}
+use Rattle.vhdl_writer.specs.Statements.{report_text, reports_text, state_text}
+use Rattle.vhdl_writer.specs.Outputs.{lookup_text, value_line, not_zero_text, zero_text, all_zero_text, path_text, paths_text}
+use Rattle.vhdl_writer.specs.Outputs.{direct_text}
 use Rattle.vhdl_writer.specs.Entity.{statements_text, entity_text}
 
 abbrev port : List ℕ → Bool → VPort
@@ -23,7 +31,14 @@ port name input = record { name = name; input = input }
 
 check : CheckKind → ℕ → ℕ → Edge → ℕ → Edge → TimingCheck
 check kind limit p e q f =
-    record { kind = kind; first = record { pin = p; edge = e }; second = record { pin = q; edge = f }; limit = limit; condition = None }
+    record {
+      kind = kind;
+      first = record { pin = p; edge = e };
+      second = record { pin = q; edge = f };
+      limit = limit;
+      condition =
+          None;
+    }
 
 -- The calls of checks of the pins R and CK, the second in a condition.
 control : VEntity
@@ -52,7 +67,12 @@ checks-text :
     ≡ codes "    VitalPeriodPulseCheck (Violation => x_1, PeriodData => d_1, TestSignal => CK, PulseWidthHigh => 7 ps, CheckEnabled => true);\n")
     × (check_text control 1 (check check_kind.Period 7 1 edge.Any 1 edge.Any)
     ≡ codes "    VitalPeriodPulseCheck (Violation => x_1, PeriodData => d_1, TestSignal => CK, Period => 7 ps, CheckEnabled => true);\n")
-unfolding control check digits input_text inputs_text next_input_text violated_text source_name source_text sources_text condition_text symbol_apart_text level_apart_text state_row_text truth_row_text truth_rows_text state_rows_text state_constant_text condition_constant_text is_looked_up output_table_text constants_text port_text some_ports_text header_text signal_text process_text check_variables_text state_variables_text glitch_data_text output_variables_text variables_text one_text setup_hold_text recovery_removal_text period_pulse_text check_text report_text reports_text state_text lookup_text value_line not_zero_text zero_text all_zero_text path_text paths_text direct_text statements_text entity_text
+unfolding control check digits input_text inputs_text next_input_text violated_text source_name source_text sources_text
+    condition_text symbol_apart_text level_apart_text state_row_text truth_row_text truth_rows_text state_rows_text
+    state_constant_text condition_constant_text is_looked_up output_table_text constants_text port_text some_ports_text
+    header_text signal_text process_text check_variables_text state_variables_text glitch_data_text output_variables_text
+    variables_text one_text setup_hold_text recovery_removal_text period_pulse_text check_text report_text reports_text state_text
+    lookup_text value_line not_zero_text zero_text all_zero_text path_text paths_text direct_text statements_text entity_text
 checks-text = (refl, refl, refl, refl, refl)
 
 -- Gates of paths, a list of two names, and a table of one row.
@@ -64,5 +84,10 @@ gates-text :
     × (violated_text control (0 ∷ 1 ∷ []) ≡ codes "(viol, RN, CK)")
     × (inputs_text control (0 ∷ 1 ∷ []) ≡ codes "(RN, CK)")
     × (constants_text control ≡ codes "  constant c_1 : VitalTruthTableType := (\n    0 => ('-', 'X'));\n")
-unfolding control digits input_text inputs_text next_input_text violated_text source_name source_text sources_text condition_text symbol_apart_text level_apart_text state_row_text truth_row_text truth_rows_text state_rows_text state_constant_text condition_constant_text is_looked_up output_table_text constants_text port_text some_ports_text header_text signal_text process_text check_variables_text state_variables_text glitch_data_text output_variables_text variables_text one_text setup_hold_text recovery_removal_text period_pulse_text check_text report_text reports_text state_text lookup_text value_line not_zero_text zero_text all_zero_text path_text paths_text direct_text statements_text entity_text
+unfolding control digits input_text inputs_text next_input_text violated_text source_name source_text sources_text condition_text
+    symbol_apart_text level_apart_text state_row_text truth_row_text truth_rows_text state_rows_text state_constant_text
+    condition_constant_text is_looked_up output_table_text constants_text port_text some_ports_text header_text signal_text
+    process_text check_variables_text state_variables_text glitch_data_text output_variables_text variables_text one_text
+    setup_hold_text recovery_removal_text period_pulse_text check_text report_text reports_text state_text lookup_text value_line
+    not_zero_text zero_text all_zero_text path_text paths_text direct_text statements_text entity_text
 gates-text = (refl, refl, refl, refl, refl)

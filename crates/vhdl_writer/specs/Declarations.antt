@@ -1,6 +1,7 @@
--- The text of declarations: an entity with its ports, and the variables of its process. (IEEE 1076-1993, 1.1, 1.2, 4.3.1.3 and 9.2; IEEE
--- 1076.4-2000, the types of checks and of path delays.)
-use Rattle.std.specs.Prelude.{ℕ, ◌+◌, Bool, false, nat_eq, nat_lt, if◌then◌else◌, List, [], ◌∷◌, ◌++◌, length, Option, is_some, codes, decimal}
+-- The text of declarations: an entity with its ports, and the variables of its process. (IEEE 1076-1993, 1.1, 1.2, 4.3.1.3 and
+-- 9.2; IEEE 1076.4-2000, the types of checks and of path delays.)
+use Rattle.std.specs.Prelude.{ℕ, ◌+◌, Bool, false, nat_eq, nat_lt, if◌then◌else◌, List, [], ◌∷◌, ◌++◌, length, Option, is_some}
+use Rattle.std.specs.Prelude.{codes, decimal}
 use Rattle.std.specs.List.{position}
 use Rattle.std.specs.Option.{option_map_or}
 use Rattle.cell_machine.specs.declared.checks.CheckKind.{CheckKind}
@@ -88,7 +89,8 @@ state_variables_text n state =
     codes "    variable s_"
     ++ (decimal n
     ++ (codes " : std_logic := 'X';\n    variable p_"
-    ++ (decimal n ++ (codes " : std_logic_vector (1 to " ++ (decimal (width_of state.table.rows) ++ codes ") := (others => 'X');\n")))))
+    ++ (decimal n ++ (codes " : std_logic_vector (1 to "
+    ++ (decimal (width_of state.table.rows) ++ codes ") := (others => 'X');\n")))))
 
 -- the data of the delays of an output, where it has paths
 unfoldable pub glitch_data_text : ℕ → List ℕ
@@ -99,7 +101,8 @@ glitch_text n output = if nat_lt 0 (length output.paths) then glitch_data_text n
 
 -- the variables of an output: its value, and the data of its delays
 unfoldable pub output_variables_text : ℕ → VOutput → List ℕ
-output_variables_text n output = codes "    variable z_" ++ (decimal n ++ (codes " : std_logic := 'X';\n" ++ glitch_text n output))
+output_variables_text n output = codes "    variable z_"
+    ++ (decimal n ++ (codes " : std_logic := 'X';\n" ++ glitch_text n output))
 
 -- the variables: of the checks, of the violation, of the states, of the outputs
 unfoldable pub variables_text : VEntity → List ℕ

@@ -1,5 +1,5 @@
--- The names of an entity's parts by their numbers, and lists of them in calls. In a sound entity each number has a name; a number that
--- has none is written as nothing. A list of one name has its index before it. (IEEE 1076-1993, 7.3.2, aggregates.)
+-- The names of an entity's parts by their numbers, and lists of them in calls. In a sound entity each number has a name; a number
+-- that has none is written as nothing. A list of one name has its index before it. (IEEE 1076-1993, 7.3.2, aggregates.)
 use Rattle.std.specs.Prelude.{ℕ, ◌+◌, nat_eq, if◌then◌else◌, List, [], ◌++◌, length, slice_get, codes, decimal}
 use Rattle.std.specs.Option.{option_map_or}
 use Rattle.cell_machine.specs.declared.outputs.Source.{Source}

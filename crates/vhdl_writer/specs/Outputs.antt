@@ -1,4 +1,5 @@
--- The text of the statements that assign outputs. (IEEE 1076.4-2000, VitalTruthTable and VitalPathDelay01; IEEE 1076-1993, 8.4 and 8.5.)
+-- The text of the statements that assign outputs. (IEEE 1076.4-2000, VitalTruthTable and VitalPathDelay01; IEEE 1076-1993, 8.4
+-- and 8.5.)
 use Rattle.std.specs.Prelude.{ℕ, ◌-◌, nat_lt, if◌then◌else◌, List, ◌++◌, length, codes, decimal}
 use Rattle.cell_machine.specs.declared.outputs.Source.{Source}
 use Rattle.vital_models.specs.declared.model.OutValue.{OutValue}
@@ -53,7 +54,8 @@ path_text e n path =
     ++ (codes " => ("
     ++ (port_at e path.from
     ++ (codes "'last_event, ("
-    ++ (decimal path.rise ++ (codes " ps, " ++ (decimal path.fall ++ (codes " ps), " ++ (gate_text e path.gate ++ codes ")")))))))))
+    ++ (decimal path.rise ++ (codes " ps, "
+    ++ (decimal path.fall ++ (codes " ps), " ++ (gate_text e path.gate ++ codes ")")))))))))
 
 -- the call of the paths of the output with this number
 unfoldable pub paths_text : VEntity → ℕ → VOutput → List ℕ

@@ -105,7 +105,8 @@ period_pulse_text e n k =
     ++ (decimal n
     ++ (codes ", TestSignal => "
     ++ (port_at e k.first.pin
-    ++ (pulse_word k k.kind ++ (decimal k.limit ++ (codes " ps, CheckEnabled => " ++ (enabled_text e k.condition ++ codes ");\n")))))))))
+    ++ (pulse_word k k.kind ++ (decimal k.limit
+    ++ (codes " ps, CheckEnabled => " ++ (enabled_text e k.condition ++ codes ");\n")))))))))
 
 -- the call for a check of this kind with this number
 abbrev pub kind_text : VEntity → ℕ → TimingCheck → CheckKind → List ℕ

@@ -1,7 +1,8 @@
--- The text of tables, which constants hold. (IEEE 1076.4-2000, VitalTruthTableType, VitalStateTableType and the VITAL table symbols; IEEE
--- 1076-1993, 4.3.1.1 and 7.3.2.) The layout is this project's: a row a line, four spaces before it. A table of one row has the row's
--- index before it.
-use Rattle.std.specs.Prelude.{ℕ, ◌+◌, ◌-◌, Bool, true, false, nat_eq, if◌then◌else◌, List, [], ◌++◌, length, count_by, take, codes, decimal}
+-- The text of tables, which constants hold. (IEEE 1076.4-2000, VitalTruthTableType, VitalStateTableType and the VITAL table
+-- symbols; IEEE 1076-1993, 4.3.1.1 and 7.3.2.) The layout is this project's: a row a line, four spaces before it. A table of one
+-- row has the row's index before it.
+use Rattle.std.specs.Prelude.{ℕ, ◌+◌, ◌-◌, Bool, true, false, nat_eq, if◌then◌else◌, List, [], ◌++◌, length, count_by, take}
+use Rattle.std.specs.Prelude.{codes, decimal}
 use Rattle.trit_cubes.specs.declared.trits.Trit.{Trit}
 use Rattle.trit_cubes.specs.declared.trits.Trit.TheVariants as trit
 use Rattle.vital_models.specs.declared.table.Trits.{Trits}
@@ -69,7 +70,8 @@ level_apart_text n level = level_text level ++ codes ", "
 unfoldable pub state_row_text : ℕ → ℕ → VStateRow → List ℕ
 state_row_text count n row =
     row_start count n
-    ++ (numbered_texts symbol_apart_text 1 row.inputs ++ (level_text row.state ++ (codes ", " ++ (next_text row.result ++ codes ")"))))
+    ++ (numbered_texts symbol_apart_text 1 row.inputs
+    ++ (level_text row.state ++ (codes ", " ++ (next_text row.result ++ codes ")"))))
 
 -- a row of a truth table, of so many: its columns, and what it gives
 unfoldable pub truth_row_text : ℕ → ℕ → TruthRow → List ℕ
@@ -114,7 +116,8 @@ table_number e n = length e.states + (count_by is_looked_up (take (n - 1) e.outp
 -- the constant of a table of the output with this number
 unfoldable pub output_table_text : VEntity → ℕ → TruthTable → List ℕ
 output_table_text e n table =
-    codes "  constant k_" ++ (decimal (table_number e n) ++ (codes " : VitalTruthTableType := (" ++ (truth_rows_text table ++ codes ");\n")))
+    codes "  constant k_" ++ (decimal (table_number e n)
+    ++ (codes " : VitalTruthTableType := (" ++ (truth_rows_text table ++ codes ");\n")))
 
 -- the constant of the table of an output, where it has one
 abbrev pub value_constant_text : VEntity → ℕ → OutValue → List ℕ

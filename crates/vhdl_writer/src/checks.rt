@@ -1,6 +1,8 @@
 //! Calls of timing checks. (IEEE 1076.4-2000, VitalSetupHoldCheck, VitalRecoveryRemovalCheck and VitalPeriodPulseCheck.)
 ghost use Rattle.std.specs.Prelude.{◌≡◌};
-ghost use Rattle.vhdl_writer.specs.Statements.{enabled_text, test_at, reference_at, by_edge, transition_text, high_word, low_word, referring_text, setup_hold_text, recovery_word, recovery_removal_text, pulse_word, period_pulse_text, check_text};
+ghost use Rattle.vhdl_writer.specs.Statements.{enabled_text, test_at, reference_at, by_edge, transition_text, high_word};
+ghost use Rattle.vhdl_writer.specs.Statements.{low_word, referring_text, setup_hold_text, recovery_word, recovery_removal_text};
+ghost use Rattle.vhdl_writer.specs.Statements.{pulse_word, period_pulse_text, check_text};
 
 use crate::names::{Condition, port_at};
 use crate::parts::{CheckAt, ItemText, Of};

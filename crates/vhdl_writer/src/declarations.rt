@@ -1,6 +1,7 @@
 //! An entity with its ports, and the beginning of its process. (IEEE 1076-1993, 1.1, 1.2 and 9.2.)
 ghost use Rattle.std.specs.Prelude.{◌≡◌};
-ghost use Rattle.vhdl_writer.specs.Declarations.{direction_text, port_text, some_ports_text, header_text, is_input, first_input, signal_start, signal_text, signals_end, process_text};
+ghost use Rattle.vhdl_writer.specs.Declarations.{direction_text, port_text, some_ports_text, header_text, is_input, first_input};
+ghost use Rattle.vhdl_writer.specs.Declarations.{signal_start, signal_text, signals_end, process_text};
 
 use crate::names::apart;
 use crate::parts::{At, Each, ItemText};

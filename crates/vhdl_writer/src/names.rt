@@ -1,7 +1,8 @@
 //! The names of an entity's parts by their numbers, and lists of them in calls.
 ghost use Rattle.std.specs.Prelude.{◌≡◌};
 ghost use Rattle.vhdl_writer.specs.Joined.{apart_text};
-ghost use Rattle.vhdl_writer.specs.Names.{port_at, inputs_at, list_start, violated_start, listed_text, input_text, next_input_text, columns_text, source_text, condition_text};
+ghost use Rattle.vhdl_writer.specs.Names.{port_at, inputs_at, list_start, violated_start, listed_text, input_text};
+ghost use Rattle.vhdl_writer.specs.Names.{next_input_text, columns_text, source_text, condition_text};
 
 use crate::parts::{At, Each, ItemText, Of};
 use cell_machine::Source;

@@ -1,5 +1,6 @@
 //! The statements that assign outputs. (IEEE 1076.4-2000, VitalTruthTable and VitalPathDelay01; IEEE 1076-1993, 8.4 and 8.5.)
-ghost use Rattle.vhdl_writer.specs.Outputs.{lookup_text, assigned_text, value_line, zero_text, gate_text, path_text, paths_text, output_line};
+ghost use Rattle.vhdl_writer.specs.Outputs.{lookup_text, assigned_text, value_line, zero_text, gate_text, path_text, paths_text};
+ghost use Rattle.vhdl_writer.specs.Outputs.{output_line};
 
 use crate::names::{Condition, Listed, apart, port_at};
 use crate::parts::{At, Each, ItemText, Of};

@@ -29,7 +29,8 @@ pub trait ItemText<T> {
     /// Puts the text of an item with its number, as `Part::put` does.
     fn put<D: Desk>(&self, at: &At<T>, line: &mut Line, desk: &mut D, slot: OutSlot) -> Put
         requires { IsTrue (is_bound (D.state desk.old) (Output slot)) }
-        ensures text { PutsText (D.state desk.old) (D.state desk.new) slot line.old (text self.now at.now.number at.now.item.now) line.new result }
+        ensures text { PutsText (D.state desk.old) (D.state desk.new) slot line.old (text self.now at.now.number at.now.item.now)
+            line.new result }
         ensures cause { HasCause (D.faults desk.old) (D.faults desk.new) result };
 }
 

@@ -1,6 +1,8 @@
 //! The constants of an architecture: its tables. (IEEE 1076.4-2000, VitalTruthTableType and VitalStateTableType.)
 ghost use Rattle.std.specs.Prelude.{◌≡◌, codes, count_by, take};
-ghost use Rattle.vhdl_writer.specs.Tables.{row_start, state_row_text, truth_row_text, truth_rows_text, constant_text, state_constant_text, condition_constant_text, is_looked_up, table_number, output_table_text, output_constant_text};
+ghost use Rattle.vhdl_writer.specs.Tables.{row_start, state_row_text, truth_row_text, truth_rows_text, constant_text};
+ghost use Rattle.vhdl_writer.specs.Tables.{state_constant_text, condition_constant_text, is_looked_up, table_number};
+ghost use Rattle.vhdl_writer.specs.Tables.{output_table_text, output_constant_text};
 
 use crate::parts::{At, Each, ItemText};
 use crate::symbols::{Columns, level_text, next_text, value_text};

@@ -1,6 +1,7 @@
 //! The variables of an entity's process. (IEEE 1076-1993, 4.3.1.3; IEEE 1076.4-2000, the types of checks and of path delays.)
 ghost use Rattle.std.specs.Prelude.{◌≡◌};
-ghost use Rattle.vhdl_writer.specs.Declarations.{data_text, check_variables_text, violation_variable_text, width_of, state_variables_text, output_variables_text};
+ghost use Rattle.vhdl_writer.specs.Declarations.{data_text, check_variables_text, violation_variable_text, width_of};
+ghost use Rattle.vhdl_writer.specs.Declarations.{state_variables_text, output_variables_text};
 
 use crate::parts::{At, CheckAt, ItemText};
 use cell_machine::CheckKind;

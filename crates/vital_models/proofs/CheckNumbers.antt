@@ -8,7 +8,8 @@ use Rattle.udp_tables.specs.Conditions.{conditions_of, condition_place}
 use Rattle.udp_tables.specs.TimingChecks.{number_behind, check_behind}
 use Rattle.vital_models.specs.Generated.{place_of, check_of}
 
-number_alone : (cell : CellData) (o : Option Node) → option_map (number_behind 0 (conditions_of cell)) o ≡ option_map (place_of cell) o
+number_alone : (cell : CellData) (o : Option Node)
+    → option_map (number_behind 0 (conditions_of cell)) o ≡ option_map (place_of cell) o
 number_alone cell None = refl
 number_alone cell (Some f) =
     let same : 0 + condition_place (conditions_of cell) f ≡ condition_place (conditions_of cell) f = omega arith in ap Some same

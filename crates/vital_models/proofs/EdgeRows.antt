@@ -11,7 +11,8 @@ use Rattle.udp_tables.specs.Edges.{edge_cubes, edge_rows, with_last, compact_edg
 use Rattle.udp_tables.proofs.ColumnLemmas.{and-true}
 use Rattle.udp_tables.proofs.CubeLemmas.{edge-long, edge-moves}
 use Rattle.udp_tables.proofs.PairLemmas.{init-with}
-use Rattle.cell_tables.proofs.RowForms.{FitsCubes, FitsPairs, rows-each, rows-right, rows-found, compact-each, compact-right, compact-found}
+use Rattle.cell_tables.proofs.RowForms.{FitsCubes, FitsPairs, rows-each, rows-right, rows-found, compact-each, compact-right}
+use Rattle.cell_tables.proofs.RowForms.{compact-found}
 use Rattle.vital_tables.specs.declared.table.VSymbol.TheVariants as symbol
 use Rattle.vital_tables.specs.declared.table.Trits.TheVariants as trits
 use Rattle.vital_tables.specs.declared.table.VStateRow.{VStateRow}
@@ -30,7 +31,8 @@ columns-with p t (old ∷ new ∷ r ∷ rest) l = ap (λ ts. insert p (edge_symb
 -- whether the columns of a cube match a change, without the state
 abbrev columns : Bool → ℕ → Trit → Trit → List Trit → Trit → Trit → List Trit → Bool
 columns checks p a b others x y c =
-    columns_match symbol_matches (violated checks (symbol.Level trits.Any) (edge_columns p c)) (violated checks x (insert p a others)) (violated checks y (insert p b others))
+    columns_match symbol_matches (violated checks (symbol.Level trits.Any) (edge_columns p c))
+    (violated checks x (insert p a others)) (violated checks y (insert p b others))
 
 -- whether a row matches a change
 abbrev hit : Bool → ℕ → Trit → Trit → List Trit → Trit → Trit → Trit → VStateRow → Bool
@@ -39,7 +41,8 @@ hit checks p a b others x y s = state_matches (violated checks x (insert p a oth
 cubes-fit :
     (checks : Bool) (n : ℕ) (step : Step) (p : ℕ) (a b : Trit) (others : List Trit) (x y s : Trit)
     → p < n → suc (length others) ≡ n → same a b ≡ false
-    → FitsCubes VStateRow n step p a b others s (edge_row checks p) (hit checks p a b others x y s) (row_next s) (columns checks p a b others x y)
+    → FitsCubes VStateRow n step p a b others s (edge_row checks p) (hit checks p a b others x y s) (row_next s)
+    (columns checks p a b others x y)
 cubes-fit checks n step p a b others x y s l long apart =
     record {
       long = long;
@@ -59,7 +62,8 @@ pairs-fit checks p a b others x y s =
       kept = λ c. and-true (columns checks p a b others x y c);
       stays = λ c. refl;
       free = λ t c l.
-          ap (λ es. columns_match symbol_matches (violated checks (symbol.Level trits.Any) es) (violated checks x (insert p a others)) (violated checks y (insert p b others)))
+          ap (λ es. columns_match symbol_matches (violated checks (symbol.Level trits.Any) es)
+          (violated checks x (insert p a others)) (violated checks y (insert p b others)))
           (columns-with p t c l);
     }
 
@@ -68,16 +72,19 @@ cube-still :
     (checks : Bool) (n : ℕ) (step : Step) (p : ℕ) (olds news : List Trit) (x y : Trit) (state : Bool)
     → p < n → length olds ≡ n → length news ≡ n → get_or olds p Unknown ≡ get_or news p Unknown
     → (v : Trit) (c : List Trit) → Among c (edge_cubes step n p v)
-    → (columns_match symbol_matches (violated checks (symbol.Level trits.Any) (edge_columns p c)) (violated checks x olds) (violated checks y news) && state) ≡ false
+    → (columns_match symbol_matches (violated checks (symbol.Level trits.Any) (edge_columns p c)) (violated checks x olds)
+    (violated checks y news) && state) ≡ false
 cube-still checks n step p olds news x y state l f g h v c m =
-    and_left (columns_match symbol_matches (violated checks (symbol.Level trits.Any) (edge_columns p c)) (violated checks x olds) (violated checks y news)) state
+    and_left (columns_match symbol_matches (violated checks (symbol.Level trits.Any) (edge_columns p c)) (violated checks x olds)
+    (violated checks y news)) state
     (columns-kept checks p c olds news x y n l (edge-long step n p v c m) f g h)
 
 pub edge_rows-serve : (checks : Bool) (n : ℕ) (step : Step) → Serves checks n step (edge_rows (edge_row checks) step n)
 edge_rows-serve checks n step =
     record {
       still = λ p row olds news x y s l m f g h.
-          rows-each (λ r. state_matches (violated checks x olds) (violated checks y news) s r ≡ false) (edge_row checks p) (edge_cubes step n p)
+          rows-each (λ r. state_matches (violated checks x olds) (violated checks y news) s r ≡ false) (edge_row checks p)
+          (edge_cubes step n p)
           (λ v c k. cube-still checks n step p olds news x y (trits_match (level_of (last Unknown c)) s) l f g h v c k) row m;
       right = λ p row a b others x y s l m long apart. rows-right (cubes-fit checks n step p a b others x y s l long apart) row m;
       found = λ p a b others x y s l long apart. rows-found (cubes-fit checks n step p a b others x y s l long apart);
@@ -88,7 +95,8 @@ pub compact_rows-serve :
 compact_rows-serve checks n step =
     record {
       still = λ p row olds news x y s l m f g h.
-          compact-each (λ r. state_matches (violated checks x olds) (violated checks y news) s r ≡ false) (edge_row checks p) (keep_row checks p) (edge_cubes step n p)
+          compact-each (λ r. state_matches (violated checks x olds) (violated checks y news) s r ≡ false) (edge_row checks p)
+          (keep_row checks p) (edge_cubes step n p)
           (λ v c k. cube-still checks n step p olds news x y (trits_match (level_of (last Unknown c)) s) l f g h v c k)
           (λ c k. cube-still checks n step p olds news x y true l f g h One c k) row m;
       right = λ p row a b others x y s l m long apart.

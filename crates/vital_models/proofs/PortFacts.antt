@@ -1,5 +1,6 @@
 -- The ports of a cell's pins, and their numbers.
-use Rattle.std.proofs.Common.{◌≡◌, ℕ, zero, suc, ◌+◌, Bool, true, false, ◌||◌, cond, List, [], ◌∷◌, ◌++◌, map, take, refl, sym, ap, ◌∙◌, subst, arith, IsTrue, slice_get, append_assoc, append-nil, if◌then◌else◌}
+use Rattle.std.proofs.Common.{◌≡◌, ℕ, zero, suc, ◌+◌, Bool, true, false, ◌||◌, cond, List, [], ◌∷◌, ◌++◌, map, take, refl, sym}
+use Rattle.std.proofs.Common.{ap, ◌∙◌, subst, arith, IsTrue, slice_get, append_assoc, append-nil, if◌then◌else◌}
 use Rattle.std.specs.Option.{option_map_or}
 use Rattle.std.proofs.lemmas.List.{map-append}
 use Rattle.std.proofs.lemmas.List.Sums.{sum_by-cons}
@@ -34,7 +35,8 @@ ports-sides entity ports (pin ∷ pins) = by (is_port pin) (λ more. ports-sides
   where
     by :
         (b : Bool) → ((more : List VPort) → inputs_of (ports_after entity more pins) ≡ inputs_of more ++ sides pins)
-        → inputs_of (if b then ports_after entity (ports ++ port_after entity ports pin ∷ []) pins else ports_after entity ports pins)
+        → inputs_of (if b then ports_after entity (ports ++ port_after entity ports pin ∷ []) pins
+        else ports_after entity ports pins)
         ≡ inputs_of ports ++ (if b then is_input pin.direction ∷ sides pins else sides pins)
     by true rest =
         rest (ports ++ port_after entity ports pin ∷ [])
@@ -53,7 +55,8 @@ outputs-sides k (port ∷ ports) = by port.input (outputs-sides (k + 1) ports)
     by true h = h
     by false h = ap (λ ns. k ∷ ns) h
 
-pub input-side : (ports : List VPort) (p : ℕ) → is_input_port ports p ≡ option_map_or (λ (b : Bool). b) (slice_get (inputs_of ports) p) false
+pub input-side : (ports : List VPort) (p : ℕ)
+    → is_input_port ports p ≡ option_map_or (λ (b : Bool). b) (slice_get (inputs_of ports) p) false
 input-side [] p = refl
 input-side (port ∷ ports) zero = refl
 input-side (port ∷ ports) (suc p) = input-side ports p
@@ -69,18 +72,22 @@ input-is-port direction.Output h = absurd cc
 input-is-port direction.Internal h = absurd cc
 
 -- the side at the number of an input pin
-at_input : (pins : List Pin) (p : ℕ) → IsTrue (is_input_pin pins p) → IsTrue (option_map_or (λ (b : Bool). b) (slice_get (sides pins) (port_number pins p)) false)
+at_input : (pins : List Pin) (p : ℕ) → IsTrue (is_input_pin pins p)
+    → IsTrue (option_map_or (λ (b : Bool). b) (slice_get (sides pins) (port_number pins p)) false)
 at_input [] p h = absurd cc
 at_input (pin ∷ pins) zero h =
-    subst (λ b. IsTrue (option_map_or (λ (b : Bool). b) (slice_get (if b then is_input pin.direction ∷ sides pins else sides pins) 0) false))
+    subst (λ b. IsTrue (option_map_or (λ (b : Bool). b)
+    (slice_get (if b then is_input pin.direction ∷ sides pins else sides pins) 0) false))
     (sym (input-is-port pin.direction h)) h
 at_input (pin ∷ pins) (suc p) h =
-    subst (λ n. IsTrue (option_map_or (λ (b : Bool). b) (slice_get (sides (pin ∷ pins)) n) false)) (sym (port_number-cons pin pins p))
+    subst (λ n. IsTrue (option_map_or (λ (b : Bool). b) (slice_get (sides (pin ∷ pins)) n) false))
+    (sym (port_number-cons pin pins p))
     (by (is_port pin) (at_input pins p h))
   where
     by :
         (b : Bool) → IsTrue (option_map_or (λ (b : Bool). b) (slice_get (sides pins) (port_number pins p)) false)
-        → IsTrue (option_map_or (λ (b : Bool). b) (slice_get (if b then is_input pin.direction ∷ sides pins else sides pins) (cond b 1 0 + port_number pins p)) false)
+        → IsTrue (option_map_or (λ (b : Bool). b)
+        (slice_get (if b then is_input pin.direction ∷ sides pins else sides pins) (cond b 1 0 + port_number pins p)) false)
     by true k =
         let next : suc (port_number pins p) ≡ 1 + port_number pins p = omega arith in
         subst (λ n. IsTrue (option_map_or (λ (b : Bool). b) (slice_get (is_input pin.direction ∷ sides pins) n) false)) next k
@@ -89,7 +96,8 @@ at_input (pin ∷ pins) (suc p) h =
         subst (λ n. IsTrue (option_map_or (λ (b : Bool). b) (slice_get (sides pins) n) false)) same k
 
 -- the port of an input pin is an input
-pub input_port : (entity : List ℕ) (pins : List Pin) (p : ℕ) → IsTrue (is_input_pin pins p) → IsTrue (is_input_port (ports_of entity pins) (port_number pins p))
+pub input_port : (entity : List ℕ) (pins : List Pin) (p : ℕ) → IsTrue (is_input_pin pins p)
+    → IsTrue (is_input_port (ports_of entity pins) (port_number pins p))
 input_port entity pins p h =
     input-side (ports_of entity pins) (port_number pins p)
     ∙ ap (λ bs. option_map_or (λ (b : Bool). b) (slice_get bs (port_number pins p)) false) (ports-sides entity [] pins)
@@ -136,8 +144,10 @@ outputs-numbers f j k (pin ∷ pins) h = by pin.direction refl (λ k h. outputs-
         (rest (k + 0) (numbers-tail f j k 0 pin pins (ap (λ d. cond (is_input d || is_output d) 1 0) e) h))
 
 -- the ports of the output pins are the output ports
-pub output_ports : (entity : List ℕ) (pins : List Pin) → map (port_number pins) (output_pins_from 0 pins) ≡ output_ports_from 0 (ports_of entity pins)
+pub output_ports : (entity : List ℕ) (pins : List Pin)
+    → map (port_number pins) (output_pins_from 0 pins) ≡ output_ports_from 0 (ports_of entity pins)
 output_ports entity pins =
-    outputs-numbers (port_number pins) 0 0 pins (λ i. let same : 0 + i ≡ i = omega arith in let sum : port_number pins i ≡ 0 + port_number pins i = omega arith in ap (port_number pins) same ∙ sum)
+    outputs-numbers (port_number pins) 0 0 pins (λ i. let same : 0 + i ≡ i = omega arith
+    in let sum : port_number pins i ≡ 0 + port_number pins i = omega arith in ap (port_number pins) same ∙ sum)
     ∙ sym (ap (outputs_from 0) (ports-sides entity [] pins))
     ∙ sym (outputs-sides 0 (ports_of entity pins))

@@ -20,7 +20,8 @@ pub change-at :
     ≡ machine_step step p old (get_or inputs p Unknown) (without p inputs) s
 change-at checks n step changes p old inputs x s serves long l apart =
     let within : p < length inputs = omega arith in
-    before-change (λ before after. lookup_state (step_rows checks n step changes) (violated checks x before) (violated checks Zero after) s) p old Unknown inputs within
+    before-change (λ before after. lookup_state (step_rows checks n step changes) (violated checks x before)
+    (violated checks Zero after) s) p old Unknown inputs within
     ∙ step_rows-change checks n step changes p old (get_or inputs p Unknown) (without p inputs) x s serves l
     (length-without p Unknown inputs within ∙ long) (differ old (get_or inputs p Unknown) apart)
 
@@ -35,7 +36,8 @@ pub state_rows_are_machine-lem : StateRowsAreMachine
 state_rows_are_machine-lem =
     record {
       steps = λ checks n step p old inputs x s long l apart.
-          change-at checks n step (edge_rows (edge_row checks) step n) p old inputs x s (edge_rows-serve checks n step) long l apart;
+          change-at checks n step (edge_rows (edge_row checks) step n) p old inputs x s (edge_rows-serve checks n step) long l
+          apart;
       keeps = λ checks n step inputs x s long. step_rows-keep checks n step (edge_rows (edge_row checks) step n) inputs x s long;
       forces = λ n step before inputs s f g. force-at n step (edge_rows (edge_row true) step n) before inputs s f g;
     }
@@ -60,7 +62,9 @@ forms_agree-lem =
           compact_rows_are_machine-lem.steps checks n step p old inputs x s long l apart
           ∙ sym (state_rows_are_machine-lem.steps checks n step p old inputs x s long l apart);
       keeps = λ checks n step inputs x s long.
-          compact_rows_are_machine-lem.keeps checks n step inputs x s long ∙ sym (state_rows_are_machine-lem.keeps checks n step inputs x s long);
+          compact_rows_are_machine-lem.keeps checks n step inputs x s long
+          ∙ sym (state_rows_are_machine-lem.keeps checks n step inputs x s long);
       forces = λ n step before inputs s f g.
-          compact_rows_are_machine-lem.forces n step before inputs s f g ∙ sym (state_rows_are_machine-lem.forces n step before inputs s f g);
+          compact_rows_are_machine-lem.forces n step before inputs s f g
+          ∙ sym (state_rows_are_machine-lem.forces n step before inputs s f g);
     }

@@ -1,5 +1,7 @@
 -- The entity of a cell is sound.
-use Rattle.std.proofs.Common.{◌≡◌, ℕ, zero, suc, ◌+◌, ◌<◌, Bool, true, false, ◌&&◌, All, List, [], ◌∷◌, length, map, inl, inr, refl, sym, ap, ◌∙◌, subst, arith, IsTrue, Option, Some, None, option_map, slice_get, slice_index_or, nat_eq, nat_lt, nat_le, length-append, if◌then◌else◌}
+use Rattle.std.proofs.Common.{◌≡◌, ℕ, zero, suc, ◌+◌, ◌<◌, Bool, true, false, ◌&&◌, All, List, [], ◌∷◌, length, map, inl, inr}
+use Rattle.std.proofs.Common.{refl, sym, ap, ◌∙◌, subst, arith, IsTrue, Option, Some, None, option_map, slice_get, slice_index_or}
+use Rattle.std.proofs.Common.{nat_eq, nat_lt, nat_le, length-append, if◌then◌else◌}
 use Rattle.std.specs.Prelude.{filter}
 use Rattle.std.specs.List.{list_all}
 use Rattle.std.specs.Option.{option_map_or}
@@ -23,7 +25,8 @@ use Rattle.cell_machine.specs.declared.arcs.Arc.{Arc}
 use Rattle.cell_machine.specs.Values.{no_values}
 use Rattle.cell_machine.specs.Outputs.{output_at, condition_at}
 use Rattle.cell_machine.specs.CellRules as rule
-use Rattle.cell_machine.specs.CellRules.{is_input_pin, output_pins_from, is_support, is_ascending, is_group, are_groups_from, is_source, is_output_of, is_any_edge, are_opposite, is_check, is_arc}
+use Rattle.cell_machine.specs.CellRules.{is_input_pin, output_pins_from, is_support, is_ascending, is_group, are_groups_from}
+use Rattle.cell_machine.specs.CellRules.{is_source, is_output_of, is_any_edge, are_opposite, is_check, is_arc}
 use Rattle.cell_machine.proofs.RuleLemmas.{check_parts}
 use Rattle.udp_tables.specs.Edges.{each_below}
 use Rattle.cell_machine.specs.CellData.{CellData}
@@ -36,8 +39,10 @@ use Rattle.vital_models.specs.declared.model.OutValue.TheVariants as value
 use Rattle.vital_models.specs.declared.model.VOutput.{VOutput}
 use Rattle.vital_models.specs.declared.model.VEntity.{VEntity}
 use Rattle.vital_models.specs.Ports.{port_number, ports_of}
-use Rattle.vital_models.specs.Generated.{has_violation, ports_at, state_of, states_of, condition_of, source_at, output_table, value_of_output, place_of, all_zero, gate_by, path_of, output_of, check_of, entity_of}
-use Rattle.vital_models.specs.Sound.{IsState, IsTruth, feeds, IsValue, is_condition_number, is_gate, IsPath, IsOutput, has_events, is_enabling, IsCheck, IsSound}
+use Rattle.vital_models.specs.Generated.{has_violation, ports_at, state_of, states_of, condition_of, source_at, output_table}
+use Rattle.vital_models.specs.Generated.{value_of_output, place_of, all_zero, gate_by, path_of, output_of, check_of, entity_of}
+use Rattle.vital_models.specs.Sound.{IsState, IsTruth, feeds, IsValue, is_condition_number, is_gate, IsPath, IsOutput, has_events}
+use Rattle.vital_models.specs.Sound.{is_enabling, IsCheck, IsSound}
 use Rattle.udp_tables.specs.Ports.{is_input_port}
 use Rattle.vital_models.proofs.PortFacts.{input_port, output_ports}
 use Rattle.vital_models.proofs.Widths.{truth-width, width, state-width}
@@ -48,7 +53,8 @@ all-from : {X : Type 0} (P : X → Type 0) (xs : List X) → ((x : X) → Among 
 all-from P xs h k d within = h (slice_index_or xs k d) (contains-among _ xs (Contains-get_or xs k d within))
 
 -- the support of each group
-support_inputs : (pins : List Pin) (support : List ℕ) → IsTrue (is_support pins support) → IsTrue (list_all (is_input_pin pins) support)
+support_inputs : (pins : List Pin) (support : List ℕ) → IsTrue (is_support pins support)
+    → IsTrue (list_all (is_input_pin pins) support)
 support_inputs pins support h =
     let inputs : Bool = list_all (is_input_pin pins) support in
     let some = and_parts (nat_lt 0 (length support)) (nat_le (length support) 8 && (is_ascending support && inputs)) h in
@@ -67,13 +73,15 @@ group_support-at pins name (x ∷ xs) (suc g) h =
     group_support-at pins (name + 2) xs g (and_parts (is_group pins name x) (are_groups_from pins (name + 2) xs) h).1
 
 -- numbers made of others
-all-map : {X Y : Type 0} (t : Y → Bool) (p : X → Bool) (g : X → Y) → ((x : X) → IsTrue (p x) → IsTrue (t (g x))) → (xs : List X) → IsTrue (list_all p xs) → IsTrue (list_all t (map g xs))
+all-map : {X Y : Type 0} (t : Y → Bool) (p : X → Bool) (g : X → Y) → ((x : X) → IsTrue (p x) → IsTrue (t (g x))) → (xs : List X)
+    → IsTrue (list_all p xs) → IsTrue (list_all t (map g xs))
 all-map t p g h [] k = refl
 all-map t p g h (x ∷ xs) k =
     let parts = and_parts (p x) (list_all p xs) k in
     and_from (t (g x)) (list_all t (map g xs)) (h x parts.0) (all-map t p g h xs parts.1)
 
-all-made : {X Y : Type 0} (t : Y → Bool) (g : X → Y) (xs : List X) → ((x : X) → Among x xs → IsTrue (t (g x))) → IsTrue (list_all t (map g xs))
+all-made : {X Y : Type 0} (t : Y → Bool) (g : X → Y) (xs : List X) → ((x : X) → Among x xs → IsTrue (t (g x)))
+    → IsTrue (list_all t (map g xs))
 all-made t g [] h = refl
 all-made t g (x ∷ xs) h = and_from (t (g x)) (list_all t (map g xs)) (h x (inl refl)) (all-made t g xs (λ y m. h y (inr m)))
 
@@ -93,8 +101,10 @@ module _ (cell : CellData) (name : List ℕ) (h : Rules cell) where
   entity = entity_of cell name
 
   -- input pins stand for input ports
-  pins_feed : (support : List ℕ) → IsTrue (list_all (is_input_pin cell.pins) support) → IsTrue (list_all (is_input_port (ports_of name cell.pins)) (ports_at cell.pins support))
-  pins_feed support k = all-map (is_input_port (ports_of name cell.pins)) (is_input_pin cell.pins) (port_number cell.pins) (input_port name cell.pins) support k
+  pins_feed : (support : List ℕ) → IsTrue (list_all (is_input_pin cell.pins) support)
+      → IsTrue (list_all (is_input_port (ports_of name cell.pins)) (ports_at cell.pins support))
+  pins_feed support k = all-map (is_input_port (ports_of name cell.pins)) (is_input_pin cell.pins) (port_number cell.pins)
+      (input_port name cell.pins) support k
 
   state_is : (g : ℕ) → IsState entity (state_of cell g)
   state_is g =
@@ -122,19 +132,22 @@ module _ (cell : CellData) (name : List ℕ) (h : Rules cell) where
   truth_is f m =
       record {
         rows = all-from _ (condition_of cell.pins f).table.rows
-            (λ row k. truth-width (length (support_of f)) (condition_at (support_of f) f) row k ∙ sym (length-map (support_of f) (port_number cell.pins)));
+            (λ row k. truth-width (length (support_of f)) (condition_at (support_of f) f) row k
+            ∙ sym (length-map (support_of f) (port_number cell.pins)));
         fed = pins_feed (support_of f) (condition-over cell (checks_hold cell h) (arcs_hold cell h) f m);
       }
 
   conditions_are : All (IsTruth entity) (map (condition_of cell.pins) (conditions_of cell))
   conditions_are =
       all-from (IsTruth entity) (map (condition_of cell.pins) (conditions_of cell))
-      (λ truth m. let r = among-map (condition_of cell.pins) truth (conditions_of cell) m in subst (IsTruth entity) r.1 (truth_is r.0 r.2))
+      (λ truth m. let r = among-map (condition_of cell.pins) truth (conditions_of cell) m
+      in subst (IsTruth entity) r.1 (truth_is r.0 r.2))
 
   -- conditions by their numbers
   numbered : (i : ℕ) → i < length (conditions_of cell) → IsTrue (is_condition_number entity i)
   numbered i l =
-      let long : length (map (condition_of cell.pins) (conditions_of cell)) ≡ length (conditions_of cell) = length-map (conditions_of cell) (condition_of cell.pins) in
+      let long : length (map (condition_of cell.pins) (conditions_of cell)) ≡ length (conditions_of cell) =
+      length-map (conditions_of cell) (condition_of cell.pins) in
       lt-ltb i (length (map (condition_of cell.pins) (conditions_of cell))) (omega arith)
 
   source_feeds : (s : Source) → IsTrue (is_source cell.pins cell.groups s) → IsTrue (feeds entity (source_at cell.pins s))
@@ -144,16 +157,19 @@ module _ (cell : CellData) (name : List ℕ) (h : Rules cell) where
       let long : length (states_of cell) ≡ length cell.groups = below-length (state_of cell) (length cell.groups) in
       lt-ltb g (length (states_of cell)) (omega arith)
 
-  table_is : (output : OutputPin) → IsTrue (is_output_of cell.pins cell.groups output) → IsValue entity (value.Table (output_table cell output) (map (source_at cell.pins) output.support))
+  table_is : (output : OutputPin) → IsTrue (is_output_of cell.pins cell.groups output)
+      → IsValue entity (value.Table (output_table cell output) (map (source_at cell.pins) output.support))
   table_is output k =
       let few = and_parts _ _ k in
       let parts = and_parts (list_all (is_source cell.pins cell.groups) output.support) _ few.1 in (
         all-from _ (output_table cell output).rows
-            (λ row m. truth-width (length output.support) (output_at (length cell.pins) cell.groups output) row m ∙ sym (length-map output.support (source_at cell.pins))),
+            (λ row m. truth-width (length output.support) (output_at (length cell.pins) cell.groups output) row m
+            ∙ sym (length-map output.support (source_at cell.pins))),
         all-map (feeds entity) (is_source cell.pins cell.groups) (source_at cell.pins) source_feeds output.support parts.0,
       )
 
-  value_is : (output : OutputPin) → IsTrue (is_output_of cell.pins cell.groups output) → IsValue entity (value_of_output cell output)
+  value_is : (output : OutputPin) → IsTrue (is_output_of cell.pins cell.groups output)
+      → IsValue entity (value_of_output cell output)
   value_is output k = by (has_sources output) (table_is output k)
     where
       by :
@@ -163,17 +179,21 @@ module _ (cell : CellData) (name : List ℕ) (h : Rules cell) where
       by true h = h
       by false h = tt
 
-  gate_is : (arc : Arc) → Among arc cell.arcs → (o : Option Node) → arc.condition ≡ o → IsTrue (is_gate entity (gate_by cell arc o))
+  gate_is : (arc : Arc) → Among arc cell.arcs → (o : Option Node) → arc.condition ≡ o
+      → IsTrue (is_gate entity (gate_by cell arc o))
   gate_is arc m None e =
       gate-all entity (map (place_of cell) (conditions_beside cell.arcs arc))
       (all-made (is_condition_number entity) (place_of cell) (conditions_beside cell.arcs arc)
-      (λ f k. numbered (place_of cell f) (arc-numbered cell arc f m (subst (λ o. Among f (conditions_by cell.arcs arc o)) (sym e) k))))
+      (λ f k. numbered (place_of cell f)
+      (arc-numbered cell arc f m (subst (λ o. Among f (conditions_by cell.arcs arc o)) (sym e) k))))
   gate_is arc m (Some f) e =
-      numbered (place_of cell f) (arc-numbered cell arc f m (subst (λ o. Among f (conditions_by cell.arcs arc o)) (sym e) (inl refl)))
+      numbered (place_of cell f) (arc-numbered cell arc f m
+      (subst (λ o. Among f (conditions_by cell.arcs arc o)) (sym e) (inl refl)))
 
   path_is : (arc : Arc) → Among arc cell.arcs → IsPath entity (path_of cell arc)
   path_is arc m =
-      let starts = (and_parts (is_input_pin cell.pins arc.from) _ (all-among (is_arc cell.pins) cell.arcs arc (arcs_hold cell h) m)).0 in
+      let starts = (and_parts (is_input_pin cell.pins arc.from) _
+      (all-among (is_arc cell.pins) cell.arcs arc (arcs_hold cell h) m)).0 in
       record { starts = input_port name cell.pins arc.from starts; gated = gate_is arc m arc.condition refl }
 
   output_is : (output : OutputPin) → Among output cell.outputs → IsOutput entity (output_of cell output)
@@ -194,7 +214,9 @@ module _ (cell : CellData) (name : List ℕ) (h : Rules cell) where
       (λ output m. let r = among-map (output_of cell) output cell.outputs m in subst (IsOutput entity) r.1 (output_is r.0 r.2))
 
   -- the outputs are the output ports
-  ports_driven : (outputs : List OutputPin) → map (λ (o : VOutput). o.port) (map (output_of cell) outputs) ≡ map (port_number cell.pins) (map (λ (o : OutputPin). o.pin) outputs)
+  ports_driven : (outputs : List OutputPin)
+      → map (λ (o : VOutput). o.port) (map (output_of cell) outputs) ≡ map (port_number cell.pins)
+      (map (λ (o : OutputPin). o.pin) outputs)
   ports_driven [] = refl
   ports_driven (output ∷ outputs) = ap (λ ps. port_number cell.pins output.pin ∷ ps) (ports_driven outputs)
 
@@ -203,12 +225,14 @@ module _ (cell : CellData) (name : List ℕ) (h : Rules cell) where
       (bytes_eq-Decides (map (λ (o : OutputPin). o.pin) cell.outputs) (output_pins_from 0 cell.pins)).0
       (and_parts _ (list_all (is_output_of cell.pins cell.groups) cell.outputs) h.of_outputs).0
 
-  enabling_is : (k : Check) → Among k cell.checks → (o : Option Node) → k.condition ≡ o → IsTrue (is_enabling entity (option_map (place_of cell) o))
+  enabling_is : (k : Check) → Among k cell.checks → (o : Option Node) → k.condition ≡ o
+      → IsTrue (is_enabling entity (option_map (place_of cell) o))
   enabling_is k m None e = refl
   enabling_is k m (Some f) e =
       numbered (place_of cell f) (check-numbered cell k f m (subst (λ o. Among f (condition_list o)) (sym e) (inl refl)))
 
-  same_port : (p q : ℕ) (b : Bool) → IsTrue (nat_eq p q && b) → IsTrue (nat_eq (port_number cell.pins p) (port_number cell.pins q) && b)
+  same_port : (p q : ℕ) (b : Bool) → IsTrue (nat_eq p q && b)
+      → IsTrue (nat_eq (port_number cell.pins p) (port_number cell.pins q) && b)
   same_port p q b k =
       let parts = and_parts (nat_eq p q) b k in
       and_from (nat_eq (port_number cell.pins p) (port_number cell.pins q)) b

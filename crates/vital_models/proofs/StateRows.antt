@@ -1,5 +1,6 @@
 -- Rows of a step whose changes serve give the machine's steps.
-use Rattle.std.proofs.Common.{◌≡◌, ◌≢◌, ℕ, zero, suc, ◌<◌, Bool, true, false, cond, ◌&&◌, List, [], ◌∷◌, ◌++◌, length, replicate, get_or, inl, inr, refl, sym, ◌∙◌, ap, arith}
+use Rattle.std.proofs.Common.{◌≡◌, ◌≢◌, ℕ, zero, suc, ◌<◌, Bool, true, false, cond, ◌&&◌, List, [], ◌∷◌, ◌++◌, length, replicate}
+use Rattle.std.proofs.Common.{get_or, inl, inr, refl, sym, ◌∙◌, ap, arith}
 use Rattle.std.specs.List.{list_any}
 use Rattle.trit_cubes.specs.declared.trits.Trit.{Trit}
 use Rattle.trit_cubes.specs.declared.trits.Trit.TheVariants.{Zero, One, Unknown}
@@ -37,7 +38,8 @@ pub record Serves (checks : Bool) (n : ℕ) (step : Step) (changes : ℕ → Lis
   pub found :
       (p : ℕ) (a b : Trit) (others : List Trit) (x y s : Trit)
       → p < n → suc (length others) ≡ n → same a b ≡ false → machine_step step p a b others s ≢ Unknown
-      → list_any (state_matches (violated checks x (insert p a others)) (violated checks y (insert p b others)) s) (changes p) ≡ true
+      → list_any (state_matches (violated checks x (insert p a others)) (violated checks y (insert p b others)) s)
+      (changes p) ≡ true
 
 pub next-value : (s v : Trit) → next_of s (next_to v) ≡ v
 next-value s Zero = refl
@@ -55,7 +57,8 @@ without-closing :
     → lookup_state (step_rows checks n step changes) before after s ≡ lookup_state (front checks n step changes) before after s
 without-closing checks n step changes before after s =
     first-append (state_matches before after s) (row_next s) (front checks n step changes) (closing_row checks n ∷ []) Unknown
-    ∙ ap (first (state_matches before after s) (row_next s) (front checks n step changes)) (cond-same (state_matches before after s (closing_row checks n)) Unknown)
+    ∙ ap (first (state_matches before after s) (row_next s) (front checks n step changes))
+    (cond-same (state_matches before after s (closing_row checks n)) Unknown)
 
 -- the row of the violation matches nothing without one
 violation-none :
@@ -72,7 +75,8 @@ violation-none true n row olds news x s m =
 levels-fit :
     (checks : Bool) (n : ℕ) (olds news : List Trit) (x y s : Trit)
     → length olds ≡ n → length news ≡ n
-    → FitsForced VStateRow n news (level_row checks) (state_matches (violated checks x olds) (violated checks y news) s) (row_next s)
+    → FitsForced VStateRow n news (level_row checks) (state_matches (violated checks x olds) (violated checks y news) s)
+    (row_next s)
 levels-fit checks n olds news x y s f g =
     record {
       long = g;
@@ -90,7 +94,8 @@ steady-hit true n inputs x s e = ap (λ b. b && true) (steady-matches n inputs e
 steady-missed :
     (checks : Bool) (n p : ℕ) (a b : Trit) (others : List Trit) (x y s : Trit)
     → suc (length others) ≡ n → p < n → same a b ≡ false
-    → state_matches (violated checks x (insert p a others)) (violated checks Zero (insert p b others)) s (steady_row checks n) ≡ false
+    → state_matches (violated checks x (insert p a others)) (violated checks Zero (insert p b others)) s
+    (steady_row checks n) ≡ false
 steady-missed false n p a b others x y s e l h = ap (λ c. c && true) (steady-moved n p a b others e l h)
 steady-missed true n p a b others x y s e l h = ap (λ c. c && true) (steady-moved n p a b others e l h)
 
@@ -99,7 +104,8 @@ pub step_rows-keep :
     → length inputs ≡ n
     → lookup_state (step_rows checks n step changes) (violated checks x inputs) (violated checks Zero inputs) s ≡ s
 step_rows-keep checks n step changes inputs x s e =
-    ap (λ b. cond b s (lookup_state ((forced_rows (level_row checks) n step ++ (violation_rows checks n ++ each_below changes n)) ++ closing_row checks n ∷ []) (violated checks x inputs) (violated checks Zero inputs) s))
+    ap (λ b. cond b s (lookup_state ((forced_rows (level_row checks) n step ++ (violation_rows checks n ++ each_below changes n))
+    ++ closing_row checks n ∷ []) (violated checks x inputs) (violated checks Zero inputs) s))
     (steady-hit checks n inputs x s e)
 
 -- each row that matches a change of a pin gives the machine's step
@@ -117,7 +123,8 @@ change-given checks n step changes p a b others x s serves l long apart row m h 
     elim m [
       | inl e ↦
           let clash : false ≡ true
-          = sym (steady-missed checks n p a b others x Zero s long l apart) ∙ ap (state_matches (violated checks x olds) (violated checks Zero news) s) e ∙ h in
+          = sym (steady-missed checks n p a b others x Zero s long l apart)
+          ∙ ap (state_matches (violated checks x olds) (violated checks Zero news) s) e ∙ h in
           absurd cc
       | inr rest ↦
           elim (among-append row (forced_rows (level_row checks) n step) (violation_rows checks n ++ each_below changes n) rest) [
@@ -129,8 +136,10 @@ change-given checks n step changes p a b others x s serves l long apart row m h 
                   | inl k ↦ let clash : false ≡ true = sym (violation-none checks n row olds news x s k) ∙ h in absurd cc
                   | inr k ↦
                       serves.right p row a b others x Zero s l
-                      (changed-own changes (state_matches (violated checks x olds) (violated checks Zero news) s) n p a b others l long
-                      (λ q other inside c same_value. serves.still q other olds news x Zero s inside c f g same_value) row k h) long apart h
+                      (changed-own changes (state_matches (violated checks x olds) (violated checks Zero news) s) n p a b others l
+                      long
+                      (λ q other inside c same_value. serves.still q other olds news x Zero s inside c f g same_value) row k h)
+                      long apart h
                 ]
           ]
     ]
@@ -138,7 +147,8 @@ change-given checks n step changes p a b others x s serves l long apart row m h 
 pub step_rows-change :
     (checks : Bool) (n : ℕ) (step : Step) (changes : ℕ → List VStateRow) (p : ℕ) (a b : Trit) (others : List Trit) (x s : Trit)
     → Serves checks n step changes → p < n → suc (length others) ≡ n → same a b ≡ false
-    → lookup_state (step_rows checks n step changes) (violated checks x (insert p a others)) (violated checks Zero (insert p b others)) s
+    → lookup_state (step_rows checks n step changes) (violated checks x (insert p a others))
+    (violated checks Zero (insert p b others)) s
     ≡ machine_step step p a b others s
 step_rows-change checks n step changes p a b others x s serves l long apart =
     let before : List Trit = violated checks x (insert p a others) in
@@ -169,9 +179,11 @@ free-covers (suc n) (t ∷ ts) e = free-covers n ts (omega arith)
 violation-decides :
     (n : ℕ) (changes : ℕ → List VStateRow) (x : Trit) (olds inputs : List Trit) (s : Trit)
     → length olds ≡ n → length inputs ≡ n
-    → first (state_matches (x ∷ olds) (Unknown ∷ inputs) s) (row_next s) (violation_rows true n ++ each_below changes n) Unknown ≡ Unknown
+    → first (state_matches (x ∷ olds) (Unknown ∷ inputs) s) (row_next s) (violation_rows true n ++ each_below changes n)
+    Unknown ≡ Unknown
 violation-decides n changes x olds inputs s f g =
-    ap (λ b. cond (b && true) Unknown (first (state_matches (x ∷ olds) (Unknown ∷ inputs) s) (row_next s) (each_below changes n) Unknown))
+    ap (λ b. cond (b && true) Unknown
+    (first (state_matches (x ∷ olds) (Unknown ∷ inputs) s) (row_next s) (each_below changes n) Unknown))
     (levels-cover symbols-fit (replicate n Unknown) olds inputs (f ∙ sym g) ∙ free-covers n inputs g)
 
 -- With a violation the rows of levels decide, and else the row of the violation.
@@ -192,6 +204,7 @@ step_rows-force n step changes x olds inputs s f g =
     let r = forced-given step (levels-fit true n olds inputs x Unknown s f g) row m h in r.3 ∙ sym r.2)
     (λ none.
     elim (known-or (forced step inputs)) [
-      | inl known ↦ let clash : false ≡ true = sym none ∙ forced-found step (levels-fit true n olds inputs x Unknown s f g) known in absurd cc
+      | inl known ↦ let clash : false ≡ true = sym none ∙ forced-found step (levels-fit true n olds inputs x Unknown s f g) known
+          in absurd cc
       | inr e ↦ unknown ∙ sym e
     ])

@@ -1,5 +1,6 @@
 -- What the symbols of generated rows match.
-use Rattle.std.proofs.Common.{◌≡◌, ℕ, zero, suc, ◌<◌, ◌≤◌, Bool, true, false, not, ◌&&◌, List, [], ◌∷◌, ◌++◌, map, length, replicate, get_or, refl, sym, ◌∙◌, ap, arith}
+use Rattle.std.proofs.Common.{◌≡◌, ℕ, zero, suc, ◌<◌, ◌≤◌, Bool, true, false, not, ◌&&◌, List, [], ◌∷◌, ◌++◌, map, length}
+use Rattle.std.proofs.Common.{replicate, get_or, refl, sym, ◌∙◌, ap, arith}
 use Rattle.trit_cubes.specs.declared.trits.Trit.{Trit}
 use Rattle.trit_cubes.specs.declared.trits.Trit.TheVariants.{Zero, One, Unknown}
 use Rattle.trit_cubes.specs.Filling.{same, covers}
@@ -29,7 +30,8 @@ truth-covers (w ∷ c) [] = refl
 truth-covers (w ∷ c) (t ∷ ts) = λ i. level-admits w t i && truth-covers c ts i
 
 -- pins that keep their values
-pub steady-matches : (n : ℕ) (ts : List Trit) → length ts ≡ n → columns_match symbol_matches (replicate n symbol.Steady) ts ts ≡ true
+pub steady-matches : (n : ℕ) (ts : List Trit) → length ts ≡ n
+    → columns_match symbol_matches (replicate n symbol.Steady) ts ts ≡ true
 steady-matches zero [] e = refl
 steady-matches zero (t ∷ ts) e = absurd (omega arith)
 steady-matches (suc n) [] e = absurd (omega arith)
@@ -42,7 +44,8 @@ steady-at :
 steady-at zero p olds news f g l h = absurd (omega arith)
 steady-at (suc n) p [] news f g l h = absurd (omega arith)
 steady-at (suc n) p (o ∷ olds) [] f g l h = absurd (omega arith)
-steady-at (suc n) zero (o ∷ olds) (t ∷ news) f g l h = ap (λ b. b && columns_match symbol_matches (replicate n symbol.Steady) olds news) h
+steady-at (suc n) zero (o ∷ olds) (t ∷ news) f g l h =
+    ap (λ b. b && columns_match symbol_matches (replicate n symbol.Steady) olds news) h
 steady-at (suc n) (suc p) (o ∷ olds) (t ∷ news) f g l h =
     ap (λ b. same o t && b) (steady-at n p olds news (omega arith) (omega arith) (omega arith) h) ∙ and-false (same o t)
 
@@ -104,7 +107,8 @@ pub symbols-fit : FitsEntries VSymbol symbol_matches level_symbol edge_symbol
 symbols-fit =
     record {
       levels = λ w old new. level-admits w new;
-      edges = λ old new a b rest m apart. change-admits old new a b rest m ∙ ap (λ t. not t && (admits old a && admits new b)) apart;
+      edges = λ old new a b rest m apart. change-admits old new a b rest m
+          ∙ ap (λ t. not t && (admits old a && admits new b)) apart;
       stays = change-still;
     }
 
@@ -122,7 +126,8 @@ pub level_row-matches :
     → length olds ≡ length news
     → state_matches (violated checks x olds) (violated checks y news) s (level_row checks v c) ≡ covers c news
 level_row-matches checks v c olds news x y s e =
-    and-true (columns_match symbol_matches (violated checks (symbol.Level trits.Any) (map level_symbol c)) (violated checks x olds) (violated checks y news))
+    and-true (columns_match symbol_matches (violated checks (symbol.Level trits.Any) (map level_symbol c))
+    (violated checks x olds) (violated checks y news))
     ∙ free-violation checks (map level_symbol c) olds news x y
     ∙ levels-cover symbols-fit c olds news e
 
@@ -131,7 +136,8 @@ pub columns-kept :
     (checks : Bool) (p : ℕ) (c olds news : List Trit) (x y : Trit) (n : ℕ)
     → p < n → length c ≡ suc (suc n) → length olds ≡ n → length news ≡ n
     → get_or olds p Unknown ≡ get_or news p Unknown
-    → columns_match symbol_matches (violated checks (symbol.Level trits.Any) (edge_columns p c)) (violated checks x olds) (violated checks y news) ≡ false
+    → columns_match symbol_matches (violated checks (symbol.Level trits.Any) (edge_columns p c)) (violated checks x olds)
+    (violated checks y news) ≡ false
 columns-kept checks p [] olds news x y n l e f g h = absurd (omega arith)
 columns-kept checks p (old ∷ []) olds news x y n l e f g h = absurd (omega arith)
 columns-kept checks p (old ∷ new ∷ []) olds news x y n l e f g h = absurd (omega arith)
@@ -143,7 +149,8 @@ pub columns-cover :
     (checks : Bool) (p : ℕ) (c : List Trit) (a b : Trit) (others : List Trit) (x y t : Trit)
     → p ≤ length others → length c ≡ suc (suc (suc (length others))) → same a b ≡ false → moves c ≡ true
     → covers c (a ∷ b ∷ others ++ t ∷ [])
-    ≡ (columns_match symbol_matches (violated checks (symbol.Level trits.Any) (edge_columns p c)) (violated checks x (insert p a others)) (violated checks y (insert p b others))
+    ≡ (columns_match symbol_matches (violated checks (symbol.Level trits.Any) (edge_columns p c))
+    (violated checks x (insert p a others)) (violated checks y (insert p b others))
     && admits (last Unknown c) t)
 columns-cover checks p [] a b others x y t l e apart m = absurd (omega arith)
 columns-cover checks p (old ∷ []) a b others x y t l e apart m = absurd (omega arith)

@@ -16,7 +16,8 @@ use Rattle.vital_models.specs.RowLaws.{TruthRowsResolve}
 use Rattle.vital_models.proofs.SymbolLemmas.{truth-covers}
 
 -- a row that gives what stands for no row
-pub first-alone : {R V : Type 0} (hit : R → Bool) (value : R → V) (alone : R) (rows : List R) → first hit value (or_row alone rows) (value alone) ≡ first hit value rows (value alone)
+pub first-alone : {R V : Type 0} (hit : R → Bool) (value : R → V) (alone : R) (rows : List R)
+    → first hit value (or_row alone rows) (value alone) ≡ first hit value rows (value alone)
 first-alone hit value alone [] = by (hit alone)
   where
     by : (b : Bool) → cond b (value alone) (value alone) ≡ value alone
@@ -39,7 +40,8 @@ truth_rows-resolve n f inputs long =
       | inl known ↦
           let v : Trit = res f inputs in
           let r = prime-found n f v inputs known long refl in
-          let hit = found-any (truth_matches inputs) (truth_row v r.0) rows (among-value_rows truth_row cubes v r.0 known r.1) (truth-covers r.0 inputs ∙ r.2) in
+          let hit = found-any (truth_matches inputs) (truth_row v r.0) rows (among-value_rows truth_row cubes v r.0 known r.1)
+          (truth-covers r.0 inputs ∙ r.2) in
           let clash : false ≡ true = sym none ∙ hit in absurd cc
       | inr e ↦ sym e
     ])

@@ -1,5 +1,6 @@
 -- The rows of generated tables have a symbol for each column.
-use Rattle.std.proofs.Common.{◌≡◌, ℕ, suc, ◌+◌, ◌<◌, Bool, true, false, List, [], ◌∷◌, ◌++◌, map, length, replicate, inl, inr, refl, sym, ◌∙◌, ap, subst, arith, if◌then◌else◌}
+use Rattle.std.proofs.Common.{◌≡◌, ℕ, suc, ◌+◌, ◌<◌, Bool, true, false, List, [], ◌∷◌, ◌++◌, map, length, replicate, inl, inr}
+use Rattle.std.proofs.Common.{refl, sym, ◌∙◌, ap, subst, arith, if◌then◌else◌}
 use Rattle.std.proofs.lemmas.List.{length-map, length-replicate}
 use Rattle.trit_cubes.specs.declared.trits.Trit.{Trit}
 use Rattle.trit_cubes.specs.declared.trits.Trit.TheVariants.{Zero, One, Unknown}
@@ -18,16 +19,19 @@ use Rattle.vital_tables.specs.declared.table.TruthRow.{TruthRow}
 use Rattle.vital_tables.specs.declared.table.VSymbol.{VSymbol}
 use Rattle.vital_tables.specs.declared.table.VSymbol.TheVariants as symbol
 use Rattle.vital_tables.specs.declared.table.VStateRow.{VStateRow}
-use Rattle.vital_tables.specs.Rows.{level_of, level_symbol, edge_symbol, truth_row, truth_rows, violated, level_row, violation_rows, steady_row, closing_row, edge_columns, edge_row, keep_row, compact_rows}
+use Rattle.vital_tables.specs.Rows.{level_of, level_symbol, edge_symbol, truth_row, truth_rows, violated, level_row}
+use Rattle.vital_tables.specs.Rows.{violation_rows, steady_row, closing_row, edge_columns, edge_row, keep_row, compact_rows}
 
 -- truth tables
 pub truth-width : (n : ℕ) (f : List Bool → Trit) (row : TruthRow) → Among row (truth_rows n f) → length row.inputs ≡ n
 truth-width n f row m = by (value_rows truth_row (prime_list n (gives One f)) (prime_list n (gives Zero f))) refl m
   where
     alone : (row : TruthRow) → truth_row Unknown (replicate n Unknown) ≡ row → length row.inputs ≡ n
-    alone row e = ap (λ (r : TruthRow). length r.inputs) (sym e) ∙ length-map (replicate n Unknown) level_of ∙ length-replicate n Unknown
+    alone row e = ap (λ (r : TruthRow). length r.inputs) (sym e) ∙ length-map (replicate n Unknown) level_of
+        ∙ length-replicate n Unknown
 
-    made : (row : TruthRow) → Among row (value_rows truth_row (prime_list n (gives One f)) (prime_list n (gives Zero f))) → length row.inputs ≡ n
+    made : (row : TruthRow) → Among row (value_rows truth_row (prime_list n (gives One f)) (prime_list n (gives Zero f)))
+        → length row.inputs ≡ n
     made row m =
         let r = value_rows-among truth_row (λ (v : Trit). prime_list n (gives v f)) row m in
         ap (λ (r : TruthRow). length r.inputs) (sym r.4) ∙ length-map r.2 level_of ∙ prime_list-length n (gives r.0 f) r.2 r.3
@@ -42,7 +46,8 @@ truth-width n f row m = by (value_rows truth_row (prime_list n (gives One f)) (p
 abbrev pub width : Bool → ℕ → ℕ
 width checks n = if checks then n + 1 else n
 
-pub violated-width : (checks : Bool) (x : VSymbol) (xs : List VSymbol) (n : ℕ) → length xs ≡ n → length (violated checks x xs) ≡ width checks n
+pub violated-width : (checks : Bool) (x : VSymbol) (xs : List VSymbol) (n : ℕ) → length xs ≡ n
+    → length (violated checks x xs) ≡ width checks n
 violated-width false x xs n e = e
 violated-width true x xs n e = omega arith
 
@@ -56,21 +61,26 @@ edge-width p n (old ∷ new ∷ []) l e = absurd (omega arith)
 edge-width p n (old ∷ new ∷ r ∷ rest) l e =
     let all : length (edge_columns p (old ∷ new ∷ r ∷ rest)) ≡ suc (length (map level_symbol (init (r ∷ rest))))
     = length-insert p (edge_symbol old new) (map level_symbol (init (r ∷ rest))) in
-    let few : length (map level_symbol (init (r ∷ rest))) ≡ length rest = length-map (init (r ∷ rest)) level_symbol ∙ length-init r rest in
+    let few : length (map level_symbol (init (r ∷ rest))) ≡ length rest = length-map (init (r ∷ rest)) level_symbol
+    ∙ length-init r rest in
     omega arith
 
 closing-width : (checks : Bool) (n : ℕ) (row : VStateRow) → closing_row checks n ≡ row → length row.inputs ≡ width checks n
 closing-width checks n row e =
     ap (λ (r : VStateRow). length r.inputs) (sym e)
-    ∙ violated-width checks _ (map level_symbol (replicate n Unknown)) n (levels-width (replicate n Unknown) n (length-replicate n Unknown))
+    ∙ violated-width checks _ (map level_symbol (replicate n Unknown)) n
+    (levels-width (replicate n Unknown) n (length-replicate n Unknown))
 
-violation-width : (checks : Bool) (n : ℕ) (row : VStateRow) → Among row (violation_rows checks n) → length row.inputs ≡ width checks n
+violation-width : (checks : Bool) (n : ℕ) (row : VStateRow) → Among row (violation_rows checks n)
+    → length row.inputs ≡ width checks n
 violation-width false n row m = absurd m
 violation-width true n row m =
     elim m [
       | inl e ↦
-          let few : length (map level_symbol (replicate n Unknown)) ≡ n = levels-width (replicate n Unknown) n (length-replicate n Unknown) in
-          let all : length row.inputs ≡ suc (length (map level_symbol (replicate n Unknown))) = ap (λ (r : VStateRow). length r.inputs) (sym e) in
+          let few : length (map level_symbol (replicate n Unknown)) ≡ n =
+          levels-width (replicate n Unknown) n (length-replicate n Unknown) in
+          let all : length row.inputs ≡ suc (length (map level_symbol (replicate n Unknown))) =
+          ap (λ (r : VStateRow). length r.inputs) (sym e) in
           omega arith
       | inr k ↦ absurd k
     ]
@@ -90,7 +100,8 @@ change-width checks n step p row l m =
     ]
 
 -- state tables
-pub state-width : (checks : Bool) (n : ℕ) (step : Step) (row : VStateRow) → Among row (compact_rows checks n step) → length row.inputs ≡ width checks n
+pub state-width : (checks : Bool) (n : ℕ) (step : Step) (row : VStateRow) → Among row (compact_rows checks n step)
+    → length row.inputs ≡ width checks n
 state-width checks n step row m =
     let forced : List VStateRow = forced_rows (level_row checks) n step in
     let changes : List VStateRow = each_below (compact_edge_rows (edge_row checks) (keep_row checks) step n) n in

@@ -1,5 +1,5 @@
--- The entity of a cell: its states, conditions, outputs and checks, over the numbers of ports. (IEEE 1076.4-2000; what is generated
--- and the order is this project's choice.)
+-- The entity of a cell: its states, conditions, outputs and checks, over the numbers of ports. (IEEE 1076.4-2000; what is
+-- generated and the order is this project's choice.)
 use Rattle.std.specs.Prelude.{ℕ, Bool, List, [], ◌∷◌, Option, Some, None, length, map, filter, nat_eq, if◌then◌else◌}
 use Rattle.bool_functions.specs.declared.tree.Node.{Node}
 use Rattle.bool_functions.specs.Tree.{value_of}

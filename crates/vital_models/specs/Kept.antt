@@ -9,7 +9,8 @@ use Rattle.udp_tables.specs.declared.models.VPort.{VPort}
 -- The name of a cell is kept, where the entities before it have these names in lower case.
 unfoldable pub is_kept_entity_name : List (List ℕ) → List ℕ → Bool
 is_kept_entity_name given name =
-    is_identifier name && (is_free name && (not (is_numbered (codes "cell") name) && not (is_some (number_of given (lowered name)))))
+    is_identifier name && (is_free name
+    && (not (is_numbered (codes "cell") name) && not (is_some (number_of given (lowered name)))))
 
 -- a name where it is kept, else a word and a number
 abbrev pub name_or_numbered : Bool → List ℕ → List ℕ → ℕ → List ℕ

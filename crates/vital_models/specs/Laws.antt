@@ -23,12 +23,14 @@ pub record IsMachine (cell : CellData) (g : ℕ) : Type 0 where
   pub steps :
       (p : ℕ) (old : Trit) (inputs : List Trit) (violation state : Trit)
       → length inputs ≡ length (support_at cell g) → p < length inputs → old ≢ slice_index_or inputs p Unknown
-      → lookup_state (state_table cell g).rows (violated (has_violation cell) violation (slice_set inputs p old)) (violated (has_violation cell) Zero inputs) state
+      → lookup_state (state_table cell g).rows (violated (has_violation cell) violation (slice_set inputs p old))
+      (violated (has_violation cell) Zero inputs) state
       ≡ machine_step (step_at cell g) p old (slice_index_or inputs p Unknown) (without p inputs) state
   pub keeps :
       (inputs : List Trit) (violation state : Trit)
       → length inputs ≡ length (support_at cell g)
-      → lookup_state (state_table cell g).rows (violated (has_violation cell) violation inputs) (violated (has_violation cell) Zero inputs) state ≡ state
+      → lookup_state (state_table cell g).rows (violated (has_violation cell) violation inputs)
+      (violated (has_violation cell) Zero inputs) state ≡ state
   pub forces :
       (before inputs : List Trit) (state : Trit)
       → has_violation cell ≡ true → length inputs ≡ length (support_at cell g) → length before ≡ suc (length inputs)
@@ -48,7 +50,8 @@ OutputsResolve =
 abbrev pub ConditionsResolve : Type 0
 ConditionsResolve =
     (f : Node) (inputs : List Trit)
-    → length inputs ≡ length (support_of f) → lookup_truth (condition_table f).rows inputs ≡ res (condition_at (support_of f) f) inputs
+    → length inputs ≡ length (support_of f)
+    → lookup_truth (condition_table f).rows inputs ≡ res (condition_at (support_of f) f) inputs
 
 -- The entity of data that keep the rules of cells is sound, whatever its name is.
 abbrev pub GeneratedIsSound : Type 0

@@ -40,14 +40,16 @@ StateRowsAreMachine = AreMachine state_rows
 abbrev pub CompactRowsAreMachine : Type 0
 CompactRowsAreMachine = AreMachine compact_rows
 
--- Both forms of a step's state table give the same next state: at each change of one pin without a violation, where no pin changes,
--- and with a violation.
+-- Both forms of a step's state table give the same next state: at each change of one pin without a violation, where no pin
+-- changes, and with a violation.
 pub record FormsAgree : Type 0 where
   pub steps :
       (checks : Bool) (n : ℕ) (step : Step) (p : ℕ) (old : Trit) (inputs : List Trit) (violation state : Trit)
       → length inputs ≡ n → p < n → old ≢ slice_index_or inputs p Unknown
-      → lookup_state (compact_rows checks n step) (violated checks violation (slice_set inputs p old)) (violated checks Zero inputs) state
-      ≡ lookup_state (state_rows checks n step) (violated checks violation (slice_set inputs p old)) (violated checks Zero inputs) state
+      → lookup_state (compact_rows checks n step) (violated checks violation (slice_set inputs p old))
+      (violated checks Zero inputs) state
+      ≡ lookup_state (state_rows checks n step) (violated checks violation (slice_set inputs p old)) (violated checks Zero inputs)
+      state
   pub keeps :
       (checks : Bool) (n : ℕ) (step : Step) (inputs : List Trit) (violation state : Trit)
       → length inputs ≡ n

@@ -1,7 +1,8 @@
 -- When an entity is sound: each number names a thing that its place allows, each row has the length of its table, the outputs are
 -- the output ports in their order, and each check has events of its kind. (IEEE 1076.4-2000; the restrictions on places are this
 -- project's.)
-use Rattle.std.specs.Prelude.{◌≡◌, ℕ, ◌+◌, Bool, true, All, ⊤, List, [], ◌∷◌, Option, Some, None, nat_lt, length, map, IsTrue, if◌then◌else◌}
+use Rattle.std.specs.Prelude.{◌≡◌, ℕ, ◌+◌, Bool, true, All, ⊤, List, [], ◌∷◌, Option, Some, None, nat_lt, length, map, IsTrue}
+use Rattle.std.specs.Prelude.{if◌then◌else◌}
 use Rattle.std.specs.List.{list_all}
 use Rattle.cell_machine.specs.declared.outputs.Source.{Source}
 use Rattle.cell_machine.specs.declared.outputs.Source.TheVariants as source
@@ -38,7 +39,8 @@ IsStateTable columns table = All (λ row. length row.inputs ≡ columns) table.r
 abbrev pub columns_of : VState → ℕ
 columns_of state = if state.violation then length state.inputs + 1 else length state.inputs
 
--- A state: each row of its table has a symbol for each column, input ports feed it, and where there is a violation there are checks.
+-- A state: each row of its table has a symbol for each column, input ports feed it, and where there is a violation there are
+-- checks.
 pub record IsState (e : VEntity) (state : VState) : Type 0 where
   pub rows : IsStateTable (columns_of state) state.table
   pub fed : IsTrue (list_all (is_input_port e.ports) state.inputs)

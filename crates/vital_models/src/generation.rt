@@ -4,7 +4,8 @@ ghost use Rattle.bool_functions.specs.Tree.{name_bound};
 ghost use Rattle.cell_machine.specs.CellData.{data_of};
 ghost use Rattle.udp_tables.specs.Conditions.{conditions_of};
 ghost use Rattle.udp_tables.specs.CellPrimitives.{condition_tree, has_sources};
-ghost use Rattle.vital_models.specs.Generated.{ports_at, state_of, states_of, condition_of, source_at, value_of_output, output_of, entity_of};
+ghost use Rattle.vital_models.specs.Generated.{ports_at, state_of, states_of, condition_of, source_at, value_of_output};
+ghost use Rattle.vital_models.specs.Generated.{output_of, entity_of};
 
 use crate::model::{OutValue, VEntity, VOutput, VState, VTruth};
 use crate::ports::vital_ports;
@@ -92,7 +93,8 @@ fn ports_at(alloc: Global, pins: &[Pin], support: &[usize]) -> Result<Items<usiz
 /// The truth tables of the cell's conditions.
 fn conditions_of(from: &ModelSource) -> Result<Items<VTruth>, AllocError>
     requires { map (λ f. f.now) from.now.conditions.now ≡ conditions_of (data_of from.now.cell.now) }
-    ensures { IfOk result (λ truths. truths ≡ map (condition_of from.now.cell.now.pins) (map (λ f. f.now) from.now.conditions.now)) }
+    ensures { IfOk result (λ truths. truths ≡ map (condition_of from.now.cell.now.pins)
+        (map (λ f. f.now) from.now.conditions.now)) }
 {
     let conditions = from.conditions;
     let mut truths = Items::new(from.alloc);

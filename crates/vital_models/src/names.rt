@@ -20,9 +20,9 @@ pub fn entity_name(alloc: Global, cell: &Cell, given: &Names) -> Result<Items<u8
     name_or_numbered(alloc, kept, name, b"cell", cell.number)
 }
 
-/// The name of the entity of the three-state drivers of a cell with this number and name: as that of a cell's entity, but `vitalz`
-/// and the number in place of `cell` and the number, also where the name is `driven`, whatever the case of its letters. `AllocError`
-/// comes only where memory is wanting.
+/// The name of the entity of the three-state drivers of a cell with this number and name: as that of a cell's entity, but
+/// `vitalz` and the number in place of `cell` and the number, also where the name is `driven`, whatever the case of its letters.
+/// `AllocError` comes only where memory is wanting.
 pub fn driver_name(
     alloc: Global,
     number: usize,

@@ -83,7 +83,8 @@ fn all_zero(conditions: Items<usize>) -> HGate
 /// The numbers of the conditions of all arcs that have the two pins of an arc.
 fn places_beside(from: &ModelSource, arc: &Arc) -> Result<Items<usize>, AllocError>
     requires { map (λ f. f.now) from.now.conditions.now ≡ conditions_of (data_of from.now.cell.now) }
-    ensures { IfOk result (λ places. places ≡ map (place_of (data_of from.now.cell.now)) (conditions_beside from.now.cell.now.arcs arc.now)) }
+    ensures { IfOk result (λ places. places ≡ map (place_of (data_of from.now.cell.now))
+        (conditions_beside from.now.cell.now.arcs arc.now)) }
 {
     let mut places = Items::new(from.alloc);
     for other in from.cell.arcs.as_slice() {

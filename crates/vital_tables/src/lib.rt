@@ -1,5 +1,5 @@
-//! The tables of VITAL (IEEE 1076.4-2000) as data: truth tables and state tables, what their rows match, how they are looked up, the
-//! rows that stand for cubes, and those in every state table that this project writes.
+//! The tables of VITAL (IEEE 1076.4-2000) as data: truth tables and state tables, what their rows match, how they are looked up,
+//! the rows that stand for cubes, and those in every state table that this project writes.
 #![tactic(auto)]
 
 mod lookups;

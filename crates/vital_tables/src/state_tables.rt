@@ -7,8 +7,8 @@ use sqlite_items::Items;
 use std::alloc::{AllocError, Global};
 
 /// The rows of a state table over so many pins, with a column of the violation where there is one: the row that keeps the state
-/// where nothing changes, these rows, and the row that makes the state unknown where no other one matches. `AllocError` comes only
-/// where memory is wanting.
+/// where nothing changes, these rows, and the row that makes the state unknown where no other one matches. `AllocError` comes
+/// only where memory is wanting.
 pub fn state_rows(
     alloc: Global,
     violation: bool,

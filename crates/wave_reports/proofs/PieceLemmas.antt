@@ -1,5 +1,7 @@
 -- How a text that is cut at bytes of a kind begins, and where the last of them stands.
-use Rattle.std.proofs.Common.{◌≡◌, ◌≢◌, ◌==◌, ℕ, ◌+◌, ◌<◌, ◌≤◌, Bool, true, false, not, cond, nat_lt, All, List, [], ◌∷◌, ◌++◌, length, take, drop, get_or, Some, None, position, refl, sym, ap, subst, ◌∙◌, arith, length-drop, take-append-drop}
+use Rattle.std.proofs.Common.{◌≡◌, ◌≢◌, ◌==◌, ℕ, ◌+◌, ◌<◌, ◌≤◌, Bool, true, false, not, cond, nat_lt, All, List, [], ◌∷◌, ◌++◌}
+use Rattle.std.proofs.Common.{length, take, drop, get_or, Some, None, position, refl, sym, ap, subst, ◌∙◌, arith, length-drop}
+use Rattle.std.proofs.Common.{take-append-drop}
 use Rattle.std.proofs.lemmas.Bool.{cond-true, cond-false, eq-eqb, ne_eqb, ltb-true}
 use Rattle.std.proofs.lemmas.Bool.Decides.{nat_tests}
 use Rattle.std.proofs.lemmas.List.{drop_more, get_or-drop}
@@ -12,7 +14,8 @@ use Rattle.wave_reports.specs.Pieces.{pieces, cut_last, cut_step}
 unsplit : (p : ℕ → Bool) (xs : List ℕ) → length xs ≤ position_or_len p xs → slice_split p xs ≡ xs ∷ []
 unsplit p [] h = refl
 unsplit p (x ∷ xs) h =
-    elim (p x) as (λ b. length (x ∷ xs) ≤ cond (not b) (1 + position_or_len p xs) 0 → cond b ([] ∷ slice_split p xs) (onto_first x (slice_split p xs)) ≡ (x ∷ xs) ∷ []) [
+    elim (p x) as (λ b. length (x ∷ xs) ≤ cond (not b) (1 + position_or_len p xs) 0
+    → cond b ([] ∷ slice_split p xs) (onto_first x (slice_split p xs)) ≡ (x ∷ xs) ∷ []) [
       | true ↦ λ g. absurd (omega (arith, g))
       | false ↦ λ g. ap (onto_first x) (unsplit p xs (omega (arith, g)))
     ] h
@@ -26,11 +29,13 @@ chosen_none true n e = absurd cc
 chosen_none false n e = refl
 
 -- the first piece ends at the first byte of the kind
-pub piece_found : (at : ℕ) (xs : List ℕ) (i : ℕ) → position (λ b. b == at) xs ≡ Some i → pieces at xs ≡ take i xs ∷ pieces at (drop (i + 1) xs)
+pub piece_found : (at : ℕ) (xs : List ℕ) (i : ℕ) → position (λ b. b == at) xs ≡ Some i
+    → pieces at xs ≡ take i xs ∷ pieces at (drop (i + 1) xs)
 piece_found at xs i e =
     let p : ℕ → Bool = λ b. b == at in
     let (below, here) = chosen_some (nat_lt (position_or_len p xs) (length xs)) (position_or_len p xs) i e in
-    subst (λ n. pieces at xs ≡ take n xs ∷ pieces at (drop (n + 1) xs)) here (slice_split_first p xs 0 (ltb-true (position_or_len p xs) (length xs) below))
+    subst (λ n. pieces at xs ≡ take n xs ∷ pieces at (drop (n + 1) xs)) here
+    (slice_split_first p xs 0 (ltb-true (position_or_len p xs) (length xs) below))
 
 -- and is all where there is none
 pub last_piece : (at : ℕ) (xs : List ℕ) → position (λ b. b == at) xs ≡ None → pieces at xs ≡ xs ∷ []
@@ -48,7 +53,8 @@ cut_nowhere : (at : ℕ) (xs : List ℕ) → All (IsNot at) xs → cut_last at x
 unfolding cut_last
 cut_nowhere at [] none = refl
 cut_nowhere at (x ∷ xs) none =
-    ap (λ r. cut_step at x r.0 r.1) (cut_nowhere at xs (All-tail (IsNot at) x xs none)) ∙ cond-false _ _ _ (ne_eqb x at (All-head (IsNot at) x xs none))
+    ap (λ r. cut_step at x r.0 r.1) (cut_nowhere at xs (All-tail (IsNot at) x xs none))
+    ∙ cond-false _ _ _ (ne_eqb x at (All-head (IsNot at) x xs none))
 
 cut_around : (at : ℕ) (xs ys : List ℕ) → All (IsNot at) ys → cut_last at (xs ++ at ∷ ys) ≡ (Some xs, ys)
 unfolding cut_last
@@ -60,11 +66,14 @@ pub no_cut : (at : ℕ) (xs : List ℕ) → ((k : ℕ) → k < length xs → get
 no_cut at xs none = cut_nowhere at xs (All-from_get_or (IsNot at) xs 0 none)
 
 -- the last byte of the kind has this place
-pub cut_at_last : (at : ℕ) (xs : List ℕ) (i : ℕ) → i < length xs → get_or xs i 0 ≡ at → ((k : ℕ) → i + 1 ≤ k → k < length xs → get_or xs k 0 ≢ at)
+pub cut_at_last : (at : ℕ) (xs : List ℕ) (i : ℕ) → i < length xs → get_or xs i 0 ≡ at
+    → ((k : ℕ) → i + 1 ≤ k → k < length xs → get_or xs k 0 ≢ at)
     → cut_last at xs ≡ (Some (take i xs), drop (i + 1) xs)
 cut_at_last at xs i inside here after =
     let around : xs ≡ take i xs ++ at ∷ drop (i + 1) xs =
     sym (take-append-drop i xs) ∙ ap (λ l. take i xs ++ l) (drop_more xs i 0 inside ∙ ap (λ b. b ∷ drop (i + 1) xs) here) in
     let none : All (IsNot at) (drop (i + 1) xs) =
-    All-from_get_or (IsNot at) (drop (i + 1) xs) 0 (λ k below. subst (IsNot at) (sym (get_or-drop (i + 1) xs k 0)) (after (i + 1 + k) (omega arith) (omega (arith, below, length-drop (i + 1) xs)))) in
+    All-from_get_or (IsNot at) (drop (i + 1) xs) 0
+    (λ k below. subst (IsNot at) (sym (get_or-drop (i + 1) xs k 0))
+    (after (i + 1 + k) (omega arith) (omega (arith, below, length-drop (i + 1) xs)))) in
     ap (cut_last at) around ∙ cut_around at (take i xs) (drop (i + 1) xs) none

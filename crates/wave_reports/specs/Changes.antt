@@ -1,5 +1,6 @@
 -- The value changes of a dump, in the order of their times. (IEEE 1364-2005, 18.2.1 and 18.2.2.)
-use Rattle.std.specs.Prelude.{ℕ, ◌==◌, nat_le, Bool, true, false, List, [], ◌∷◌, ◌++◌, codes, decimal, slice_get, unwrap_or, Option, Some, None, if◌then◌else◌}
+use Rattle.std.specs.Prelude.{ℕ, ◌==◌, nat_le, Bool, true, false, List, [], ◌∷◌, ◌++◌, codes, decimal, slice_get, unwrap_or}
+use Rattle.std.specs.Prelude.{Option, Some, None, if◌then◌else◌}
 use Rattle.std.specs.Ordering.{nat_cmp}
 use Rattle.std.specs.BTreeMap.{insert_entry, is_at}
 use Rattle.std.specs.Map.{lookup}
@@ -36,12 +37,13 @@ is_newest (Some latest) line = nat_le latest line
 abbrev pub stands : List (ℕ × ℕ) → (ℕ × ℕ) × Told → Bool
 stands latest change = is_newest (lookup (is_at (nat_cmp change.0.1)) latest) change.1.line
 
--- What is told of signals, in the order of times, where these lines were the last to tell what has shown of each signal and this is
--- the last time. What a line tells does not show where a later line told of the same signal something that shows no later: the new
--- level takes the place of what is still to come. (IEEE 1076-1993, 8.4.1, transport delay.)
+-- What is told of signals, in the order of times, where these lines were the last to tell what has shown of each signal and this
+-- is the last time. What a line tells does not show where a later line told of the same signal something that shows no later: the
+-- new level takes the place of what is still to come. (IEEE 1076-1993, 8.4.1, transport delay.)
 abbrev pub changes_text : ℕ → List (List ℕ) → List (ℕ × ℕ) → Option ℕ → List ((ℕ × ℕ) × Told) → List ℕ
 changes_text section keys latest last [] = []
 changes_text section keys latest last (change ∷ more) =
     if stands latest change then
-    change_text section keys last change ++ changes_text section keys (insert_entry nat_cmp latest change.0.1 change.1.line) (Some change.0.0) more
+    change_text section keys last change ++ changes_text section keys (insert_entry nat_cmp latest change.0.1 change.1.line)
+    (Some change.0.0) more
     else changes_text section keys latest last more

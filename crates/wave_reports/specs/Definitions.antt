@@ -21,15 +21,16 @@ event_word (b ∷ rest) = codes "check"
 abbrev pub front : ℕ → List ℕ → List ℕ
 front mark name = if mark == 61 then escape name else event_word name
 
--- A declaration of this kind, with a name in two parts. Its identifier code is the number of the line where the section begins, and the
--- signal's key.
+-- A declaration of this kind, with a name in two parts. Its identifier code is the number of the line where the section begins,
+-- and the signal's key.
 unfoldable pub declaration : ℕ → List ℕ → List ℕ → List ℕ → List ℕ → List ℕ
 declaration section key kind front name =
     codes "$var " ++ (kind ++ (codes " 1 " ++ (decimal section ++ (key ++ (codes " " ++ (front ++ (name ++ codes " $end\n")))))))
 
 -- by its key, in the scope that the key's first byte names
 abbrev pub signal_text : ℕ → ℕ → List ℕ → List ℕ
-signal_text section scope (first ∷ (mark ∷ name)) = if first == scope then declaration section (first ∷ mark ∷ name) (kind mark) (front mark name) name else []
+signal_text section scope (first ∷ (mark ∷ name)) =
+    if first == scope then declaration section (first ∷ mark ∷ name) (kind mark) (front mark name) name else []
 signal_text section scope _ = []
 
 abbrev pub signals_text : ℕ → ℕ → List (List ℕ) → List ℕ
@@ -52,4 +53,5 @@ section_begin section name = codes "$scope module s" ++ (decimal section ++ (cod
 unfoldable pub section_end : ℕ → List (List ℕ) → List ℕ
 section_end section keys =
     signals_text section 46 keys
-    ++ (within 76 (signals_text section 76 keys) ++ (within 86 (signals_text section 86 keys) ++ (within 72 (signals_text section 72 keys) ++ codes "$upscope $end\n")))
+    ++ (within 76 (signals_text section 76 keys)
+    ++ (within 86 (signals_text section 86 keys) ++ (within 72 (signals_text section 72 keys) ++ codes "$upscope $end\n")))

@@ -9,8 +9,8 @@ use Rattle.run_outcome.specs.Written.{Written, wrote_all}
 use Rattle.run_outcome.specs.Outcome.{IsPartOf, IsAllOf}
 use Rattle.wave_reports.specs.Outcome.{report_outcome}
 
--- After a call that draws the waves of the report that is bound: some bytes of it were read, and a part was appended of what its bytes
--- come to, where the desk tells them, and all of it where the call ended with a status.
+-- After a call that draws the waves of the report that is bound: some bytes of it were read, and a part was appended of what its
+-- bytes come to, where the desk tells them, and all of it where the call ended with a status.
 pub record Draws (old new : DeskState) (result : Result Status Stop) : Type 0 where
   pub taken : ℕ
   pub text : Written

@@ -1,5 +1,6 @@
 -- What a line of a report says. This project's format.
-use Rattle.std.specs.Prelude.{ℕ, ◌==◌, ◌||◌, ◌&&◌, not, nat_le, nat_lt, unwrap_or, Bool, List, [], ◌∷◌, length, take, drop, codes, Option, Some, None, if◌then◌else◌}
+use Rattle.std.specs.Prelude.{ℕ, ◌==◌, ◌||◌, ◌&&◌, not, nat_le, nat_lt, unwrap_or, Bool, List, [], ◌∷◌, length, take, drop, codes}
+use Rattle.std.specs.Prelude.{Option, Some, None, if◌then◌else◌}
 use Rattle.std.specs.List.{list_all, list_any}
 use Rattle.std.specs.Char.{is_ascii_graphic}
 use Rattle.std.specs.Str.{bytes_eq}
@@ -28,7 +29,8 @@ is_plain b = is_ascii_graphic b || b == 32
 
 -- what stands behind these bytes, where a line begins with them
 abbrev pub behind : List ℕ → List ℕ → Option (List ℕ)
-behind front line = if nat_le (length front) (length line) && bytes_eq (take (length front) line) front then Some (drop (length front) line) else None
+behind front line = if nat_le (length front) (length line) && bytes_eq (take (length front) line) front
+    then Some (drop (length front) line) else None
 
 -- one name, which is not empty
 abbrev pub is_name : List ℕ → Bool
@@ -47,7 +49,8 @@ end_said (Some number) = if is_number number then nothing else unread
 -- a line that is none of a trace: a section begins, or it ends with what its three traces were found to be
 abbrev pub plain_said : List ℕ → Said
 plain_said line =
-    if bytes_eq line (codes "equal") then nothing else unwrap_or (begin_said (behind (codes "cell ") line)) (end_said (behind (codes "differs at change ") line))
+    if bytes_eq line (codes "equal") then nothing
+    else unwrap_or (begin_said (behind (codes "cell ") line)) (end_said (behind (codes "differs at change ") line))
 
 abbrev pub said_with : List ℕ → Option Trace → Said
 said_with line (Some trace) = shows trace

@@ -30,7 +30,13 @@ status_behind (b ∷ rest) = Stimulus
 
 -- a report from which this is drawn
 abbrev pub drawn_outcome : Drawing → Outcome
-drawn_outcome d = record { status = status_behind d.faults; binds = 2; text = in_verilog (dump_text d.definitions d.changes); faults = d.faults }
+drawn_outcome d = record {
+  status = status_behind d.faults;
+  binds = 2;
+  text =
+      in_verilog (dump_text d.definitions d.changes);
+  faults = d.faults;
+}
 
 unfoldable pub too_long_line : List ℕ
 too_long_line = codes "report too long\n"

@@ -1,5 +1,6 @@
 -- What a section of a report shows: its signals, and the changes of each at their times. This project's rule.
-use Rattle.std.specs.Prelude.{ℕ, ◌+◌, ◌-◌, ◌^◌, min, max, Bool, false, ◌&&◌, ◌==◌, nat_lt, not, List, [], ◌∷◌, ◌++◌, length, Option, Some, None, is_some, unwrap_or, if◌then◌else◌}
+use Rattle.std.specs.Prelude.{ℕ, ◌+◌, ◌-◌, ◌^◌, min, max, Bool, false, ◌&&◌, ◌==◌, nat_lt, not, List, [], ◌∷◌, ◌++◌, length}
+use Rattle.std.specs.Prelude.{Option, Some, None, is_some, unwrap_or, if◌then◌else◌}
 use Rattle.std.specs.Ordering.{nat_cmp, ordering_then}
 use Rattle.std.specs.BTreeMap.{insert_entry}
 use Rattle.std.specs.Str.{bytes_eq}
@@ -10,8 +11,8 @@ use Rattle.wave_reports.specs.declared.sections.Told.{Told}
 use Rattle.wave_reports.specs.Signs.{Sign, sign_of}
 use Rattle.wave_reports.specs.Traces.{Input, Trace, trace_of}
 
--- Signals by their keys, numbered from 0: `L`, `V` or `H` of an output or a check and `.` of an input, then its mark and its name.
--- What is told of each signal at each time, in the order of times and then of signals; and the latest time.
+-- Signals by their keys, numbered from 0: `L`, `V` or `H` of an output or a check and `.` of an input, then its mark and its
+-- name. What is told of each signal at each time, in the order of times and then of signals; and the latest time.
 pub record Drawn : Type 0 where
   pub keys : List (List ℕ)
   pub changes : List ((ℕ × ℕ) × Told)
@@ -61,11 +62,13 @@ delay_shown (Some change) delay = delay
 -- with what a word tells
 abbrev pub with_sign : Drawn → ℕ → ℕ → ℕ → Option Input → Option Sign → Drawn
 with_sign d line at tag change None = d
-with_sign d line at tag change (Some sign) = with_told d line at (delay_shown change sign.delay) (tag ∷ sign.mark ∷ sign.name) sign.value
+with_sign d line at tag change (Some sign) =
+    with_told d line at (delay_shown change sign.delay) (tag ∷ sign.mark ∷ sign.name) sign.value
 
 abbrev pub with_signs : Drawn → ℕ → ℕ → ℕ → Option Input → List (List ℕ) → Drawn
 with_signs d line at tag change [] = d
-with_signs d line at tag change (word ∷ words) = with_signs (with_sign d line at tag change (sign_of word)) line at tag change words
+with_signs d line at tag change (word ∷ words) =
+    with_signs (with_sign d line at tag change (sign_of word)) line at tag change words
 
 -- with the change of an input
 abbrev pub with_input : Drawn → ℕ → ℕ → Option Input → Drawn

@@ -5,8 +5,8 @@ use Rattle.lexer.specs.Numbers.{is_number, number_of}
 use Rattle.wave_reports.specs.declared.signs.Sign.{Sign as Borrowed}
 use Rattle.wave_reports.specs.Pieces.{cut_last}
 
--- What is told: `=` for a level and `!` for an event, a name, the value, and how many picoseconds after the change it shows, where
--- it is new.
+-- What is told: `=` for a level and `!` for an event, a name, the value, and how many picoseconds after the change it shows,
+-- where it is new.
 pub record Sign : Type 0 where
   pub mark : ℕ
   pub name : List ℕ
@@ -29,13 +29,15 @@ level name value delay = if is_value value then Some (record { mark = 61; name =
 abbrev pub level_sign : List ℕ → List ℕ → Option Sign
 level_sign name [] = None
 level_sign name (value ∷ []) = level name value None
-level_sign name (value ∷ (at ∷ digits)) = if at == 64 then option_and_then (λ delay. level name value (Some delay)) (number_of digits) else None
+level_sign name (value ∷ (at ∷ digits)) =
+    if at == 64 then option_and_then (λ delay. level name value (Some delay)) (number_of digits) else None
 
 -- a check that reports: `!` and its number
 abbrev pub report_sign : List ℕ → Option Sign
 report_sign [] = None
 report_sign (first ∷ number) =
-    if first == 33 then (if is_number number then Some (record { mark = 33; name = number; value = 49; delay = Some 0 }) else None) else None
+    if first == 33 then (if is_number number then Some (record { mark = 33; name = number; value = 49; delay = Some 0 })
+    else None) else None
 
 -- with the name ahead of the last `=`, which is not empty, or without
 abbrev pub sign_with : Option (List ℕ) → List ℕ → Option Sign

@@ -26,7 +26,13 @@ seen_input i = record { name = i.name.now; value = i.value }
 
 -- what stands behind the references
 abbrev pub seen : Borrowed → Trace
-seen t = record { tag = t.tag; at = t.at; change = option_map seen_input t.change; words = pieces_left 32 (option_copied t.words) }
+seen t = record {
+  tag = t.tag;
+  at = t.at;
+  change = option_map seen_input t.change;
+  words =
+      pieces_left 32 (option_copied t.words);
+}
 
 -- the cell's line has the tag `L`, the module's `V` and the entity's `H`
 abbrev pub is_tag : ℕ → Bool
@@ -45,20 +51,23 @@ abbrev pub told : ℕ → ℕ → Option Input → List (List ℕ) → Option Tr
 told tag at change [] = None
 told tag at change (colon ∷ words) =
     if bytes_eq colon (codes ":") then
-    (if list_all (λ word. is_some (sign_of word)) words then Some (record { tag = tag; at = at; change = change; words = words }) else None)
+    (if list_all (λ word. is_some (sign_of word)) words then Some (record { tag = tag; at = at; change = change; words = words })
+    else None)
     else None
 
 -- behind a change's time: the name of an input, which is not empty, and a level
 abbrev pub changed : ℕ → ℕ → List (List ℕ) → Option Trace
 changed tag at ([] ∷ words) = None
-changed tag at ((b ∷ name) ∷ (value ∷ words)) = option_and_then (λ value. told tag at (Some (record { name = b ∷ name; value = value })) words) (value_of value)
+changed tag at ((b ∷ name) ∷ (value ∷ words)) =
+    option_and_then (λ value. told tag at (Some (record { name = b ∷ name; value = value })) words) (value_of value)
 changed tag at _ = None
 
 -- behind the tag: `start`, or the time of a change
 abbrev pub behind_tag : ℕ → List (List ℕ) → Option Trace
 behind_tag tag [] = None
 behind_tag tag (first ∷ words) =
-    if bytes_eq first (codes "start") then told tag 0 None words else option_and_then (λ at. changed tag at words) (number_of first)
+    if bytes_eq first (codes "start") then told tag 0 None words
+    else option_and_then (λ at. changed tag at words) (number_of first)
 
 abbrev pub trace_words : List (List ℕ) → Option Trace
 trace_words [] = None

@@ -9,8 +9,8 @@ use Rattle.wave_reports.specs.Sections.{Drawn, drawn, blank, later, with_trace}
 use Rattle.wave_reports.specs.Definitions.{section_begin, section_end}
 use Rattle.wave_reports.specs.Changes.{changes_text}
 
--- The declarations so far, the value changes, the lines on bad lines, the number of the line where the section begins, 0 where none has
--- begun, the time at which it does, and what it shows.
+-- The declarations so far, the value changes, the lines on bad lines, the number of the line where the section begins, 0 where
+-- none has begun, the time at which it does, and what it shows.
 pub record Drawing : Type 0 where
   pub definitions : List ℕ
   pub changes : List ℕ
@@ -85,7 +85,8 @@ next_number number = min (number + 1) (2 ^ 64 - 1)
 -- with what lines say, of which the first has this number and stands behind this one
 abbrev pub with_lines : Drawing → ℕ → List ℕ → List (List ℕ) → Drawing
 with_lines d number previous [] = d
-with_lines d number previous (line ∷ lines) = with_lines (with_said d number previous line (said_of line)) (next_number number) line lines
+with_lines d number previous (line ∷ lines) =
+    with_lines (with_said d number previous line (said_of line)) (next_number number) line lines
 
 -- what a report with these bytes comes to
 unfoldable pub drawing_of : List ℕ → Drawing

@@ -92,7 +92,8 @@ pub(crate) fn push_changes(
     number: usize,
     section: &Section,
 ) -> Result<(), AllocError>
-    ensures { OnOk result (text.new.items ≡ text.old.items ++ spec.changes_text number section.now.keys [] None section.now.changes.entries) }
+    ensures { OnOk result (text.new.items ≡ text.old.items
+        ++ spec.changes_text number section.now.keys [] None section.now.changes.entries) }
 {
     let mut latest = BTreeMap::new(alloc);
     push_standing(text, number, section, &mut latest)
@@ -105,7 +106,8 @@ fn push_standing(
     section: &Section,
     latest: &mut BTreeMap<usize, usize>,
 ) -> Result<(), AllocError>
-    ensures { OnOk result (text.new.items ≡ text.old.items ++ spec.changes_text number section.now.keys latest.old.entries None section.now.changes.entries) }
+    ensures { OnOk result (text.new.items ≡ text.old.items
+        ++ spec.changes_text number section.now.keys latest.old.entries None section.now.changes.entries) }
 {
     let mut last = None;
     for (moment, told) in section.changes.iter() {

@@ -8,7 +8,8 @@ ghost use Rattle.text_io.specs.Plan.{plan};
 ghost use Rattle.run_outcome.specs.Status.{is_unfailed};
 ghost use Rattle.run_outcome.specs.Binding.{Binds};
 ghost use Rattle.run_outcome.specs.Runs.{RunsAs, StopsWithStatus};
-ghost use Rattle.wave_reports.specs.Outcome.{wave_files, files_of, run_of, report_outcome, names_both as names_both_of, usage_line};
+ghost use Rattle.wave_reports.specs.Outcome.{wave_files, files_of, run_of, report_outcome, names_both as names_both_of};
+ghost use Rattle.wave_reports.specs.Outcome.{usage_line};
 ghost use Rattle.run_outcome.specs.Binding.{bytes_at};
 
 use crate::draw::draw_bound;
@@ -19,15 +20,16 @@ use text_io::{Desk, Failed, FileCommand, InSlot, OutSlot, Stop, asked_files, wri
 /// The line that tells of words without a reading.
 const USAGE: &[u8] = b"usage: report_waves REPORT VCD\n";
 
-/// Draws the waves of the report that the desk's words name, as they are made of the program's words (`desk_words`), and writes them to
-/// the file that they name behind it.
+/// Draws the waves of the report that the desk's words name, as they are made of the program's words (`desk_words`), and writes
+/// them to the file that they name behind it.
 ///
-/// It ends with `Done`, with `Stimulus` where a line of the report cannot be read, which is told with its number and why, with `TooLong`
-/// where the report has more than 67,108,864 bytes, which is told and leaves the dump empty, and with `Usage` where the words name no
-/// two different files; then all that the outcome of the report's bytes appends was appended. With `Outside`, only where a call on the
-/// desk failed in this call, and with `Memory`, where there was none, a first part of it was.
+/// It ends with `Done`, with `Stimulus` where a line of the report cannot be read, which is told with its number and why, with
+/// `TooLong` where the report has more than 67,108,864 bytes, which is told and leaves the dump empty, and with `Usage` where the
+/// words name no two different files; then all that the outcome of the report's bytes appends was appended. With `Outside`, only
+/// where a call on the desk failed in this call, and with `Memory`, where there was none, a first part of it was.
 pub fn run<D: Desk>(alloc: Global, desk: &mut D) -> Status
-    ensures writes { RunsAs (files_of (D.state desk.old).words) (run_of (D.state desk.old).words) (D.state desk.old) (D.state desk.new) result }
+    ensures writes { RunsAs (files_of (D.state desk.old).words) (run_of (D.state desk.old).words) (D.state desk.old)
+        (D.state desk.new) result }
     ensures outside { result ≡ Status.Outside → Rose (D.faults desk.old) (D.faults desk.new) }
     ensures later { D.faults desk.old ≤ D.faults desk.new }
     ensures kept { IsTrue (is_unfailed result) → D.faults desk.new ≡ D.faults desk.old }
@@ -65,7 +67,8 @@ fn names_both(asked: Option<FileCommand>) -> bool
 /// Draws the waves of the report that the words name.
 fn draw_report<D: Desk>(alloc: Global, desk: &mut D) -> Status
     requires { plan (D.state desk.old).words ≡ (Input Library, 1) ∷ (Output VerilogText, 2) ∷ (Output VitalText, 3) ∷ [] }
-    ensures writes { RunsAs wave_files (λ folder. report_outcome (bytes_at (D.state desk.old).words folder 1)) (D.state desk.old) (D.state desk.new) result }
+    ensures writes { RunsAs wave_files (λ folder. report_outcome (bytes_at (D.state desk.old).words folder 1)) (D.state desk.old)
+        (D.state desk.new) result }
     ensures cause { StopsWithStatus (D.faults desk.old) (D.faults desk.new) result }
 {
     match bind_files(desk) {

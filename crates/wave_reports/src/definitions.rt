@@ -8,8 +8,8 @@ use bool_functions::Names;
 use itoa::Buffer;
 use std::alloc::{AllocError, Global};
 
-/// What stands ahead of a name in its declaration: a backslash where a wire's begins as a keyword does, and a word where it is that of
-/// an event, which is all of it where the name is empty.
+/// What stands ahead of a name in its declaration: a backslash where a wire's begins as a keyword does, and a word where it is
+/// that of an event, which is all of it where the name is empty.
 fn front(mark: u8, name: &[u8]) -> &'static [u8]
     ensures { result.now ≡ spec.front mark name.now }
 {

@@ -10,10 +10,10 @@ ghost use Rattle.wave_reports.specs.Outcome.{status_behind as status_behind_of, 
 ghost use Rattle.wave_reports.specs.Draws.{Draws};
 
 use crate::dump::write_dump;
+use crate::{Waves, waves_of};
 use run_outcome::Status;
 use std::alloc::{AllocError, Global};
 use text_io::{Desk, Failed, InSlot, OutSlot, Stop, Taken, read_all, write_whole};
-use crate::{Waves, waves_of};
 
 /// The most bytes that a report may have.
 const REPORT_LIMIT: usize = 67_108_864;
@@ -55,8 +55,8 @@ fn status_behind(waves: &Waves) -> Status
     }
 }
 
-/// Reads the report that is bound, writes its waves to the dump that is bound, and tells each line that cannot be read. Nothing is
-/// written before the report is read.
+/// Reads the report that is bound, writes its waves to the dump that is bound, and tells each line that cannot be read. Nothing
+/// is written before the report is read.
 pub(crate) fn draw_bound<D: Desk>(alloc: Global, desk: &mut D) -> Result<Status, Stop>
     requires report { IsTrue (is_bound (D.state desk.old) (Input Library)) }
     requires dump { IsTrue (is_bound (D.state desk.old) (Output VerilogText)) }

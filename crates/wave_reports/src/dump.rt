@@ -5,8 +5,8 @@ ghost use Rattle.text_io.specs.declared.slots.Slot.TheVariants.{Output};
 ghost use Rattle.text_io.specs.Desk.{is_bound, HasCause, WritesText};
 ghost use Rattle.wave_reports.specs.Dump.{dump_text};
 
-use text_io::{Desk, Failed, OutSlot, write_pieces};
 use crate::Waves;
+use text_io::{Desk, Failed, OutSlot, write_pieces};
 
 const HEAD: &[u8] = b"$version report_waves of lib2sim $end\n$timescale 1 ps $end\n";
 
@@ -17,7 +17,8 @@ const MIDDLE: &[u8] = b"$enddefinitions $end\n";
 #[tactic(auto, unfolding(crate::specs::Dump::dump_text, crate::specs::Dump::dump_head, crate::specs::Dump::dump_middle))]
 pub(crate) fn write_dump<D: Desk>(desk: &mut D, waves: &Waves) -> Result<(), Failed>
     requires { IsTrue (is_bound (D.state desk.old) (Output VerilogText)) }
-    ensures text { WritesText (D.state desk.old) (D.state desk.new) VerilogText (dump_text waves.now.definitions.items waves.now.changes.items) result }
+    ensures text { WritesText (D.state desk.old) (D.state desk.new) VerilogText
+        (dump_text waves.now.definitions.items waves.now.changes.items) result }
     ensures cause { HasCause (D.faults desk.old) (D.faults desk.new) result }
 {
     write_pieces(

@@ -23,7 +23,8 @@ pub(crate) fn cut(text: &[u8], at: u8) -> (&[u8], Option<&[u8]>)
 
 /// The first word of what is left of a line, and what is left behind it.
 pub(crate) fn first_word(rest: Option<&[u8]>) -> Option<(&[u8], Option<&[u8]>)>
-    ensures { MatchOption result (pieces_left 32 (option_copied rest.entry) ≡ []) (λ found. pieces_left 32 (option_copied rest.entry) ≡ found.0.now ∷ pieces_left 32 (option_copied found.1)) }
+    ensures { MatchOption result (pieces_left 32 (option_copied rest.entry) ≡ [])
+        (λ found. pieces_left 32 (option_copied rest.entry) ≡ found.0.now ∷ pieces_left 32 (option_copied found.1)) }
 {
     match rest {
         Some(text) => Some(cut(text, b' ')),

@@ -86,7 +86,8 @@ impl Section {
         trace: &Trace<'_>,
         sign: Option<Sign<'_>>,
     ) -> Result<(), AllocError>
-        ensures { OnOk result (spec.drawn self.new ≡ spec.with_sign (spec.drawn self.old) line at trace.now.tag (option_map seen_input trace.now.change) (option_map sign_seen sign.entry)) }
+        ensures { OnOk result (spec.drawn self.new ≡ spec.with_sign (spec.drawn self.old) line at trace.now.tag
+            (option_map seen_input trace.now.change) (option_map sign_seen sign.entry)) }
     {
         match sign {
             Some(sign) => {
@@ -106,7 +107,8 @@ impl Section {
         at: u64,
         trace: &Trace<'_>,
     ) -> Result<(), AllocError>
-        ensures { OnOk result (spec.drawn self.new ≡ spec.with_signs (spec.drawn self.old) line at trace.now.tag (option_map seen_input trace.now.change) (pieces_left 32 (option_copied trace.now.words))) }
+        ensures { OnOk result (spec.drawn self.new ≡ spec.with_signs (spec.drawn self.old) line at trace.now.tag
+            (option_map seen_input trace.now.change) (pieces_left 32 (option_copied trace.now.words))) }
     {
         let mut rest = trace.words;
         while let Some(text) = rest {
@@ -125,7 +127,8 @@ impl Section {
         at: u64,
         change: Option<Input<'_>>,
     ) -> Result<(), AllocError>
-        ensures { OnOk result (spec.drawn self.new ≡ spec.with_input (spec.drawn self.old) line at (option_map seen_input change.entry)) }
+        ensures { OnOk result (spec.drawn self.new ≡ spec.with_input (spec.drawn self.old) line at
+            (option_map seen_input change.entry)) }
     {
         match change {
             Some(input) => {
@@ -156,7 +159,8 @@ impl Section {
         line: &[u8],
         trace: &Trace<'_>,
     ) -> Result<(), AllocError>
-        ensures { OnOk result (spec.drawn self.new ≡ spec.with_trace (spec.drawn self.old) start number previous.now line.now (trace_seen trace.now)) }
+        ensures { OnOk result (spec.drawn self.new ≡ spec.with_trace (spec.drawn self.old) start number previous.now line.now
+            (trace_seen trace.now)) }
     {
         let at = start.saturating_add(trace.at);
         self.add_difference(number, at, differs_from(trace, line, previous))?;

@@ -73,7 +73,8 @@ fn told<'a>(
     change: Option<Input<'a>>,
     rest: Option<&'a [u8]>,
 ) -> Option<Trace<'a>>
-    ensures { option_map spec.seen result ≡ spec.told tag at (option_map spec.seen_input change.entry) (pieces_left 32 (option_copied rest.entry)) }
+    ensures { option_map spec.seen result ≡ spec.told tag at (option_map spec.seen_input change.entry)
+        (pieces_left 32 (option_copied rest.entry)) }
 {
     let (colon, words) = first_word(rest)?;
     if colon != b":".as_slice() || !are_signs(words) {

@@ -100,7 +100,8 @@ impl Waves {
         line: &[u8],
         trace: &Trace<'_>,
     ) -> Result<(), AllocError>
-        ensures { OnOk result (spec.held self.new ≡ spec.with_shown (spec.held self.old) number previous.now line.now (trace_seen trace.now)) }
+        ensures { OnOk result (spec.held self.new ≡ spec.with_shown (spec.held self.old) number previous.now line.now
+            (trace_seen trace.now)) }
     {
         if self.begun == 0 {
             return self.tell(number, b"section");
@@ -117,7 +118,8 @@ impl Waves {
         previous: &[u8],
         line: &[u8],
     ) -> Result<(), AllocError>
-        ensures { OnOk result (spec.held self.new ≡ spec.with_said (spec.held self.old) number previous.now line.now (said_of_line line.now)) }
+        ensures { OnOk result (spec.held self.new ≡ spec.with_said (spec.held self.old) number previous.now line.now
+            (said_of_line line.now)) }
     {
         match said_of(line) {
             Said::Nothing => Ok(()),
@@ -180,8 +182,8 @@ fn where_done<T: Drop>(value: T, done: Result<(), AllocError>) -> Result<T, Allo
 
 /// What a report with these bytes comes to as a value change dump. `AllocError` comes only where memory is wanting.
 ///
-/// Each section of the report has a scope, in which its inputs stand, and in that one for the cell, for its Verilog module and for its
-/// VHDL entity, each with its outputs and its checks. A line that cannot be read is left out, and told.
+/// Each section of the report has a scope, in which its inputs stand, and in that one for the cell, for its Verilog module and
+/// for its VHDL entity, each with its outputs and its checks. A line that cannot be read is left out, and told.
 pub fn waves_of(alloc: Global, report: &[u8]) -> Result<Waves, AllocError>
     ensures { IfOk result (λ w. spec.held w ≡ spec.drawing_of report.now) }
 {

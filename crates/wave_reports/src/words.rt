@@ -4,9 +4,9 @@ ghost use Rattle.wave_reports.specs.Words.{desk_words as desk_words_of};
 
 use std::alloc::{AllocError, Global};
 
-/// The words of a desk for these behind the program's name. A desk binds the files of a command of lib2sim alone, so it is asked for
-/// a translation: `REPORT` is the text that is read and `VCD` the Verilog text that is written. The third file of a translation is
-/// never bound; its word, `report_waves`, is none that a file of the two can have.
+/// The words of a desk for these behind the program's name. A desk binds the files of a command of lib2sim alone, so it is asked
+/// for a translation: `REPORT` is the text that is read and `VCD` the Verilog text that is written. The third file of a
+/// translation is never bound; its word, `report_waves`, is none that a file of the two can have.
 pub fn desk_words(alloc: Global, given: Vec<String>) -> Result<Vec<String>, AllocError>
     ensures { IfOk result (λ words. map string_bytes words.items ≡ desk_words_of (map string_bytes given.items)) }
 {

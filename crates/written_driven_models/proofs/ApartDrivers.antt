@@ -34,7 +34,8 @@ taken es done = ap (λ (names : List (List ℕ)). names ++ driver_names done) (e
 abbrev core_of : VEntity → Core
 core_of e = vital_sections.core e
 
-any_core : (x : List ℕ) (es : List VEntity) → list_any (λ (core : Core). is_same x core.name) (map core_of es) ≡ list_any (is_same x) (entity_names es)
+any_core : (x : List ℕ) (es : List VEntity)
+    → list_any (λ (core : Core). is_same x core.name) (map core_of es) ≡ list_any (is_same x) (entity_names es)
 any_core x [] = refl
 any_core x (e ∷ es) = ap (λ (b : Bool). is_same x e.name || b) (any_core x es)
 
@@ -53,7 +54,8 @@ module _ (es : List VEntity) (d : DriverModel) (h : AreWellFormed es) (o : IsOve
       any_core d.core at.before
       ∙ subst (λ (x : List ℕ). is_among (entity_names at.before) x ≡ false) o.named
       (is_new (entity_names at.before) entity.name (entity_names at.after)
-      (entity_named entity.name (subst (λ (x : List ℕ). IsEntityName x) (sym o.named) o.alone.written.core)) (subst AreApart names_split h.apart))
+      (entity_named entity.name (subst (λ (x : List ℕ). IsEntityName x) (sym o.named) o.alone.written.core))
+      (subst AreApart names_split h.apart))
 
   it_is : is_same d.core entity.name ≡ true
   it_is = ap (is_same d.core) o.named ∙ same_self d.core
@@ -65,7 +67,8 @@ module _ (es : List VEntity) (d : DriverModel) (h : AreWellFormed es) (o : IsOve
   found =
       let place : 0 + length (map core_of at.before) ≡ length (map core_of at.before) = omega arith in
       ap (λ (cores : List Core). core_number is_same cores d.core) cores_split
-      ∙ found_behind (λ (core : Core). is_same d.core core.name) 0 (map core_of at.before) (core_of entity) (map core_of at.after) not_before it_is
+      ∙ found_behind (λ (core : Core). is_same d.core core.name) 0 (map core_of at.before) (core_of entity)
+      (map core_of at.after) not_before it_is
       ∙ ap (λ (n : ℕ). Some n) place
 
   core_is : core_ports is_same (map core_of es) d.core ≡ Some entity.ports
@@ -75,7 +78,8 @@ module _ (es : List VEntity) (d : DriverModel) (h : AreWellFormed es) (o : IsOve
       ∙ ap (option_map (λ (core : Core). core.ports)) (get_at (map core_of at.before) (core_of entity) (map core_of at.after))
 
   alone_is : core_ports is_same (core_of entity ∷ []) d.core ≡ Some entity.ports
-  alone_is = ap (option_and_then (ports_at (core_of entity ∷ []))) (found_behind (λ (core : Core). is_same d.core core.name) 0 [] (core_of entity) [] refl it_is)
+  alone_is = ap (option_and_then (ports_at (core_of entity ∷ [])))
+      (found_behind (λ (core : Core). is_same d.core core.name) 0 [] (core_of entity) [] refl it_is)
 
   it_fits : fits d.ports (length d.driver.drives) (core_ports is_same (map core_of es) d.core) ≡ true
   it_fits = ap (fits d.ports (length d.driver.drives)) (core_is ∙ sym alone_is) ∙ o.alone.fits
@@ -83,23 +87,31 @@ module _ (es : List VEntity) (d : DriverModel) (h : AreWellFormed es) (o : IsOve
 -- All drivers.
 
 module _ (es : List VEntity) (h : AreWellFormed es) where
-  names_apart : (done : List DriverModel) (d : DriverModel) (drivers : List DriverModel) → (entity_names es ++ driver_names done) ++ d.name ∷ driver_names drivers ≡ entity_names es ++ driver_names (done ++ d ∷ drivers)
+  names_apart : (done : List DriverModel) (d : DriverModel) (drivers : List DriverModel)
+      → (entity_names es ++ driver_names done) ++ d.name ∷ driver_names drivers ≡ entity_names es
+      ++ driver_names (done ++ d ∷ drivers)
   names_apart done d drivers =
       append_assoc (entity_names es) (driver_names done) (d.name ∷ driver_names drivers)
-      ∙ ap (λ (names : List (List ℕ)). entity_names es ++ names) (sym (map-append (λ (x : DriverModel). x.name) done (d ∷ drivers)))
+      ∙ ap (λ (names : List (List ℕ)). entity_names es ++ names)
+      (sym (map-append (λ (x : DriverModel). x.name) done (d ∷ drivers)))
 
-  all_from : (done drivers : List DriverModel) → AllByRecursion (IsOver es) drivers → AreApart (entity_names es ++ driver_names (done ++ drivers)) → AreWellFormedDrivers written_vital well_formed_vital es done drivers
+  all_from : (done drivers : List DriverModel) → AllByRecursion (IsOver es) drivers
+      → AreApart (entity_names es ++ driver_names (done ++ drivers))
+      → AreWellFormedDrivers written_vital well_formed_vital es done drivers
   all_from done [] o apart = tt
   all_from done (d ∷ drivers) o apart = (
     record {
       written = o.0.alone.written;
       new = subst (λ (names : List (List ℕ)). is_among names d.name ≡ false) (sym (taken es done))
-          (is_new (entity_names es ++ driver_names done) d.name (driver_names drivers) (entity_named d.name o.0.alone.written.name) (subst AreApart (sym (names_apart done d drivers)) apart));
+          (is_new (entity_names es ++ driver_names done) d.name (driver_names drivers)
+          (entity_named d.name o.0.alone.written.name) (subst AreApart (sym (names_apart done d drivers)) apart));
       apart = o.0.alone.apart;
       fits = it_fits es d h o.0;
       order = o.0.alone.order;
     },
-    all_from (done ++ d ∷ []) drivers o.1 (subst (λ (xs : List DriverModel). AreApart (entity_names es ++ driver_names xs)) (sym (append_assoc done (d ∷ []) drivers)) apart),
+    all_from (done ++ d ∷ []) drivers o.1
+        (subst (λ (xs : List DriverModel). AreApart (entity_names es ++ driver_names xs))
+        (sym (append_assoc done (d ∷ []) drivers)) apart),
   )
 
 pub well_formed : DriversApartAreWellFormed

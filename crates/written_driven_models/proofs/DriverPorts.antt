@@ -32,7 +32,8 @@ pub record IsDriveAt (m : DriverModel) (k : ℕ) : Type 0 where
   pub driven : slice_get m.driver.drives k ≡ Some place
   pub output : IsPortAt (outputs m.ports) place
 
-pub driven_name_is : (m : DriverModel) (k place : ℕ) (port : VPort) → slice_get m.driver.drives k ≡ Some place → slice_get (outputs m.ports) place ≡ Some port → driven_name m k ≡ port.name
+pub driven_name_is : (m : DriverModel) (k place : ℕ) (port : VPort) → slice_get m.driver.drives k ≡ Some place
+    → slice_get (outputs m.ports) place ≡ Some port → driven_name m k ≡ port.name
 driven_name_is m k place port e f = rw (e, f) refl
 
 module _ (m : DriverModel) (h : IsSound m) where
@@ -43,7 +44,8 @@ module _ (m : DriverModel) (h : IsSound m) where
   outputs_counted = h.outputs ∙ sym (length-filter (λ (port : VPort). not port.input) m.ports)
 
   pub drives_below : AllByRecursion (λ p. p < length (outputs m.ports)) m.driver.drives
-  drives_below = subst (λ n. AllByRecursion (λ p. p < n) m.driver.drives) outputs_counted (recursion_from_All (λ p. p < m.driver.outputs) m.driver.drives h.driver.outputs)
+  drives_below = subst (λ n. AllByRecursion (λ p. p < n) m.driver.drives) outputs_counted
+      (recursion_from_All (λ p. p < m.driver.outputs) m.driver.drives h.driver.outputs)
 
   pub numbered : Numbered (length (outputs m.ports)) 0 0 m.driver.drives m.ports (ports_of m)
   numbered = ports_numbered m.ports m.driver.drives h.driver.ascending drives_below
@@ -56,5 +58,6 @@ module _ (m : DriverModel) (h : IsSound m) where
   pub drive_at : (k : ℕ) → k < length m.driver.drives → IsDriveAt m k
   drive_at k l =
       let drive = got m.driver.drives k l in
-      let port = got (outputs m.ports) drive.0 (all_at (λ p. p < length (outputs m.ports)) m.driver.drives k drive.0 drives_below drive.1) in
+      let port = got (outputs m.ports) drive.0
+      (all_at (λ p. p < length (outputs m.ports)) m.driver.drives k drive.0 drives_below drive.1) in
       record { place = drive.0; driven = drive.1; output = record { port = port.0; stands = port.1 } }

@@ -34,11 +34,13 @@ pub record Pieces {M : Type 0} (w : WrittenLanguage M) (r : WellFormedness M) : 
   pub driver : (d : DriverModel) → IsNamed d → Outlines w (w.driver_text d) (λ s. s) (w.driver_section d ∷ [])
   pub parts : (ms : List M) → r.AreWellFormed ms → AllByRecursion IsPart ms
   pub named : (d : DriverModel) → r.CanBeDeclared d → IsNamed d
-  pub declared : (names : List (List ℕ)) (cores : List Core) (d : DriverModel) → r.IsWellFormedDriver names cores d → r.CanBeDeclared d
+  pub declared : (names : List (List ℕ)) (cores : List Core) (d : DriverModel) → r.IsWellFormedDriver names cores d
+      → r.CanBeDeclared d
   pub section_read : (names : List (List ℕ)) (cores : List Core) (d : DriverModel) → r.IsWellFormedDriver names cores d
       → w.language.section names cores (w.driver_section d) ≡ Ok d
   pub models_read : (bytes : List ℕ) (ms : List M) → r.AreWellFormed ms
-      → spelled (scan_of w.language.vocabulary.lexis bytes) ≡ (front_tokens (each tokens ms []), false) → ReadsBack w.language.text w.IsText bytes ms
+      → spelled (scan_of w.language.vocabulary.lexis bytes) ≡ (front_tokens (each tokens ms []), false)
+      → ReadsBack w.language.text w.IsText bytes ms
 
 none_of_none : {A B : Type 0} (f : A → B) (xs : List A) → map f xs ≡ [] → xs ≡ []
 none_of_none f [] e = refl
@@ -64,13 +66,15 @@ module _ {M : Type 0} (w : WrittenLanguage M) (r : WellFormedness M) (p : Pieces
   abbrev all_tokens : List (WrittenModel M) → Front
   all_tokens xs s = p.front_tokens (each (λ (x : WrittenModel M). p.tokens x.model) xs s)
 
-  all_outlined : (xs : List (WrittenModel M)) → AllByRecursion IsWhole xs → Outlines w (written_text w xs) (all_tokens xs) (flat_map sections_in xs)
+  all_outlined : (xs : List (WrittenModel M)) → AllByRecursion IsWhole xs
+      → Outlines w (written_text w xs) (all_tokens xs) (flat_map sections_in xs)
   unfolding written_text
   all_outlined xs h = one_behind p.front (each_outlined IsWhole whole xs h)
 
   -- The models and the drivers in order.
 
-  same_tokens : (xs : List (WrittenModel M)) → each (λ (x : WrittenModel M). p.tokens x.model) xs [] ≡ each p.tokens (models_of xs) []
+  same_tokens : (xs : List (WrittenModel M))
+      → each (λ (x : WrittenModel M). p.tokens x.model) xs [] ≡ each p.tokens (models_of xs) []
   same_tokens [] = refl
   same_tokens (x ∷ xs) = ap (p.tokens x.model) (same_tokens xs)
 
@@ -80,7 +84,8 @@ module _ {M : Type 0} (w : WrittenLanguage M) (r : WellFormedness M) (p : Pieces
       ap (λ (found : List (List ℕ)). sections_in x ++ found) (same_sections xs)
       ∙ sym (map-append w.driver_section (driver_in x.driver) (drivers_of xs))
 
-  are_whole : (xs : List (WrittenModel M)) → AllByRecursion p.IsPart (models_of xs) → AllByRecursion p.IsNamed (drivers_of xs) → AllByRecursion IsWhole xs
+  are_whole : (xs : List (WrittenModel M)) → AllByRecursion p.IsPart (models_of xs) → AllByRecursion p.IsNamed (drivers_of xs)
+      → AllByRecursion IsWhole xs
   are_whole [] h k = tt
   are_whole (x ∷ xs) h k =
       let split = all_parts p.IsNamed (driver_in x.driver) (drivers_of xs) k in
@@ -93,7 +98,8 @@ module _ {M : Type 0} (w : WrittenLanguage M) (r : WellFormedness M) (p : Pieces
   -- the text of well formed models and drivers keeps them apart
   pub kept_apart : WrittenDriversKeepApart w r
   kept_apart xs h k =
-      let found : IsOutlined w.language.vocabulary w.language.marks (written_text w xs) (all_tokens xs []) (flat_map sections_in xs) =
+      let found : IsOutlined w.language.vocabulary w.language.marks (written_text w xs) (all_tokens xs [])
+      (flat_map sections_in xs) =
       outlined_is (all_outlined xs (are_whole xs (p.parts (models_of xs) h) (all_named (drivers_of xs) k))) in
       record {
         sections = found.texts ∙ same_sections xs;
@@ -110,17 +116,20 @@ module _ {M : Type 0} (w : WrittenLanguage M) (r : WellFormedness M) (p : Pieces
   none_of_each [] = refl
   none_of_each (m ∷ ms) = none_of_each ms
 
-  models_outlined : (ms : List M) → AllByRecursion p.IsPart ms → Outlines w (models_text w ms) (λ s. p.front_tokens (each p.tokens ms s)) (flat_map no_texts ms)
+  models_outlined : (ms : List M) → AllByRecursion p.IsPart ms
+      → Outlines w (models_text w ms) (λ s. p.front_tokens (each p.tokens ms s)) (flat_map no_texts ms)
   unfolding models_text
   models_outlined ms h = one_behind p.front (each_outlined p.IsPart p.model ms h)
 
   pub no_sections : WrittenModelsHaveNoSections w r
   no_sections ms h =
-      none_of_none (text_of (models_text w ms)) (sections_of w (models_text w ms)) ((outlined_is (models_outlined ms (p.parts ms h))).texts ∙ none_of_each ms)
+      none_of_none (text_of (models_text w ms)) (sections_of w (models_text w ms))
+      ((outlined_is (models_outlined ms (p.parts ms h))).texts ∙ none_of_each ms)
 
   -- Both read back.
 
-  pub all_declared : (ms : List M) (done drivers : List DriverModel) → AreWellFormedDrivers w r ms done drivers → AllByRecursion r.CanBeDeclared drivers
+  pub all_declared : (ms : List M) (done drivers : List DriverModel) → AreWellFormedDrivers w r ms done drivers
+      → AllByRecursion r.CanBeDeclared drivers
   all_declared ms done [] h = tt
   all_declared ms done (d ∷ drivers) h =
       (p.declared (taken_names w.language ms done) (map w.language.core ms) d h.0, all_declared ms (done ++ d ∷ []) drivers h.1)

@@ -21,7 +21,8 @@ module _ (is_name : List ℕ → Bool) (is_same : List ℕ → List ℕ → Bool
   pub word_begins : (word : List ℕ) → begins is_same word word ≡ Some (Fits tt)
   word_begins word = rw (itself word) refl
 
-  pub known_read : {A : Type 0} (find : List ℕ → Option A) (x : List ℕ) (a : A) {s : List (List ℕ)} → is_name x ≡ true → find x ≡ Some a →
+  pub known_read : {A : Type 0} (find : List ℕ → Option A) (x : List ℕ) (a : A) {s : List (List ℕ)} → is_name x ≡ true
+      → find x ≡ Some a →
       Reads (known is_name find) (x ∷ s) a s
   known_read find x a n e = token (rw (n, e) refl)
 

@@ -45,24 +45,29 @@ wire_list word number (suc n) s = codes "," ∷ numbered word number ∷ wire_li
 
 -- the name of a port, where it is no driven output, is none of so many wires to buffers' inputs
 abbrev pub IsFree : (List ℕ → List ℕ → Bool) → List ℕ → ℕ → NumberedPort → Type 0
-IsFree is_same value count at = at.port.input ≡ false → at.number ≡ None → is_among is_same (all_numbered value count) at.port.name ≡ false
+IsFree is_same value count at = at.port.input ≡ false → at.number ≡ None
+    → is_among is_same (all_numbered value count) at.port.name ≡ false
 
 -- a port that can stand at the core
-pub record IsTerminal (is_name : List ℕ → Bool) (is_same : List ℕ → List ℕ → Bool) (value : List ℕ) (count : ℕ) (at : NumberedPort) : Type 0 where
+pub record IsTerminal (is_name : List ℕ → Bool) (is_same : List ℕ → List ℕ → Bool) (value : List ℕ) (count : ℕ)
+    (at : NumberedPort) : Type 0 where
   pub name : is_name at.port.name ≡ true
   pub free : IsFree is_same value count at
 
-module _ {is_name : List ℕ → Bool} {is_same : List ℕ → List ℕ → Bool} {value enable : List ℕ} (lang : IsDriverLanguage is_name is_same value enable) (count : ℕ) where
+module _ {is_name : List ℕ → Bool} {is_same : List ℕ → List ℕ → Bool} {value enable : List ℕ}
+    (lang : IsDriverLanguage is_name is_same value enable) (count : ℕ) where
   abbrev terminals_of : ℕ → List ℕ → Terminals
   terminals_of place done = record { outputs = place; drives = done }
 
   -- the names of wires
 
   last_among : (n k : ℕ) → k ≤ n → (k < n → is_among is_same (all_numbered value n) (numbered value (k + 1)) ≡ true) →
-      (is_among is_same (all_numbered value n) (numbered value (k + 1)) || (is_same (numbered value (k + 1)) (numbered value (suc n)) || false)) ≡ true
+      (is_among is_same (all_numbered value n) (numbered value (k + 1))
+      || (is_same (numbered value (k + 1)) (numbered value (suc n)) || false)) ≡ true
   last_among n k l h = elim (cases_Bool (nat_eq k n)) [
     | inl t ↦ (let same : suc n ≡ k + 1 = (let e = eqb-true k n t in omega (arith, e)) in
-        rw (ap (is_same (numbered value (k + 1))) (ap (numbered value) same) ∙ lang.itself (numbered value (k + 1))) (or_true (is_among is_same (all_numbered value n) (numbered value (k + 1)))))
+        rw (ap (is_same (numbered value (k + 1))) (ap (numbered value) same) ∙ lang.itself (numbered value (k + 1)))
+        (or_true (is_among is_same (all_numbered value n) (numbered value (k + 1)))))
     | inr f ↦ (let e = eqb-false k n f in rw (h (omega (arith, e, l))) refl)
   ]
     where
@@ -78,22 +83,28 @@ module _ {is_name : List ℕ → Bool} {is_same : List ℕ → List ℕ → Bool
 
   -- one terminal
 
-  input_read : (own : List ℕ) (found : Terminals) (s : List (List ℕ)) → is_name own ≡ true → Reads (input_terminal is_name is_same value enable count own found) (own ∷ s) found s
+  input_read : (own : List ℕ) (found : Terminals) (s : List (List ℕ)) → is_name own ≡ true
+      → Reads (input_terminal is_name is_same value enable count own found) (own ∷ s) found s
   unfolding input_terminal
   input_read own found s n = in_turn (this_read is_name is_same lang.itself own n) gives
 
-  plain_read : (own : List ℕ) (place : ℕ) (done : List ℕ) (s : List (List ℕ)) → is_name own ≡ true → is_among is_same (all_numbered value count) own ≡ false →
-      Reads (output_terminal is_name is_same value enable count own (terminals_of place done)) (own ∷ s) (terminals_of (place + 1) done) s
+  plain_read : (own : List ℕ) (place : ℕ) (done : List ℕ) (s : List (List ℕ)) → is_name own ≡ true
+      → is_among is_same (all_numbered value count) own ≡ false →
+      Reads (output_terminal is_name is_same value enable count own (terminals_of place done)) (own ∷ s)
+      (terminals_of (place + 1) done) s
   unfolding output_terminal
   plain_read own place done s n free =
-      in_turn (known_read is_name is_same lang.itself (is_driven_by is_name is_same value enable count own (length done)) own false n (rw (free, lang.itself own) refl)) gives
+      in_turn (known_read is_name is_same lang.itself (is_driven_by is_name is_same value enable count own (length done)) own
+      false n (rw (free, lang.itself own) refl)) gives
 
   driven_read : (own : List ℕ) (place : ℕ) (done : List ℕ) (s : List (List ℕ)) → length done < count →
-      Reads (output_terminal is_name is_same value enable count own (terminals_of place done)) (numbered value (length done + 1) ∷ s) (terminals_of (place + 1) (done ++ place ∷ [])) s
+      Reads (output_terminal is_name is_same value enable count own (terminals_of place done))
+      (numbered value (length done + 1) ∷ s) (terminals_of (place + 1) (done ++ place ∷ [])) s
   unfolding output_terminal
   driven_read own place done s l =
       let x : List ℕ = numbered value (length done + 1) in
-      in_turn (known_read is_name is_same lang.itself (is_driven_by is_name is_same value enable count own (length done)) x true (lang.value_is_name (length done + 1))
+      in_turn (known_read is_name is_same lang.itself (is_driven_by is_name is_same value enable count own (length done)) x true
+      (lang.value_is_name (length done + 1))
       (rw (is_wire count (length done) l, lang.itself x) refl)) gives
 
   -- terminals one behind the other
@@ -105,58 +116,80 @@ module _ {is_name : List ℕ → Bool} {is_same : List ℕ → List ℕ → Bool
     -- the terminals of these ports are read, behind others
     abbrev AreRead : List VPort → List NumberedPort → ℕ → List ℕ → List ℕ → List (List ℕ) → Type 0
     AreRead ports ats place done left s =
-        Reads (more_terminals is_name is_same value enable count ports (terminals_of place done)) (each (next_tokens value) ats s) (terminals_of total (done ++ left)) s
+        Reads (more_terminals is_name is_same value enable count ports (terminals_of place done)) (each (next_tokens value) ats s)
+        (terminals_of total (done ++ left)) s
 
     -- the terminal of a first port, and those of the others
     abbrev first_and_more : VPort → List VPort → Terminals → Grammar Terminals
-    first_and_more port ports found = port_terminal is_name is_same value enable count port found >>= λ more. more_terminals is_name is_same value enable count ports more
+    first_and_more port ports found =
+        port_terminal is_name is_same value enable count port found >>= λ more. more_terminals is_name is_same value enable count
+        ports more
 
     -- the same, whatever was read before them
     abbrev AllAreRead : List VPort → List NumberedPort → List (List ℕ) → Type 0
     AllAreRead ports ats s =
-        (place number : ℕ) (left : List ℕ) → Numbered total place number left ports ats → (done : List ℕ) → length done ≡ number → length done + length left ≡ count →
+        (place number : ℕ) (left : List ℕ) → Numbered total place number left ports ats → (done : List ℕ) → length done ≡ number
+        → length done + length left ≡ count →
         AreRead ports ats place done left s
 
-    first_read : (place number : ℕ) (port : VPort) (ports : List VPort) (at : NumberedPort) (ats : List NumberedPort) (left : List ℕ) (s : List (List ℕ)) →
-        Numbered total place number left (port ∷ ports) (at ∷ ats) → AllAreRead ports ats s → IsPort at → (done : List ℕ) → length done ≡ number → length done + length left ≡ count →
-        Reads (first_and_more port ports (terminals_of place done)) (terminal_by value at.port.name at.number ∷ each (next_tokens value) ats s) (terminals_of total (done ++ left)) s
+    first_read : (place number : ℕ) (port : VPort) (ports : List VPort) (at : NumberedPort) (ats : List NumberedPort)
+        (left : List ℕ) (s : List (List ℕ)) →
+        Numbered total place number left (port ∷ ports) (at ∷ ats) → AllAreRead ports ats s → IsPort at → (done : List ℕ)
+        → length done ≡ number → length done + length left ≡ count →
+        Reads (first_and_more port ports (terminals_of place done))
+        (terminal_by value at.port.name at.number ∷ each (next_tokens value) ats s) (terminals_of total (done ++ left)) s
     first_read place number port ports at ats left s (an_input _ e h) rest p done same long =
-        in_turn (rw e (input_read port.name (terminals_of place done) (each (next_tokens value) ats s) p.name)) (rest place number left h done same long)
+        in_turn (rw e (input_read port.name (terminals_of place done) (each (next_tokens value) ats s) p.name))
+        (rest place number left h done same long)
     first_read place number port ports at ats left s (plain _ e h) rest p done same long =
-        in_turn (rw e (plain_read port.name place done (each (next_tokens value) ats s) p.name (p.free e refl))) (rest (place + 1) number left h done same long)
+        in_turn (rw e (plain_read port.name place done (each (next_tokens value) ats s) p.name (p.free e refl)))
+        (rest (place + 1) number left h done same long)
     first_read place number port ports at ats (_ ∷ left) s (driven _ e h) rest p done same long =
         let grown : length (done ++ place ∷ []) ≡ length done + 1 = sym (one_longer done place) in
-        let this : Reads (output_terminal is_name is_same value enable count port.name (terminals_of place done)) (numbered value (number + 1) ∷ each (next_tokens value) ats s)
+        let this : Reads (output_terminal is_name is_same value enable count port.name (terminals_of place done))
+        (numbered value (number + 1) ∷ each (next_tokens value) ats s)
         (terminals_of (place + 1) (done ++ place ∷ [])) (each (next_tokens value) ats s) =
-        from_same (ap (λ (n : ℕ). numbered value (n + 1) ∷ each (next_tokens value) ats s) (sym same)) (driven_read port.name place done (each (next_tokens value) ats s) (omega (arith, long))) in
+        from_same (ap (λ (n : ℕ). numbered value (n + 1) ∷ each (next_tokens value) ats s) (sym same))
+        (driven_read port.name place done (each (next_tokens value) ats s) (omega (arith, long))) in
         in_turn (rw e this)
         (to_same (ap (terminals_of total) (append_assoc done (place ∷ []) left))
         (rest (place + 1) (number + 1) left h (done ++ place ∷ []) (omega (arith, grown, same)) (omega (arith, grown, long))))
 
-    more_read : (ports : List VPort) (ats : List NumberedPort) (s : List (List ℕ)) → AllByRecursion IsPort ats → AllAreRead ports ats s
-    more_read [] ats s all place number left at_end done same long = to_same (ap (terminals_of total) (sym (append-nil done))) gives
+    more_read : (ports : List VPort) (ats : List NumberedPort) (s : List (List ℕ)) → AllByRecursion IsPort ats
+        → AllAreRead ports ats s
+    more_read [] ats s all place number left at_end done same long =
+        to_same (ap (terminals_of total) (sym (append-nil done))) gives
     more_read (port ∷ ports) [] s all place number left h done same long = elim h [ ]
     more_read (port ∷ ports) (at ∷ ats) s all place number left h done same long =
-        in_turn (word_read is_name is_same lang.itself (codes ",")) (first_read place number port ports at ats left s h (more_read ports ats s all.1) all.0 done same long)
+        in_turn (word_read is_name is_same lang.itself (codes ","))
+        (first_read place number port ports at ats left s h (more_read ports ats s all.1) all.0 done same long)
 
     -- wires to enables
 
-    enables_read : (n number : ℕ) (s : List (List ℕ)) → Reads (more_enables is_name is_same value enable count true number n) (wire_list enable number n s) tt s
+    enables_read : (n number : ℕ) (s : List (List ℕ))
+        → Reads (more_enables is_name is_same value enable count true number n) (wire_list enable number n s) tt s
     enables_read zero number s = gives
     enables_read (suc n) number s =
-        in_turn (word_read is_name is_same lang.itself (codes ",")) (in_turn (this_read is_name is_same lang.itself (numbered enable number) (lang.enable_is_name number)) (enables_read n (number + 1) s))
+        in_turn (word_read is_name is_same lang.itself (codes ","))
+        (in_turn (this_read is_name is_same lang.itself (numbered enable number) (lang.enable_is_name number))
+        (enables_read n (number + 1) s))
 
-    none_read : (s : List (List ℕ)) → Stops (begins is_same (codes ",")) s → Reads (no_terminal is_name is_same value enable count) s tt s
+    none_read : (s : List (List ℕ)) → Stops (begins is_same (codes ",")) s
+        → Reads (no_terminal is_name is_same value enable count) s tt s
     unfolding no_terminal
     none_read s stop = passed stop gives
 
-    all_read : (port : VPort) (ports : List VPort) (at : NumberedPort) (ats : List NumberedPort) (drives : List ℕ) (s : List (List ℕ)) →
-        Numbered total 0 0 drives (port ∷ ports) (at ∷ ats) → AllByRecursion IsPort (at ∷ ats) → length drives ≡ count → Stops (begins is_same (codes ",")) s →
-        Reads (core_terminals is_name is_same value enable count (port ∷ ports)) (terminal_by value at.port.name at.number ∷ each (next_tokens value) ats (wire_list enable 1 count s)) drives s
+    all_read : (port : VPort) (ports : List VPort) (at : NumberedPort) (ats : List NumberedPort) (drives : List ℕ)
+        (s : List (List ℕ)) →
+        Numbered total 0 0 drives (port ∷ ports) (at ∷ ats) → AllByRecursion IsPort (at ∷ ats) → length drives ≡ count
+        → Stops (begins is_same (codes ",")) s →
+        Reads (core_terminals is_name is_same value enable count (port ∷ ports))
+        (terminal_by value at.port.name at.number ∷ each (next_tokens value) ats (wire_list enable 1 count s)) drives s
     unfolding core_terminals
     all_read port ports at ats drives s h all long stop =
         let none : 0 + length drives ≡ count = omega (arith, long) in
-        in_turn (first_read 0 0 port ports at ats drives (wire_list enable 1 count s) h (more_read ports ats (wire_list enable 1 count s) all.1) all.0 [] refl none)
+        in_turn (first_read 0 0 port ports at ats drives (wire_list enable 1 count s) h
+        (more_read ports ats (wire_list enable 1 count s) all.1) all.0 [] refl none)
         (in_turn (rw (eq-eqb (length drives) count long) (enables_read count 1 s)) (in_turn (none_read s stop) gives))
 
 -- Names before others are names behind others.
@@ -171,7 +204,8 @@ wires_shifted : (word : List ℕ) (n number : ℕ) (s : List (List ℕ)) →
 wires_shifted word zero number s = let same : number + 0 ≡ number = omega arith in ap (λ k. codes "," ∷ numbered word k ∷ s) same
 wires_shifted word (suc n) number s =
     let same : number + suc n ≡ number + 1 + n = omega arith in
-    ap (λ k. codes "," ∷ numbered word number ∷ codes "," ∷ each name_tokens (names_from word (number + 1) n) (numbered word k ∷ s)) same
+    ap (λ k. codes "," ∷ numbered word number ∷ codes "," ∷ each name_tokens (names_from word (number + 1) n)
+    (numbered word k ∷ s)) same
     ∙ ap (λ l. codes "," ∷ numbered word number ∷ l) (wires_shifted word n (number + 1) s)
 
 -- the terminals of the core: what stands for each port, then the wires to enables
@@ -179,7 +213,8 @@ abbrev pub core_tokens : List ℕ → List ℕ → ℕ → List NumberedPort →
 core_tokens value enable count ats s = each (terminal_tokens value) ats (wires_listed enable count s)
 
 core_shifted : (value enable : List ℕ) (n : ℕ) (at : NumberedPort) (ats : List NumberedPort) (s : List (List ℕ)) →
-    core_tokens value enable (suc n) (at ∷ ats) s ≡ terminal_by value at.port.name at.number ∷ each (next_tokens value) ats (wire_list enable 1 (suc n) s)
+    core_tokens value enable (suc n) (at ∷ ats) s ≡ terminal_by value at.port.name at.number ∷ each (next_tokens value) ats
+    (wire_list enable 1 (suc n) s)
 core_shifted value enable n at ats s =
     let same : suc n ≡ 1 + n = omega arith in
     shifted (λ (a : NumberedPort). terminal_by value a.port.name a.number) at ats (wires_listed enable (suc n) s)
@@ -187,10 +222,13 @@ core_shifted value enable n at ats s =
     (ap (λ l. codes "," ∷ each name_tokens l (numbered enable (suc n) ∷ s)) (all_are enable n)
     ∙ ap (λ k. codes "," ∷ each name_tokens (names_from enable 1 n) (numbered enable k ∷ s)) same ∙ wires_shifted enable n 1 s)
 
-module _ {is_name : List ℕ → Bool} {is_same : List ℕ → List ℕ → Bool} {value enable : List ℕ} (lang : IsDriverLanguage is_name is_same value enable) where
+module _ {is_name : List ℕ → Bool} {is_same : List ℕ → List ℕ → Bool} {value enable : List ℕ}
+    (lang : IsDriverLanguage is_name is_same value enable) where
   -- the terminals of a driver's core, where at least one output is driven
-  pub terminals_read : (total n : ℕ) (ports : List VPort) (ats : List NumberedPort) (drives : List ℕ) (s : List (List ℕ)) → Numbered total 0 0 drives ports ats →
-      AllByRecursion (IsTerminal is_name is_same value (suc n)) ats → length drives ≡ suc n → Stops (begins is_same (codes ",")) s →
+  pub terminals_read : (total n : ℕ) (ports : List VPort) (ats : List NumberedPort) (drives : List ℕ) (s : List (List ℕ))
+      → Numbered total 0 0 drives ports ats →
+      AllByRecursion (IsTerminal is_name is_same value (suc n)) ats → length drives ≡ suc n → Stops (begins is_same (codes ",")) s
+      →
       Reads (core_terminals is_name is_same value enable (suc n) ports) (core_tokens value enable (suc n) ats s) drives s
   terminals_read total n [] ats drives s at_end all long stop = absurd (omega (arith, long))
   terminals_read total n (port ∷ ports) [] drives s h all long stop = elim h [ ]

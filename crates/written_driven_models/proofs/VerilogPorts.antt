@@ -43,20 +43,26 @@ all_ports : (ports : List VPort) → AllByRecursion IsName (port_names ports) �
 all_ports [] h = tt
 all_ports (port ∷ ports) h = (h.0, all_ports ports h.1)
 
-pub are_names : (ports : List VPort) → AllByRecursion IsNamedPort ports → AllByRecursion (λ (port : VPort). is_name port.name ≡ true) ports
+pub are_names : (ports : List VPort) → AllByRecursion IsNamedPort ports
+    → AllByRecursion (λ (port : VPort). is_name port.name ≡ true) ports
 are_names [] h = tt
 are_names (port ∷ ports) h = (name_is port.name h.0, are_names ports h.1)
 
-named_terminals : {total : ℕ} (place number : ℕ) (left : List ℕ) (ports : List VPort) (ats : List NumberedPort) → Numbered total place number left ports ats → AllByRecursion IsNamedPort ports →
+named_terminals : {total : ℕ} (place number : ℕ) (left : List ℕ) (ports : List VPort) (ats : List NumberedPort)
+    → Numbered total place number left ports ats → AllByRecursion IsNamedPort ports →
     AllByRecursion IsNamedTerminal ats
 named_terminals place number left [] [] at_end h = tt
 named_terminals place number left [] (at ∷ ats) n h = elim n [ ]
 named_terminals place number left (port ∷ ports) [] n h = elim n [ ]
-named_terminals place number left (port ∷ ports) (at ∷ ats) (an_input _ e n) h = (h.0, named_terminals place number left ports ats n h.1)
-named_terminals place number left (port ∷ ports) (at ∷ ats) (plain _ e n) h = (h.0, named_terminals (place + 1) number left ports ats n h.1)
-named_terminals place number (_ ∷ left) (port ∷ ports) (at ∷ ats) (driven _ e n) h = (h.0, named_terminals (place + 1) (number + 1) left ports ats n h.1)
+named_terminals place number left (port ∷ ports) (at ∷ ats) (an_input _ e n) h =
+    (h.0, named_terminals place number left ports ats n h.1)
+named_terminals place number left (port ∷ ports) (at ∷ ats) (plain _ e n) h =
+    (h.0, named_terminals (place + 1) number left ports ats n h.1)
+named_terminals place number (_ ∷ left) (port ∷ ports) (at ∷ ats) (driven _ e n) h =
+    (h.0, named_terminals (place + 1) (number + 1) left ports ats n h.1)
 
-are_terminals : (count : ℕ) (ats : List NumberedPort) → AllByRecursion IsNamedTerminal ats → AllByRecursion (IsNoWire count) ats → AllByRecursion (IsTerminal is_name bytes_eq data_word count) ats
+are_terminals : (count : ℕ) (ats : List NumberedPort) → AllByRecursion IsNamedTerminal ats → AllByRecursion (IsNoWire count) ats
+    → AllByRecursion (IsTerminal is_name bytes_eq data_word count) ats
 are_terminals count [] n h = tt
 are_terminals count (at ∷ ats) n h = (record { name = name_is at.port.name n.0; free = h.0 }, are_terminals count ats n.1 h.1)
 
@@ -78,35 +84,51 @@ module _ (names : List (List ℕ)) (cores : List Core) (m : DriverModel) (h : Is
   terminals_named = named_terminals 0 0 m.driver.drives m.ports (ports_of m) (numbered m h.sound) ports_named
 
   pub terminals_free : AllByRecursion (IsTerminal is_name bytes_eq data_word (length m.driver.drives)) (ports_of m)
-  terminals_free = are_terminals (length m.driver.drives) (ports_of m) terminals_named (recursion_from_All (IsNoWire (length m.driver.drives)) (ports_of m) h.outputs)
+  terminals_free = are_terminals (length m.driver.drives) (ports_of m) terminals_named
+      (recursion_from_All (IsNoWire (length m.driver.drives)) (ports_of m) h.outputs)
 
   found_path : (path : DrivePath) → IsPathOf m.driver path → HasNumbers path → IsFoundPath m path
   found_path path p n =
       let named = are_names m.ports ports_named in
       let start = path_start m h.sound path p in
       let end = drive_at m h.sound path.drive p.drive in
-      let its_start : name_at (inputs m.ports) path.from ≡ start.port.name = port_name_is (inputs m.ports) path.from start.port start.stands in
-      let its_end : driven_name m path.drive ≡ end.output.port.name = driven_name_is m path.drive end.place end.output.port end.driven end.output.stands in
+      let its_start : name_at (inputs m.ports) path.from ≡ start.port.name =
+      port_name_is (inputs m.ports) path.from start.port start.stands in
+      let its_end : driven_name m path.drive ≡ end.output.port.name =
+      driven_name_is m path.drive end.place end.output.port end.driven end.output.stands in
       record {
-        from = subst IsName (sym its_start) (passing_at IsNamedPort (λ p. p.input) m.ports path.from start.port ports_named start.stands);
-        to = subst IsName (sym its_end) (passing_at IsNamedPort (λ p. not p.input) m.ports end.place end.output.port ports_named end.output.stands);
-        start = ap (input_number bytes_eq m.ports) its_start ∙ input_number_is verilog m.ports path.from start.port named h.apart start.stands;
+        from = subst IsName (sym its_start)
+            (passing_at IsNamedPort (λ p. p.input) m.ports path.from start.port ports_named start.stands);
+        to = subst IsName (sym its_end)
+            (passing_at IsNamedPort (λ p. not p.input) m.ports end.place end.output.port ports_named end.output.stands);
+        start = ap (input_number bytes_eq m.ports) its_start
+            ∙ input_number_is verilog m.ports path.from start.port named h.apart start.stands;
         end = ap (drive_number bytes_eq m.ports m.driver.drives) its_end
-            ∙ drive_number_is verilog m.ports m.driver.drives path.drive end.place end.output.port named h.apart (all_ahead m.driver.drives h.sound.driver.ascending) end.driven end.output.stands;
+            ∙ drive_number_is verilog m.ports m.driver.drives path.drive end.place end.output.port named h.apart
+            (all_ahead m.driver.drives h.sound.driver.ascending) end.driven end.output.stands;
         numbers = n;
       }
 
-  all_found : (paths : List DrivePath) → AllByRecursion (IsPathOf m.driver) paths → AllByRecursion HasNumbers paths → AllByRecursion (IsFoundPath m) paths
+  all_found : (paths : List DrivePath) → AllByRecursion (IsPathOf m.driver) paths → AllByRecursion HasNumbers paths
+      → AllByRecursion (IsFoundPath m) paths
   all_found [] p n = tt
   all_found (path ∷ paths) p n = (found_path path p.0 n.0, all_found paths p.1 n.1)
 
   pub paths_found : AllByRecursion (IsFoundPath m) m.driver.paths
   paths_found =
-      all_found m.driver.paths (recursion_from_All (IsPathOf m.driver) m.driver.paths h.sound.driver.paths) (recursion_from_All HasNumbers m.driver.paths h.paths)
+      all_found m.driver.paths (recursion_from_All (IsPathOf m.driver) m.driver.paths h.sound.driver.paths)
+      (recursion_from_All HasNumbers m.driver.paths h.paths)
 
   named_paths : (paths : List DrivePath) → AllByRecursion (IsFoundPath m) paths → AllByRecursion (IsNamedPath m) paths
   named_paths [] f = tt
   named_paths (path ∷ paths) f = (record { from = f.0.from; to = f.0.to; numbers = f.0.numbers }, named_paths paths f.1)
 
   pub driver_named : IsNamedDriver m
-  driver_named = record { name = h.name; ports = ports_named; terminals = terminals_named; core = h.core; paths = named_paths m.driver.paths paths_found }
+  driver_named = record {
+    name = h.name;
+    ports = ports_named;
+    terminals = terminals_named;
+    core = h.core;
+    paths =
+        named_paths m.driver.paths paths_found;
+  }

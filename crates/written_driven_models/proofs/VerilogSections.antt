@@ -30,22 +30,31 @@ section_tokens m s = codes "`celldefine" ∷ inner_tokens m s
 first_line : SpellsBy lexis Nothing Anything false (codes "`celldefine\n") (λ s. codes "`celldefine" ∷ s) false
 first_line = literal (λ r. refl) refl
 
-front_spelled : (m : DriverModel) → IsNamedDriver m → SpellsBy lexis Nothing Anything false (codes "`celldefine\n" ++ inner_text m) (section_tokens m) false
+front_spelled : (m : DriverModel) → IsNamedDriver m
+    → SpellsBy lexis Nothing Anything false (codes "`celldefine\n" ++ inner_text m) (section_tokens m) false
 front_spelled m h = behind first_line (barred_less (λ t x s e. refl) (inner_spelled m h))
 
 -- the tokens of a driver with these bytes for its last line
-section_spelled : (m : DriverModel) (end : List ℕ) → IsNamedDriver m → spelled (scan lexis false 0 0 end) ≡ (codes "`endcelldefine" ∷ [], false) →
-    spelled (scan lexis false 0 0 (driver_before (codes "endmodule\n" ++ end) m)) ≡ (section_tokens m (codes "`endcelldefine" ∷ []), false)
+section_spelled : (m : DriverModel) (end : List ℕ) → IsNamedDriver m
+    → spelled (scan lexis false 0 0 end) ≡ (codes "`endcelldefine" ∷ [], false) →
+    spelled (scan lexis false 0 0 (driver_before (codes "endmodule\n" ++ end) m)) ≡ (
+      section_tokens m
+          (codes "`endcelldefine" ∷ []),
+      false,
+    )
 section_spelled m end h e =
-    ap (λ (s : List ℕ). spelled (scan lexis false 0 0 s)) (before_is m end ∙ sym (append_assoc (codes "`celldefine\n") (inner_text m) end))
+    ap (λ (s : List ℕ). spelled (scan lexis false 0 0 s))
+    (before_is m end ∙ sym (append_assoc (codes "`celldefine\n") (inner_text m) end))
     ∙ found_is (front_spelled m h) end tt ∙ ap (in_front (section_tokens m)) e
 
 module _ (names : List (List ℕ)) (cores : List Core) (m : DriverModel) (h : IsWellFormedDriver names cores m) where
-  is_section : (end : List ℕ) → spelled (scan lexis false 0 0 end) ≡ (codes "`endcelldefine" ∷ [], false) → IsSectionOf verilog_drivers names cores (driver_before (codes "endmodule\n" ++ end) m) m
+  is_section : (end : List ℕ) → spelled (scan lexis false 0 0 end) ≡ (codes "`endcelldefine" ∷ [], false)
+      → IsSectionOf verilog_drivers names cores (driver_before (codes "endmodule\n" ++ end) m) m
   unfolding section_text
   is_section end e =
       let bytes : List ℕ = driver_before (codes "endmodule\n" ++ end) m in
-      reads_back (section_text names cores) (IsText (section_language names cores)) bytes m (section_answer names cores bytes).value
+      reads_back (section_text names cores) (IsText (section_language names cores)) bytes m
+      (section_answer names cores bytes).value
       (is_text (section_language names cores) bytes m (section_tokens m (codes "`endcelldefine" ∷ []))
       (section_spelled m end (driver_named names cores m h) e) (section_read names cores m h))
 

@@ -52,17 +52,22 @@ digit_in_name b h = by (is_ascii_digit b) (is_ascii_uppercase b) (is_ascii_lower
     by true upper lower e = refl
     by false upper lower e = absurd cc
 
-glyph_in_name : (d : ℕ) (rest : List ℕ) → d < 10 → list_all is_name_byte rest ≡ true → list_all is_name_byte (digit_glyph false d ∷ rest) ≡ true
+glyph_in_name : (d : ℕ) (rest : List ℕ) → d < 10 → list_all is_name_byte rest ≡ true
+    → list_all is_name_byte (digit_glyph false d ∷ rest) ≡ true
 glyph_in_name d rest l h =
-    and_from (is_name_byte (digit_glyph false d)) (list_all is_name_byte rest) (digit_in_name (digit_glyph false d) (glyph_is_digit d l)) h
+    and_from (is_name_byte (digit_glyph false d)) (list_all is_name_byte rest)
+    (digit_in_name (digit_glyph false d) (glyph_is_digit d l)) h
 
-digits_in_name : (k n : ℕ) (rest : List ℕ) → list_all is_name_byte rest ≡ true → list_all is_name_byte (digits_onto k 10 false n rest) ≡ true
+digits_in_name : (k n : ℕ) (rest : List ℕ) → list_all is_name_byte rest ≡ true
+    → list_all is_name_byte (digits_onto k 10 false n rest) ≡ true
 digits_in_name zero n rest h = h
 digits_in_name (suc k) n rest h =
     let more = glyph_in_name (n % 10) rest (mod_below n 10 (omega arith)) h in
-    by (digit_glyph false (n % 10) ∷ rest) (digits_onto k 10 false (n / 10) (digit_glyph false (n % 10) ∷ rest)) (n / 10 == 0) more (digits_in_name k (n / 10) (digit_glyph false (n % 10) ∷ rest) more)
+    by (digit_glyph false (n % 10) ∷ rest) (digits_onto k 10 false (n / 10) (digit_glyph false (n % 10) ∷ rest))
+    (n / 10 == 0) more (digits_in_name k (n / 10) (digit_glyph false (n % 10) ∷ rest) more)
   where
-    by : (one more : List ℕ) (b : Bool) → list_all is_name_byte one ≡ true → list_all is_name_byte more ≡ true → list_all is_name_byte (if b then one else more) ≡ true
+    by : (one more : List ℕ) (b : Bool) → list_all is_name_byte one ≡ true → list_all is_name_byte more ≡ true
+        → list_all is_name_byte (if b then one else more) ≡ true
     by one more true e f = e
     by one more false e f = f
 
@@ -96,20 +101,27 @@ header_tokens m s = codes "module" ∷ m.name ∷ codes "(" ∷ listed m.ports (
 module_word : Spells Anything false (codes "module ") (λ s. codes "module" ∷ s) false
 module_word = literal (λ r. refl) refl
 
-header : (m : DriverModel) → IsName m.name → AllByRecursion IsNamedPort m.ports → Spells Anything false (header_behind m) (header_tokens m) false
-header m n all = behind module_word (joins (name m.name n) (λ r q. refl) (behind opened (joins (ports m.ports all) (λ r q. refl) closed)))
+header : (m : DriverModel) → IsName m.name → AllByRecursion IsNamedPort m.ports
+    → Spells Anything false (header_behind m) (header_tokens m) false
+header m n all = behind module_word
+    (joins (name m.name n) (λ r q. refl) (behind opened (joins (ports m.ports all) (λ r q. refl) closed)))
 
 abbrev pub declaration_tokens : DriverModel → Front
 declaration_tokens m s =
     each input_tokens m.ports (each output_tokens m.ports
-    (each (declared (codes "wire")) (all_numbered data_word (length m.driver.drives)) (each (declared (codes "wire")) (all_numbered enable_word (length m.driver.drives)) s)))
+    (each (declared (codes "wire")) (all_numbered data_word (length m.driver.drives))
+    (each (declared (codes "wire")) (all_numbered enable_word (length m.driver.drives)) s)))
 
-declarations : (m : DriverModel) → AllByRecursion IsNamedPort m.ports → Spells Anything false (driver_declarations_text m) (declaration_tokens m) false
+declarations : (m : DriverModel) → AllByRecursion IsNamedPort m.ports
+    → Spells Anything false (driver_declarations_text m) (declaration_tokens m) false
 unfolding driver_declarations_text
 declarations m all =
-    behind (each_spelled IsNamedPort input (λ x r q. tt) m.ports all) (behind (each_spelled IsNamedPort output (λ x r q. tt) m.ports all)
-    (behind (each_spelled IsName wire (λ x r q. tt) (all_numbered data_word (length m.driver.drives)) (all_data (length m.driver.drives)))
-    (each_spelled IsName wire (λ x r q. tt) (all_numbered enable_word (length m.driver.drives)) (all_enables (length m.driver.drives)))))
+    behind (each_spelled IsNamedPort input (λ x r q. tt) m.ports all)
+    (behind (each_spelled IsNamedPort output (λ x r q. tt) m.ports all)
+    (behind (each_spelled IsName wire (λ x r q. tt) (all_numbered data_word (length m.driver.drives))
+    (all_data (length m.driver.drives)))
+    (each_spelled IsName wire (λ x r q. tt) (all_numbered enable_word (length m.driver.drives))
+    (all_enables (length m.driver.drives)))))
 
 -- The core.
 
@@ -118,7 +130,8 @@ IsNamedTerminal at = IsName at.port.name
 
 abbrev pub core_tokens : DriverModel → Front
 core_tokens m s =
-    m.core ∷ codes "lib_u" ∷ codes "(" ∷ listed.core_tokens data_word enable_word (length m.driver.drives) (ports_of m) (codes ")" ∷ codes ";" ∷ s)
+    m.core ∷ codes "lib_u" ∷ codes "(" ∷ listed.core_tokens data_word enable_word (length m.driver.drives) (ports_of m)
+    (codes ")" ∷ codes ";" ∷ s)
 
 instance_name : Spells Anything false (codes " lib_u (") (λ s. codes "lib_u" ∷ codes "(" ∷ s) false
 instance_name = literal (λ r. refl) refl
@@ -127,8 +140,10 @@ terminal_name : (x : List ℕ) → IsName x → (number : Option ℕ) → IsName
 terminal_name x h None = h
 terminal_name x h (Some number) = data_name number
 
-terminal : (at : NumberedPort) → IsNamedTerminal at → Spells Anything false (next_terminal_text data_word at) (terminal_tokens data_word at) false
-terminal at h = joins (name (terminal_by data_word at.port.name at.number) (terminal_name at.port.name h at.number)) (λ r q. refl) comma
+terminal : (at : NumberedPort) → IsNamedTerminal at
+    → Spells Anything false (next_terminal_text data_word at) (terminal_tokens data_word at) false
+terminal at h = joins (name (terminal_by data_word at.port.name at.number) (terminal_name at.port.name h at.number))
+    (λ r q. refl) comma
 
 next_name : (x : List ℕ) → IsName x → Spells Anything false (next_name_text x) (name_tokens x) false
 next_name x h = joins (name x h) (λ r q. refl) comma
@@ -136,22 +151,27 @@ next_name x h = joins (name x h) (λ r q. refl) comma
 enables : (n : ℕ) → Spells Ends false (listed_names_text enable_word n) (wires_listed enable_word n) false
 enables zero = nothing
 enables (suc n) =
-    behind (each_spelled IsName next_name (λ x r q. tt) (all_numbered enable_word n) (all_enables n)) (name (enable_word ++ decimal (suc n)) (enable_name (suc n)))
+    behind (each_spelled IsName next_name (λ x r q. tt) (all_numbered enable_word n) (all_enables n))
+    (name (enable_word ++ decimal (suc n)) (enable_name (suc n)))
 
 terminals : (m : DriverModel) → AllByRecursion IsNamedTerminal (ports_of m)
-    → Spells Ends false (terminals_text data_word enable_word m) (listed.core_tokens data_word enable_word (length m.driver.drives) (ports_of m)) false
+    → Spells Ends false (terminals_text data_word enable_word m)
+    (listed.core_tokens data_word enable_word (length m.driver.drives) (ports_of m)) false
 terminals m all = behind (each_spelled IsNamedTerminal terminal (λ x r q. tt) (ports_of m) all) (enables (length m.driver.drives))
 
-core : (m : DriverModel) → IsName m.core → AllByRecursion IsNamedTerminal (ports_of m) → Spells Anything false (core_text m) (core_tokens m) false
+core : (m : DriverModel) → IsName m.core → AllByRecursion IsNamedTerminal (ports_of m)
+    → Spells Anything false (core_text m) (core_tokens m) false
 unfolding core_text
-core m n all = behind indented (joins (name m.core n) (λ r q. refl) (behind instance_name (joins (terminals m all) (λ r q. refl) closed)))
+core m n all = behind indented (joins (name m.core n) (λ r q. refl)
+    (behind instance_name (joins (terminals m all) (λ r q. refl) closed)))
 
 -- The buffers.
 
 abbrev pub buffer_tokens_by : List ℕ → Option ℕ → Front
 buffer_tokens_by x None s = s
 buffer_tokens_by x (Some number) s =
-    codes "bufif1" ∷ codes "(" ∷ x ∷ codes "," ∷ (data_word ++ decimal number) ∷ codes "," ∷ (enable_word ++ decimal number) ∷ codes ")" ∷ codes ";" ∷ s
+    codes "bufif1" ∷ codes "(" ∷ x ∷ codes "," ∷ (data_word ++ decimal number) ∷ codes "," ∷ (enable_word ++ decimal number)
+    ∷ codes ")" ∷ codes ";" ∷ s
 
 abbrev pub buffer_tokens : NumberedPort → Front
 buffer_tokens at s = buffer_tokens_by at.port.name at.number s
@@ -159,10 +179,12 @@ buffer_tokens at s = buffer_tokens_by at.port.name at.number s
 buffer_word : Spells Anything false (codes "  bufif1 (") (λ s. codes "bufif1" ∷ codes "(" ∷ s) false
 buffer_word = literal (λ r. refl) refl
 
-one_buffer : (x : List ℕ) → IsName x → (number : Option ℕ) → Spells Anything false (buffer_by x number) (buffer_tokens_by x number) false
+one_buffer : (x : List ℕ) → IsName x → (number : Option ℕ)
+    → Spells Anything false (buffer_by x number) (buffer_tokens_by x number) false
 one_buffer x h None = nothing
 one_buffer x h (Some number) =
-    behind buffer_word (joins (name x h) (λ r q. refl) (behind comma (joins (name (data_word ++ decimal number) (data_name number)) (λ r q. refl)
+    behind buffer_word (joins (name x h) (λ r q. refl)
+    (behind comma (joins (name (data_word ++ decimal number) (data_name number)) (λ r q. refl)
     (behind comma (joins (name (enable_word ++ decimal number) (enable_name number)) (λ r q. refl) closed)))))
 
 buffer : (at : NumberedPort) → IsNamedTerminal at → Spells Anything false (buffer_text at) (buffer_tokens at) false
@@ -177,7 +199,8 @@ pub record IsNamedPath (m : DriverModel) (path : DrivePath) : Type 0 where
   pub numbers : HasNumbers path
 
 abbrev pub path_tokens : DriverModel → DrivePath → Front
-path_tokens m path s = codes "(" ∷ path_line_tokens (name_at (inputs m.ports) path.from) (driven_name m path.drive) path.rise path.fall s
+path_tokens m path s = codes "(" ∷ path_line_tokens (name_at (inputs m.ports) path.from) (driven_name m path.drive) path.rise
+    path.fall s
 
 abbrev pub paths_by : Bool → DriverModel → Front
 paths_by true m s = codes "specify" ∷ each (path_tokens m) m.driver.paths (codes "endspecify" ∷ s)
@@ -186,17 +209,21 @@ paths_by false m s = s
 abbrev pub paths_tokens : DriverModel → Front
 paths_tokens m s = paths_by (nat_lt 0 (length m.driver.paths)) m s
 
-path : (m : DriverModel) (one : DrivePath) → IsNamedPath m one → Spells Anything false (drive_path_text m one) (path_tokens m one) false
+path : (m : DriverModel) (one : DrivePath) → IsNamedPath m one
+    → Spells Anything false (drive_path_text m one) (path_tokens m one) false
 unfolding drive_path_text
 path m one h =
-    behind timing.indented (path_line_spelled (name_at (inputs m.ports) one.from) (driven_name m one.drive) one.rise one.fall h.from h.to h.numbers.rise h.numbers.fall)
+    behind timing.indented (path_line_spelled (name_at (inputs m.ports) one.from) (driven_name m one.drive) one.rise one.fall
+    h.from h.to h.numbers.rise h.numbers.fall)
 
 by_need : (b : Bool) (m : DriverModel) → AllByRecursion (IsNamedPath m) m.driver.paths
-    → Spells Anything false (if b then codes "  specify\n" ++ (flat_map (drive_path_text m) m.driver.paths ++ codes "  endspecify\n") else []) (paths_by b m) false
+    → Spells Anything false (if b then codes "  specify\n"
+    ++ (flat_map (drive_path_text m) m.driver.paths ++ codes "  endspecify\n") else []) (paths_by b m) false
 by_need true m p = behind block_word (behind (each_spelled (IsNamedPath m) (path m) (λ x r q. tt) m.driver.paths p) block_end)
 by_need false m p = nothing
 
-paths : (m : DriverModel) → AllByRecursion (IsNamedPath m) m.driver.paths → Spells Anything false (drive_paths_text m) (paths_tokens m) false
+paths : (m : DriverModel) → AllByRecursion (IsNamedPath m) m.driver.paths
+    → Spells Anything false (drive_paths_text m) (paths_tokens m) false
 unfolding drive_paths_text
 paths m p = by_need (nat_lt 0 (length m.driver.paths)) m p
 
@@ -213,10 +240,12 @@ pub record IsNamedDriver (m : DriverModel) : Type 0 where
 abbrev pub inner_text : DriverModel → List ℕ
 inner_text m =
     header_behind m
-    ++ (driver_declarations_text m ++ (core_text m ++ (flat_map buffer_text (ports_of m) ++ (drive_paths_text m ++ codes "endmodule\n"))))
+    ++ (driver_declarations_text m ++ (core_text m
+    ++ (flat_map buffer_text (ports_of m) ++ (drive_paths_text m ++ codes "endmodule\n"))))
 
 abbrev pub inner_tokens : DriverModel → Front
-inner_tokens m s = header_tokens m (declaration_tokens m (core_tokens m (each buffer_tokens (ports_of m) (paths_tokens m (codes "endmodule" ∷ s)))))
+inner_tokens m s = header_tokens m
+    (declaration_tokens m (core_tokens m (each buffer_tokens (ports_of m) (paths_tokens m (codes "endmodule" ∷ s)))))
 
 module_end : Spells Anything false (codes "endmodule\n") (λ s. codes "endmodule" ∷ s) false
 module_end = literal (λ r. refl) refl
@@ -234,8 +263,10 @@ last_of a b c d e f g =
     ∙ ap (λ (t : List ℕ). c ++ t) (append_assoc d (e ++ f) g ∙ ap (λ (t : List ℕ). d ++ t) (append_assoc e f g))))
 
 -- a driver, by what stands behind its first line
-pub before_is : (m : DriverModel) (end : List ℕ) → driver_before (codes "endmodule\n" ++ end) m ≡ codes "`celldefine\n" ++ (inner_text m ++ end)
+pub before_is : (m : DriverModel) (end : List ℕ)
+    → driver_before (codes "endmodule\n" ++ end) m ≡ codes "`celldefine\n" ++ (inner_text m ++ end)
 unfolding driver_header_text
 before_is m end =
     ap (λ (t : List ℕ). codes "`celldefine\n" ++ t)
-    (sym (last_of (header_behind m) (driver_declarations_text m) (core_text m) (flat_map buffer_text (ports_of m)) (drive_paths_text m) (codes "endmodule\n") end))
+    (sym (last_of (header_behind m) (driver_declarations_text m) (core_text m) (flat_map buffer_text (ports_of m))
+    (drive_paths_text m) (codes "endmodule\n") end))

@@ -54,16 +54,19 @@ language = record {
 
 -- Ports.
 
-pub are_names : (ports : List VPort) → AllByRecursion NamedPort ports → AllByRecursion (λ (port : VPort). is_name port.name ≡ true) ports
+pub are_names : (ports : List VPort) → AllByRecursion NamedPort ports
+    → AllByRecursion (λ (port : VPort). is_name port.name ≡ true) ports
 are_names [] h = tt
 are_names (port ∷ ports) h = (h.0.named, are_names ports h.1)
 
-others_apart : (port : VPort) (others : List VPort) → IsNamed port.name → AllByRecursion (λ y. str_eq_ignore_ascii_case port.name y ≡ false) (port_names others) →
+others_apart : (port : VPort) (others : List VPort) → IsNamed port.name
+    → AllByRecursion (λ y. str_eq_ignore_ascii_case port.name y ≡ false) (port_names others) →
     AllByRecursion (λ y. is_same port.name y ≡ false) (map (λ (p : VPort). p.name) others)
 others_apart port [] n h = tt
 others_apart port (other ∷ others) n h = (same_name port.name other.name n ∙ h.0, others_apart port others n h.1)
 
-pub ports_apart : (ports : List VPort) → AllByRecursion NamedPort ports → AreApart (port_names ports) → IsDistinct is_same (map (λ (p : VPort). p.name) ports)
+pub ports_apart : (ports : List VPort) → AllByRecursion NamedPort ports → AreApart (port_names ports)
+    → IsDistinct is_same (map (λ (p : VPort). p.name) ports)
 unfolding IsDistinct
 ports_apart [] n h = tt
 ports_apart (port ∷ ports) n h = (others_apart port ports n.0 h.0, ports_apart ports n.1 h.1)
@@ -80,20 +83,31 @@ no_signal : (x : List ℕ) → IsPortName x → (count : ℕ) → is_among (all_
 no_signal x n zero = refl
 no_signal x n (suc k) =
     let other : is_same x (numbered data_word (suc k)) ≡ false =
-    same_turned x (numbered data_word (suc k)) (port_named x n).named (scored_name 100 (decimal (suc k)) refl) ∙ unlike_plain 100 (decimal (suc k)) x refl n.plain in
+    same_turned x (numbered data_word (suc k)) (port_named x n).named (scored_name 100 (decimal (suc k)) refl)
+    ∙ unlike_plain 100 (decimal (suc k)) x refl n.plain in
     list_any-append (is_same x) (all_numbered data_word k) (numbered data_word (suc k) ∷ []) ∙ rw (no_signal x n k, other) refl
 
-plain_terminals : {total : ℕ} (count place number : ℕ) (left : List ℕ) (ports : List VPort) (ats : List NumberedPort) → Numbered total place number left ports ats → AllByRecursion IsPlain ports →
+plain_terminals : {total : ℕ} (count place number : ℕ) (left : List ℕ) (ports : List VPort) (ats : List NumberedPort)
+    → Numbered total place number left ports ats → AllByRecursion IsPlain ports →
     AllByRecursion (IsTerminal is_name is_same data_word count) ats
 plain_terminals count place number left [] [] at_end h = tt
 plain_terminals count place number left [] (at ∷ ats) n h = elim n [ ]
 plain_terminals count place number left (port ∷ ports) [] n h = elim n [ ]
-plain_terminals count place number left (port ∷ ports) (at ∷ ats) (an_input _ e n) h =
-    (record { name = (port_named port.name h.0).named; free = λ f g. no_signal port.name h.0 count }, plain_terminals count place number left ports ats n h.1)
-plain_terminals count place number left (port ∷ ports) (at ∷ ats) (plain _ e n) h =
-    (record { name = (port_named port.name h.0).named; free = λ f g. no_signal port.name h.0 count }, plain_terminals count (place + 1) number left ports ats n h.1)
-plain_terminals count place number (_ ∷ left) (port ∷ ports) (at ∷ ats) (driven _ e n) h =
-    (record { name = (port_named port.name h.0).named; free = λ f g. no_signal port.name h.0 count }, plain_terminals count (place + 1) (number + 1) left ports ats n h.1)
+plain_terminals count place number left (port ∷ ports) (at ∷ ats) (an_input _ e n) h = (
+  record { name = (port_named port.name h.0).named; free = λ f g. no_signal port.name h.0 count },
+  plain_terminals count place
+      number left ports ats n h.1,
+)
+plain_terminals count place number left (port ∷ ports) (at ∷ ats) (plain _ e n) h = (
+  record { name = (port_named port.name h.0).named; free = λ f g. no_signal port.name h.0 count },
+  plain_terminals count
+      (place + 1) number left ports ats n h.1,
+)
+plain_terminals count place number (_ ∷ left) (port ∷ ports) (at ∷ ats) (driven _ e n) h = (
+  record { name = (port_named port.name h.0).named; free = λ f g. no_signal port.name h.0 count },
+  plain_terminals count
+      (place + 1) (number + 1) left ports ats n h.1,
+)
 
 -- no name is empty
 no_empty : (x : List ℕ) → IsNamed x → is_same x [] ≡ false
@@ -105,7 +119,8 @@ module _ (m : DriverModel) (w : IsWrittenDriver m) where
   its_plain = all_plain m.ports (recursion_from_All IsPortName (port_names m.ports) w.ports)
 
   pub terminals_free : AllByRecursion (IsTerminal is_name is_same data_word (length m.driver.drives)) (ports_of m)
-  terminals_free = plain_terminals (length m.driver.drives) 0 0 m.driver.drives m.ports (ports_of m) (sound.numbered m w.sound) its_plain
+  terminals_free = plain_terminals (length m.driver.drives) 0 0 m.driver.drives m.ports (ports_of m)
+      (sound.numbered m w.sound) its_plain
 
   pub ports_declared : AreApart (port_names m.ports) → AreDeclared [] m.ports
   ports_declared apart = record {
@@ -113,8 +128,11 @@ module _ (m : DriverModel) (w : IsWrittenDriver m) where
     new = λ before port after same. new before port after same;
   }
     where
-      new : (before : List VPort) (port : VPort) (after : List VPort) → before ++ port ∷ after ≡ m.ports → is_among ([] ∷ port_names before) port.name ≡ false
+      new : (before : List VPort) (port : VPort) (after : List VPort) → before ++ port ∷ after ≡ m.ports
+          → is_among ([] ∷ port_names before) port.name ≡ false
       new before port after same =
-          let n : IsNamed port.name = port_named port.name (at_place IsPlain before port after (subst (AllByRecursion IsPlain) (sym same) its_plain)) in
-          let split : port_names m.ports ≡ port_names before ++ port.name ∷ port_names after = ap port_names (sym same) ∙ map-append name_of_port before (port ∷ after) in
+          let n : IsNamed port.name = port_named port.name
+          (at_place IsPlain before port after (subst (AllByRecursion IsPlain) (sym same) its_plain)) in
+          let split : port_names m.ports ≡ port_names before ++ port.name ∷ port_names after =
+          ap port_names (sym same) ∙ map-append name_of_port before (port ∷ after) in
           rw (no_empty port.name n) (is_new (port_names before) port.name (port_names after) n (subst AreApart split apart))

@@ -28,7 +28,8 @@ all_with P (y ∷ xs) x h p = (h.0, all_with P xs x h.1 p)
 -- the names of a letter, `_` and the numbers up to a count
 pub signals_named : (b n : ℕ) → is_ascii_alphabetic b ≡ true → IsCount n → AllByRecursion IsNamed (all_numbered (b ∷ 95 ∷ []) n)
 signals_named b zero l h = tt
-signals_named b (suc n) l h = all_with IsNamed (all_numbered (b ∷ 95 ∷ []) n) _ (signals_named b n l (omega (arith, h))) (part_named b (suc n) l h)
+signals_named b (suc n) l h = all_with IsNamed (all_numbered (b ∷ 95 ∷ []) n) _ (signals_named b n l (omega (arith, h)))
+    (part_named b (suc n) l h)
 
 -- Ports.
 
@@ -43,7 +44,8 @@ by_names (port ∷ ports) h = (port_named port.name h.0, by_names ports h.1)
 pub ports_named : (d : DriverModel) → IsWrittenDriver d → AllByRecursion NamedPort d.ports
 ports_named d w = by_names d.ports (recursion_from_All IsPortName (port_names d.ports) w.ports)
 
-pub all_filtered : {A : Type 0} (P : A → Type 0) (test : A → Bool) (xs : List A) → AllByRecursion P xs → AllByRecursion P (filter test xs)
+pub all_filtered : {A : Type 0} (P : A → Type 0) (test : A → Bool) (xs : List A) → AllByRecursion P xs
+    → AllByRecursion P (filter test xs)
 all_filtered P test xs h = recursion_from_All P (filter test xs) (All-filter test P xs (All-from_recursion P xs h))
 
 to_names : (ports : List VPort) → AllByRecursion NamedPort ports → AllByRecursion IsNamed (port_names ports)
@@ -76,22 +78,27 @@ output_named d w i h =
 abbrev pub NamedTerminal : NumberedPort → Type 0
 NamedTerminal at = IsNamed (terminal_by data_word at.port.name at.number)
 
-terminal_named : (drives : List ℕ) → IsCount (length drives) → (place number : ℕ) (port : VPort) → IsNamed port.name → IsNamed (terminal_by data_word port.name (port_number drives place number port))
+terminal_named : (drives : List ℕ) → IsCount (length drives) → (place number : ℕ) (port : VPort) → IsNamed port.name
+    → IsNamed (terminal_by data_word port.name (port_number drives place number port))
 terminal_named drives few place number port n = by port.input
   where
-    driven : (b : Bool) → number < length drives → IsNamed (terminal_by data_word port.name (if b then Some (number + 1) else None))
+    driven : (b : Bool) → number < length drives
+        → IsNamed (terminal_by data_word port.name (if b then Some (number + 1) else None))
     driven true l = part_named 100 (number + 1) refl (omega (arith, l, few))
     driven false l = n
 
-    found : (o : Option ℕ) → slice_get drives number ≡ o → IsNamed (terminal_by data_word port.name (if option_map_or (nat_eq place) o false then Some (number + 1) else None))
+    found : (o : Option ℕ) → slice_get drives number ≡ o
+        → IsNamed (terminal_by data_word port.name (if option_map_or (nat_eq place) o false then Some (number + 1) else None))
     found None e = n
     found (Some x) e = driven (nat_eq place x) (slice_get_within drives number x e)
 
-    by : (b : Bool) → IsNamed (terminal_by data_word port.name (if b then None else (if option_map_or (nat_eq place) (slice_get drives number) false then Some (number + 1) else None)))
+    by : (b : Bool) → IsNamed (terminal_by data_word port.name
+        (if b then None else (if option_map_or (nat_eq place) (slice_get drives number) false then Some (number + 1) else None)))
     by true = n
     by false = found (slice_get drives number) refl
 
-pub terminals_named : (drives : List ℕ) → IsCount (length drives) → (place number : ℕ) (ports : List VPort) → AllByRecursion NamedPort ports → AllByRecursion NamedTerminal (numbered_ports drives place number ports)
+pub terminals_named : (drives : List ℕ) → IsCount (length drives) → (place number : ℕ) (ports : List VPort)
+    → AllByRecursion NamedPort ports → AllByRecursion NamedTerminal (numbered_ports drives place number ports)
 terminals_named drives few place number [] h = tt
 terminals_named drives few place number (port ∷ ports) h = (
   terminal_named drives few place number port h.0,

@@ -40,8 +40,10 @@ last_of a b c d e f g =
     ∙ ap (λ (t : List ℕ). c ++ t) (append_assoc d (e ++ f) g ∙ ap (λ (t : List ℕ). d ++ t) (append_assoc e f g))))
 
 pub before_is : (m : DriverModel) (end : List ℕ) →
-    driver_header_text m ++ (signals_text (driven_count m) ++ (core_text m ++ (process_text m ++ (statements_text m ++ (codes "  end process;\n" ++ end))))) ≡ before_end m ++ end
-before_is m end = sym (last_of (driver_header_text m) (signals_text (driven_count m)) (core_text m) (process_text m) (statements_text m) (codes "  end process;\n") end)
+    driver_header_text m ++ (signals_text (driven_count m)
+    ++ (core_text m ++ (process_text m ++ (statements_text m ++ (codes "  end process;\n" ++ end))))) ≡ before_end m ++ end
+before_is m end = sym (last_of (driver_header_text m) (signals_text (driven_count m)) (core_text m) (process_text m)
+    (statements_text m) (codes "  end process;\n") end)
 
 end_read : Reads section_end (codes "end" ∷ codes "process" ∷ codes ";" ∷ last_tokens) tt []
 unfolding section_end
@@ -50,22 +52,41 @@ end_read = in_turn (token refl) (in_turn five_expected (record { taken = (refl, 
 module _ (names : List (List ℕ)) (cores : List Core) (m : DriverModel) (h : IsWellFormedDriver names cores m) where
   it_is : driver_of (front names cores m h) (call names cores m h) m.driver.paths ≡ m
   it_is =
-      ap (λ (k : ℕ). record { name = m.name; core = m.core; ports = m.ports; driver = record { inputs = k; outputs = output_count m.ports; drives = m.driver.drives; paths = m.driver.paths } }) (sym h.written.sound.inputs)
-      ∙ ap (λ (k : ℕ). record { name = m.name; core = m.core; ports = m.ports; driver = record { inputs = m.driver.inputs; outputs = k; drives = m.driver.drives; paths = m.driver.paths } }) (sym h.written.sound.outputs)
+      ap (λ (k : ℕ). record {
+        name = m.name;
+        core = m.core;
+        ports = m.ports;
+        driver =
+            record { inputs = k; outputs = output_count m.ports; drives = m.driver.drives; paths = m.driver.paths };
+      })
+      (sym h.written.sound.inputs)
+      ∙ ap (λ (k : ℕ). record {
+        name = m.name;
+        core = m.core;
+        ports = m.ports;
+        driver =
+            record { inputs = m.driver.inputs; outputs = k; drives = m.driver.drives; paths = m.driver.paths };
+      })
+      (sym h.written.sound.outputs)
 
   pub section_read : Reads (section names cores) (before_end_front m last_tokens) m []
   unfolding section section_rest section_process
   section_read =
       let end : List (List ℕ) = codes "end" ∷ codes "process" ∷ codes ";" ∷ last_tokens in
-      in_turn (front_read names cores m h _) (in_turn (core_read names cores m h _) (in_turn (process_read names cores m h end) (in_turn end_read (to_same it_is gives))))
+      in_turn (front_read names cores m h _)
+      (in_turn (core_read names cores m h _)
+      (in_turn (process_read names cores m h end) (in_turn end_read (to_same it_is gives))))
 
-  spelled_section : (end : List ℕ) → spelled (scan lexis false 0 0 end) ≡ (last_tokens, false) → spelled (scan lexis false 0 0 (before_end m ++ end)) ≡ (before_end_front m last_tokens, false)
+  spelled_section : (end : List ℕ) → spelled (scan lexis false 0 0 end) ≡ (last_tokens, false)
+      → spelled (scan lexis false 0 0 (before_end m ++ end)) ≡ (before_end_front m last_tokens, false)
   spelled_section end e = found_is (before_end_spelled m h.written) end tt ∙ ap (in_front (before_end_front m)) e
 
-  is_section : (bytes end : List ℕ) → bytes ≡ before_end m ++ end → spelled (scan lexis false 0 0 end) ≡ (last_tokens, false) → IsSectionOf vital_drivers names cores bytes m
+  is_section : (bytes end : List ℕ) → bytes ≡ before_end m ++ end → spelled (scan lexis false 0 0 end) ≡ (last_tokens, false)
+      → IsSectionOf vital_drivers names cores bytes m
   unfolding section_text
   is_section bytes end same e =
-      reads_back (section_text names cores) (IsText (section_language names cores)) bytes m (section_answer names cores bytes).value
+      reads_back (section_text names cores) (IsText (section_language names cores)) bytes m
+      (section_answer names cores bytes).value
       (is_text (section_language names cores) bytes m (before_end_front m last_tokens)
       (ap (λ (s : List ℕ). spelled (scan lexis false 0 0 s)) same ∙ spelled_section end e) section_read)
 

@@ -65,7 +65,9 @@ driver_header_front m s =
     driver_packages_front (codes "entity" ∷ m.name ∷ codes "is" ∷ ports_front m.ports
     (codes "end" ∷ m.name ∷ codes ";" ∷ codes "architecture" ∷ codes "driven" ∷ codes "of" ∷ m.name ∷ codes "is" ∷ s))
 
-packages_word : SpellsInside Anything false (codes "use work.all;\nlibrary IEEE;\nuse IEEE.std_logic_1164.all;\nuse IEEE.VITAL_Timing.all;\nuse IEEE.VITAL_Primitives.all;\nentity ") (λ s. driver_packages_front (codes "entity" ∷ s)) false
+packages_word : SpellsInside Anything false
+    (codes "use work.all;\nlibrary IEEE;\nuse IEEE.std_logic_1164.all;\nuse IEEE.VITAL_Timing.all;\nuse IEEE.VITAL_Primitives.all;\nentity ")
+    (λ s. driver_packages_front (codes "entity" ∷ s)) false
 unfolding is_reserved is_used vhdl_words used_words
 packages_word = literal (λ r. refl) refl
 
@@ -73,7 +75,8 @@ is_word : {t : Bool} → SpellsInside Anything t (codes " is\n") (λ s. codes "i
 unfolding is_reserved is_used vhdl_words used_words
 is_word = literal (λ r. refl) refl
 
-architecture_word : {t : Bool} → SpellsInside Anything t (codes ";\narchitecture driven of ") (λ s. codes ";" ∷ codes "architecture" ∷ codes "driven" ∷ codes "of" ∷ s) false
+architecture_word : {t : Bool} → SpellsInside Anything t (codes ";\narchitecture driven of ")
+    (λ s. codes ";" ∷ codes "architecture" ∷ codes "driven" ∷ codes "of" ∷ s) false
 unfolding is_reserved is_used vhdl_words used_words
 architecture_word = literal (λ r. refl) refl
 
@@ -83,7 +86,10 @@ Other r = ends_next vhdl vhdl_marks false (codes "end") (32 ∷ r) ≡ false
 
 end_word : SpellsInside Other false (codes "end ") (λ s. codes "end" ∷ s) false
 unfolding is_reserved is_used vhdl_words used_words
-end_word = record { passes = λ r p. passes_found lexis (ends_next vhdl vhdl_marks) (codes "end ") r false (codes "end" ∷ []) false (by (ends_next vhdl vhdl_marks false (codes "end") (32 ∷ r)) p) }
+end_word = record {
+  passes = λ r p. passes_found lexis (ends_next vhdl vhdl_marks) (codes "end ") r false (codes "end" ∷ []) false
+      (by (ends_next vhdl vhdl_marks false (codes "end") (32 ∷ r)) p);
+}
   where
     by : (b : Bool) → b ≡ false → unless_barred (codes "end") (Some ([], false)) b ≡ Some (codes "end" ∷ [], false)
     by true e = absurd cc
@@ -92,8 +98,10 @@ end_word = record { passes = λ r p. passes_found lexis (ends_next vhdl vhdl_mar
 other_letters : (b : ℕ) (w r : List ℕ) → IsNamed (b ∷ w) → is_same (b ∷ w) (codes "driven") ≡ false → Ends r → Other (b ∷ w ++ r)
 other_letters b w r n other e =
     let p = and_parts (is_ascii_alphabetic b) _ n.identifier in
-    ap (λ (found : List Token × Option ℕ). are_next is_same (codes "driven" ∷ []) found.0) (offsets.over_separator lexis (is_name (codes "end")) 0 32 [] (b ∷ w ++ r) refl)
-    ∙ offsets.words_at lexis is_same (codes "driven" ∷ []) (is_name (codes "end")) 1 b w r (word_alone b (w ++ r) p.0) (word_token (is_name (codes "end")) b w r p.0 p.1 e)
+    ap (λ (found : List Token × Option ℕ). are_next is_same (codes "driven" ∷ []) found.0)
+    (offsets.over_separator lexis (is_name (codes "end")) 0 32 [] (b ∷ w ++ r) refl)
+    ∙ offsets.words_at lexis is_same (codes "driven" ∷ []) (is_name (codes "end")) 1 b w r (word_alone b (w ++ r) p.0)
+    (word_token (is_name (codes "end")) b w r p.0 p.1 e)
     ∙ ap (λ (q : Bool). q && true) other
 
 -- a name that is not `driven`
@@ -107,24 +115,30 @@ own_name m w = inside (name m.name (entity_named m.name w.name))
 
 -- a driver has a port
 pub some_port : (m : DriverModel) → IsWrittenDriver m → 1 ≤ length m.ports
-some_port m w = by m.driver.drives w.some (recursion_from_All (λ place. place < m.driver.outputs) m.driver.drives w.sound.driver.outputs)
+some_port m w = by m.driver.drives w.some
+    (recursion_from_All (λ place. place < m.driver.outputs) m.driver.drives w.sound.driver.outputs)
   where
     by : (drives : List ℕ) → 1 ≤ length drives → AllByRecursion (λ place. place < m.driver.outputs) drives → 1 ≤ length m.ports
     by [] some h = absurd (omega (arith, some))
-    by (place ∷ drives) some h = omega (arith, h.0, w.sound.outputs, count_by-le-length (λ (port : VPort). not port.input) m.ports)
+    by (place ∷ drives) some h = omega
+        (arith, h.0, w.sound.outputs, count_by-le-length (λ (port : VPort). not port.input) m.ports)
 
 named_places : (ports : List VPort) → AllByRecursion NamedPort ports → AreNamed ports
 named_places ports h before port after same = at_place NamedPort before port after (subst (AllByRecursion NamedPort) (sym same) h)
 
-its_ports : (ports : List VPort) → 1 ≤ length ports → AllByRecursion NamedPort ports → Spells Anything false (some_ports_text ports) (ports_front ports) false
+its_ports : (ports : List VPort) → 1 ≤ length ports → AllByRecursion NamedPort ports
+    → Spells Anything false (some_ports_text ports) (ports_front ports) false
 its_ports [] some h = absurd (omega (arith, some))
 its_ports (port ∷ ports) some h = some_ports_spelled port ports (named_places (port ∷ ports) h)
 
-header_spelled : (m : DriverModel) → IsWrittenDriver m → SpellsInside Anything false (driver_header_text m) (driver_header_front m) false
+header_spelled : (m : DriverModel) → IsWrittenDriver m
+    → SpellsInside Anything false (driver_header_text m) (driver_header_front m) false
 unfolding driver_header_text
 header_spelled m w =
-    behind packages_word (joins (own_name m w) (λ r q. refl) (behind is_word (behind (inside (its_ports m.ports (some_port m w) (ports_named m w)))
-    (joins end_word (λ r q. other_named m.name (codes ";\narchitecture driven of " ++ (m.name ++ codes " is\n")) r (entity_named m.name w.name) w.other refl)
+    behind packages_word (joins (own_name m w) (λ r q. refl)
+    (behind is_word (behind (inside (its_ports m.ports (some_port m w) (ports_named m w)))
+    (joins end_word (λ r q. other_named m.name (codes ";\narchitecture driven of " ++ (m.name ++ codes " is\n")) r
+    (entity_named m.name w.name) w.other refl)
     (joins (own_name m w) (λ r q. refl) (behind architecture_word (joins (own_name m w) (λ r q. refl) is_word)))))))
 
 -- The signals.
@@ -164,10 +178,12 @@ listed_front word (suc n) s = each next_name_front (all_numbered word n) (number
 next_name : {t : Bool} (x : List ℕ) → IsNamed x → Spells Anything t (next_name_text x) (next_name_front x) false
 next_name x n = joins (name x n) (λ r q. refl) comma
 
-next_names : (xs : List (List ℕ)) → AllByRecursion IsNamed xs → Spells Anything false (flat_map next_name_text xs) (each next_name_front xs) false
+next_names : (xs : List (List ℕ)) → AllByRecursion IsNamed xs
+    → Spells Anything false (flat_map next_name_text xs) (each next_name_front xs) false
 next_names xs h = each_spelled IsNamed next_name (λ x r p. tt) xs h
 
-listed_spelled : (b n : ℕ) → is_ascii_alphabetic b ≡ true → 1 ≤ n → IsCount n → Spells Ends false (listed_names_text (b ∷ 95 ∷ []) n) (listed_front (b ∷ 95 ∷ []) n) true
+listed_spelled : (b n : ℕ) → is_ascii_alphabetic b ≡ true → 1 ≤ n → IsCount n
+    → Spells Ends false (listed_names_text (b ∷ 95 ∷ []) n) (listed_front (b ∷ 95 ∷ []) n) true
 listed_spelled b zero l some h = absurd (omega (arith, some))
 listed_spelled b (suc n) l some h =
     behind (next_names (all_numbered (b ∷ 95 ∷ []) n) (signals_named b n l (omega (arith, h)))) (part b (suc n) l h)
@@ -182,29 +198,36 @@ terminals_front m s = each next_terminal_front (ports_of m) (listed_front enable
 
 abbrev pub core_front : DriverModel → Front
 core_front m s =
-    codes "begin" ∷ codes "u_1" ∷ codes ":" ∷ codes "entity" ∷ codes "work" ∷ codes "." ∷ m.core ∷ codes "port" ∷ codes "map" ∷ codes "("
+    codes "begin" ∷ codes "u_1" ∷ codes ":" ∷ codes "entity" ∷ codes "work" ∷ codes "." ∷ m.core ∷ codes "port" ∷ codes "map"
+    ∷ codes "("
     ∷ terminals_front m (codes ")" ∷ codes ";" ∷ s)
 
-core_word : Spells Anything false (codes "begin\n  u_1 : entity work.") (λ s. codes "begin" ∷ codes "u_1" ∷ codes ":" ∷ codes "entity" ∷ codes "work" ∷ codes "." ∷ s) false
+core_word : Spells Anything false (codes "begin\n  u_1 : entity work.")
+    (λ s. codes "begin" ∷ codes "u_1" ∷ codes ":" ∷ codes "entity" ∷ codes "work" ∷ codes "." ∷ s) false
 core_word = literal (λ r. refl) refl
 
 map_word : {t : Bool} → Spells Anything t (codes " port map (") (λ s. codes "port" ∷ codes "map" ∷ codes "(" ∷ s) false
 map_word = literal (λ r. refl) refl
 
-terminals_spelled : (m : DriverModel) → IsWrittenDriver m → Spells Ends false (terminals_text data_word enable_word m) (terminals_front m) true
+terminals_spelled : (m : DriverModel) → IsWrittenDriver m
+    → Spells Ends false (terminals_text data_word enable_word m) (terminals_front m) true
 terminals_spelled m w =
-    behind (each_spelled NamedTerminal (λ at n. next_name (terminal_by data_word at.port.name at.number) n) (λ x r p. tt) (ports_of m) (terminals_named m.driver.drives w.few 0 0 m.ports (ports_named m w)))
+    behind (each_spelled NamedTerminal (λ at n. next_name (terminal_by data_word at.port.name at.number) n) (λ x r p. tt)
+    (ports_of m) (terminals_named m.driver.drives w.few 0 0 m.ports (ports_named m w)))
     (listed_spelled 101 (driven_count m) refl w.some w.few)
 
 core_spelled : (m : DriverModel) → IsWrittenDriver m → Spells Anything false (core_text m) (core_front m) false
 unfolding core_text
-core_spelled m w = behind core_word (joins (name m.core (entity_named m.core w.core)) (λ r q. refl) (behind map_word (joins (terminals_spelled m w) (λ r q. refl) call_end)))
+core_spelled m w = behind core_word
+    (joins (name m.core (entity_named m.core w.core)) (λ r q. refl)
+    (behind map_word (joins (terminals_spelled m w) (λ r q. refl) call_end)))
 
 -- The list of signals of the process.
 
 abbrev pub process_front : DriverModel → Front
 process_front m s =
-    codes "process" ∷ codes "(" ∷ each next_name_front (input_names m.ports) (each next_name_front (all_numbered data_word (driven_count m))
+    codes "process" ∷ codes "(" ∷ each next_name_front (input_names m.ports)
+    (each next_name_front (all_numbered data_word (driven_count m))
     (listed_front enable_word (driven_count m) (codes ")" ∷ s)))
 
 process_word : Spells Anything false (codes "  process (") (λ s. codes "process" ∷ codes "(" ∷ s) false
@@ -216,47 +239,60 @@ list_end = literal (λ r. refl) refl
 process_spelled : (m : DriverModel) → IsWrittenDriver m → Spells Anything false (process_text m) (process_front m) false
 unfolding process_text
 process_spelled m w =
-    behind process_word (behind (next_names (input_names m.ports) (inputs_named m w)) (behind (next_names (all_numbered data_word (driven_count m)) (signals_named 100 (driven_count m) refl w.few))
+    behind process_word (behind (next_names (input_names m.ports) (inputs_named m w))
+    (behind (next_names (all_numbered data_word (driven_count m)) (signals_named 100 (driven_count m) refl w.few))
     (joins (listed_spelled 101 (driven_count m) refl w.some w.few) (λ r q. refl) list_end)))
 
 -- The variables.
 
 abbrev pub glitch_front : ℕ → List DrivePath → Front
 glitch_front n [] s = s
-glitch_front n (path ∷ paths) s = codes "variable" ∷ (103 ∷ 95 ∷ decimal n) ∷ codes ":" ∷ codes "VitalGlitchDataType" ∷ codes ";" ∷ s
+glitch_front n (path ∷ paths) s =
+    codes "variable" ∷ (103 ∷ 95 ∷ decimal n) ∷ codes ":" ∷ codes "VitalGlitchDataType" ∷ codes ";" ∷ s
 
 abbrev pub driven_variables_front : DriverModel → ℕ → ℕ → Front
 driven_variables_front m n place s =
-    codes "variable" ∷ (122 ∷ 95 ∷ decimal n) ∷ codes ":" ∷ codes "std_logic" ∷ codes ":=" ∷ codes "'X'" ∷ codes ";" ∷ glitch_front n (own_paths m n) s
+    codes "variable" ∷ (122 ∷ 95 ∷ decimal n) ∷ codes ":" ∷ codes "std_logic" ∷ codes ":=" ∷ codes "'X'" ∷ codes ";"
+    ∷ glitch_front n (own_paths m n) s
 
-glitch_spelled : (n : ℕ) (paths : List DrivePath) → IsCount n → Spells Anything false (if nat_lt 0 (length paths) then delays_text n else []) (glitch_front n paths) false
+glitch_spelled : (n : ℕ) (paths : List DrivePath) → IsCount n
+    → Spells Anything false (if nat_lt 0 (length paths) then delays_text n else []) (glitch_front n paths) false
 unfolding delays_text
 glitch_spelled n [] h = nothing
-glitch_spelled n (path ∷ paths) h = shown (nat_lt 0 (length (path ∷ paths))) (some_items (length paths)) (part_behind 103 n refl h variable_word (λ r q. refl) glitch_type)
+glitch_spelled n (path ∷ paths) h =
+    shown (nat_lt 0 (length (path ∷ paths))) (some_items (length paths))
+    (part_behind 103 n refl h variable_word (λ r q. refl) glitch_type)
 
-variables_spelled : (m : DriverModel) (n place : ℕ) → IsCount n → Spells Anything false (driven_variables_text m n place) (driven_variables_front m n place) false
+variables_spelled : (m : DriverModel) (n place : ℕ) → IsCount n
+    → Spells Anything false (driven_variables_text m n place) (driven_variables_front m n place) false
 unfolding driven_variables_text
-variables_spelled m n place h = part_behind 122 n refl h variable_word (λ r q. refl) (behind output_type (glitch_spelled n (own_paths m n) h))
+variables_spelled m n place h = part_behind 122 n refl h variable_word (λ r q. refl)
+    (behind output_type (glitch_spelled n (own_paths m n) h))
 
 -- The buffers.
 
 abbrev pub buffer_front : ℕ → ℕ → Front
 buffer_front n place s =
-    (122 ∷ 95 ∷ decimal n) ∷ codes ":=" ∷ codes "VitalBUFIF1" ∷ codes "(" ∷ (100 ∷ 95 ∷ decimal n) ∷ codes "," ∷ (101 ∷ 95 ∷ decimal n) ∷ codes ")" ∷ codes ";" ∷ s
+    (122 ∷ 95 ∷ decimal n) ∷ codes ":=" ∷ codes "VitalBUFIF1" ∷ codes
+    "(" ∷ (100 ∷ 95 ∷ decimal n) ∷ codes "," ∷ (101 ∷ 95 ∷ decimal n) ∷ codes ")" ∷ codes ";" ∷ s
 
-buffer_word : {t : Bool} → Spells Anything t (codes " := VitalBUFIF1 (") (λ s. codes ":=" ∷ codes "VitalBUFIF1" ∷ codes "(" ∷ s) false
+buffer_word : {t : Bool} → Spells Anything t
+    (codes " := VitalBUFIF1 (") (λ s. codes ":=" ∷ codes "VitalBUFIF1" ∷ codes "(" ∷ s) false
 buffer_word = literal (λ r. refl) refl
 
 buffer_spelled : (n place : ℕ) → IsCount n → Spells Anything false (buffer_text n place) (buffer_front n place) false
 unfolding buffer_text
 buffer_spelled n place h =
-    part_behind 122 n refl h indented (λ r q. refl) (part_behind 100 n refl h buffer_word (λ r q. refl) (part_behind 101 n refl h comma (λ r q. refl) call_end))
+    part_behind 122 n refl h indented (λ r q. refl)
+    (part_behind 100 n refl h buffer_word (λ r q. refl) (part_behind 101 n refl h comma (λ r q. refl) call_end))
 
 -- The paths.
 
 abbrev pub drive_path_front : DriverModel → ℕ → DrivePath → Front
 drive_path_front m n path s =
-    decimal (n - 1) ∷ codes "=>" ∷ codes "(" ∷ name_at (inputs m.ports) path.from ∷ codes "'" ∷ codes "last_event" ∷ codes "," ∷ codes "(" ∷ decimal path.rise ∷ codes "ps" ∷ codes ","
+    decimal (n - 1) ∷ codes "=>" ∷ codes
+    "(" ∷ name_at (inputs m.ports) path.from ∷ codes "'" ∷ codes "last_event" ∷ codes "," ∷ codes
+    "(" ∷ decimal path.rise ∷ codes "ps" ∷ codes ","
     ∷ decimal path.fall ∷ codes "ps" ∷ codes ")" ∷ codes "," ∷ codes "true" ∷ codes ")" ∷ s
 
 abbrev pub drive_paths_front : DriverModel → List DrivePath → Front
@@ -264,8 +300,11 @@ drive_paths_front m paths s = apart_front (λ q. codes "," ∷ q) (drive_path_fr
 
 abbrev pub path_call_front : DriverModel → ℕ → List ℕ → List DrivePath → Front
 path_call_front m n x paths s =
-    codes "VitalPathDelay01" ∷ codes "(" ∷ codes "OutSignal" ∷ codes "=>" ∷ x ∷ codes "," ∷ codes "GlitchData" ∷ codes "=>" ∷ (103 ∷ 95 ∷ decimal n) ∷ codes "," ∷ codes "OutSignalName" ∷ codes "=>" ∷ quoted x
-    ∷ codes "," ∷ codes "OutTemp" ∷ codes "=>" ∷ (122 ∷ 95 ∷ decimal n) ∷ codes "," ∷ codes "Paths" ∷ codes "=>" ∷ codes "(" ∷ drive_paths_front m paths
+    codes "VitalPathDelay01" ∷ codes
+    "(" ∷ codes "OutSignal" ∷ codes "=>" ∷ x ∷ codes "," ∷ codes "GlitchData" ∷ codes "=>" ∷ (103 ∷ 95 ∷ decimal n) ∷ codes
+    "," ∷ codes "OutSignalName" ∷ codes "=>" ∷ quoted x
+    ∷ codes "," ∷ codes "OutTemp" ∷ codes "=>" ∷ (122 ∷ 95 ∷ decimal n) ∷ codes "," ∷ codes "Paths" ∷ codes "=>" ∷ codes
+    "(" ∷ drive_paths_front m paths
     (codes ")" ∷ codes "," ∷ codes "Mode" ∷ codes "=>" ∷ codes "VitalTransport" ∷ codes ")" ∷ codes ";" ∷ s)
 
 abbrev pub line_by_front : DriverModel → ℕ → List ℕ → List DrivePath → Front
@@ -275,7 +314,8 @@ line_by_front m n x (path ∷ paths) s = path_call_front m n x (path ∷ paths) 
 abbrev pub driven_line_front : DriverModel → ℕ → ℕ → Front
 driven_line_front m n place s = line_by_front m n (name_at (outputs m.ports) place) (own_paths m n) s
 
-true_end : {t : Bool} → Spells Anything t (codes " ps), true)") (λ s. codes "ps" ∷ codes ")" ∷ codes "," ∷ codes "true" ∷ codes ")" ∷ s) false
+true_end : {t : Bool} → Spells Anything t (codes " ps), true)") (λ s. codes "ps" ∷ codes ")" ∷ codes "," ∷ codes "true" ∷ codes
+    ")" ∷ s) false
 true_end = literal (λ r. refl) refl
 
 -- paths that a text can tell
@@ -286,66 +326,96 @@ record ArePaths (m : DriverModel) (paths : List DrivePath) : Type 0 where
 
 its_paths : (m : DriverModel) → IsWrittenDriver m → (n : ℕ) → ArePaths m (own_paths m n)
 its_paths m w n = record {
-  written = all_filtered HasNumbers (λ (path : DrivePath). nat_eq path.drive (n - 1)) m.driver.paths (recursion_from_All HasNumbers m.driver.paths w.paths);
-  sound = all_filtered (IsPathOf m.driver) (λ (path : DrivePath). nat_eq path.drive (n - 1)) m.driver.paths (recursion_from_All (IsPathOf m.driver) m.driver.paths w.sound.driver.paths);
+  written = all_filtered HasNumbers (λ (path : DrivePath). nat_eq path.drive (n - 1)) m.driver.paths
+      (recursion_from_All HasNumbers m.driver.paths w.paths);
+  sound = all_filtered (IsPathOf m.driver) (λ (path : DrivePath). nat_eq path.drive (n - 1)) m.driver.paths
+      (recursion_from_All (IsPathOf m.driver) m.driver.paths w.sound.driver.paths);
   few = few_filtered (λ (path : DrivePath). nat_eq path.drive (n - 1)) m.driver.paths (10 ^ 15) w.few_paths;
 }
 
-drive_path_spelled : (m : DriverModel) → IsWrittenDriver m → (all : List DrivePath) → ArePaths m all → (before : List DrivePath) (path : DrivePath) (after : List DrivePath) → before ++ path ∷ after ≡ all
-    → Spells Anything false (decimal (length before + 1 - 1) ++ (codes " => (" ++ (name_at (inputs m.ports) path.from ++ (codes "'last_event, (" ++ (decimal path.rise ++ (codes " ps, " ++ (decimal path.fall ++ codes " ps), true)")))))))
+drive_path_spelled : (m : DriverModel) → IsWrittenDriver m → (all : List DrivePath) → ArePaths m all
+    → (before : List DrivePath) (path : DrivePath) (after : List DrivePath) → before ++ path ∷ after ≡ all
+    → Spells Anything false (decimal (length before + 1 - 1)
+    ++ (codes " => (" ++ (name_at (inputs m.ports) path.from
+    ++ (codes "'last_event, (" ++ (decimal path.rise ++ (codes " ps, " ++ (decimal path.fall ++ codes " ps), true)")))))))
     (drive_path_front m (length before + 1) path) false
 drive_path_spelled m w all h before path after same =
-    let written : HasNumbers path = at_place HasNumbers before path after (subst (AllByRecursion HasNumbers) (sym same) h.written) in
-    let sound : IsPathOf m.driver path = at_place (IsPathOf m.driver) before path after (subst (AllByRecursion (IsPathOf m.driver)) (sym same) h.sound) in
-    let index : IsNumber (length before + 1 - 1) = subst IsNumber (sym (index_is (length before))) (index_fits before path after all same h.few) in
-    joins (number (length before + 1 - 1) index) (λ r q. refl) (behind path_start (joins (name (name_at (inputs m.ports) path.from) (input_named m w path.from sound.from)) (λ r q. refl)
-    (behind event_word (joins (number path.rise written.rise) (λ r q. refl) (behind rise_end (joins (number path.fall written.fall) (λ r q. refl) true_end))))))
+    let written : HasNumbers path = at_place HasNumbers before path after (subst (AllByRecursion HasNumbers) (sym same) h.written)
+    in
+    let sound : IsPathOf m.driver path =
+    at_place (IsPathOf m.driver) before path after (subst (AllByRecursion (IsPathOf m.driver)) (sym same) h.sound) in
+    let index : IsNumber (length before + 1 - 1) =
+    subst IsNumber (sym (index_is (length before))) (index_fits before path after all same h.few) in
+    joins (number (length before + 1 - 1) index) (λ r q. refl)
+    (behind path_start (joins (name (name_at (inputs m.ports) path.from) (input_named m w path.from sound.from)) (λ r q. refl)
+    (behind event_word (joins (number path.rise written.rise) (λ r q. refl)
+    (behind rise_end (joins (number path.fall written.fall) (λ r q. refl) true_end))))))
 
 drive_path_text_is : (m : DriverModel) (n : ℕ) (path : DrivePath) → drive_path_text m.ports n path
-    ≡ apart_text (codes ", ") n ++ (decimal (n - 1) ++ (codes " => (" ++ (name_at (inputs m.ports) path.from ++ (codes "'last_event, (" ++ (decimal path.rise ++ (codes " ps, " ++ (decimal path.fall ++ codes " ps), true)")))))))
+    ≡ apart_text (codes ", ") n ++ (decimal (n - 1)
+    ++ (codes " => (" ++ (name_at (inputs m.ports) path.from
+    ++ (codes "'last_event, (" ++ (decimal path.rise ++ (codes " ps, " ++ (decimal path.fall ++ codes " ps), true)")))))))
 unfolding drive_path_text
 drive_path_text_is m n path = refl
 
-drive_paths_spelled : (m : DriverModel) → IsWrittenDriver m → (path : DrivePath) (paths : List DrivePath) → ArePaths m (path ∷ paths)
+drive_paths_spelled : (m : DriverModel) → IsWrittenDriver m → (path : DrivePath) (paths : List DrivePath)
+    → ArePaths m (path ∷ paths)
     → Spells Anything false (numbered_texts (drive_path_text m.ports) 1 (path ∷ paths)) (drive_paths_front m (path ∷ paths)) false
 drive_paths_spelled m w path paths h =
     apart_spelled (codes ", ") (λ q. codes "," ∷ q) (drive_path_text m.ports)
-    (λ n x. decimal (n - 1) ++ (codes " => (" ++ (name_at (inputs m.ports) x.from ++ (codes "'last_event, (" ++ (decimal x.rise ++ (codes " ps, " ++ (decimal x.fall ++ codes " ps), true)")))))))
+    (λ n x. decimal (n - 1) ++ (codes
+    " => (" ++ (name_at (inputs m.ports) x.from
+    ++ (codes "'last_event, (" ++ (decimal x.rise ++ (codes " ps, " ++ (decimal x.fall ++ codes " ps), true)")))))))
     (drive_path_front m) (drive_path_text_is m) comma (λ r. tt) path paths (drive_path_spelled m w (path ∷ paths) h)
 
 -- The lines of the outputs.
 
-call_spelled : (m : DriverModel) → IsWrittenDriver m → (n : ℕ) (x : List ℕ) (path : DrivePath) (paths : List DrivePath) → own_paths m n ≡ path ∷ paths → IsCount n → IsNamed x → ArePaths m (path ∷ paths)
+call_spelled : (m : DriverModel) → IsWrittenDriver m → (n : ℕ) (x : List ℕ) (path : DrivePath) (paths : List DrivePath)
+    → own_paths m n ≡ path ∷ paths → IsCount n → IsNamed x → ArePaths m (path ∷ paths)
     → Spells Anything false (path_call_text m n x) (path_call_front m n x (path ∷ paths)) false
 unfolding path_call_text
 call_spelled m w n x path paths same h k i =
-    let list : Spells Anything false (numbered_texts (drive_path_text m.ports) 1 (own_paths m n)) (drive_paths_front m (path ∷ paths)) false =
-    subst (λ (l : List DrivePath). Spells Anything false (numbered_texts (drive_path_text m.ports) 1 l) (drive_paths_front m (path ∷ paths)) false) (sym same) (drive_paths_spelled m w path paths i) in
-    behind path_call_word (joins (name x k) (λ r q. refl) (part_behind 103 n refl h (argument (codes "GlitchData") (λ r. refl)) (λ r q. refl) (quoted_behind x k (argument (codes "OutSignalName") (λ r. refl))
-    (part_behind 122 n refl h (argument (codes "OutTemp") (λ r. refl)) (λ r q. refl) (behind paths_word (behind list paths_end))))))
+    let list : Spells Anything false (numbered_texts (drive_path_text m.ports) 1 (own_paths m n))
+    (drive_paths_front m (path ∷ paths)) false =
+    subst (λ (l : List DrivePath). Spells Anything false (numbered_texts (drive_path_text m.ports) 1 l)
+    (drive_paths_front m (path ∷ paths)) false) (sym same) (drive_paths_spelled m w path paths i) in
+    behind path_call_word (joins (name x k) (λ r q. refl)
+    (part_behind 103 n refl h (argument (codes "GlitchData") (λ r. refl)) (λ r q. refl)
+    (quoted_behind x k (argument (codes "OutSignalName") (λ r. refl))
+    (part_behind 122 n refl h (argument (codes "OutTemp") (λ r. refl)) (λ r q. refl)
+    (behind paths_word (behind list paths_end))))))
 
-direct_spelled : (m : DriverModel) (n : ℕ) (x : List ℕ) → IsCount n → IsNamed x → Spells Anything false (direct_text n x) (line_by_front m n x []) false
+direct_spelled : (m : DriverModel) (n : ℕ) (x : List ℕ) → IsCount n → IsNamed x
+    → Spells Anything false (direct_text n x) (line_by_front m n x []) false
 unfolding direct_text
-direct_spelled m n x h k = behind indented (joins (name x k) (λ r q. refl) (part_behind 122 n refl h takes (λ r q. refl) line_end))
+direct_spelled m n x h k = behind indented
+    (joins (name x k) (λ r q. refl) (part_behind 122 n refl h takes (λ r q. refl) line_end))
 
-line_spelled : (m : DriverModel) → IsWrittenDriver m → (n : ℕ) (x : List ℕ) (paths : List DrivePath) → own_paths m n ≡ paths → IsCount n → IsNamed x → ArePaths m paths
-    → Spells Anything false (if nat_lt 0 (length paths) then path_call_text m n x else direct_text n x) (line_by_front m n x paths) false
+line_spelled : (m : DriverModel) → IsWrittenDriver m → (n : ℕ) (x : List ℕ) (paths : List DrivePath) → own_paths m n ≡ paths
+    → IsCount n → IsNamed x → ArePaths m paths
+    → Spells Anything false (if nat_lt 0 (length paths) then path_call_text m n x else direct_text n x)
+    (line_by_front m n x paths) false
 line_spelled m w n x [] same h k i = direct_spelled m n x h k
 line_spelled m w n x (path ∷ paths) same h k i =
-    subst (λ (b : Bool). Spells Anything false (if b then path_call_text m n x else direct_text n x) (line_by_front m n x (path ∷ paths)) false) (sym (some_items (length paths)))
+    subst (λ (b : Bool). Spells Anything false (if b then path_call_text m n x else direct_text n x)
+    (line_by_front m n x (path ∷ paths)) false) (sym (some_items (length paths)))
     (call_spelled m w n x path paths same h k i)
 
-driven_line_spelled : (m : DriverModel) → IsWrittenDriver m → (n place : ℕ) → IsCount n → place < m.driver.outputs → Spells Anything false (driven_line m n place) (driven_line_front m n place) false
+driven_line_spelled : (m : DriverModel) → IsWrittenDriver m → (n place : ℕ) → IsCount n → place < m.driver.outputs
+    → Spells Anything false (driven_line m n place) (driven_line_front m n place) false
 unfolding driven_line
-driven_line_spelled m w n place h l = line_spelled m w n (name_at (outputs m.ports) place) (own_paths m n) refl h (output_named m w place l) (its_paths m w n)
+driven_line_spelled m w n place h l =
+    line_spelled m w n (name_at (outputs m.ports) place) (own_paths m n) refl h (output_named m w place l) (its_paths m w n)
 
 -- The process behind its list.
 
 abbrev pub statements_front : DriverModel → Front
 statements_front m s =
-    counted (driven_variables_front m) 1 m.driver.drives (codes "begin" ∷ counted buffer_front 1 m.driver.drives (counted (driven_line_front m) 1 m.driver.drives s))
+    counted (driven_variables_front m) 1 m.driver.drives
+    (codes "begin" ∷ counted buffer_front 1 m.driver.drives (counted (driven_line_front m) 1 m.driver.drives s))
 
-drive_count : (m : DriverModel) → IsWrittenDriver m → (before : List ℕ) (place : ℕ) (after : List ℕ) → before ++ place ∷ after ≡ m.driver.drives → IsCount (length before + 1)
+drive_count : (m : DriverModel) → IsWrittenDriver m → (before : List ℕ) (place : ℕ) (after : List ℕ)
+    → before ++ place ∷ after ≡ m.driver.drives → IsCount (length before + 1)
 drive_count m w before place after same = omega (arith, place_below before place after m.driver.drives same, w.few)
 
 statements_spelled : (m : DriverModel) → IsWrittenDriver m → Spells Anything false (statements_text m) (statements_front m) false
@@ -354,7 +424,8 @@ statements_spelled m w =
     behind (counted_anywhere (driven_variables_text m) (driven_variables_front m) m.driver.drives
     (λ before place after same. variables_spelled m (length before + 1) place (drive_count m w before place after same)))
     (behind begin_word
-    (behind (counted_anywhere buffer_text buffer_front m.driver.drives (λ before place after same. buffer_spelled (length before + 1) place (drive_count m w before place after same)))
+    (behind (counted_anywhere buffer_text buffer_front m.driver.drives
+    (λ before place after same. buffer_spelled (length before + 1) place (drive_count m w before place after same)))
     (counted_anywhere (driven_line m) (driven_line_front m) m.driver.drives
     (λ before place after same. driven_line_spelled m w (length before + 1) place (drive_count m w before place after same)
     (fact_at (λ place. place < m.driver.outputs) m.driver.drives w.sound.driver.outputs before place after same)))))
@@ -368,12 +439,16 @@ before_end m =
 
 abbrev pub before_end_front : DriverModel → Front
 before_end_front m s =
-    driver_header_front m (signals_front (driven_count m) (core_front m (process_front m (statements_front m (codes "end" ∷ codes "process" ∷ codes ";" ∷ s)))))
+    driver_header_front m (signals_front (driven_count m)
+    (core_front m (process_front m (statements_front m (codes "end" ∷ codes "process" ∷ codes ";" ∷ s)))))
 
 process_end : Spells Anything false (codes "  end process;\n") (λ s. codes "end" ∷ codes "process" ∷ codes ";" ∷ s) false
 process_end = literal (λ r. refl) refl
 
 -- the tokens of a driver's text, none of which ends its section
-pub before_end_spelled : (m : DriverModel) → IsWrittenDriver m → SpellsInside Anything false (before_end m) (before_end_front m) false
+pub before_end_spelled : (m : DriverModel) → IsWrittenDriver m
+    → SpellsInside Anything false (before_end m) (before_end_front m) false
 before_end_spelled m w =
-    behind (header_spelled m w) (inside (behind (signals_spelled (driven_count m) w.few) (behind (core_spelled m w) (behind (process_spelled m w) (behind (statements_spelled m w) process_end)))))
+    behind (header_spelled m w) (inside
+    (behind (signals_spelled (driven_count m) w.few)
+    (behind (core_spelled m w) (behind (process_spelled m w) (behind (statements_spelled m w) process_end)))))

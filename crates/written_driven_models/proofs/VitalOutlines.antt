@@ -25,7 +25,8 @@ last_words = codes "end driven;"
 
 -- where a section ends that they close
 ends_there : (at : ℕ) (r : List ℕ) → ends is_same vhdl_marks.ending false (scan false at 0 (last_words ++ r)).0
-    ≡ (at + 1 + 1 + 1 + 1 + 1 + 1 + 1 + 1 + 1 + 1 + 1) ∷ ends is_same vhdl_marks.ending false (scan false (at + 1 + 1 + 1 + 1 + 1 + 1 + 1 + 1 + 1 + 1 + 1) 0 r).0
+    ≡ (at + 1 + 1 + 1 + 1 + 1 + 1 + 1 + 1 + 1 + 1 + 1) ∷ ends is_same vhdl_marks.ending false
+    (scan false (at + 1 + 1 + 1 + 1 + 1 + 1 + 1 + 1 + 1 + 1 + 1) 0 r).0
 ends_there at r = refl
 
 -- The section.
@@ -41,12 +42,14 @@ joined a b c d e f g h same =
 section_parts : (d : DriverModel) → driver_section d ≡ before_end d ++ last_words
 unfolding driver_section
 section_parts d =
-    sym (joined (driver_header_text d) (signals_text (driven_count d)) (core_text d) (process_text d) (statements_text d) (codes "  end process;\n") last_words (codes "  end process;\nend driven;") refl)
+    sym (joined (driver_header_text d) (signals_text (driven_count d)) (core_text d) (process_text d) (statements_text d)
+    (codes "  end process;\n") last_words (codes "  end process;\nend driven;") refl)
 
 text_parts : (d : DriverModel) → driver_text d ≡ driver_section d ++ codes "\n"
 unfolding driver_section driver_text
 text_parts d =
-    sym (joined (driver_header_text d) (signals_text (driven_count d)) (core_text d) (process_text d) (statements_text d) (codes "  end process;\nend driven;") (codes "\n") (codes "  end process;\nend driven;\n") refl)
+    sym (joined (driver_header_text d) (signals_text (driven_count d)) (core_text d) (process_text d) (statements_text d)
+    (codes "  end process;\nend driven;") (codes "\n") (codes "  end process;\nend driven;\n") refl)
 
 -- the section behind its first byte
 abbrev section_behind : DriverModel → List ℕ
@@ -64,14 +67,17 @@ begun : (d : DriverModel) (r : List ℕ) → begins_section vhdl vhdl_marks fals
 unfolding driver_section driver_header_text
 begun d r = refl
 
-size : (d : DriverModel) → IsWrittenDriver d → (r : List ℕ) → section_length vhdl vhdl_marks ((117 ∷ section_behind d) ++ r) ≡ suc (length (section_behind d))
+size : (d : DriverModel) → IsWrittenDriver d → (r : List ℕ)
+    → section_length vhdl vhdl_marks ((117 ∷ section_behind d) ++ r) ≡ suc (length (section_behind d))
 size d w r =
     let at : ℕ = length (before_end d) in
     let whole : 117 ∷ section_behind d ≡ before_end d ++ last_words = sym (section_same d) ∙ section_parts d in
-    let n : at + 1 + 1 + 1 + 1 + 1 + 1 + 1 + 1 + 1 + 1 + 1 ≡ suc (length (section_behind d)) = omega (arith, ap length whole, length-append (before_end d) last_words) in
+    let n : at + 1 + 1 + 1 + 1 + 1 + 1 + 1 + 1 + 1 + 1 + 1 ≡ suc (length (section_behind d)) =
+    omega (arith, ap length whole, length-append (before_end d) last_words) in
     ap (λ (s : List ℕ). section_length vhdl vhdl_marks (s ++ r)) whole
     ∙ ap (section_length vhdl vhdl_marks) (append_assoc (before_end d) last_words r)
-    ∙ section_is vhdl vhdl_marks ((before_end_spelled d w).passes (last_words ++ r) tt) (at + 1 + 1 + 1 + 1 + 1 + 1 + 1 + 1 + 1 + 1 + 1)
+    ∙ section_is vhdl vhdl_marks ((before_end_spelled d w).passes (last_words ++ r) tt)
+    (at + 1 + 1 + 1 + 1 + 1 + 1 + 1 + 1 + 1 + 1 + 1)
     (ends is_same vhdl_marks.ending false (scan false (at + 1 + 1 + 1 + 1 + 1 + 1 + 1 + 1 + 1 + 1 + 1) 0 r).0) (ends_there at r)
     ∙ n
 
@@ -82,7 +88,8 @@ line_end : SpellsOutside Anything false (codes "\n") (λ s. s) false
 line_end = literal (λ r. refl) refl
 
 -- a driver's text is a section and a line end
-pub driver_outlined : (d : DriverModel) → IsWrittenDriver d → Outlined vhdl vhdl_marks false (driver_text d) (λ s. s) (driver_section d ∷ []) false
+pub driver_outlined : (d : DriverModel) → IsWrittenDriver d
+    → Outlined vhdl vhdl_marks false (driver_text d) (λ s. s) (driver_section d ∷ []) false
 driver_outlined d w =
     subst (λ (x : List ℕ). Outlined vhdl vhdl_marks false x (λ s. s) (driver_section d ∷ []) false) (sym (text_parts d))
     (subst (λ (x : List ℕ). Outlined vhdl vhdl_marks false (x ++ codes "\n") (λ s. s) (x ∷ []) false) (sym (section_same d))

@@ -1,4 +1,5 @@
--- Drivers over entities that can be declared one behind the other. (IEEE 1076-1993, 10.3, visibility, and 13.3.1, basic identifiers.)
+-- Drivers over entities that can be declared one behind the other. (IEEE 1076-1993, 10.3, visibility, and 13.3.1, basic
+-- identifiers.)
 use Rattle.std.specs.Prelude.{◌≡◌, ℕ, List, [], ◌∷◌, ◌++◌, map, slice_get, Some}
 use Rattle.std.specs.List.{AllByRecursion}
 use Rattle.driven_files.specs.vital_models.declared.model.VEntity.{VEntity}

@@ -19,12 +19,13 @@ abbrev pub section_texts : {M : Type 0} → WrittenLanguage M → List ℕ → L
 section_texts w text = map (sections.text_of text) (sections_of w text)
 
 -- The sections of a text are those of these drivers, and around them it is the text of these models, and of no others.
-pub record HoldsApart {M : Type 0} (w : WrittenLanguage M) (text : List ℕ) (ms : List M) (drivers : List DriverModel) : Type 0 where
+pub record HoldsApart {M : Type 0} (w : WrittenLanguage M) (text : List ℕ) (ms : List M) (drivers : List DriverModel) :
+    Type 0 where
   pub sections : section_texts w text ≡ map w.driver_section drivers
   pub models : ReadsBack w.language.text w.IsText (rest_of w.language text) ms
 
--- Which models of a language are well formed together, which drivers a section can declare, and which where some names are taken and
--- some models may be their cores.
+-- Which models of a language are well formed together, which drivers a section can declare, and which where some names are taken
+-- and some models may be their cores.
 pub record WellFormedness (M : Type 0) : Type 1 where
   pub AreWellFormed : List M → Type 0
   pub CanBeDeclared : DriverModel → Type 0

@@ -1,12 +1,12 @@
--- The text of models and of the drivers over them, in any language of models. (That a driver stands behind the model that is its core
--- is this project's layout.)
+-- The text of models and of the drivers over them, in any language of models. (That a driver stands behind the model that is its
+-- core is this project's layout.)
 use Rattle.std.specs.Prelude.{ℕ, List, [], ◌∷◌, ◌++◌, map, Option, Some, None}
 use Rattle.std.specs.List.{flat_map}
 use Rattle.driven_files.specs.driver_models.declared.model.DriverModel.{DriverModel}
 use Rattle.driven_files.specs.sectioned_texts.DrivenModels.{SectionLanguage}
 
--- How a language is written: the language, what stands before the models, a model's text, a driver's as a section and with its last
--- line end, and whether bytes without sections are the text of models.
+-- How a language is written: the language, what stands before the models, a model's text, a driver's as a section and with its
+-- last line end, and whether bytes without sections are the text of models.
 pub record WrittenLanguage (M : Type 0) : Type 1 where
   pub language : SectionLanguage M
   pub front : List ℕ

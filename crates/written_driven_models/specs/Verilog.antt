@@ -1,5 +1,5 @@
--- Verilog as it is written. (IEEE 1364-2005, A.1, source text, and 19.1, `celldefine; that a driver stands behind the module that is
--- its core is this project's layout.)
+-- Verilog as it is written. (IEEE 1364-2005, A.1, source text, and 19.1, `celldefine; that a driver stands behind the module that
+-- is its core is this project's layout.)
 use Rattle.std.specs.Prelude.{ℕ, List}
 use Rattle.driven_files.specs.specify_blocks.declared.model.VModule.{VModule}
 use Rattle.driven_files.specs.specify_blocks.VerilogText.{IsVerilogText}
@@ -28,4 +28,9 @@ written_verilog = record {
 }
 
 abbrev pub well_formed_verilog : WellFormedness VModule
-well_formed_verilog = record { AreWellFormed = AreWellFormed; CanBeDeclared = CanBeDeclared; IsWellFormedDriver = IsWellFormedDriver }
+well_formed_verilog = record {
+  AreWellFormed = AreWellFormed;
+  CanBeDeclared = CanBeDeclared;
+  IsWellFormedDriver =
+      IsWellFormedDriver;
+}

@@ -1,5 +1,5 @@
--- VHDL as it is written. (IEEE 1076-1993, 11.1, design files, and 10.4, use clauses; that a driver stands behind the entity that is
--- its core is this project's layout.)
+-- VHDL as it is written. (IEEE 1076-1993, 11.1, design files, and 10.4, use clauses; that a driver stands behind the entity that
+-- is its core is this project's layout.)
 use Rattle.std.specs.Prelude.{[]}
 use Rattle.driven_files.specs.vital_models.declared.model.VEntity.{VEntity}
 use Rattle.driven_files.specs.vhdl_grammar.VhdlText.{IsVhdlText}
@@ -23,4 +23,9 @@ written_vital = record {
 }
 
 abbrev pub well_formed_vital : WellFormedness VEntity
-well_formed_vital = record { AreWellFormed = AreWellFormed; CanBeDeclared = IsWrittenDriver; IsWellFormedDriver = IsWellFormedDriver }
+well_formed_vital = record {
+  AreWellFormed = AreWellFormed;
+  CanBeDeclared = IsWrittenDriver;
+  IsWellFormedDriver =
+      IsWellFormedDriver;
+}

@@ -5,9 +5,9 @@ use Rattle.driven_files.specs.driver_models.declared.model.DriverModel.{DriverMo
 use Rattle.driven_files.specs.driver_models.Cores.{Core}
 use Rattle.written_modules.specs.grammar_reader.ReadBack.{ReadsBack}
 
--- Sections that hold drivers, and how drivers are written as such: the driver that bytes hold, or their fault, where some names are
--- taken and some models may be cores; whether bytes are a section of a driver so; what is written of a driver, without its last line
--- end and with it; and which drivers a section can declare so.
+-- Sections that hold drivers, and how drivers are written as such: the driver that bytes hold, or their fault, where some names
+-- are taken and some models may be cores; whether bytes are a section of a driver so; what is written of a driver, without its
+-- last line end and with it; and which drivers a section can declare so.
 pub record WrittenSections : Type 1 where
   pub section : List (List ℕ) → List Core → List ℕ → Result DriverModel ModelFault
   pub IsSection : List (List ℕ) → List Core → List ℕ → DriverModel → Type 0
@@ -15,7 +15,8 @@ pub record WrittenSections : Type 1 where
   pub driver_text : DriverModel → List ℕ
   pub IsWellFormed : List (List ℕ) → List Core → DriverModel → Type 0
 
--- Where these names are taken and the models that may be cores are these, the bytes are a section of this driver, and of no other.
+-- Where these names are taken and the models that may be cores are these, the bytes are a section of this driver, and of no
+-- other.
 abbrev pub IsSectionOf : WrittenSections → List (List ℕ) → List Core → List ℕ → DriverModel → Type 0
 IsSectionOf w names cores bytes d = ReadsBack (w.section names cores) (w.IsSection names cores) bytes d
 

@@ -1,5 +1,6 @@
-//! Laws of the texts of models and drivers that this project writes in Verilog and in VHDL: each driver reads back as the driver it was
-//! written of, the sections of a text are the drivers, the models stand around them, and both read back. The functions do nothing.
+//! Laws of the texts of models and drivers that this project writes in Verilog and in VHDL: each driver reads back as the driver
+//! it was written of, the sections of a text are the drivers, the models stand around them, and both read back. The functions do
+//! nothing.
 #![tactic(auto)]
 
 ghost use Rattle.written_driven_models.specs.WrittenDrivers.{WrittenDriversReadBack};
@@ -10,8 +11,8 @@ ghost use Rattle.written_driven_models.specs.ApartDrivers.{DriversApartAreWellFo
 ghost use Rattle.written_driven_models.specs.Verilog.{written_verilog, well_formed_verilog};
 ghost use Rattle.written_driven_models.specs.Vital.{written_vital, well_formed_vital};
 
-/// A law: the Verilog text that is written of a well formed driver, and also without its last line end, is a section of this driver, and
-/// of no other. (IEEE 1364-2005, 7.4, 12.1 and 19.1.)
+/// A law: the Verilog text that is written of a well formed driver, and also without its last line end, is a section of this
+/// driver, and of no other. (IEEE 1364-2005, 7.4, 12.1 and 19.1.)
 pub fn verilog_drivers_read_back()
     ensures { WrittenDriversReadBack verilog_drivers }
 {}

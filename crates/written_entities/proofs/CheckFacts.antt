@@ -19,17 +19,21 @@ pub record IsWrittenCheck (e : VEntity) (n : ℕ) (k : TimingCheck) : Type 0 whe
   pub number : IsCount n
   pub condition : (i : ℕ) → k.condition ≡ Some i → i < length e.conditions
 
-pub test_pin : (e : VEntity) (n : ℕ) (k : TimingCheck) → IsWrittenCheck e n k → (kind : CheckKind) → IsTrue (Rattle.udp_tables.specs.Ports.is_input_port e.ports (test_at k kind).pin)
+pub test_pin : (e : VEntity) (n : ℕ) (k : TimingCheck) → IsWrittenCheck e n k → (kind : CheckKind)
+    → IsTrue (Rattle.udp_tables.specs.Ports.is_input_port e.ports (test_at k kind).pin)
 test_pin e n k h =
     let first = h.sound.first in
     let second = h.sound.second in
-    by_kind (λ (kind : CheckKind). IsTrue (Rattle.udp_tables.specs.Ports.is_input_port e.ports (test_at k kind).pin)) first second first second first first
+    by_kind (λ (kind : CheckKind). IsTrue (Rattle.udp_tables.specs.Ports.is_input_port e.ports (test_at k kind).pin)) first second
+    first second first first
 
-pub reference_pin : (e : VEntity) (n : ℕ) (k : TimingCheck) → IsWrittenCheck e n k → (kind : CheckKind) → IsTrue (Rattle.udp_tables.specs.Ports.is_input_port e.ports (reference_at k kind).pin)
+pub reference_pin : (e : VEntity) (n : ℕ) (k : TimingCheck) → IsWrittenCheck e n k → (kind : CheckKind)
+    → IsTrue (Rattle.udp_tables.specs.Ports.is_input_port e.ports (reference_at k kind).pin)
 reference_pin e n k h =
     let first = h.sound.first in
     let second = h.sound.second in
-    by_kind (λ (kind : CheckKind). IsTrue (Rattle.udp_tables.specs.Ports.is_input_port e.ports (reference_at k kind).pin)) second first second first second second
+    by_kind (λ (kind : CheckKind). IsTrue (Rattle.udp_tables.specs.Ports.is_input_port e.ports (reference_at k kind).pin)) second
+    first second first second second
 
 -- The conditions of a check.
 
@@ -40,7 +44,8 @@ of_when (Some i) = i ∷ []
 pub conditions_are : (k : TimingCheck) → conditions_of_check k ≡ of_when k.condition
 conditions_are k = by k.condition
   where
-    by : (c : Option ℕ) → conditions_of_check (record { kind = k.kind; first = k.first; second = k.second; limit = k.limit; condition = c }) ≡ of_when c
+    by : (c : Option ℕ) → conditions_of_check
+        (record { kind = k.kind; first = k.first; second = k.second; limit = k.limit; condition = c }) ≡ of_when c
     by None = refl
     by (Some i) = refl
 
@@ -48,19 +53,28 @@ conditions_are k = by k.condition
 abbrev pub LooksCheck : VEntity → ℕ → TimingCheck → Type 0
 LooksCheck e seen k = (is : List ℕ) × Looks e seen (of_when k.condition ++ is)
 
-when_there : (e : VEntity) (seen : ℕ) (when : Option ℕ) (is : List ℕ) → Looks e seen (of_when when ++ is) → (i : ℕ) → when ≡ Some i → i < length e.conditions
+when_there : (e : VEntity) (seen : ℕ) (when : Option ℕ) (is : List ℕ) → Looks e seen (of_when when ++ is) → (i : ℕ)
+    → when ≡ Some i → i < length e.conditions
 when_there e seen None is h i same = absurd cc
-when_there e seen (Some j) is h i same = let its : j ≡ i = cc in subst (λ (n : ℕ). n < length e.conditions) its (looks_below e seen j is h)
+when_there e seen (Some j) is h i same = let its : j ≡ i = cc
+    in subst (λ (n : ℕ). n < length e.conditions) its (looks_below e seen j is h)
 
-pub check_looks : (e : VEntity) → IsWellFormedEntity e → (before : List TimingCheck) (k : TimingCheck) (after : List TimingCheck) → before ++ k ∷ after ≡ e.checks → LooksCheck e (seen_after 0 (flat_map conditions_of_check before)) k
+pub check_looks : (e : VEntity) → IsWellFormedEntity e → (before : List TimingCheck) (k : TimingCheck) (after : List TimingCheck)
+    → before ++ k ∷ after ≡ e.checks → LooksCheck e (seen_after 0 (flat_map conditions_of_check before)) k
 check_looks e w before k after same =
     let tail : List ℕ = flat_map conditions_of_output e.outputs in
-    let all : Looks e 0 (flat_map conditions_of_check (before ++ k ∷ after) ++ tail) = subst (λ (l : List TimingCheck). Looks e 0 (flat_map conditions_of_check l ++ tail)) (sym same) w.in_order in
+    let all : Looks e 0 (flat_map conditions_of_check (before ++ k ∷ after) ++ tail) =
+    subst (λ (l : List TimingCheck). Looks e 0 (flat_map conditions_of_check l ++ tail)) (sym same) w.in_order in
     let seen : ℕ = seen_after 0 (flat_map conditions_of_check before) in
-    let rest : List ℕ = flat_map conditions_of_check after ++ tail in
-    (rest, subst (λ (l : List ℕ). Looks e seen (l ++ rest)) (conditions_are k) (looks_at conditions_of_check (length e.conditions) 0 before k after tail all))
+    let rest : List ℕ = flat_map conditions_of_check after ++ tail in (
+      rest,
+      subst (λ (l : List ℕ). Looks e seen (l ++ rest)) (conditions_are k)
+          (looks_at conditions_of_check (length e.conditions) 0 before k after tail all),
+    )
 
-pub written_check : (e : VEntity) → IsWellFormedEntity e → (before : List TimingCheck) (k : TimingCheck) (after : List TimingCheck) → before ++ k ∷ after ≡ e.checks → IsWrittenCheck e (length before + 1) k
+pub written_check : (e : VEntity) → IsWellFormedEntity e
+    → (before : List TimingCheck) (k : TimingCheck) (after : List TimingCheck) → before ++ k ∷ after ≡ e.checks
+    → IsWrittenCheck e (length before + 1) k
 written_check e w before k after same =
     let looks = check_looks e w before k after same in
     record {

@@ -58,10 +58,13 @@ Looks e seen is = looks_up_in_order (length e.conditions) seen is ≡ true
 
 abbrev pub condition_front : VEntity → ℕ → Front
 condition_front e i s =
-    codes "(" ∷ codes "TruthTable" ∷ codes "=>" ∷ (99 ∷ 95 ∷ decimal (i + 1)) ∷ codes "," ∷ codes "DataIn" ∷ codes "=>" ∷ codes "("
+    codes "(" ∷ codes "TruthTable" ∷ codes "=>" ∷ (99 ∷ 95 ∷ decimal (i + 1)) ∷ codes "," ∷ codes "DataIn" ∷ codes "=>" ∷ codes
+    "("
     ∷ names_front (port_at e) (inputs_at e i) (codes ")" ∷ codes ")" ∷ s)
 
-pub lookup_word : {t : Bool} → Spells Anything t (codes "VitalTruthTable (TruthTable => ") (λ s. codes "VitalTruthTable" ∷ codes "(" ∷ codes "TruthTable" ∷ codes "=>" ∷ s) false
+pub lookup_word : {t : Bool} → Spells Anything t
+    (codes "VitalTruthTable (TruthTable => ")
+    (λ s. codes "VitalTruthTable" ∷ codes "(" ∷ codes "TruthTable" ∷ codes "=>" ∷ s) false
 lookup_word = literal (λ r. refl) refl
 
 pub data_word : {t : Bool} → Spells Anything t (codes ", DataIn => ") (λ s. codes "," ∷ codes "DataIn" ∷ codes "=>" ∷ s) false
@@ -69,57 +72,76 @@ data_word = literal (λ r. refl) refl
 
 -- Lists of inputs.
 
-pub passes_at : {A : Type 0} (test : A → Bool) (before : List A) (x : A) (after : List A) → list_all test (before ++ x ∷ after) ≡ true → test x ≡ true
+pub passes_at : {A : Type 0} (test : A → Bool) (before : List A) (x : A) (after : List A)
+    → list_all test (before ++ x ∷ after) ≡ true → test x ≡ true
 passes_at test [] x after h = (and_parts (test x) (list_all test after) h).0
-passes_at test (y ∷ before) x after h = passes_at test before x after (and_parts (test y) (list_all test (before ++ x ∷ after)) h).1
+passes_at test (y ∷ before) x after h =
+    passes_at test before x after (and_parts (test y) (list_all test (before ++ x ∷ after)) h).1
 
 -- the input at a place of a list
-pub input_at : (e : VEntity) (inputs : List ℕ) → IsTrue (list_all (is_input_port e.ports) inputs) → (before : List ℕ) (p : ℕ) (after : List ℕ) → before ++ p ∷ after ≡ inputs → IsTrue (is_input_port e.ports p)
-input_at e inputs h before p after same = passes_at (is_input_port e.ports) before p after (subst (λ (l : List ℕ). list_all (is_input_port e.ports) l ≡ true) (sym same) h)
+pub input_at : (e : VEntity) (inputs : List ℕ) → IsTrue (list_all (is_input_port e.ports) inputs)
+    → (before : List ℕ) (p : ℕ) (after : List ℕ) → before ++ p ∷ after ≡ inputs → IsTrue (is_input_port e.ports p)
+input_at e inputs h before p after same =
+    passes_at (is_input_port e.ports) before p after
+    (subst (λ (l : List ℕ). list_all (is_input_port e.ports) l ≡ true) (sym same) h)
 
 input_text_is : (e : VEntity) (n p : ℕ) → input_text e n p ≡ apart_text (codes ", ") n ++ port_at e p
 unfolding input_text
 input_text_is e n p = refl
 
-pub inputs_spelled : (e : VEntity) → IsWellFormedEntity e → (inputs : List ℕ) → 1 ≤ length inputs → IsTrue (list_all (is_input_port e.ports) inputs)
+pub inputs_spelled : (e : VEntity) → IsWellFormedEntity e → (inputs : List ℕ) → 1 ≤ length inputs
+    → IsTrue (list_all (is_input_port e.ports) inputs)
     → Spells Anything false (inputs_text e inputs) (λ s. codes "(" ∷ names_front (port_at e) inputs (codes ")" ∷ s)) false
 unfolding inputs_text
 inputs_spelled e w inputs some fed =
-    names_spelled (input_text e) (port_at e) inputs (input_text_is e) some (λ before p after same. input_named e w p (input_at e inputs fed before p after same))
+    names_spelled (input_text e) (port_at e) inputs (input_text_is e) some
+    (λ before p after same. input_named e w p (input_at e inputs fed before p after same))
 
 -- an item of a list in which none stands twice is none of those before it
-pub new_item : {A : Type 0} (E : A → A → Bool) → ((x y : A) → E x y ≡ E y x) → (before : List A) (x : A) (after : List A) → IsDistinct E (before ++ x ∷ after) → list_any (E x) before ≡ false
+pub new_item : {A : Type 0} (E : A → A → Bool) → ((x y : A) → E x y ≡ E y x) → (before : List A) (x : A) (after : List A)
+    → IsDistinct E (before ++ x ∷ after) → list_any (E x) before ≡ false
 unfolding IsDistinct
 new_item E turned [] x after h = refl
 new_item E turned (y ∷ before) x after h =
     let other : E x y ≡ false = turned x y ∙ at_place (λ z. E y z ≡ false) before x after h.0 in
     rw other (new_item E turned before x after h.1)
 
-pub new_input : (inputs : List ℕ) → IsDistinct nat_eq inputs → (before : List ℕ) (p : ℕ) (after : List ℕ) → before ++ p ∷ after ≡ inputs → list_any (nat_eq p) before ≡ false
-new_input inputs apart before p after same = new_item nat_eq numbers_turned before p after (subst (IsDistinct nat_eq) (sym same) apart)
+pub new_input : (inputs : List ℕ) → IsDistinct nat_eq inputs → (before : List ℕ) (p : ℕ) (after : List ℕ)
+    → before ++ p ∷ after ≡ inputs → list_any (nat_eq p) before ≡ false
+new_input inputs apart before p after same =
+    new_item nat_eq numbers_turned before p after (subst (IsDistinct nat_eq) (sym same) apart)
 
-pub listed_fits : {A : Type 0} (is_listed : A → Bool) (o : Option A) (a : A) → o ≡ Some a → is_listed a ≡ false → listed_by is_listed o ≡ Fits a
+pub listed_fits : {A : Type 0} (is_listed : A → Bool) (o : Option A) (a : A) → o ≡ Some a → is_listed a ≡ false
+    → listed_by is_listed o ≡ Fits a
 listed_fits is_listed o a e f = rw (e, f) refl
 
-pub input_fits : (e : VEntity) → IsWellFormedEntity e → (before : List ℕ) (p : ℕ) → IsTrue (is_input_port e.ports p) → list_any (nat_eq p) before ≡ false → input_by e.ports before (port_at e p) ≡ Fits p
-input_fits e w before p fed new = listed_fits (λ q. list_any (nat_eq q) before) (input_of e.ports (port_at e p)) p (input_found e w p fed) new
+pub input_fits : (e : VEntity) → IsWellFormedEntity e → (before : List ℕ) (p : ℕ) → IsTrue (is_input_port e.ports p)
+    → list_any (nat_eq p) before ≡ false → input_by e.ports before (port_at e p) ≡ Fits p
+input_fits e w before p fed new =
+    listed_fits (λ q. list_any (nat_eq q) before) (input_of e.ports (port_at e p)) p (input_found e w p fed) new
 
-listed_read : (e : VEntity) → IsWellFormedEntity e → (before : List ℕ) (p : ℕ) {s : List (List ℕ)} → IsTrue (is_input_port e.ports p) → list_any (nat_eq p) before ≡ false
+listed_read : (e : VEntity) → IsWellFormedEntity e → (before : List ℕ) (p : ℕ) {s : List (List ℕ)}
+    → IsTrue (is_input_port e.ports p) → list_any (nat_eq p) before ≡ false
     → Reads (listed_input e.ports before) (port_at e p ∷ s) (before ++ p ∷ []) s
 unfolding listed_input
-listed_read e w before p fed new = in_turn (token (if_true (is_name (port_at e p)) _ _ (input_named e w p fed).named ∙ input_fits e w before p fed new)) gives
+listed_read e w before p fed new =
+    in_turn (token (if_true (is_name (port_at e p)) _ _ (input_named e w p fed).named ∙ input_fits e w before p fed new)) gives
 
-pub list_end_read : (width n : ℕ) {s : List (List ℕ)} → n ≡ width → Reads (Rattle.vhdl_grammar.specs.VhdlNames.list_end width n) (codes ")" ∷ s) tt s
+pub list_end_read : (width n : ℕ) {s : List (List ℕ)} → n ≡ width
+    → Reads (Rattle.vhdl_grammar.specs.VhdlNames.list_end width n) (codes ")" ∷ s) tt s
 list_end_read width n e = expected_where (nat_eq n width) Width (equal n width e)
 
 -- A list that is read for the first time.
 
-wide : (columns : ℕ) (rows : List TruthRow) → 1 ≤ length rows → AllByRecursion (λ (row : TruthRow). length row.inputs ≡ columns) rows → truth_width rows ≡ columns
+wide : (columns : ℕ) (rows : List TruthRow) → 1 ≤ length rows
+    → AllByRecursion (λ (row : TruthRow). length row.inputs ≡ columns) rows → truth_width rows ≡ columns
 wide columns [] some all = absurd (omega (arith, some))
 wide columns (row ∷ rows) some all = all.0
 
-pub truth_wide : (columns : ℕ) (table : TruthTable) → 1 ≤ length table.rows → Rattle.vital_models.specs.Sound.IsTruthTable columns table → truth_width table.rows ≡ columns
-truth_wide columns table some all = wide columns table.rows some (recursion_from_All (λ (row : TruthRow). length row.inputs ≡ columns) table.rows all)
+pub truth_wide : (columns : ℕ) (table : TruthTable) → 1 ≤ length table.rows
+    → Rattle.vital_models.specs.Sound.IsTruthTable columns table → truth_width table.rows ≡ columns
+truth_wide columns table some all =
+    wide columns table.rows some (recursion_from_All (λ (row : TruthRow). length row.inputs ≡ columns) table.rows all)
 
 -- A condition that is there: its table and inputs.
 record IsThere (e : VEntity) (i : ℕ) (truth : VTruth) : Type 0 where
@@ -143,53 +165,67 @@ there e w i h =
       },
     )
 
-width_is : (e : VEntity) → IsWellFormedEntity e → (i : ℕ) (truth : VTruth) → IsThere e i truth → condition_width (scope e) i ≡ length truth.inputs
+width_is : (e : VEntity) → IsWellFormedEntity e → (i : ℕ) (truth : VTruth) → IsThere e i truth
+    → condition_width (scope e) i ≡ length truth.inputs
 width_is e w i truth h =
     let here : slice_get (all_tables e).conditions i ≡ Some truth.table =
     slice_get-map (λ (t : VTruth). t.table) e.conditions i ∙ ap (option_map (λ (t : VTruth). t.table)) h.place in
-    ap (λ (o : Option TruthTable). option_map_or (λ (table : TruthTable). truth_width table.rows) o 0) here ∙ truth_wide (length truth.inputs) truth.table h.written.rows h.sound.rows
+    ap (λ (o : Option TruthTable). option_map_or (λ (table : TruthTable). truth_width table.rows) o 0) here
+    ∙ truth_wide (length truth.inputs) truth.table h.written.rows h.sound.rows
 
 first_read : (e : VEntity) → IsWellFormedEntity e → (i : ℕ) (truth : VTruth) (s : List (List ℕ)) → IsThere e i truth
     → Reads (first_list (scope e) i) (names_front (port_at e) truth.inputs (codes ")" ∷ s)) truth.inputs s
 unfolding first_list
 first_read e w i truth s h =
     in_turn (elements_read (λ (l : List ℕ). l) (listed_input e.ports) (port_at e) truth.inputs h.written.columns
-    (λ before p after same. unnumbered (port_at e p) (input_named e w p (input_at e truth.inputs h.sound.fed before p after same)))
-    (λ before p after q same. listed_read e w before p (input_at e truth.inputs h.sound.fed before p after same) (new_input truth.inputs h.written.apart before p after same)) s)
+    (λ before p after same. unnumbered (port_at e p)
+    (input_named e w p (input_at e truth.inputs h.sound.fed before p after same)))
+    (λ before p after q same. listed_read e w before p (input_at e truth.inputs h.sound.fed before p after same)
+    (new_input truth.inputs h.written.apart before p after same)) s)
     (in_turn (list_end_read (condition_width (scope e) i) (length truth.inputs) (sym (width_is e w i truth h))) gives)
 
-stands : (inputs before : List ℕ) (p : ℕ) (after : List ℕ) → before ++ p ∷ after ≡ inputs → stands_at inputs (length before) p ≡ true
+stands : (inputs before : List ℕ) (p : ℕ) (after : List ℕ) → before ++ p ∷ after ≡ inputs
+    → stands_at inputs (length before) p ≡ true
 stands inputs before p after same =
-    let here : slice_get inputs (length before) ≡ Some p = ap (λ (l : List ℕ). slice_get l (length before)) (sym same) ∙ get_at before p after in
+    let here : slice_get inputs (length before) ≡ Some p = ap (λ (l : List ℕ). slice_get l (length before)) (sym same)
+    ∙ get_at before p after in
     ap (λ (o : Option ℕ). option_map_or (nat_eq p) o false) here ∙ equal_self p
 
-same_read : (e : VEntity) → IsWellFormedEntity e → (inputs : List ℕ) → IsTrue (list_all (is_input_port e.ports) inputs) → (before : List ℕ) (p : ℕ) (after : List ℕ) (q : List (List ℕ)) → before ++ p ∷ after ≡ inputs
+same_read : (e : VEntity) → IsWellFormedEntity e → (inputs : List ℕ) → IsTrue (list_all (is_input_port e.ports) inputs)
+    → (before : List ℕ) (p : ℕ) (after : List ℕ) (q : List (List ℕ)) → before ++ p ∷ after ≡ inputs
     → Reads (same_input e.ports inputs (length before)) (port_at e p ∷ q) (length (before ++ p ∷ [])) q
 unfolding same_input
 same_read e w inputs fed before p after q same =
     let input = input_at e inputs fed before p after same in
     to_same (one_longer before p)
     (in_turn (known_as (λ x. kept (stands_at inputs (length before)) (input_of e.ports x)) (input_named e w p input)
-    (ap (kept (stands_at inputs (length before))) (input_found e w p input) ∙ kept_one (stands_at inputs (length before)) p (stands inputs before p after same))) gives)
+    (ap (kept (stands_at inputs (length before))) (input_found e w p input)
+    ∙ kept_one (stands_at inputs (length before)) p (stands inputs before p after same))) gives)
 
-again_read : (e : VEntity) → IsWellFormedEntity e → (inputs : List ℕ) (s : List (List ℕ)) → 1 ≤ length inputs → IsTrue (list_all (is_input_port e.ports) inputs)
+again_read : (e : VEntity) → IsWellFormedEntity e → (inputs : List ℕ) (s : List (List ℕ)) → 1 ≤ length inputs
+    → IsTrue (list_all (is_input_port e.ports) inputs)
     → Reads (same_list (scope e) inputs) (names_front (port_at e) inputs (codes ")" ∷ s)) tt s
 unfolding same_list
 again_read e w inputs s some fed =
     in_turn (elements_read (λ (l : List ℕ). length l) (same_input e.ports inputs) (port_at e) inputs some
-    (λ before p after same. unnumbered (port_at e p) (input_named e w p (input_at e inputs fed before p after same))) (same_read e w inputs fed) s)
+    (λ before p after same. unnumbered (port_at e p) (input_named e w p (input_at e inputs fed before p after same)))
+    (same_read e w inputs fed) s)
     (in_turn (goes_on (nat_eq (length inputs) (length inputs)) (codes ")" ∷ s) (equal_self (length inputs))) expected)
 
 -- Look-ups.
 
 pub so_many : (e : VEntity) (seen : ℕ) → seen ≤ length e.conditions → length (uses_of e seen) ≡ seen
-so_many e seen h = length-take-le seen (map inputs_of_truth e.conditions) (omega (arith, h, length-map e.conditions inputs_of_truth))
+so_many e seen h = length-take-le seen (map inputs_of_truth e.conditions)
+    (omega (arith, h, length-map e.conditions inputs_of_truth))
 
-its_inputs : (e : VEntity) (i : ℕ) (truth : VTruth) → slice_get e.conditions i ≡ Some truth → slice_get (map inputs_of_truth e.conditions) i ≡ Some truth.inputs
+its_inputs : (e : VEntity) (i : ℕ) (truth : VTruth) → slice_get e.conditions i ≡ Some truth
+    → slice_get (map inputs_of_truth e.conditions) i ≡ Some truth.inputs
 its_inputs e i truth h = slice_get-map inputs_of_truth e.conditions i ∙ ap (option_map inputs_of_truth) h
 
-list_read : (e : VEntity) → IsWellFormedEntity e → (seen i : ℕ) (truth : VTruth) (s : List (List ℕ)) → IsThere e i truth → i ≤ seen → seen ≤ length e.conditions
-    → Reads (list_by (scope e) (uses_of e seen) i (slice_get (uses_of e seen) i)) (names_front (port_at e) truth.inputs (codes ")" ∷ s)) (uses_of e (seen_with seen i)) s
+list_read : (e : VEntity) → IsWellFormedEntity e → (seen i : ℕ) (truth : VTruth) (s : List (List ℕ)) → IsThere e i truth
+    → i ≤ seen → seen ≤ length e.conditions
+    → Reads (list_by (scope e) (uses_of e seen) i (slice_get (uses_of e seen) i))
+    (names_front (port_at e) truth.inputs (codes ")" ∷ s)) (uses_of e (seen_with seen i)) s
 unfolding list_by
 list_read e w seen i truth s h among few = by (nat_lt i seen) refl
   where
@@ -200,17 +236,22 @@ list_read e w seen i truth s h among few = by (nat_lt i seen) refl
     new l = slice_get_past (uses_of e seen) i (omega (arith, l, so_many e seen few))
 
     by : (b : Bool) → nat_lt i seen ≡ b
-        → Reads (list_by (scope e) (uses_of e seen) i (slice_get (uses_of e seen) i)) (names_front (port_at e) truth.inputs (codes ")" ∷ s)) (uses_of e (if b then seen else seen + 1)) s
+        → Reads (list_by (scope e) (uses_of e seen) i (slice_get (uses_of e seen) i))
+        (names_front (port_at e) truth.inputs (codes ")" ∷ s)) (uses_of e (if b then seen else seen + 1)) s
     by true b =
         let less : i < seen = grind (arith, nat_tests, b) in
-        subst (λ (o : Option (List ℕ)). Reads (list_by (scope e) (uses_of e seen) i o) (names_front (port_at e) truth.inputs (codes ")" ∷ s)) (uses_of e seen) s) (sym (again less))
+        subst (λ (o : Option (List ℕ)). Reads (list_by (scope e) (uses_of e seen) i o)
+        (names_front (port_at e) truth.inputs (codes ")" ∷ s)) (uses_of e seen) s) (sym (again less))
         (in_turn (again_read e w truth.inputs s h.written.columns h.sound.fed) gives)
     by false b =
         let same : i ≡ seen = grind (arith, nat_tests, b, among) in
         let place : slice_get (map inputs_of_truth e.conditions) seen ≡ Some truth.inputs =
-        subst (λ (n : ℕ). slice_get (map inputs_of_truth e.conditions) n ≡ Some truth.inputs) same (its_inputs e i truth h.place) in
-        subst (λ (o : Option (List ℕ)). Reads (list_by (scope e) (uses_of e seen) i o) (names_front (port_at e) truth.inputs (codes ")" ∷ s)) (uses_of e (seen + 1)) s) (sym (new same))
-        (in_turn (first_read e w i truth s h) (to_same (take_next (map inputs_of_truth e.conditions) seen truth.inputs place) gives))
+        subst (λ (n : ℕ). slice_get (map inputs_of_truth e.conditions) n ≡ Some truth.inputs) same (its_inputs e i truth h.place)
+        in
+        subst (λ (o : Option (List ℕ)). Reads (list_by (scope e) (uses_of e seen) i o)
+        (names_front (port_at e) truth.inputs (codes ")" ∷ s)) (uses_of e (seen + 1)) s) (sym (new same))
+        (in_turn (first_read e w i truth s h)
+        (to_same (take_next (map inputs_of_truth e.conditions) seen truth.inputs place) gives))
 
 is_there : (all seen i : ℕ) (is : List ℕ) → looks_up_in_order all seen (i ∷ is) ≡ true → i < all
 is_there all seen i is h =
@@ -234,19 +275,24 @@ condition_read e w seen i is {s} h =
     let most : ℕ = min (length (uses_of e seen) + 1) (length (all_tables e).conditions) in
     let tables : length (all_tables e).conditions ≡ length e.conditions = length-map e.conditions (λ (t : VTruth). t.table) in
     let found : condition_of (scope e) (uses_of e seen) (99 ∷ 95 ∷ decimal (i + 1)) ≡ Some i =
-    place_found 99 most i refl (omega (arith, next.among, below, so_many e seen few, tables)) (condition_number e w most (omega (arith, tables))) in
+    place_found 99 most i refl (omega (arith, next.among, below, so_many e seen few, tables))
+    (condition_number e w most (omega (arith, tables))) in
     in_turn three_expected (in_turn (known_as (condition_of (scope e) (uses_of e seen)) (part_named 99 (i + 1) refl number) found)
-    (in_turn four_expected (in_turn (from_same (ap (λ (l : List ℕ). names_front (port_at e) l (codes ")" ∷ codes ")" ∷ s)) truth.1.inputs) (list_read e w seen i truth.0 (codes ")" ∷ s) truth.1 next.among few))
+    (in_turn four_expected (in_turn (from_same (ap (λ (l : List ℕ). names_front (port_at e) l (codes ")" ∷ codes ")" ∷ s))
+    truth.1.inputs) (list_read e w seen i truth.0 (codes ")" ∷ s) truth.1 next.among few))
     (in_turn expected gives))))
 
 -- a look-up is spelled
-pub condition_spelled : (e : VEntity) → IsWellFormedEntity e → (i : ℕ) → i < length e.conditions → Spells Anything false (condition_text e i) (λ s. codes "VitalTruthTable" ∷ condition_front e i s) false
+pub condition_spelled : (e : VEntity) → IsWellFormedEntity e → (i : ℕ) → i < length e.conditions
+    → Spells Anything false (condition_text e i) (λ s. codes "VitalTruthTable" ∷ condition_front e i s) false
 unfolding condition_text
 condition_spelled e w i below =
     let truth = there e w i below in
     let some : 1 ≤ length (inputs_at e i) = subst (λ (l : List ℕ). 1 ≤ length l) (sym truth.1.inputs) truth.1.written.columns in
-    let fed : IsTrue (list_all (is_input_port e.ports) (inputs_at e i)) = subst (λ (l : List ℕ). IsTrue (list_all (is_input_port e.ports) l)) (sym truth.1.inputs) truth.1.sound.fed in
-    part_behind 99 (i + 1) refl (condition_number e w (i + 1) (omega (arith, below))) lookup_word (λ r q. refl) (behind data_word (behind (inputs_spelled e w (inputs_at e i) some fed) closed))
+    let fed : IsTrue (list_all (is_input_port e.ports) (inputs_at e i)) =
+    subst (λ (l : List ℕ). IsTrue (list_all (is_input_port e.ports) l)) (sym truth.1.inputs) truth.1.sound.fed in
+    part_behind 99 (i + 1) refl (condition_number e w (i + 1) (omega (arith, below))) lookup_word (λ r q. refl)
+    (behind data_word (behind (inputs_spelled e w (inputs_at e i) some fed) closed))
 
 pub looks_below : (e : VEntity) (seen i : ℕ) (is : List ℕ) → Looks e seen (i ∷ is) → i < length e.conditions
 looks_below e seen i is h = is_there (length e.conditions) seen i is h

@@ -46,24 +46,31 @@ is_several : (count : ℕ) → nat_eq (suc (suc count)) 1 ≡ false
 is_several count = grind (arith, nat_tests)
 
 -- names that are written one behind the other
-pub names_spelled : {X : Type 0} {t : Bool} (text : ℕ → X → List ℕ) (item : X → List ℕ) (xs : List X) → ((n : ℕ) (x : X) → text n x ≡ apart_text (codes ", ") n ++ item x) → 1 ≤ length xs
+pub names_spelled : {X : Type 0} {t : Bool} (text : ℕ → X → List ℕ) (item : X → List ℕ) (xs : List X)
+    → ((n : ℕ) (x : X) → text n x ≡ apart_text (codes ", ") n ++ item x) → 1 ≤ length xs
     → ((before : List X) (x : X) (after : List X) → before ++ x ∷ after ≡ xs → IsNamed (item x))
-    → Spells Anything t (list_start (length xs) ++ (numbered_texts text 1 xs ++ codes ")")) (λ s. codes "(" ∷ names_front item xs (codes ")" ∷ s)) false
+    → Spells Anything t (list_start (length xs) ++ (numbered_texts text 1 xs ++ codes ")"))
+    (λ s. codes "(" ∷ names_front item xs (codes ")" ∷ s)) false
 names_spelled text item [] e some named = absurd (omega (arith, some))
 names_spelled text item (x ∷ []) e some named =
-    behind only_start (joins (apart_spelled (codes ", ") (λ s. codes "," ∷ s) text (λ n y. item y) (λ n y q. item y ∷ q) e comma (λ r. refl) x []
+    behind only_start (joins (apart_spelled (codes ", ") (λ s. codes "," ∷ s) text (λ n y. item y) (λ n y q. item y ∷ q) e comma
+    (λ r. refl) x []
     (λ before y after same. name (item y) (named before y after same))) (λ r q. refl) closed)
 names_spelled text item (x ∷ y ∷ xs) e some named =
-    rw (is_several (length xs)) (behind several_start (joins (apart_spelled {P = Ends} (codes ", ") (λ s. codes "," ∷ s) text (λ n z. item z) (λ n z q. item z ∷ q) e comma (λ r. refl) x (y ∷ xs)
+    rw (is_several (length xs)) (behind several_start
+    (joins (apart_spelled {P = Ends} (codes ", ") (λ s. codes "," ∷ s) text (λ n z. item z) (λ n z q. item z ∷ q) e comma
+    (λ r. refl) x (y ∷ xs)
     (λ before z after same. name (item z) (named before z after same))) (λ r q. refl) closed))
 
 pub unmarked : (x : List ℕ) → number_of x ≡ None → begins_by (is_number_token 0) x ≡ None
 unmarked x e = rw e refl
 
 -- elements are read, each from what there is of those before it
-pub elements_read : {X S : Type 0} (state : List X → S) (element : S → Grammar S) (item : X → List ℕ) (all : List X) → 1 ≤ length all
+pub elements_read : {X S : Type 0} (state : List X → S) (element : S → Grammar S) (item : X → List ℕ) (all : List X)
+    → 1 ≤ length all
     → ((before : List X) (x : X) (after : List X) → before ++ x ∷ after ≡ all → number_of (item x) ≡ None)
-    → ((before : List X) (x : X) (after : List X) (s : List (List ℕ)) → before ++ x ∷ after ≡ all → Reads (element (state before)) (item x ∷ s) (state (before ++ x ∷ [])) s)
+    → ((before : List X) (x : X) (after : List X) (s : List (List ℕ)) → before ++ x ∷ after ≡ all
+    → Reads (element (state before)) (item x ∷ s) (state (before ++ x ∷ [])) s)
     → (s : List (List ℕ)) → Reads (elements element (state [])) (names_front item all (codes ")" ∷ s)) (state all) (codes ")" ∷ s)
 unfolding elements only_element several_elements more_elements
 elements_read state element item [] some none h s = absurd (omega (arith, some))
@@ -74,4 +81,5 @@ elements_read {X = X} state element item (x ∷ y ∷ xs) some none h s =
     passed (unmarked (item x) (none [] x (y ∷ xs) refl))
     (in_turn (h [] x (y ∷ xs) (codes "," ∷ item y ∷ tail) refl)
     (in_turn expected (in_turn (h (x ∷ []) y xs tail refl)
-    (over state (λ n z q. codes "," ∷ item z ∷ q) (x ∷ y ∷ []) xs (λ before z after q e rest. turns (turn refl (h before z after q e)) rest) (codes ")" ∷ s) (no_turn refl)))))
+    (over state (λ n z q. codes "," ∷ item z ∷ q) (x ∷ y ∷ []) xs
+    (λ before z after q e rest. turns (turn refl (h before z after q e)) rest) (codes ")" ∷ s) (no_turn refl)))))

@@ -23,33 +23,43 @@ use Rattle.written_entities.proofs.NameReading.{is_new}
 use Rattle.written_entities.proofs.Parts.{fact_at}
 use Rattle.written_entities.proofs.EntityReading.{entity_more, entity_tokens, entity_spelled, entity_read}
 
-entities_spelled : (es : List VEntity) → AllByRecursion IsWellFormedEntity es → SpellsOutside Anything false (flat_map entity_text es) (each entity_tokens es) false
+entities_spelled : (es : List VEntity) → AllByRecursion IsWellFormedEntity es
+    → SpellsOutside Anything false (flat_map entity_text es) (each entity_tokens es) false
 entities_spelled [] h = nothing
 entities_spelled (e ∷ es) h = behind (entity_spelled e h.0) (entities_spelled es h.1)
 
-file_spelled : (es : List VEntity) → AreWellFormed es → spelled (scan false 0 0 (entities_text es)) ≡ (each entity_tokens es [], false)
+file_spelled : (es : List VEntity) → AreWellFormed es
+    → spelled (scan false 0 0 (entities_text es)) ≡ (each entity_tokens es [], false)
 unfolding entities_text
 file_spelled es h = all_found (entities_spelled es (recursion_from_All IsWellFormedEntity es h.entities))
 
-new_entity : (es : List VEntity) → AreWellFormed es → (before : List VEntity) (e : VEntity) (after : List VEntity) → before ++ e ∷ after ≡ es → is_among (entity_names before) e.name ≡ false
+new_entity : (es : List VEntity) → AreWellFormed es → (before : List VEntity) (e : VEntity) (after : List VEntity)
+    → before ++ e ∷ after ≡ es → is_among (entity_names before) e.name ≡ false
 new_entity es h before e after same =
-    let split : entity_names es ≡ entity_names before ++ e.name ∷ entity_names after = ap entity_names (sym same) ∙ map-append (λ (x : VEntity). x.name) before (e ∷ after) in
-    is_new (entity_names before) e.name (entity_names after) (entity_named e.name (fact_at IsWellFormedEntity es h.entities before e after same).name) (subst AreApart split h.apart)
+    let split : entity_names es ≡ entity_names before ++ e.name ∷ entity_names after =
+    ap entity_names (sym same) ∙ map-append (λ (x : VEntity). x.name) before (e ∷ after) in
+    is_new (entity_names before) e.name (entity_names after)
+    (entity_named e.name (fact_at IsWellFormedEntity es h.entities before e after same).name) (subst AreApart split h.apart)
 
-next_read : (es : List VEntity) → AreWellFormed es → (before : List VEntity) (e : VEntity) (after : List VEntity) (s : List (List ℕ)) → before ++ e ∷ after ≡ es
+next_read : (es : List VEntity) → AreWellFormed es
+    → (before : List VEntity) (e : VEntity) (after : List VEntity) (s : List (List ℕ)) → before ++ e ∷ after ≡ es
     → Reads (next_entity before) (entity_more e s) (before ++ e ∷ []) s
 unfolding next_entity
 next_read es h before e after s same =
-    in_turn (entity_read (entity_names before) e (fact_at IsWellFormedEntity es h.entities before e after same) (new_entity es h before e after same) s) gives
+    in_turn (entity_read (entity_names before) e (fact_at IsWellFormedEntity es h.entities before e after same)
+    (new_entity es h before e after same) s) gives
 
 file_read : (es : List VEntity) → AreWellFormed es → Reads file (each entity_tokens es []) es []
 unfolding file
 file_read es h =
-    in_turn (through (λ (l : List VEntity). l) entity_tokens [] es (λ before e after s same. turn refl (next_read es h before e after s same)) [] tt) (record { taken = (refl, refl, refl) })
+    in_turn (through (λ (l : List VEntity). l) entity_tokens [] es
+    (λ before e after s same. turn refl (next_read es h before e after s same)) [] tt) (record { taken = (refl, refl, refl) })
 
 -- bytes with the tokens of well formed entities read as these
-pub read_from : (bytes : List ℕ) (es : List VEntity) → AreWellFormed es → spelled (scan false 0 0 bytes) ≡ (each entity_tokens es [], false) → ReadsBack vhdl_text IsVhdlText bytes es
-read_from bytes es h e = reads_back vhdl_text IsVhdlText bytes es (is_answer bytes).entities (is_text language bytes es (each entity_tokens es []) e (file_read es h))
+pub read_from : (bytes : List ℕ) (es : List VEntity) → AreWellFormed es
+    → spelled (scan false 0 0 bytes) ≡ (each entity_tokens es [], false) → ReadsBack vhdl_text IsVhdlText bytes es
+read_from bytes es h e = reads_back vhdl_text IsVhdlText bytes es (is_answer bytes).entities
+    (is_text language bytes es (each entity_tokens es []) e (file_read es h))
 
 -- what is well formed reads back
 pub entities_read_back : WrittenEntitiesReadBack

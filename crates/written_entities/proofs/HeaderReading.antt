@@ -41,12 +41,14 @@ port_front n port s = port.name ∷ codes ":" ∷ direction_word port.input ∷ 
 
 abbrev pub ports_front : List VPort → Front
 ports_front [] s = s
-ports_front (port ∷ ports) s = codes "port" ∷ codes "(" ∷ apart_front (λ q. codes ";" ∷ q) port_front (port ∷ ports) (codes ")" ∷ codes ";" ∷ s)
+ports_front (port ∷ ports) s = codes "port" ∷ codes
+    "(" ∷ apart_front (λ q. codes ";" ∷ q) port_front (port ∷ ports) (codes ")" ∷ codes ";" ∷ s)
 
 -- the tokens behind "library" up to the entity's name, and those behind it
 abbrev pub package_front : Front
 package_front s =
-    codes "IEEE" ∷ codes ";" ∷ codes "use" ∷ codes "IEEE" ∷ codes "." ∷ codes "std_logic_1164" ∷ codes "." ∷ codes "all" ∷ codes ";"
+    codes "IEEE" ∷ codes ";" ∷ codes "use" ∷ codes "IEEE" ∷ codes "." ∷ codes "std_logic_1164" ∷ codes "." ∷ codes "all" ∷ codes
+    ";"
     ∷ codes "use" ∷ codes "IEEE" ∷ codes "." ∷ codes "VITAL_Timing" ∷ codes "." ∷ codes "all" ∷ codes ";"
     ∷ codes "use" ∷ codes "IEEE" ∷ codes "." ∷ codes "VITAL_Primitives" ∷ codes "." ∷ codes "all" ∷ codes ";" ∷ s
 
@@ -56,7 +58,12 @@ entity_front e s = codes "is" ∷ ports_front e.ports (codes "end" ∷ e.name �
 abbrev pub architecture_front : VEntity → Front
 architecture_front e s = codes "architecture" ∷ codes "vital" ∷ codes "of" ∷ e.name ∷ codes "is" ∷ s
 
-packages_word : {t : Bool} → SpellsOutside Anything t (codes "library IEEE;\nuse IEEE.std_logic_1164.all;\nuse IEEE.VITAL_Timing.all;\nuse IEEE.VITAL_Primitives.all;\nentity ") (λ s. codes "library" ∷ codes "IEEE" ∷ codes ";" ∷ codes "use" ∷ codes "IEEE" ∷ codes "." ∷ codes "std_logic_1164" ∷ codes "." ∷ codes "all" ∷ codes ";" ∷ codes "use" ∷ codes "IEEE" ∷ codes "." ∷ codes "VITAL_Timing" ∷ codes "." ∷ codes "all" ∷ codes ";" ∷ codes "use" ∷ codes "IEEE" ∷ codes "." ∷ codes "VITAL_Primitives" ∷ codes "." ∷ codes "all" ∷ codes ";" ∷ codes "entity" ∷ s) false
+packages_word : {t : Bool} → SpellsOutside Anything t
+    (codes "library IEEE;\nuse IEEE.std_logic_1164.all;\nuse IEEE.VITAL_Timing.all;\nuse IEEE.VITAL_Primitives.all;\nentity ")
+    (λ s. codes "library" ∷ codes "IEEE" ∷ codes ";" ∷ codes "use" ∷ codes "IEEE" ∷ codes "." ∷ codes "std_logic_1164" ∷ codes "."
+    ∷ codes "all" ∷ codes ";" ∷ codes "use" ∷ codes "IEEE" ∷ codes "." ∷ codes "VITAL_Timing" ∷ codes "." ∷ codes "all" ∷ codes
+    ";" ∷ codes "use" ∷ codes "IEEE" ∷ codes "." ∷ codes "VITAL_Primitives" ∷ codes "." ∷ codes "all" ∷ codes ";" ∷ codes "entity"
+    ∷ s) false
 unfolding is_reserved is_used vhdl_words used_words
 packages_word = literal (λ r. refl) refl
 
@@ -68,7 +75,8 @@ end_word : {t : Bool} → SpellsOutside Anything t (codes "end ") (λ s. codes "
 unfolding is_reserved is_used vhdl_words used_words
 end_word = literal (λ r. refl) refl
 
-architecture_word : {t : Bool} → SpellsOutside Anything t (codes ";\narchitecture vital of ") (λ s. codes ";" ∷ codes "architecture" ∷ codes "vital" ∷ codes "of" ∷ s) false
+architecture_word : {t : Bool} → SpellsOutside Anything t (codes ";\narchitecture vital of ")
+    (λ s. codes ";" ∷ codes "architecture" ∷ codes "vital" ∷ codes "of" ∷ s) false
 unfolding is_reserved is_used vhdl_words used_words
 architecture_word = literal (λ r. refl) refl
 
@@ -90,7 +98,9 @@ standard : {t : Bool} → Spells Ends t (codes "std_ulogic") (λ s. codes "std_u
 unfolding is_reserved is_used vhdl_words used_words
 standard = word (codes "std_ulogic") refl refl refl
 
-direction : {t : Bool} (b : Bool) → Spells Ends t (if b then codes " : in std_ulogic" else codes " : out std_ulogic") (λ s. codes ":" ∷ direction_word b ∷ codes "std_ulogic" ∷ s) false
+direction : {t : Bool} (b : Bool)
+    → Spells Ends t (if b then codes " : in std_ulogic" else codes " : out std_ulogic")
+    (λ s. codes ":" ∷ direction_word b ∷ codes "std_ulogic" ∷ s) false
 direction true = behind in_word standard
 direction false = behind out_word standard
 
@@ -98,10 +108,12 @@ direction_begins : (b : Bool) (r : List ℕ) → Ends ((if b then codes " : in s
 direction_begins true r = refl
 direction_begins false r = refl
 
-port_spelled : (n : ℕ) (port : VPort) → IsNamed port.name → Spells Ends false (port.name ++ direction_text port) (port_front n port) false
+port_spelled : (n : ℕ) (port : VPort) → IsNamed port.name
+    → Spells Ends false (port.name ++ direction_text port) (port_front n port) false
 port_spelled n port h = joins (name port.name h) (λ r q. direction_begins port.input r) (direction port.input)
 
-port_text_is : (n : ℕ) (port : VPort) → port_text n port ≡ Rattle.vhdl_writer.specs.Joined.apart_text (codes "; ") n ++ (port.name ++ direction_text port)
+port_text_is : (n : ℕ) (port : VPort)
+    → port_text n port ≡ Rattle.vhdl_writer.specs.Joined.apart_text (codes "; ") n ++ (port.name ++ direction_text port)
 unfolding port_text
 port_text_is n port = refl
 
@@ -110,20 +122,25 @@ abbrev pub AreNamed : List VPort → Type 0
 AreNamed ports = (before : List VPort) (port : VPort) (after : List VPort) → before ++ port ∷ after ≡ ports → IsNamed port.name
 
 -- ports, of which there is one at least
-pub some_ports_spelled : (port : VPort) (ports : List VPort) → AreNamed (port ∷ ports) → Spells Anything false (some_ports_text (port ∷ ports)) (ports_front (port ∷ ports)) false
+pub some_ports_spelled : (port : VPort) (ports : List VPort) → AreNamed (port ∷ ports)
+    → Spells Anything false (some_ports_text (port ∷ ports)) (ports_front (port ∷ ports)) false
 unfolding some_ports_text
 some_ports_spelled port ports h =
-    behind ports_word (joins (apart_spelled (codes "; ") (λ q. codes ";" ∷ q) port_text (λ n x. x.name ++ direction_text x) port_front port_text_is semicolon (λ r. refl) port ports
+    behind ports_word (joins (apart_spelled (codes "; ") (λ q. codes ";" ∷ q) port_text (λ n x. x.name ++ direction_text x)
+    port_front port_text_is semicolon (λ r. refl) port ports
     (λ before x after same. port_spelled (length before + 1) x (h before x after same))) (λ r q. refl) call_end)
 
 ports_spelled : (ports : List VPort) → AreNamed ports → Spells Anything false (ports_text ports) (ports_front ports) false
 ports_spelled [] h = nothing
-ports_spelled (port ∷ ports) h = shown (nat_lt 0 (length (port ∷ ports))) (some_items (length ports)) (some_ports_spelled port ports h)
+ports_spelled (port ∷ ports) h = shown (nat_lt 0 (length (port ∷ ports))) (some_items (length ports))
+    (some_ports_spelled port ports h)
 
-port_at_place : (e : VEntity) → IsWellFormedEntity e → (before : List VPort) (port : VPort) (after : List VPort) → before ++ port ∷ after ≡ e.ports → IsPortName port.name
+port_at_place : (e : VEntity) → IsWellFormedEntity e → (before : List VPort) (port : VPort) (after : List VPort)
+    → before ++ port ∷ after ≡ e.ports → IsPortName port.name
 port_at_place e w before port after same =
     let all : AllByRecursion IsPortName (port_names e.ports) = recursion_from_All IsPortName (port_names e.ports) w.ports in
-    let split : port_names e.ports ≡ port_names before ++ port.name ∷ port_names after = ap port_names (sym same) ∙ map-append name_of_port before (port ∷ after) in
+    let split : port_names e.ports ≡ port_names before ++ port.name ∷ port_names after =
+    ap port_names (sym same) ∙ map-append name_of_port before (port ∷ after) in
     at_place IsPortName (port_names before) port.name (port_names after) (subst (AllByRecursion IsPortName) split all)
 
 all_named : (e : VEntity) → IsWellFormedEntity e → AreNamed e.ports
@@ -135,11 +152,14 @@ own_name e w = outside (name e.name (entity_named e.name w.name))
 
 -- the header of a well formed entity
 pub header_spelled : (e : VEntity) → IsWellFormedEntity e
-    → SpellsOutside Anything false (header_text e) (λ s. codes "library" ∷ package_front (codes "entity" ∷ e.name ∷ entity_front e (architecture_front e s))) false
+    → SpellsOutside Anything false (header_text e)
+    (λ s. codes "library" ∷ package_front (codes "entity" ∷ e.name ∷ entity_front e (architecture_front e s))) false
 unfolding header_text
 header_spelled e w =
-    behind packages_word (joins (own_name e w) (λ r q. refl) (behind is_word (behind (outside (ports_spelled e.ports (all_named e w)))
-    (behind end_word (joins (own_name e w) (λ r q. refl) (behind architecture_word (joins (own_name e w) (λ r q. refl) is_word)))))))
+    behind packages_word (joins (own_name e w) (λ r q. refl)
+    (behind is_word (behind (outside (ports_spelled e.ports (all_named e w)))
+    (behind end_word (joins (own_name e w) (λ r q. refl)
+    (behind architecture_word (joins (own_name e w) (λ r q. refl) is_word)))))))
 
 -- Reading.
 
@@ -172,46 +192,59 @@ direction_read false = token refl
 -- ports that an entity of this name can declare
 pub record AreDeclared (entity : List ℕ) (ports : List VPort) : Type 0 where
   pub names : (before : List VPort) (port : VPort) (after : List VPort) → before ++ port ∷ after ≡ ports → IsPortName port.name
-  pub new : (before : List VPort) (port : VPort) (after : List VPort) → before ++ port ∷ after ≡ ports → is_among (entity ∷ port_names before) port.name ≡ false
+  pub new : (before : List VPort) (port : VPort) (after : List VPort) → before ++ port ∷ after ≡ ports
+      → is_among (entity ∷ port_names before) port.name ≡ false
 
-port_read : (entity : List ℕ) (ports : List VPort) → AreDeclared entity ports → (before : List VPort) (port : VPort) (after : List VPort) (s : List (List ℕ)) → before ++ port ∷ after ≡ ports
+port_read : (entity : List ℕ) (ports : List VPort) → AreDeclared entity ports
+    → (before : List VPort) (port : VPort) (after : List VPort) (s : List (List ℕ)) → before ++ port ∷ after ≡ ports
     → Reads (next_port entity before) (port_front 0 port s) (before ++ port ∷ []) s
 unfolding next_port
 port_read entity ports h before port after s same =
     let p : IsPortName port.name = h.names before port after same in
     let n : IsNamed port.name = port_named port.name p in
-    in_turn (token (rw (n.named, without_mark port.name p.plain, h.new before port after same) refl)) (in_turn expected (in_turn (direction_read port.input) (in_turn expected gives)))
+    in_turn (token (rw (n.named, without_mark port.name p.plain, h.new before port after same) refl))
+    (in_turn expected (in_turn (direction_read port.input) (in_turn expected gives)))
 
 -- a list of ports, of which there is one at least, behind its word
 pub port_list_read : (entity : List ℕ) (port : VPort) (ports : List VPort) (s : List (List ℕ)) → AreDeclared entity (port ∷ ports)
-    → Reads (port_list entity) (codes "(" ∷ apart_front (λ q. codes ";" ∷ q) port_front (port ∷ ports) (codes ")" ∷ codes ";" ∷ s)) (port ∷ ports) s
+    → Reads (port_list entity) (codes
+    "(" ∷ apart_front (λ q. codes ";" ∷ q) port_front (port ∷ ports) (codes ")" ∷ codes ";" ∷ s)) (port ∷ ports) s
 unfolding port_list
 port_list_read entity port ports s h =
     let more : List (List ℕ) = counted (λ n y q. codes ";" ∷ port_front n y q) 2 ports (codes ")" ∷ codes ";" ∷ s) in
     in_turn expected (in_turn (port_read entity (port ∷ ports) h [] port ports more refl)
     (in_turn (over (λ (l : List VPort). l) (λ n y q. codes ";" ∷ port_front n y q) (port ∷ []) ports
-    (λ before x after q i rest. turns (turn refl (port_read entity (port ∷ ports) h before x after q i)) rest) (codes ")" ∷ codes ";" ∷ s) (no_turn refl))
+    (λ before x after q i rest. turns (turn refl (port_read entity (port ∷ ports) h before x after q i)) rest)
+    (codes ")" ∷ codes ";" ∷ s) (no_turn refl))
     (in_turn two_expected gives)))
 
-name_new : (e : VEntity) → IsWellFormedEntity e → (before : List VPort) (port : VPort) (after : List VPort) → before ++ port ∷ after ≡ e.ports → is_among (e.name ∷ port_names before) port.name ≡ false
+name_new : (e : VEntity) → IsWellFormedEntity e → (before : List VPort) (port : VPort) (after : List VPort)
+    → before ++ port ∷ after ≡ e.ports → is_among (e.name ∷ port_names before) port.name ≡ false
 name_new e w before port after same =
     let split : e.name ∷ port_names e.ports ≡ (e.name ∷ port_names before) ++ port.name ∷ port_names after =
-    ap (λ (l : List VPort). e.name ∷ port_names l) (sym same) ∙ ap (λ (l : List (List ℕ)). e.name ∷ l) (map-append name_of_port before (port ∷ after)) in
-    is_new (e.name ∷ port_names before) port.name (port_names after) (port_named port.name (port_at_place e w before port after same)) (subst AreApart split w.apart)
+    ap (λ (l : List VPort). e.name ∷ port_names l) (sym same)
+    ∙ ap (λ (l : List (List ℕ)). e.name ∷ l) (map-append name_of_port before (port ∷ after)) in
+    is_new (e.name ∷ port_names before) port.name (port_names after)
+    (port_named port.name (port_at_place e w before port after same)) (subst AreApart split w.apart)
 
 its_ports : (e : VEntity) → IsWellFormedEntity e → AreDeclared e.name e.ports
 its_ports e w = record { names = port_at_place e w; new = name_new e w }
 
-ports_read : (entity : List ℕ) (ports : List VPort) → AreDeclared entity ports → (s : List (List ℕ)) → Reads (ports_of entity) (ports_front ports (codes "end" ∷ s)) ports (codes "end" ∷ s)
+ports_read : (entity : List ℕ) (ports : List VPort) → AreDeclared entity ports → (s : List (List ℕ))
+    → Reads (ports_of entity) (ports_front ports (codes "end" ∷ s)) ports (codes "end" ∷ s)
 unfolding ports_of
 ports_read entity [] h s = passed refl gives
 ports_read entity (port ∷ ports) h s = chosen refl (port_list_read entity port ports (codes "end" ∷ s) h)
 
-pub entity_header_read : (e : VEntity) → IsWellFormedEntity e → (s : List (List ℕ)) → Reads (entity_header e.name) (entity_front e s) e.ports s
+pub entity_header_read : (e : VEntity) → IsWellFormedEntity e → (s : List (List ℕ))
+    → Reads (entity_header e.name) (entity_front e s) e.ports s
 unfolding entity_header
 entity_header_read e w s =
-    in_turn expected (in_turn (ports_read e.name e.ports (its_ports e w) (e.name ∷ codes ";" ∷ s)) (in_turn expected (in_turn (so_named (Some e.name) (entity_named e.name w.name) refl) (in_turn expected gives))))
+    in_turn expected (in_turn (ports_read e.name e.ports (its_ports e w) (e.name ∷ codes ";" ∷ s))
+    (in_turn expected (in_turn (so_named (Some e.name) (entity_named e.name w.name) refl) (in_turn expected gives))))
 
-pub architecture_header_read : (e : VEntity) → IsWellFormedEntity e → (s : List (List ℕ)) → Reads (architecture_header e.name) (architecture_front e s) tt s
+pub architecture_header_read : (e : VEntity) → IsWellFormedEntity e → (s : List (List ℕ))
+    → Reads (architecture_header e.name) (architecture_front e s) tt s
 unfolding architecture_header
-architecture_header_read e w s = in_turn three_expected (in_turn (so_named (Some e.name) (entity_named e.name w.name) refl) expected)
+architecture_header_read e w s = in_turn three_expected
+    (in_turn (so_named (Some e.name) (entity_named e.name w.name) refl) expected)

@@ -42,26 +42,31 @@ tails : {A : Type 0} (a b c d : A) (x y : List A) → a ∷ b ∷ x ≡ c ∷ d 
 tails a b c d x y e = cc
 
 -- parts of other numbers have other names
-unlike_parts : (b m n : ℕ) → is_ascii_alphabetic b ≡ true → m < 2 ^ 64 → n < 2 ^ 64 → (m ≡ n → ⊥) → is_same (b ∷ 95 ∷ decimal m) (b ∷ 95 ∷ decimal n) ≡ false
-unlike_parts b m n l h k other = same_letters b (95 ∷ decimal m) (b ∷ 95 ∷ decimal n) l ∙ by (str_eq_ignore_ascii_case (b ∷ 95 ∷ decimal m) (b ∷ 95 ∷ decimal n)) refl
+unlike_parts : (b m n : ℕ) → is_ascii_alphabetic b ≡ true → m < 2 ^ 64 → n < 2 ^ 64 → (m ≡ n → ⊥)
+    → is_same (b ∷ 95 ∷ decimal m) (b ∷ 95 ∷ decimal n) ≡ false
+unlike_parts b m n l h k other = same_letters b (95 ∷ decimal m) (b ∷ 95 ∷ decimal n) l
+    ∙ by (str_eq_ignore_ascii_case (b ∷ 95 ∷ decimal m) (b ∷ 95 ∷ decimal n)) refl
   where
     by : (t : Bool) → str_eq_ignore_ascii_case (b ∷ 95 ∷ decimal m) (b ∷ 95 ∷ decimal n) ≡ t → t ≡ false
     by true e =
         let same : str_to_ascii_lowercase (b ∷ 95 ∷ decimal m) ≡ str_to_ascii_lowercase (b ∷ 95 ∷ decimal n) =
         (bytes_eq-Decides (str_to_ascii_lowercase (b ∷ 95 ∷ decimal m)) (str_to_ascii_lowercase (b ∷ 95 ∷ decimal n))).0 e in
         let digits : str_to_ascii_lowercase (decimal m) ≡ str_to_ascii_lowercase (decimal n) =
-        tails (to_ascii_lowercase b) 95 (to_ascii_lowercase b) 95 (str_to_ascii_lowercase (decimal m)) (str_to_ascii_lowercase (decimal n)) same in
+        tails (to_ascii_lowercase b) 95 (to_ascii_lowercase b) 95 (str_to_ascii_lowercase (decimal m))
+        (str_to_ascii_lowercase (decimal n)) same in
         absurd (other (decimal_injective m n h k (sym (low_decimal m h) ∙ digits ∙ low_decimal n k)))
     by false e = refl
 
 -- the place of a numbered name among those up to a number
-pub place_found : (b n i : ℕ) → is_ascii_alphabetic b ≡ true → i < n → n < 2 ^ 64 → place_among (b ∷ 95 ∷ []) n (b ∷ 95 ∷ decimal (i + 1)) ≡ Some i
+pub place_found : (b n i : ℕ) → is_ascii_alphabetic b ≡ true → i < n → n < 2 ^ 64
+    → place_among (b ∷ 95 ∷ []) n (b ∷ 95 ∷ decimal (i + 1)) ≡ Some i
 place_found b zero i l h k = absurd (omega (arith, h))
 place_found b (suc n) i l h k = elim (cases_Bool (nat_eq i n)) [
   | inl t ↦ (let same : i ≡ n = eqb-true i n t in
       let next : i + 1 ≡ suc n = omega (arith, same) in
       let its : is_same (b ∷ 95 ∷ decimal (i + 1)) (b ∷ 95 ∷ decimal (suc n)) ≡ true =
-      subst (λ (m : ℕ). is_same (b ∷ 95 ∷ decimal (i + 1)) (b ∷ 95 ∷ decimal m) ≡ true) next (same_self (b ∷ 95 ∷ decimal (i + 1))) in
+      subst (λ (m : ℕ). is_same (b ∷ 95 ∷ decimal (i + 1)) (b ∷ 95 ∷ decimal m) ≡ true) next
+      (same_self (b ∷ 95 ∷ decimal (i + 1))) in
       rw its (ap (λ (m : ℕ). Some m) (sym same)))
   | inr f ↦ (let less : i < n = grind (arith, nat_tests, h, f) in
       let other : (i + 1 ≡ suc n → ⊥) = (λ e. absurd (omega (arith, e, less))) in
@@ -98,28 +103,40 @@ three_expected = in_turn expected (in_turn expected (in_turn expected gives))
 pub four_expected : {a b c d : List ℕ} {s : List (List ℕ)} → Reads (expect_all (a ∷ b ∷ c ∷ d ∷ [])) (a ∷ b ∷ c ∷ d ∷ s) tt s
 four_expected = in_turn expected (in_turn expected (in_turn expected (in_turn expected gives)))
 
-pub five_expected : {a b c d e : List ℕ} {s : List (List ℕ)} → Reads (expect_all (a ∷ b ∷ c ∷ d ∷ e ∷ [])) (a ∷ b ∷ c ∷ d ∷ e ∷ s) tt s
+pub five_expected : {a b c d e : List ℕ} {s : List (List ℕ)}
+    → Reads (expect_all (a ∷ b ∷ c ∷ d ∷ e ∷ [])) (a ∷ b ∷ c ∷ d ∷ e ∷ s) tt s
 five_expected = in_turn expected (in_turn expected (in_turn expected (in_turn expected (in_turn expected gives))))
 
-pub six_expected : {a b c d e f : List ℕ} {s : List (List ℕ)} → Reads (expect_all (a ∷ b ∷ c ∷ d ∷ e ∷ f ∷ [])) (a ∷ b ∷ c ∷ d ∷ e ∷ f ∷ s) tt s
-six_expected = in_turn expected (in_turn expected (in_turn expected (in_turn expected (in_turn expected (in_turn expected gives)))))
+pub six_expected : {a b c d e f : List ℕ} {s : List (List ℕ)}
+    → Reads (expect_all (a ∷ b ∷ c ∷ d ∷ e ∷ f ∷ [])) (a ∷ b ∷ c ∷ d ∷ e ∷ f ∷ s) tt s
+six_expected = in_turn expected (in_turn expected
+    (in_turn expected (in_turn expected (in_turn expected (in_turn expected gives)))))
 
-pub seven_expected : {a b c d e f g : List ℕ} {s : List (List ℕ)} → Reads (expect_all (a ∷ b ∷ c ∷ d ∷ e ∷ f ∷ g ∷ [])) (a ∷ b ∷ c ∷ d ∷ e ∷ f ∷ g ∷ s) tt s
-seven_expected = in_turn expected (in_turn expected (in_turn expected (in_turn expected (in_turn expected (in_turn expected (in_turn expected gives))))))
+pub seven_expected : {a b c d e f g : List ℕ} {s : List (List ℕ)}
+    → Reads (expect_all (a ∷ b ∷ c ∷ d ∷ e ∷ f ∷ g ∷ [])) (a ∷ b ∷ c ∷ d ∷ e ∷ f ∷ g ∷ s) tt s
+seven_expected = in_turn expected
+    (in_turn expected (in_turn expected (in_turn expected (in_turn expected (in_turn expected (in_turn expected gives))))))
 
-pub eight_expected : {a b c d e f g h : List ℕ} {s : List (List ℕ)} → Reads (expect_all (a ∷ b ∷ c ∷ d ∷ e ∷ f ∷ g ∷ h ∷ [])) (a ∷ b ∷ c ∷ d ∷ e ∷ f ∷ g ∷ h ∷ s) tt s
-eight_expected = in_turn expected (in_turn expected (in_turn expected (in_turn expected (in_turn expected (in_turn expected (in_turn expected (in_turn expected gives)))))))
+pub eight_expected : {a b c d e f g h : List ℕ} {s : List (List ℕ)}
+    → Reads (expect_all (a ∷ b ∷ c ∷ d ∷ e ∷ f ∷ g ∷ h ∷ [])) (a ∷ b ∷ c ∷ d ∷ e ∷ f ∷ g ∷ h ∷ s) tt s
+eight_expected = in_turn expected
+    (in_turn expected (in_turn expected
+    (in_turn expected (in_turn expected (in_turn expected (in_turn expected (in_turn expected gives)))))))
 
-pub expected_where : (holds : Bool) (k : Refusal) {text : List ℕ} {s : List (List ℕ)} → holds ≡ true → Reads (expect_where holds k text) (text ∷ s) tt s
+pub expected_where : (holds : Bool) (k : Refusal) {text : List ℕ} {s : List (List ℕ)} → holds ≡ true
+    → Reads (expect_where holds k text) (text ∷ s) tt s
 expected_where holds k {text = text} e = token (rw (same_self text, e) refl)
 
-pub newly_named : (names : List (List ℕ)) {x : List ℕ} {s : List (List ℕ)} → IsNamed x → is_among names x ≡ false → Reads (new_name names) (x ∷ s) x s
+pub newly_named : (names : List (List ℕ)) {x : List ℕ} {s : List (List ℕ)} → IsNamed x → is_among names x ≡ false
+    → Reads (new_name names) (x ∷ s) x s
 newly_named names {x = x} n e = token (rw (n.named, e) refl)
 
-pub known_as : {A : Type 0} (find : List ℕ → Option A) {x : List ℕ} {a : A} {s : List (List ℕ)} → IsNamed x → find x ≡ Some a → Reads (known find) (x ∷ s) a s
+pub known_as : {A : Type 0} (find : List ℕ → Option A) {x : List ℕ} {a : A} {s : List (List ℕ)} → IsNamed x → find x ≡ Some a
+    → Reads (known find) (x ∷ s) a s
 known_as find {x = x} n e = token (rw (n.named, e) refl)
 
-pub so_named : (name : Option (List ℕ)) {x : List ℕ} {s : List (List ℕ)} → IsNamed x → name ≡ Some x → Reads (this_name name) (x ∷ s) tt s
+pub so_named : (name : Option (List ℕ)) {x : List ℕ} {s : List (List ℕ)} → IsNamed x → name ≡ Some x
+    → Reads (this_name name) (x ∷ s) tt s
 so_named name {x = x} n e = token (rw (n.named, e, same_self x) refl)
 
 pub number_read : (n : ℕ) {s : List (List ℕ)} → IsNumber n → Reads a_number (decimal n ∷ s) n s
@@ -136,15 +153,18 @@ this_number_read n h = token (rw (number_is n h, equal_self n) refl)
 -- Names of which none stands twice.
 
 -- a name among others is none of those before it
-pub is_new : (before : List (List ℕ)) (x : List ℕ) (after : List (List ℕ)) → IsNamed x → AreApart (before ++ x ∷ after) → is_among before x ≡ false
+pub is_new : (before : List (List ℕ)) (x : List ℕ) (after : List (List ℕ)) → IsNamed x → AreApart (before ++ x ∷ after)
+    → is_among before x ≡ false
 unfolding IsDistinct
 is_new [] x after n h = refl
 is_new (y ∷ before) x after n h =
-    let other : is_same x y ≡ false = same_name x y n ∙ case_turned x y ∙ at_place (λ z. str_eq_ignore_ascii_case y z ≡ false) before x after h.0 in
+    let other : is_same x y ≡ false = same_name x y n ∙ case_turned x y
+    ∙ at_place (λ z. str_eq_ignore_ascii_case y z ≡ false) before x after h.0 in
     rw other (is_new before x after n h.1)
 
 -- the first item that passes a test
-pub first_place : {A : Type 0} (test : A → Bool) (before : List A) (x : A) (after : List A) → list_any test before ≡ false → test x ≡ true → position test (before ++ x ∷ after) ≡ Some (length before)
+pub first_place : {A : Type 0} (test : A → Bool) (before : List A) (x : A) (after : List A) → list_any test before ≡ false
+    → test x ≡ true → position test (before ++ x ∷ after) ≡ Some (length before)
 first_place test before x after none here =
     let place : 0 + length before ≡ length before = omega arith in
     position_from-zero test (before ++ x ∷ after) ∙ found_behind test 0 before x after none here ∙ ap (λ (n : ℕ). Some n) place
@@ -154,5 +174,6 @@ first_place test before x after none here =
 named_if : (b : Bool) (letter n : ℕ) → b ≡ true → numbered_where b (letter ∷ 95 ∷ []) n ≡ Some (letter ∷ 95 ∷ decimal n)
 named_if b letter n e = if_true b _ _ e
 
-pub part_read : (b : Bool) (letter n : ℕ) {s : List (List ℕ)} → is_ascii_alphabetic letter ≡ true → IsCount n → b ≡ true → Reads (this_name (numbered_where b (letter ∷ 95 ∷ []) n)) ((letter ∷ 95 ∷ decimal n) ∷ s) tt s
+pub part_read : (b : Bool) (letter n : ℕ) {s : List (List ℕ)} → is_ascii_alphabetic letter ≡ true → IsCount n → b ≡ true
+    → Reads (this_name (numbered_where b (letter ∷ 95 ∷ []) n)) ((letter ∷ 95 ∷ decimal n) ∷ s) tt s
 part_read b letter n l h e = so_named (numbered_where b (letter ∷ 95 ∷ []) n) (part_named letter n l h) (named_if b letter n e)

@@ -25,7 +25,12 @@ pub record IsNamed (x : List ℕ) : Type 0 where
 
 is_named : (x : List ℕ) → is_spelled_as_name x ≡ true → not (is_vhdl_word x) ≡ true → IsNamed x
 is_named [] h n = absurd cc
-is_named (b ∷ w) h n = record { identifier = h; named = and_from (is_ascii_alphabetic b) (not (is_vhdl_word (b ∷ w))) (and_parts (is_ascii_alphabetic b) (list_all is_name_byte w) h).0 n }
+is_named (b ∷ w) h n = record {
+  identifier = h;
+  named =
+      and_from (is_ascii_alphabetic b) (not (is_vhdl_word (b ∷ w)))
+      (and_parts (is_ascii_alphabetic b) (list_all is_name_byte w) h).0 n;
+}
 
 pub entity_named : (x : List ℕ) → IsEntityName x → IsNamed x
 entity_named x n = is_named x n.identifier n.no_word
@@ -64,10 +69,12 @@ pub unlike_scored : (b : ℕ) (ds w : List ℕ) → other_second w ≡ true → 
 unlike_scored b ds [] h = refl
 unlike_scored b ds (a ∷ []) h = and_no (nat_eq (to_ascii_lowercase b) (to_ascii_lowercase a)) false refl
 unlike_scored b ds (a ∷ c ∷ w) h =
-    and_no (nat_eq (to_ascii_lowercase b) (to_ascii_lowercase a)) (nat_eq 95 (to_ascii_lowercase c) && bytes_eq (str_to_ascii_lowercase ds) (str_to_ascii_lowercase w))
+    and_no (nat_eq (to_ascii_lowercase b) (to_ascii_lowercase a))
+    (nat_eq 95 (to_ascii_lowercase c) && bytes_eq (str_to_ascii_lowercase ds) (str_to_ascii_lowercase w))
     (rw (is_other (nat_eq 95 (to_ascii_lowercase c)) h) refl)
 
-none_scored : (b : ℕ) (ds : List ℕ) (words : List (List ℕ)) → list_all other_second words ≡ true → is_word words (b ∷ 95 ∷ ds) ≡ false
+none_scored : (b : ℕ) (ds : List ℕ) (words : List (List ℕ)) → list_all other_second words ≡ true
+    → is_word words (b ∷ 95 ∷ ds) ≡ false
 none_scored b ds [] h = refl
 none_scored b ds (w ∷ words) h =
     let p = and_parts (other_second w) (list_all other_second words) h in
@@ -87,7 +94,8 @@ neither a b e f = rw e f
 pub scored_no_word : (b : ℕ) (ds : List ℕ) → is_vhdl_word (b ∷ 95 ∷ ds) ≡ false
 unfolding is_reserved is_used
 scored_no_word b ds =
-    neither (is_reserved (b ∷ 95 ∷ ds)) (is_used (b ∷ 95 ∷ ds)) (none_scored b ds vhdl_words reserved_unscored) (none_scored b ds used_words used_unscored)
+    neither (is_reserved (b ∷ 95 ∷ ds)) (is_used (b ∷ 95 ∷ ds)) (none_scored b ds vhdl_words reserved_unscored)
+    (none_scored b ds used_words used_unscored)
 
 pub digit_in_name : (c : ℕ) → is_ascii_digit c ≡ true → is_name_byte c ≡ true
 digit_in_name c h = grind (arith, nat_tests)
@@ -102,7 +110,8 @@ digits_in_name (c ∷ x) h =
 pub part_named : (b n : ℕ) → is_ascii_alphabetic b ≡ true → n < 2 ^ 64 → IsNamed (b ∷ 95 ∷ decimal n)
 part_named b n l h =
     is_named (b ∷ 95 ∷ decimal n)
-    (and_from (is_ascii_alphabetic b) (list_all is_name_byte (95 ∷ decimal n)) l (digits_in_name (decimal n) (all_digits (decimal n) (decimal_is_IsNumeral n h).0.1)))
+    (and_from (is_ascii_alphabetic b) (list_all is_name_byte (95 ∷ decimal n)) l
+    (digits_in_name (decimal n) (all_digits (decimal n) (decimal_is_IsNumeral n h).0.1)))
     (ap not (scored_no_word b (decimal n)))
 
 -- The same.
@@ -119,7 +128,8 @@ same_self x = both_same (is_character x) (bytes_eq x x) (str_eq_ignore_ascii_cas
 
 bytes_turned : (x y : List ℕ) → bytes_eq x y ≡ bytes_eq y x
 bytes_turned x y =
-    same_from_decides (bytes_eq x y) (bytes_eq y x) (bytes_eq-Decides x y) (λ e. sym ((bytes_eq-Decides y x).0 e), λ e. (bytes_eq-Decides y x).1 (sym e))
+    same_from_decides (bytes_eq x y) (bytes_eq y x) (bytes_eq-Decides x y)
+    (λ e. sym ((bytes_eq-Decides y x).0 e), λ e. (bytes_eq-Decides y x).1 (sym e))
 
 pub case_turned : (x y : List ℕ) → str_eq_ignore_ascii_case x y ≡ str_eq_ignore_ascii_case y x
 case_turned x y = bytes_turned (str_to_ascii_lowercase x) (str_to_ascii_lowercase y)
@@ -128,7 +138,8 @@ case_turned x y = bytes_turned (str_to_ascii_lowercase x) (str_to_ascii_lowercas
 pub same_letters : (b : ℕ) (x y : List ℕ) → is_ascii_alphabetic b ≡ true → is_same (b ∷ x) y ≡ str_eq_ignore_ascii_case (b ∷ x) y
 same_letters b x y e = by (b == 39) refl
   where
-    by : (q : Bool) → (b == 39) ≡ q → (if q then bytes_eq (b ∷ x) y else str_eq_ignore_ascii_case (b ∷ x) y) ≡ str_eq_ignore_ascii_case (b ∷ x) y
+    by : (q : Bool) → (b == 39) ≡ q → (if q then bytes_eq (b ∷ x) y
+        else str_eq_ignore_ascii_case (b ∷ x) y) ≡ str_eq_ignore_ascii_case (b ∷ x) y
     by true h = absurd (true≢false (sym (subst (λ (c : ℕ). is_ascii_alphabetic c ≡ true) (eqb-true b 39 h) e)))
     by false h = refl
 
@@ -148,14 +159,16 @@ no_word (b ∷ x) n = by (is_vhdl_word (b ∷ x)) (and_parts (is_ascii_alphabeti
 same_word : (x w : List ℕ) → str_to_ascii_lowercase x ≡ str_to_ascii_lowercase w → is_vhdl_word x ≡ is_vhdl_word w
 unfolding is_reserved is_used
 same_word x w e =
-    ap (λ (l : List ℕ). list_any (λ y. bytes_eq l (str_to_ascii_lowercase y)) vhdl_words || list_any (λ y. bytes_eq l (str_to_ascii_lowercase y)) used_words) e
+    ap (λ (l : List ℕ). list_any (λ y. bytes_eq l (str_to_ascii_lowercase y)) vhdl_words
+    || list_any (λ y. bytes_eq l (str_to_ascii_lowercase y)) used_words) e
 
 pub unlike_word : (x w : List ℕ) → IsNamed x → is_vhdl_word w ≡ true → is_same x w ≡ false
 unlike_word x w n e = same_name x w n ∙ by (str_eq_ignore_ascii_case x w) refl
   where
     by : (t : Bool) → str_eq_ignore_ascii_case x w ≡ t → t ≡ false
     by true h =
-        let same : is_vhdl_word x ≡ true = same_word x w ((bytes_eq-Decides (str_to_ascii_lowercase x) (str_to_ascii_lowercase w)).0 h) ∙ e in
+        let same : is_vhdl_word x ≡ true =
+        same_word x w ((bytes_eq-Decides (str_to_ascii_lowercase x) (str_to_ascii_lowercase w)).0 h) ∙ e in
         absurd (true≢false (sym same ∙ no_word x n))
     by false h = refl
 

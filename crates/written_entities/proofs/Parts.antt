@@ -19,12 +19,15 @@ use Rattle.written_entities.proofs.Spelling.{Spells}
 use Rattle.written_entities.proofs.Words.{Ends, part}
 
 -- text that is written where a test holds
-pub shown : {P : List ℕ → Type 0} {t u : Bool} {text : List ℕ} {f : Front} (b : Bool) → b ≡ true → Spells P t text f u → Spells P t (if b then text else []) f u
+pub shown : {P : List ℕ → Type 0} {t u : Bool} {text : List ℕ} {f : Front} (b : Bool) → b ≡ true → Spells P t text f u
+    → Spells P t (if b then text else []) f u
 shown b e h = rw e h
 
 -- text that ends within the name of a part, its number, and what follows
-pub part_behind : {Q : List ℕ → Type 0} {t u v : Bool} {front rest : List ℕ} {f g : Front} (b n : ℕ) → is_ascii_alphabetic b ≡ true → IsCount n → Spells Anything t front f u
-    → ((r : List ℕ) → Q r → Ends (rest ++ r)) → Spells Q true rest g v → Spells Q t (front ++ (b ∷ 95 ∷ decimal n ++ rest)) (λ s. f ((b ∷ 95 ∷ decimal n) ∷ g s)) v
+pub part_behind : {Q : List ℕ → Type 0} {t u v : Bool} {front rest : List ℕ} {f g : Front} (b n : ℕ)
+    → is_ascii_alphabetic b ≡ true → IsCount n → Spells Anything t front f u
+    → ((r : List ℕ) → Q r → Ends (rest ++ r)) → Spells Q true rest g v
+    → Spells Q t (front ++ (b ∷ 95 ∷ decimal n ++ rest)) (λ s. f ((b ∷ 95 ∷ decimal n) ∷ g s)) v
 part_behind b n l h i k j = behind i (joins (part b n l h) k j)
 
 -- a piece of text that may stand behind a name
@@ -33,7 +36,8 @@ pub record IsBehind (text : List ℕ) (f : Front) : Type 0 where
   pub begins : (r : List ℕ) → Ends (text ++ r)
 
 -- what holds of each kind of check
-pub by_kind : (P : CheckKind → Type 0) → P check_kind.Setup → P check_kind.Hold → P check_kind.Recovery → P check_kind.Removal → P check_kind.Width → P check_kind.Period → (kind : CheckKind) → P kind
+pub by_kind : (P : CheckKind → Type 0) → P check_kind.Setup → P check_kind.Hold → P check_kind.Recovery → P check_kind.Removal
+    → P check_kind.Width → P check_kind.Period → (kind : CheckKind) → P kind
 by_kind P setup hold recovery removal width period check_kind.Setup = setup
 by_kind P setup hold recovery removal width period check_kind.Hold = hold
 by_kind P setup hold recovery removal width period check_kind.Recovery = recovery
@@ -41,18 +45,21 @@ by_kind P setup hold recovery removal width period check_kind.Removal = removal
 by_kind P setup hold recovery removal width period check_kind.Width = width
 by_kind P setup hold recovery removal width period check_kind.Period = period
 
-pub fact_at : {A : Type 0} (P : A → Type 0) (all : List A) → All P all → (before : List A) (x : A) (after : List A) → before ++ x ∷ after ≡ all → P x
+pub fact_at : {A : Type 0} (P : A → Type 0) (all : List A) → All P all → (before : List A) (x : A) (after : List A)
+    → before ++ x ∷ after ≡ all → P x
 fact_at P all h before x after same = at_place P before x after (subst (AllByRecursion P) (sym same) (recursion_from_All P all h))
 
 -- how many items stand before one of a list
-pub place_below : {A : Type 0} (before : List A) (x : A) (after all : List A) → before ++ x ∷ after ≡ all → length before + 1 ≤ length all
+pub place_below : {A : Type 0} (before : List A) (x : A) (after all : List A) → before ++ x ∷ after ≡ all
+    → length before + 1 ≤ length all
 place_below before x after all same = omega (arith, length-append before (x ∷ after), ap length same)
 
 few_ports : (k : ℕ) (ports : List VPort) → length (output_ports_from k ports) ≤ length ports
 few_ports k [] = omega arith
 few_ports k (port ∷ ports) = by port.input (few_ports (k + 1) ports)
   where
-    by : (b : Bool) → length (output_ports_from (k + 1) ports) ≤ length ports → length (if b then output_ports_from (k + 1) ports else k ∷ output_ports_from (k + 1) ports) ≤ suc (length ports)
+    by : (b : Bool) → length (output_ports_from (k + 1) ports) ≤ length ports
+        → length (if b then output_ports_from (k + 1) ports else k ∷ output_ports_from (k + 1) ports) ≤ suc (length ports)
     by true h = omega (arith, h)
     by false h = omega (arith, h)
 

@@ -25,29 +25,38 @@ unfolding IsDistinct
 apart_rest x xs h = h.1
 
 -- the name of a port is one
-pub port_is : (e : VEntity) → IsWellFormedEntity e → (p : ℕ) (port : VPort) → slice_get e.ports p ≡ Some port → IsPortName port.name
+pub port_is : (e : VEntity) → IsWellFormedEntity e → (p : ℕ) (port : VPort) → slice_get e.ports p ≡ Some port
+    → IsPortName port.name
 port_is e w p port h =
-    all_at IsPortName (port_names e.ports) p port.name (recursion_from_All IsPortName (port_names e.ports) w.ports) (slice_get-map name_of_port e.ports p ∙ ap (option_map name_of_port) h)
+    all_at IsPortName (port_names e.ports) p port.name (recursion_from_All IsPortName (port_names e.ports) w.ports)
+    (slice_get-map name_of_port e.ports p ∙ ap (option_map name_of_port) h)
 
-among_ports : (x : List ℕ) (ports : List VPort) → list_any (λ (port : VPort). is_same x port.name) ports ≡ is_among (port_names ports) x
+among_ports : (x : List ℕ) (ports : List VPort)
+    → list_any (λ (port : VPort). is_same x port.name) ports ≡ is_among (port_names ports) x
 among_ports x [] = refl
 among_ports x (port ∷ ports) = ap (λ (t : Bool). is_same x port.name || t) (among_ports x ports)
 
 -- a port's name stands at its place
-port_place : (e : VEntity) → IsWellFormedEntity e → (p : ℕ) (port : VPort) → slice_get e.ports p ≡ Some port → port_of e.ports port.name ≡ Some p
+port_place : (e : VEntity) → IsWellFormedEntity e → (p : ℕ) (port : VPort) → slice_get e.ports p ≡ Some port
+    → port_of e.ports port.name ≡ Some p
 port_place e w p port h =
     let at = item_at e.ports p port h in
-    let split : port_names e.ports ≡ port_names at.before ++ port.name ∷ port_names at.after = ap port_names at.split ∙ map-append name_of_port at.before (port ∷ at.after) in
+    let split : port_names e.ports ≡ port_names at.before ++ port.name ∷ port_names at.after =
+    ap port_names at.split ∙ map-append name_of_port at.before (port ∷ at.after) in
     let new : is_among (port_names at.before) port.name ≡ false =
-    is_new (port_names at.before) port.name (port_names at.after) (port_named port.name (port_is e w p port h)) (subst AreApart split (apart_rest e.name (port_names e.ports) w.apart)) in
+    is_new (port_names at.before) port.name (port_names at.after) (port_named port.name (port_is e w p port h))
+    (subst AreApart split (apart_rest e.name (port_names e.ports) w.apart)) in
     ap (λ (l : List VPort). position (λ (q : VPort). is_same port.name q.name) l) at.split
-    ∙ first_place (λ (q : VPort). is_same port.name q.name) at.before port at.after (among_ports port.name at.before ∙ new) (same_self port.name)
+    ∙ first_place (λ (q : VPort). is_same port.name q.name) at.before port at.after (among_ports port.name at.before ∙ new)
+    (same_self port.name)
     ∙ ap (λ (n : ℕ). Some n) at.place
 
-pub known_port : (ports : List VPort) (p : ℕ) (test : VPort → Bool) → option_map_or test (slice_get ports p) false ≡ true → (port : VPort) × (slice_get ports p ≡ Some port)
+pub known_port : (ports : List VPort) (p : ℕ) (test : VPort → Bool) → option_map_or test (slice_get ports p) false ≡ true
+    → (port : VPort) × (slice_get ports p ≡ Some port)
 known_port ports p test h = by (slice_get ports p) refl h
   where
-    by : (o : Option VPort) → slice_get ports p ≡ o → option_map_or test o false ≡ true → (port : VPort) × (slice_get ports p ≡ Some port)
+    by : (o : Option VPort) → slice_get ports p ≡ o → option_map_or test o false ≡ true → (port : VPort)
+        × (slice_get ports p ≡ Some port)
     by None e h = absurd cc
     by (Some port) e h = (port, e)
 
@@ -66,11 +75,14 @@ input_named e w p h = port_named (port_at e p) (input_is e w p h)
 pub kept_one : (test : ℕ → Bool) (n : ℕ) → test n ≡ true → kept test (Some n) ≡ Some n
 kept_one test n h = rw h refl
 
-pub input_found : (e : VEntity) → IsWellFormedEntity e → (p : ℕ) → IsTrue (is_input_port e.ports p) → input_of e.ports (port_at e p) ≡ Some p
+pub input_found : (e : VEntity) → IsWellFormedEntity e → (p : ℕ) → IsTrue (is_input_port e.ports p)
+    → input_of e.ports (port_at e p) ≡ Some p
 input_found e w p h =
     let at = known_port e.ports p (λ (port : VPort). port.input) h in
-    ap (kept (is_input_port e.ports)) (ap (port_of e.ports) (port_at_is e p at.0 at.1) ∙ port_place e w p at.0 at.1) ∙ kept_one (is_input_port e.ports) p h
+    ap (kept (is_input_port e.ports)) (ap (port_of e.ports) (port_at_is e p at.0 at.1) ∙ port_place e w p at.0 at.1)
+    ∙ kept_one (is_input_port e.ports) p h
 
-pub input_read : (e : VEntity) → IsWellFormedEntity e → (p : ℕ) {s : List (List ℕ)} → IsTrue (is_input_port e.ports p) → Reads (an_input e.ports) (port_at e p ∷ s) p s
+pub input_read : (e : VEntity) → IsWellFormedEntity e → (p : ℕ) {s : List (List ℕ)} → IsTrue (is_input_port e.ports p)
+    → Reads (an_input e.ports) (port_at e p ∷ s) p s
 unfolding an_input
 input_read e w p h = known_as (input_of e.ports) (input_named e w p h) (input_found e w p h)

@@ -34,17 +34,20 @@ pub inside : {P : List ℕ → Type 0} {t u : Bool} {text : List ℕ} {f : Front
 inside h = barred_less (λ t x s e. (or_parts (begins vhdl vhdl_marks t x s) (ends_next vhdl vhdl_marks t x s) e).1) h
 
 -- a token that is the first word of neither mark
-pub unmarked : (t : Bool) (x r : List ℕ) → is_same x (codes "use") ≡ false → is_same x (codes "end") ≡ false → marked vhdl vhdl_marks t x r ≡ false
+pub unmarked : (t : Bool) (x r : List ℕ) → is_same x (codes "use") ≡ false → is_same x (codes "end") ≡ false
+    → marked vhdl vhdl_marks t x r ≡ false
 unmarked t x r e f = rw (e, f) refl
 
 -- what stands before an argument of a call that has this name: bytes of which the tokens are found by computing
 pub argument : {t : Bool} (name : List ℕ)
-    → ((r : List ℕ) → passed lexis (marked vhdl vhdl_marks) t 0 (codes ", " ++ (name ++ codes " => ")) r ≡ Some (codes "," ∷ name ∷ codes "=>" ∷ [], false))
+    → ((r : List ℕ) → passed lexis (marked vhdl vhdl_marks) t 0 (codes ", " ++ (name ++ codes " => ")) r ≡ Some
+    (codes "," ∷ name ∷ codes "=>" ∷ [], false))
     → Spells Anything t (codes ", " ++ (name ++ codes " => ")) (λ s. codes "," ∷ name ∷ codes "=>" ∷ s) false
 argument name h = literal h refl
 
 -- texts of numbered items one behind the other, where from this number on the number says nothing to their tokens
-pub numbered_spelled : {A : Type 0} {t : Bool} (text : ℕ → A → List ℕ) (f : A → Front) (least : ℕ) → ((n : ℕ) (x : A) → least ≤ n → Spells Anything t (text n x) (f x) t)
+pub numbered_spelled : {A : Type 0} {t : Bool} (text : ℕ → A → List ℕ) (f : A → Front) (least : ℕ)
+    → ((n : ℕ) (x : A) → least ≤ n → Spells Anything t (text n x) (f x) t)
     → (n : ℕ) (xs : List A) → least ≤ n → Spells Anything t (numbered_texts text n xs) (each f xs) t
 numbered_spelled text f least h n [] m = nothing
 numbered_spelled text f least h n (x ∷ xs) m =

@@ -31,45 +31,64 @@ same_value {A = A} p s a b h k = value_is {T = List ℕ} {K = Refusal} {A = A} (
 
 -- Truth tables.
 
-truth_spelled : (table : TruthTable) → Spells Anything false (truth_table_text table) (λ s. codes "(" ∷ rows_front truth_row_front table.rows (codes ")" ∷ s)) false
+truth_spelled : (table : TruthTable)
+    → Spells Anything false (truth_table_text table) (λ s. codes "(" ∷ rows_front truth_row_front table.rows (codes ")" ∷ s))
+    false
 unfolding truth_table_text truth_rows_text
 truth_spelled table = behind opened (behind (truth_rows table.rows) closed)
 
-truth_is : (columns : ℕ) (table : TruthTable) → 1 ≤ columns → 1 ≤ length table.rows → IsTruthTable columns table → IsTruthTableText (truth_table_text table) table
+truth_is : (columns : ℕ) (table : TruthTable) → 1 ≤ columns → 1 ≤ length table.rows → IsTruthTable columns table
+    → IsTruthTableText (truth_table_text table) table
 truth_is columns table some most all =
     let e = all_found (truth_spelled table) in
-    let tokens : text_tokens (truth_table_text table) ≡ codes "(" ∷ rows_front truth_row_front table.rows (codes ")" ∷ []) = ap (λ (p : List (List ℕ) × Bool). p.0) e in
-    let reads = truth_table_read columns table [] some most (recursion_from_All (λ (row : TruthRow). length row.inputs ≡ columns) table.rows all) in
+    let tokens : text_tokens (truth_table_text table) ≡ codes "(" ∷ rows_front truth_row_front table.rows (codes ")" ∷ []) =
+    ap (λ (p : List (List ℕ) × Bool). p.0) e in
+    let reads = truth_table_read columns table [] some most
+    (recursion_from_All (λ (row : TruthRow). length row.inputs ≡ columns) table.rows all) in
     record {
       lexes = none_if (lexical_place (truth_table_text table)) (ap (λ (p : List (List ℕ) × Bool). p.1) e);
       takes = subst (λ (s : List (List ℕ)). Takes truth_table s table []) (sym tokens) reads.taken;
     }
 
 -- a truth table reads back
-pub truth_table_read_back : (columns : ℕ) (table : TruthTable) → 1 ≤ columns → 1 ≤ length table.rows → IsTruthTable columns table → TruthTableReadBack table
+pub truth_table_read_back : (columns : ℕ) (table : TruthTable) → 1 ≤ columns → 1 ≤ length table.rows → IsTruthTable columns table
+    → TruthTableReadBack table
 truth_table_read_back columns table some most all =
     let h = truth_is columns table some most all in
-    record { text = h; only = λ other k. same_value truth_table (text_tokens (truth_table_text table)) other table k.takes h.takes }
+    record {
+      text = h;
+      only = λ other k. same_value truth_table (text_tokens (truth_table_text table)) other table k.takes
+          h.takes;
+    }
 
 -- Tables of states.
 
-state_spelled : (state : VState) → Spells Anything false (state_table_text state) (λ s. codes "(" ∷ rows_front state_row_front state.table.rows (codes ")" ∷ s)) false
+state_spelled : (state : VState) → Spells Anything false (state_table_text state)
+    (λ s. codes "(" ∷ rows_front state_row_front state.table.rows (codes ")" ∷ s)) false
 unfolding state_table_text state_rows_text
 state_spelled state = behind opened (behind (state_rows state.table.rows) closed)
 
-state_is : (state : VState) → IsWrittenState state → IsStateTable (columns_of state) state.table → IsStateTableText (state_table_text state) state.table
+state_is : (state : VState) → IsWrittenState state → IsStateTable (columns_of state) state.table
+    → IsStateTableText (state_table_text state) state.table
 state_is state w all =
     let e = all_found (state_spelled state) in
-    let tokens : text_tokens (state_table_text state) ≡ codes "(" ∷ rows_front state_row_front state.table.rows (codes ")" ∷ []) = ap (λ (p : List (List ℕ) × Bool). p.0) e in
+    let tokens : text_tokens (state_table_text state) ≡ codes "(" ∷ rows_front state_row_front state.table.rows (codes ")" ∷ []) =
+    ap (λ (p : List (List ℕ) × Bool). p.0) e in
     let reads = state_table_read (columns_of state) state.table [] w.columns w.rows
-    (recursion_from_All (λ (row : VStateRow). length row.inputs ≡ columns_of state) state.table.rows all) (recursion_from_All HasOneEdge state.table.rows w.edges) in
+    (recursion_from_All (λ (row : VStateRow). length row.inputs ≡ columns_of state) state.table.rows all)
+    (recursion_from_All HasOneEdge state.table.rows w.edges) in
     record {
       lexes = none_if (lexical_place (state_table_text state)) (ap (λ (p : List (List ℕ) × Bool). p.1) e);
       takes = subst (λ (s : List (List ℕ)). Takes state_table s state.table []) (sym tokens) reads.taken;
     }
 
 -- the table of a state reads back
-pub state_table_read_back : (state : VState) → IsWrittenState state → IsStateTable (columns_of state) state.table → StateTableReadBack state
+pub state_table_read_back : (state : VState) → IsWrittenState state → IsStateTable (columns_of state) state.table
+    → StateTableReadBack state
 state_table_read_back state w all =
     let h = state_is state w all in
-    record { text = h; only = λ other k. same_value state_table (text_tokens (state_table_text state)) other state.table k.takes h.takes }
+    record {
+      text = h;
+      only = λ other k. same_value state_table (text_tokens (state_table_text state)) other state.table k.takes
+          h.takes;
+    }

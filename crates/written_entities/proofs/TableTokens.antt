@@ -105,11 +105,15 @@ truth_row_front row s = each level_front row.inputs (value_text row.result ∷ c
 abbrev pub state_row_front : VStateRow → Front
 state_row_front row s = each symbol_front row.inputs (level_text row.state ∷ codes "," ∷ next_text row.result ∷ codes ")" ∷ s)
 
-truth_row_more : (row : TruthRow) → Spells Anything false (numbered_texts level_apart_text 1 row.inputs ++ (value_text row.result ++ codes ")")) (truth_row_front row) false
-truth_row_more row = behind (numbered_spelled level_apart_text level_front 1 level_apart 1 row.inputs (omega arith)) (behind (a_value row.result) closed)
+truth_row_more : (row : TruthRow)
+    → Spells Anything false (numbered_texts level_apart_text 1 row.inputs ++ (value_text row.result ++ codes ")"))
+    (truth_row_front row) false
+truth_row_more row = behind (numbered_spelled level_apart_text level_front 1 level_apart 1 row.inputs (omega arith))
+    (behind (a_value row.result) closed)
 
 state_row_more : (row : VStateRow) → Spells Anything false
-    (numbered_texts symbol_apart_text 1 row.inputs ++ (level_text row.state ++ (codes ", " ++ (next_text row.result ++ codes ")")))) (state_row_front row) false
+    (numbered_texts symbol_apart_text 1 row.inputs
+    ++ (level_text row.state ++ (codes ", " ++ (next_text row.result ++ codes ")")))) (state_row_front row) false
 state_row_more row =
     behind (numbered_spelled symbol_apart_text symbol_front 1 symbol_apart 1 row.inputs (omega arith))
     (behind (a_level row.state) (behind comma (behind (a_next row.result) closed)))
@@ -138,40 +142,52 @@ is_several count = grind (arith, nat_tests)
 
 -- the row with this number behind the first of several
 later_row : {R : Type 0} (more : R → List ℕ) (f : R → Front) → ((row : R) → Spells Anything false (more row) (f row) false)
-    → (count : ℕ) (n : ℕ) (row : R) → 2 ≤ n → Spells Anything false (row_start (suc (suc count)) n ++ more row) (λ s. codes "," ∷ codes "(" ∷ f row s) false
+    → (count : ℕ) (n : ℕ) (row : R) → 2 ≤ n
+    → Spells Anything false (row_start (suc (suc count)) n ++ more row) (λ s. codes "," ∷ codes "(" ∷ f row s) false
 later_row more f h count n row m = rw (is_several count, is_later n m) (behind later_start (h row))
 
 -- rows that are written by their start and the rest
 rows_spelled : {R : Type 0} (text : ℕ → ℕ → R → List ℕ) (more : R → List ℕ) (f : R → Front)
-    → ((count n : ℕ) (row : R) → text count n row ≡ row_start count n ++ more row) → ((row : R) → Spells Anything false (more row) (f row) false)
+    → ((count n : ℕ) (row : R) → text count n row ≡ row_start count n ++ more row)
+    → ((row : R) → Spells Anything false (more row) (f row) false)
     → (rows : List R) → Spells Anything false (numbered_texts (text (length rows)) 1 rows) (rows_front f rows) false
 rows_spelled text more f e h [] = literal (λ r. refl) refl
 rows_spelled text more f e h (row ∷ []) = rw (e 1 1 row) (behind (behind only_start (h row)) (literal (λ r. refl) refl))
 rows_spelled text more f e h (row ∷ one ∷ rows) =
     let count : ℕ = length rows in
-    let step : (n : ℕ) (x : _) → 2 ≤ n → Spells Anything false (text (suc (suc count)) n x) (λ s. codes "," ∷ codes "(" ∷ f x s) false =
-    (λ n x m. subst (λ (y : List ℕ). Spells Anything false y (λ s. codes "," ∷ codes "(" ∷ f x s) false) (sym (e (suc (suc count)) n x)) (later_row more f h count n x m)) in
+    let step : (n : ℕ) (x : _) → 2 ≤ n
+    → Spells Anything false (text (suc (suc count)) n x) (λ s. codes "," ∷ codes "(" ∷ f x s) false =
+    (λ n x m. subst (λ (y : List ℕ). Spells Anything false y (λ s. codes "," ∷ codes "(" ∷ f x s) false)
+    (sym (e (suc (suc count)) n x)) (later_row more f h count n x m)) in
     rw (e (suc (suc count)) 1 row, is_several (length rows))
-    (behind (behind first_start (h row)) (numbered_spelled (text (suc (suc count))) (λ x s. codes "," ∷ codes "(" ∷ f x s) 2 step 2 (one ∷ rows) (omega arith)))
+    (behind (behind first_start (h row))
+    (numbered_spelled (text (suc (suc count))) (λ x s. codes "," ∷ codes "(" ∷ f x s) 2 step 2 (one ∷ rows) (omega arith)))
 
-truth_row_is : (count n : ℕ) (row : TruthRow) → truth_row_text count n row ≡ row_start count n ++ (numbered_texts level_apart_text 1 row.inputs ++ (value_text row.result ++ codes ")"))
+truth_row_is : (count n : ℕ) (row : TruthRow)
+    → truth_row_text count n row ≡ row_start count n
+    ++ (numbered_texts level_apart_text 1 row.inputs ++ (value_text row.result ++ codes ")"))
 unfolding truth_row_text
 truth_row_is count n row = refl
 
 state_row_is : (count n : ℕ) (row : VStateRow) → state_row_text count n row
-    ≡ row_start count n ++ (numbered_texts symbol_apart_text 1 row.inputs ++ (level_text row.state ++ (codes ", " ++ (next_text row.result ++ codes ")"))))
+    ≡ row_start count n ++ (numbered_texts symbol_apart_text 1 row.inputs
+    ++ (level_text row.state ++ (codes ", " ++ (next_text row.result ++ codes ")"))))
 unfolding state_row_text
 state_row_is count n row = refl
 
 -- the tokens of the rows of a truth table
-pub truth_rows : (rows : List TruthRow) → Spells Anything false (numbered_texts (truth_row_text (length rows)) 1 rows) (rows_front truth_row_front rows) false
+pub truth_rows : (rows : List TruthRow)
+    → Spells Anything false (numbered_texts (truth_row_text (length rows)) 1 rows) (rows_front truth_row_front rows) false
 truth_rows rows =
-    rows_spelled truth_row_text (λ (row : TruthRow). numbered_texts level_apart_text 1 row.inputs ++ (value_text row.result ++ codes ")")) truth_row_front
+    rows_spelled truth_row_text (λ (row : TruthRow). numbered_texts level_apart_text 1 row.inputs
+    ++ (value_text row.result ++ codes ")")) truth_row_front
     truth_row_is truth_row_more rows
 
 -- the tokens of the rows of a state's table
-pub state_rows : (rows : List VStateRow) → Spells Anything false (numbered_texts (state_row_text (length rows)) 1 rows) (rows_front state_row_front rows) false
+pub state_rows : (rows : List VStateRow)
+    → Spells Anything false (numbered_texts (state_row_text (length rows)) 1 rows) (rows_front state_row_front rows) false
 state_rows rows =
     rows_spelled state_row_text
-    (λ (row : VStateRow). numbered_texts symbol_apart_text 1 row.inputs ++ (level_text row.state ++ (codes ", " ++ (next_text row.result ++ codes ")")))) state_row_front
+    (λ (row : VStateRow). numbered_texts symbol_apart_text 1 row.inputs
+    ++ (level_text row.state ++ (codes ", " ++ (next_text row.result ++ codes ")")))) state_row_front
     state_row_is state_row_more rows

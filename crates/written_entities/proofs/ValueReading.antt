@@ -31,7 +31,8 @@ use Rattle.vhdl_grammar.specs.declared.scope.Assigned.TheVariants as assigned
 use Rattle.vhdl_grammar.specs.VhdlRules.{begins, go_on_unnamed}
 use Rattle.vhdl_grammar.specs.VhdlTables.{truth_width}
 use Rattle.vhdl_grammar.specs.VhdlDeclarations.{port_names, output_count}
-use Rattle.vhdl_grammar.specs.VhdlNames.{kept, port_of, input_of, same_source, source_or_state, source_of, listed_source, sources_of}
+use Rattle.vhdl_grammar.specs.VhdlNames.{kept, port_of, input_of, same_source, source_or_state, source_of, listed_source}
+use Rattle.vhdl_grammar.specs.VhdlNames.{sources_of}
 use Rattle.vhdl_grammar.specs.VhdlOutputs.{is_lookup, lookups, output_width, output_table_name, lookup, a_constant, next_value}
 use Rattle.vhdl_grammar.specs.VhdlOutputs.{is_this_value, begins_value, values_of}
 use Rattle.vhdl_grammar.specs.WellFormed.{IsCount, IsPortName, IsWrittenValue, IsWrittenOutput, IsWellFormedEntity}
@@ -66,7 +67,8 @@ bit_word false = codes "'0'"
 abbrev assigned_front : VEntity → ℕ → OutValue → Front
 assigned_front e n (value.Constant one) s = bit_word one ∷ s
 assigned_front e n (value.Table table sources) s =
-    codes "VitalTruthTable" ∷ codes "(" ∷ codes "TruthTable" ∷ codes "=>" ∷ (107 ∷ 95 ∷ decimal (table_number e n)) ∷ codes "," ∷ codes "DataIn" ∷ codes "=>" ∷ codes "("
+    codes "VitalTruthTable" ∷ codes "(" ∷ codes "TruthTable" ∷ codes "=>" ∷ (107 ∷ 95 ∷ decimal (table_number e n)) ∷ codes ","
+    ∷ codes "DataIn" ∷ codes "=>" ∷ codes "("
     ∷ names_front (source_name e) sources (codes ")" ∷ codes ")" ∷ s)
 
 abbrev pub value_front : VEntity → ℕ → VOutput → Front
@@ -97,36 +99,45 @@ source_text_is : (e : VEntity) (n : ℕ) (s : Source) → source_text e n s ≡ 
 unfolding source_text
 source_text_is e n s = refl
 
-feeding_at : (e : VEntity) (sources : List Source) → list_all (feeds e) sources ≡ true → (before : List Source) (s : Source) (after : List Source) → before ++ s ∷ after ≡ sources → feeds e s ≡ true
-feeding_at e sources h before s after same = passes_at (feeds e) before s after (subst (λ (l : List Source). list_all (feeds e) l ≡ true) (sym same) h)
+feeding_at : (e : VEntity) (sources : List Source) → list_all (feeds e) sources ≡ true
+    → (before : List Source) (s : Source) (after : List Source) → before ++ s ∷ after ≡ sources → feeds e s ≡ true
+feeding_at e sources h before s after same =
+    passes_at (feeds e) before s after (subst (λ (l : List Source). list_all (feeds e) l ≡ true) (sym same) h)
 
-assigned_spelled : (e : VEntity) → IsWellFormedEntity e → (n : ℕ) (v : OutValue) → IsCount (table_number e n) → IsValue e v → IsWrittenValue v → Spells Anything false (assigned_text e n v) (assigned_front e n v) false
+assigned_spelled : (e : VEntity) → IsWellFormedEntity e → (n : ℕ) (v : OutValue) → IsCount (table_number e n) → IsValue e v
+    → IsWrittenValue v → Spells Anything false (assigned_text e n v) (assigned_front e n v) false
 unfolding lookup_text sources_text
 assigned_spelled e w n (value.Constant true) m h k = one_bit
 assigned_spelled e w n (value.Constant false) m h k = zero_bit
 assigned_spelled e w n (value.Table table sources) m h k =
     part_behind 107 (table_number e n) refl m lookup_word (λ r q. refl)
-    (behind data_word (behind (names_spelled (source_text e) (source_name e) sources (source_text_is e) k.columns (λ before s after same. source_named e w s (feeding_at e sources h.1 before s after same))) closed))
+    (behind data_word (behind (names_spelled (source_text e) (source_name e) sources (source_text_is e) k.columns
+    (λ before s after same. source_named e w s (feeding_at e sources h.1 before s after same))) closed))
 
-value_spelled : (e : VEntity) → IsWellFormedEntity e → (before : List VOutput) (output : VOutput) (after : List VOutput) → before ++ output ∷ after ≡ e.outputs
+value_spelled : (e : VEntity) → IsWellFormedEntity e → (before : List VOutput) (output : VOutput) (after : List VOutput)
+    → before ++ output ∷ after ≡ e.outputs
     → Spells Anything false (value_line e (length before + 1) output) (value_front e (length before + 1) output) false
 unfolding value_line
 value_spelled e w before output after same =
     let n : ℕ = length before + 1 in
     part_behind 122 n refl (output_number e w n (place_below before output after e.outputs same)) indented (λ r q. refl)
-    (behind becomes (behind (assigned_spelled e w n output.value (its_number_fits e w before output after same) (fact_at (IsOutput e) e.outputs w.sound.outputs before output after same).valued
+    (behind becomes (behind (assigned_spelled e w n output.value (its_number_fits e w before output after same)
+    (fact_at (IsOutput e) e.outputs w.sound.outputs before output after same).valued
     (fact_at IsWrittenOutput e.outputs w.outputs before output after same).valued) line_end))
 
-pub values_spelled : (e : VEntity) → IsWellFormedEntity e → Spells Anything false (numbered_texts (value_line e) 1 e.outputs) (counted (value_front e) 1 e.outputs) false
+pub values_spelled : (e : VEntity) → IsWellFormedEntity e
+    → Spells Anything false (numbered_texts (value_line e) 1 e.outputs) (counted (value_front e) 1 e.outputs) false
 values_spelled e w = counted_anywhere (value_line e) (value_front e) e.outputs (value_spelled e w)
 
 -- Reading.
 
-nowhere : {A : Type 0} (test : A → Bool) (i : ℕ) (xs : List A) → AllByRecursion (λ x. test x ≡ false) xs → position_from test i xs ≡ None
+nowhere : {A : Type 0} (test : A → Bool) (i : ℕ) (xs : List A) → AllByRecursion (λ x. test x ≡ false) xs
+    → position_from test i xs ≡ None
 nowhere test i [] h = refl
 nowhere test i (x ∷ xs) h = rw h.0 (nowhere test (i + 1) xs h.1)
 
-none_so_named : (g : ℕ) (ports : List VPort) → AllByRecursion IsPortName (port_names ports) → AllByRecursion (λ (port : VPort). is_same (115 ∷ 95 ∷ decimal (g + 1)) port.name ≡ false) ports
+none_so_named : (g : ℕ) (ports : List VPort) → AllByRecursion IsPortName (port_names ports)
+    → AllByRecursion (λ (port : VPort). is_same (115 ∷ 95 ∷ decimal (g + 1)) port.name ≡ false) ports
 none_so_named g [] h = tt
 none_so_named g (port ∷ ports) h = (unlike_plain 115 (decimal (g + 1)) port.name refl h.0.plain, none_so_named g ports h.1)
 
@@ -134,10 +145,12 @@ no_input : (e : VEntity) → IsWellFormedEntity e → (g : ℕ) → input_of e.p
 no_input e w g =
     let none : port_of e.ports (115 ∷ 95 ∷ decimal (g + 1)) ≡ None =
     position_from-zero (λ (port : VPort). is_same (115 ∷ 95 ∷ decimal (g + 1)) port.name) e.ports
-    ∙ nowhere (λ (port : VPort). is_same (115 ∷ 95 ∷ decimal (g + 1)) port.name) 0 e.ports (none_so_named g e.ports (recursion_from_All IsPortName (port_names e.ports) w.ports)) in
+    ∙ nowhere (λ (port : VPort). is_same (115 ∷ 95 ∷ decimal (g + 1)) port.name) 0 e.ports
+    (none_so_named g e.ports (recursion_from_All IsPortName (port_names e.ports) w.ports)) in
     ap (kept (is_input_port e.ports)) none
 
-source_found : (e : VEntity) → IsWellFormedEntity e → (s : Source) → feeds e s ≡ true → source_of (scope e) (source_name e s) ≡ Some s
+source_found : (e : VEntity) → IsWellFormedEntity e → (s : Source) → feeds e s ≡ true
+    → source_of (scope e) (source_name e s) ≡ Some s
 unfolding source_name
 source_found e w (source.Pin p) h = ap (source_or_state (scope e) (port_at e p)) (input_found e w p h)
 source_found e w (source.State g) h =
@@ -153,22 +166,29 @@ sources_turned (source.Pin p) (source.State g) = refl
 sources_turned (source.State g) (source.Pin p) = refl
 sources_turned (source.State g) (source.State h) = numbers_turned g h
 
-new_source : (sources : List Source) → IsDistinct same_source sources → (before : List Source) (s : Source) (after : List Source) → before ++ s ∷ after ≡ sources → list_any (same_source s) before ≡ false
-new_source sources apart before s after same = new_item same_source sources_turned before s after (subst (IsDistinct same_source) (sym same) apart)
+new_source : (sources : List Source) → IsDistinct same_source sources → (before : List Source) (s : Source) (after : List Source)
+    → before ++ s ∷ after ≡ sources → list_any (same_source s) before ≡ false
+new_source sources apart before s after same =
+    new_item same_source sources_turned before s after (subst (IsDistinct same_source) (sym same) apart)
 
-source_read : (e : VEntity) → IsWellFormedEntity e → (before : List Source) (s : Source) {q : List (List ℕ)} → feeds e s ≡ true → list_any (same_source s) before ≡ false
+source_read : (e : VEntity) → IsWellFormedEntity e → (before : List Source) (s : Source) {q : List (List ℕ)} → feeds e s ≡ true
+    → list_any (same_source s) before ≡ false
     → Reads (listed_source (scope e) before) (source_name e s ∷ q) (before ++ s ∷ []) q
 unfolding listed_source
 source_read e w before s fed new =
-    in_turn (token (if_true (is_name (source_name e s)) _ _ (source_named e w s fed).named ∙ listed_fits (λ x. list_any (same_source x) before) (source_of (scope e) (source_name e s)) s (source_found e w s fed) new)) gives
+    in_turn (token (if_true (is_name (source_name e s)) _ _ (source_named e w s fed).named
+    ∙ listed_fits (λ x. list_any (same_source x) before) (source_of (scope e) (source_name e s)) s
+    (source_found e w s fed) new)) gives
 
-sources_read : (e : VEntity) → IsWellFormedEntity e → (width : ℕ) (sources : List Source) (q : List (List ℕ)) → 1 ≤ length sources → list_all (feeds e) sources ≡ true → IsDistinct same_source sources → length sources ≡ width
+sources_read : (e : VEntity) → IsWellFormedEntity e → (width : ℕ) (sources : List Source) (q : List (List ℕ)) → 1 ≤ length sources
+    → list_all (feeds e) sources ≡ true → IsDistinct same_source sources → length sources ≡ width
     → Reads (sources_of (scope e) width) (names_front (source_name e) sources (codes ")" ∷ q)) sources q
 unfolding sources_of
 sources_read e w width sources q some fed apart wide =
     in_turn (elements_read (λ (l : List Source). l) (listed_source (scope e)) (source_name e) sources some
     (λ before s after same. unnumbered (source_name e s) (source_named e w s (feeding_at e sources fed before s after same)))
-    (λ before s after s' same. source_read e w before s (feeding_at e sources fed before s after same) (new_source sources apart before s after same)) q)
+    (λ before s after s' same. source_read e w before s (feeding_at e sources fed before s after same)
+    (new_source sources apart before s after same)) q)
     (in_turn (list_end_read width (length sources) wide) gives)
 
 -- Values.
@@ -180,7 +200,8 @@ assigned_by (value.Table table sources) = assigned.Lookup sources
 abbrev pub assigned_of : VOutput → Assigned
 assigned_of output = assigned_by output.value
 
-one_lookup : (v : OutValue) → ◌≡◌ {A = ℕ} (cond (is_lookup (assigned_by v)) 1 0) (length (Rattle.written_entities.proofs.ConstantReading.value_tables v))
+one_lookup : (v : OutValue) → ◌≡◌ {A = ℕ} (cond (is_lookup (assigned_by v)) 1 0)
+    (length (Rattle.written_entities.proofs.ConstantReading.value_tables v))
 one_lookup (value.Constant one) = refl
 one_lookup (value.Table table sources) = refl
 
@@ -206,45 +227,62 @@ record IsTableAt (e : VEntity) (t : ℕ) (n : ℕ) (table : TruthTable) : Type 0
   fewer : t < length (output_tables e.outputs)
   named : length e.states + t + 1 ≡ table_number e n
 
-lookup_read : (e : VEntity) → IsWellFormedEntity e → (n t : ℕ) (table : TruthTable) (sources : List Source) {s : List (List ℕ)} → IsTableAt e t n table → IsCount (table_number e n)
+lookup_read : (e : VEntity) → IsWellFormedEntity e → (n t : ℕ) (table : TruthTable) (sources : List Source) {s : List (List ℕ)}
+    → IsTableAt e t n table → IsCount (table_number e n)
     → IsValue e (value.Table table sources) → IsWrittenValue (value.Table table sources)
-    → Reads (lookup (scope e) t) (codes "(" ∷ codes "TruthTable" ∷ codes "=>" ∷ (107 ∷ 95 ∷ decimal (table_number e n)) ∷ codes "," ∷ codes "DataIn" ∷ codes "=>" ∷ codes "("
+    → Reads (lookup (scope e) t) (codes
+    "(" ∷ codes "TruthTable" ∷ codes "=>" ∷ (107 ∷ 95 ∷ decimal (table_number e n)) ∷ codes "," ∷ codes "DataIn" ∷ codes "=>"
+    ∷ codes "("
     ∷ names_front (source_name e) sources (codes ")" ∷ codes ")" ∷ s)) (assigned.Lookup sources) s
 unfolding lookup
 lookup_read e w n t table sources {s} at m h k =
     let states : length (all_tables e).states ≡ length e.states = length-map e.states (λ (x : VState). x.table) in
     let number : length (all_tables e).states + t + 1 ≡ table_number e n = ap (λ (j : ℕ). j + t + 1) states ∙ at.named in
     let its_name : output_table_name (scope e) t ≡ Some (107 ∷ 95 ∷ decimal (table_number e n)) =
-    if_true (nat_lt t (length (output_tables e.outputs))) _ _ (less t (length (output_tables e.outputs)) at.fewer) ∙ ap (λ (j : ℕ). Some (107 ∷ 95 ∷ decimal j)) number in
+    if_true (nat_lt t (length (output_tables e.outputs))) _ _ (less t (length (output_tables e.outputs)) at.fewer)
+    ∙ ap (λ (j : ℕ). Some (107 ∷ 95 ∷ decimal j)) number in
     let width : output_width (scope e) t ≡ length sources =
-    ap (λ (o : Option TruthTable). option_map_or (λ (x : TruthTable). truth_width x.rows) o 0) at.place ∙ truth_wide (length sources) table k.rows h.0 in
+    ap (λ (o : Option TruthTable). option_map_or (λ (x : TruthTable). truth_width x.rows) o 0) at.place
+    ∙ truth_wide (length sources) table k.rows h.0 in
     in_turn three_expected (in_turn (so_named (output_table_name (scope e) t) (part_named 107 (table_number e n) refl m) its_name)
-    (in_turn four_expected (in_turn (sources_read e w (output_width (scope e) t) sources (codes ")" ∷ s) k.columns h.1 k.apart (sym width)) (in_turn expected gives))))
+    (in_turn four_expected (in_turn (sources_read e w (output_width (scope e) t) sources (codes ")" ∷ s) k.columns h.1 k.apart
+    (sym width)) (in_turn expected gives))))
 
-assigned_read : (e : VEntity) → IsWellFormedEntity e → (n t : ℕ) (v : OutValue) {s : List (List ℕ)} → IsCount (table_number e n) → IsValue e v → IsWrittenValue v
+assigned_read : (e : VEntity) → IsWellFormedEntity e → (n t : ℕ) (v : OutValue) {s : List (List ℕ)} → IsCount (table_number e n)
+    → IsValue e v → IsWrittenValue v
     → ((table : TruthTable) (sources : List Source) → v ≡ value.Table table sources → IsTableAt e t n table)
-    → Reads (r.Choice (begins (codes "VitalTruthTable")) (λ _. lookup (scope e) t) a_constant) (assigned_front e n v s) (assigned_by v) s
+    → Reads (r.Choice (begins (codes "VitalTruthTable")) (λ _. lookup (scope e) t) a_constant) (assigned_front e n v s)
+    (assigned_by v) s
 assigned_read e w n t (value.Constant true) m h k at = passed refl (bit_read true)
 assigned_read e w n t (value.Constant false) m h k at = passed refl (bit_read false)
-assigned_read e w n t (value.Table table sources) m h k at = chosen refl (lookup_read e w n t table sources (at table sources refl) m h k)
+assigned_read e w n t (value.Table table sources) m h k at =
+    chosen refl (lookup_read e w n t table sources (at table sources refl) m h k)
 
-table_split : (before : List VOutput) (output : VOutput) (after : List VOutput) (table : TruthTable) (sources : List Source) → output.value ≡ value.Table table sources
+table_split : (before : List VOutput) (output : VOutput) (after : List VOutput) (table : TruthTable) (sources : List Source)
+    → output.value ≡ value.Table table sources
     → output_tables (before ++ output ∷ after) ≡ output_tables before ++ table ∷ output_tables after
 table_split before output after table sources h =
     flat_map-append Rattle.written_entities.proofs.ConstantReading.tables_of_output before (output ∷ after)
-    ∙ ap (λ (v : OutValue). output_tables before ++ (Rattle.written_entities.proofs.ConstantReading.value_tables v ++ output_tables after)) h
+    ∙ ap (λ (v : OutValue). output_tables before
+    ++ (Rattle.written_entities.proofs.ConstantReading.value_tables v ++ output_tables after)) h
 
-its_table : (e : VEntity) (before : List VOutput) (output : VOutput) (after : List VOutput) → before ++ output ∷ after ≡ e.outputs → (t : ℕ) → t ≡ length (output_tables before)
-    → (table : TruthTable) (sources : List Source) → output.value ≡ value.Table table sources → IsTableAt e t (length before + 1) table
+its_table : (e : VEntity) (before : List VOutput) (output : VOutput) (after : List VOutput) → before ++ output ∷ after ≡ e.outputs
+    → (t : ℕ) → t ≡ length (output_tables before)
+    → (table : TruthTable) (sources : List Source) → output.value ≡ value.Table table sources
+    → IsTableAt e t (length before + 1) table
 its_table e before output after same t so_many table sources h =
-    let split : output_tables e.outputs ≡ output_tables before ++ table ∷ output_tables after = ap output_tables (sym same) ∙ table_split before output after table sources h in
+    let split : output_tables e.outputs ≡ output_tables before ++ table ∷ output_tables after =
+    ap output_tables (sym same) ∙ table_split before output after table sources h in
     record {
-      place = ap (slice_get (output_tables e.outputs)) so_many ∙ ap (λ (l : List TruthTable). slice_get l (length (output_tables before))) split ∙ get_at (output_tables before) table (output_tables after);
+      place = ap (slice_get (output_tables e.outputs)) so_many
+          ∙ ap (λ (l : List TruthTable). slice_get l (length (output_tables before))) split
+          ∙ get_at (output_tables before) table (output_tables after);
       fewer = omega (arith, so_many, ap length split, length-append (output_tables before) (table ∷ output_tables after));
       named = omega (arith, so_many, its_number e before output after same);
     }
 
-value_begins : (e : VEntity) → IsWellFormedEntity e → (before : List VOutput) (output : VOutput) (after : List VOutput) → before ++ output ∷ after ≡ e.outputs
+value_begins : (e : VEntity) → IsWellFormedEntity e → (before : List VOutput) (output : VOutput) (after : List VOutput)
+    → before ++ output ∷ after ≡ e.outputs
     → begins_value (scope e) (map assigned_of before) (122 ∷ 95 ∷ decimal (length before + 1)) ≡ Some (Fits tt)
 value_begins e w before output after same =
     let n : ℕ = length before + 1 in
@@ -252,17 +290,24 @@ value_begins e w before output after same =
     let m : ℕ = length (map assigned_of before) in
     let under : n ≤ length e.outputs = place_below before output after e.outputs same in
     let so_many : m ≡ length before = length-map before assigned_of in
-    let its : is_same x (122 ∷ 95 ∷ decimal (m + 1)) ≡ true = ap (λ (k : ℕ). is_same x (122 ∷ 95 ∷ decimal (k + 1))) so_many ∙ same_self x in
+    let its : is_same x (122 ∷ 95 ∷ decimal (m + 1)) ≡ true = ap (λ (k : ℕ). is_same x (122 ∷ 95 ∷ decimal (k + 1))) so_many
+    ∙ same_self x in
     if_true (nat_lt m (output_count e.ports) && is_name x) _ _
-    (and_yes (nat_lt m (output_count e.ports)) (is_name x) (less m (output_count e.ports) (omega (arith, under, so_many, so_many_outputs e w))) (part_named 122 n refl (output_number e w n under)).named)
+    (and_yes (nat_lt m (output_count e.ports)) (is_name x)
+    (less m (output_count e.ports) (omega (arith, under, so_many, so_many_outputs e w)))
+    (part_named 122 n refl (output_number e w n under)).named)
     ∙ ap (λ (v : Verdict (Unit {0}) Refusal). Some v) (if_true (is_same x (122 ∷ 95 ∷ decimal (m + 1))) _ _ its)
 
-value_read : (e : VEntity) → IsWellFormedEntity e → (before : List VOutput) (output : VOutput) (after : List VOutput) (s : List (List ℕ)) → before ++ output ∷ after ≡ e.outputs
-    → Reads (next_value (scope e) (map assigned_of before)) (codes ":=" ∷ assigned_front e (length before + 1) output.value (codes ";" ∷ s)) (map assigned_of (before ++ output ∷ [])) s
+value_read : (e : VEntity) → IsWellFormedEntity e
+    → (before : List VOutput) (output : VOutput) (after : List VOutput) (s : List (List ℕ)) → before ++ output ∷ after ≡ e.outputs
+    → Reads (next_value (scope e) (map assigned_of before))
+    (codes ":=" ∷ assigned_front e (length before + 1) output.value (codes ";" ∷ s)) (map assigned_of (before ++ output ∷ [])) s
 unfolding next_value
 value_read e w before output after s same =
-    in_turn expected (in_turn (assigned_read e w (length before + 1) (lookups (map assigned_of before)) output.value (its_number_fits e w before output after same)
-    (fact_at (IsOutput e) e.outputs w.sound.outputs before output after same).valued (fact_at IsWrittenOutput e.outputs w.outputs before output after same).valued
+    in_turn expected (in_turn (assigned_read e w (length before + 1) (lookups (map assigned_of before)) output.value
+    (its_number_fits e w before output after same)
+    (fact_at (IsOutput e) e.outputs w.sound.outputs before output after same).valued
+    (fact_at IsWrittenOutput e.outputs w.outputs before output after same).valued
     (its_table e before output after same (lookups (map assigned_of before)) (so_many_lookups before)))
     (in_turn expected (to_same (sym (map-append assigned_of before (output ∷ []))) gives)))
 
@@ -270,18 +315,25 @@ goes_unnamed : (b : Bool) (s : List (List ℕ)) → b ≡ true → Reads (go_on_
 goes_unnamed true s e = gives
 goes_unnamed false s e = absurd cc
 
-no_value : (e : VEntity) → IsWellFormedEntity e → (s : List (List ℕ)) → Stops (begins_value (scope e) (map assigned_of e.outputs)) s
+no_value : (e : VEntity) → IsWellFormedEntity e → (s : List (List ℕ))
+    → Stops (begins_value (scope e) (map assigned_of e.outputs)) s
 no_value e w [] = tt
 no_value e w (x ∷ s) =
     let m : ℕ = length (map assigned_of e.outputs) in
-    let all : nat_lt m (output_count e.ports) ≡ false = no_less m (output_count e.ports) (length-map e.outputs assigned_of ∙ so_many_outputs e w) in
+    let all : nat_lt m (output_count e.ports) ≡ false =
+    no_less m (output_count e.ports) (length-map e.outputs assigned_of ∙ so_many_outputs e w) in
     ap (λ (b : Bool). if b && is_name x then Some (is_this_value (map assigned_of e.outputs) x) else None) all
 
-pub values_read : (e : VEntity) → IsWellFormedEntity e → (s : List (List ℕ)) → Reads (values_of (scope e)) (counted (value_front e) 1 e.outputs s) (map assigned_of e.outputs) s
+pub values_read : (e : VEntity) → IsWellFormedEntity e → (s : List (List ℕ))
+    → Reads (values_of (scope e)) (counted (value_front e) 1 e.outputs s) (map assigned_of e.outputs) s
 unfolding values_of
 values_read e w s =
     let all : List Assigned = map assigned_of e.outputs in
-    in_turn (over (λ (l : List VOutput). map assigned_of l) (value_front e) [] e.outputs (λ before output after q same rest. turns (turn (value_begins e w before output after same) (value_read e w before output after q same)) rest) s
+    in_turn (over (λ (l : List VOutput). map assigned_of l) (value_front e) [] e.outputs
+    (λ before output after q same rest. turns
+    (turn (value_begins e w before output after same) (value_read e w before output after q same)) rest) s
     (no_turn (no_value e w s)))
-    (in_turn (goes_on (nat_eq (length all) (output_count e.ports)) s (equal (length all) (output_count e.ports) (length-map e.outputs assigned_of ∙ so_many_outputs e w)))
-    (in_turn (goes_unnamed (nat_eq (lookups all) (length (output_tables e.outputs))) s (equal (lookups all) (length (output_tables e.outputs)) (so_many_lookups e.outputs))) gives))
+    (in_turn (goes_on (nat_eq (length all) (output_count e.ports)) s
+    (equal (length all) (output_count e.ports) (length-map e.outputs assigned_of ∙ so_many_outputs e w)))
+    (in_turn (goes_unnamed (nat_eq (lookups all) (length (output_tables e.outputs))) s
+    (equal (lookups all) (length (output_tables e.outputs)) (so_many_lookups e.outputs))) gives))

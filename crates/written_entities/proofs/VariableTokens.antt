@@ -40,73 +40,94 @@ data_type false = codes "VitalTimingDataType"
 
 abbrev pub check_front : ℕ → TimingCheck → Front
 check_front n k s =
-    codes "variable" ∷ (120 ∷ 95 ∷ decimal n) ∷ codes ":" ∷ codes "X01" ∷ codes ":=" ∷ codes "'0'" ∷ codes ";" ∷ codes "variable" ∷ (100 ∷ 95 ∷ decimal n) ∷ codes ":"
+    codes "variable" ∷ (120 ∷ 95 ∷ decimal n) ∷ codes ":" ∷ codes "X01" ∷ codes ":=" ∷ codes "'0'" ∷ codes ";" ∷ codes "variable"
+    ∷ (100 ∷ 95 ∷ decimal n) ∷ codes ":"
     ∷ data_type (is_period k.kind) ∷ codes ":=" ∷ first_data (is_period k.kind) ∷ codes ";" ∷ s
 
 abbrev pub violation_front : List TimingCheck → Front
 violation_front [] s = s
-violation_front (k ∷ checks) s = codes "variable" ∷ codes "viol" ∷ codes ":" ∷ codes "X01" ∷ codes ":=" ∷ codes "'0'" ∷ codes ";" ∷ s
+violation_front (k ∷ checks) s = codes "variable" ∷ codes "viol" ∷ codes ":" ∷ codes "X01" ∷ codes ":=" ∷ codes "'0'" ∷ codes ";"
+    ∷ s
 
 abbrev pub state_front : ℕ → VState → Front
 state_front n state s =
-    codes "variable" ∷ (115 ∷ 95 ∷ decimal n) ∷ codes ":" ∷ codes "std_logic" ∷ codes ":=" ∷ codes "'X'" ∷ codes ";" ∷ codes "variable" ∷ (112 ∷ 95 ∷ decimal n) ∷ codes ":"
-    ∷ codes "std_logic_vector" ∷ codes "(" ∷ codes "1" ∷ codes "to" ∷ decimal (columns_of state) ∷ codes ")" ∷ codes ":=" ∷ codes "(" ∷ codes "others" ∷ codes "=>" ∷ codes "'X'" ∷ codes ")" ∷ codes ";" ∷ s
+    codes "variable" ∷ (115 ∷ 95 ∷ decimal n) ∷ codes ":" ∷ codes "std_logic" ∷ codes ":=" ∷ codes "'X'" ∷ codes ";" ∷ codes
+    "variable" ∷ (112 ∷ 95 ∷ decimal n) ∷ codes ":"
+    ∷ codes "std_logic_vector" ∷ codes "(" ∷ codes "1" ∷ codes "to" ∷ decimal (columns_of state) ∷ codes ")" ∷ codes ":=" ∷ codes
+    "(" ∷ codes "others" ∷ codes "=>" ∷ codes "'X'" ∷ codes ")" ∷ codes ";" ∷ s
 
 abbrev pub glitch_front : ℕ → List HPath → Front
 glitch_front n [] s = s
-glitch_front n (path ∷ paths) s = codes "variable" ∷ (103 ∷ 95 ∷ decimal n) ∷ codes ":" ∷ codes "VitalGlitchDataType" ∷ codes ";" ∷ s
+glitch_front n (path ∷ paths) s =
+    codes "variable" ∷ (103 ∷ 95 ∷ decimal n) ∷ codes ":" ∷ codes "VitalGlitchDataType" ∷ codes ";" ∷ s
 
 abbrev pub output_front : ℕ → VOutput → Front
-output_front n output s = codes "variable" ∷ (122 ∷ 95 ∷ decimal n) ∷ codes ":" ∷ codes "std_logic" ∷ codes ":=" ∷ codes "'X'" ∷ codes ";" ∷ glitch_front n output.paths s
+output_front n output s = codes "variable" ∷ (122 ∷ 95 ∷ decimal n) ∷ codes ":" ∷ codes "std_logic" ∷ codes ":=" ∷ codes "'X'"
+    ∷ codes ";" ∷ glitch_front n output.paths s
 
 abbrev pub variables_front : VEntity → Front
-variables_front e s = counted check_front 1 e.checks (violation_front e.checks (counted state_front 1 e.states (counted output_front 1 e.outputs s)))
+variables_front e s = counted check_front 1 e.checks
+    (violation_front e.checks (counted state_front 1 e.states (counted output_front 1 e.outputs s)))
 
 pub variable_word : {t : Bool} → Spells Anything t (codes "    variable ") (λ s. codes "variable" ∷ s) false
 unfolding is_reserved is_used vhdl_words used_words
 variable_word = literal (λ r. refl) refl
 
-report_type : {t : Bool} → Spells Anything t (codes " : X01 := '0';\n    variable ") (λ s. codes ":" ∷ codes "X01" ∷ codes ":=" ∷ codes "'0'" ∷ codes ";" ∷ codes "variable" ∷ s) false
+report_type : {t : Bool} → Spells Anything t (codes " : X01 := '0';\n    variable ")
+    (λ s. codes ":" ∷ codes "X01" ∷ codes ":=" ∷ codes "'0'" ∷ codes ";" ∷ codes "variable" ∷ s) false
 unfolding is_reserved is_used vhdl_words used_words
 report_type = literal (λ r. refl) refl
 
-timing_type : IsBehind (codes " : VitalTimingDataType := VitalTimingDataInit;\n") (λ s. codes ":" ∷ codes "VitalTimingDataType" ∷ codes ":=" ∷ codes "VitalTimingDataInit" ∷ codes ";" ∷ s)
+timing_type : IsBehind (codes " : VitalTimingDataType := VitalTimingDataInit;\n")
+    (λ s. codes ":" ∷ codes "VitalTimingDataType" ∷ codes ":=" ∷ codes "VitalTimingDataInit" ∷ codes ";" ∷ s)
 timing_type = record { spelled = literal (λ r. refl) refl; begins = λ r. refl }
 
-period_type : IsBehind (codes " : VitalPeriodDataType := VitalPeriodDataInit;\n") (λ s. codes ":" ∷ codes "VitalPeriodDataType" ∷ codes ":=" ∷ codes "VitalPeriodDataInit" ∷ codes ";" ∷ s)
+period_type : IsBehind (codes " : VitalPeriodDataType := VitalPeriodDataInit;\n")
+    (λ s. codes ":" ∷ codes "VitalPeriodDataType" ∷ codes ":=" ∷ codes "VitalPeriodDataInit" ∷ codes ";" ∷ s)
 period_type = record { spelled = literal (λ r. refl) refl; begins = λ r. refl }
 
-violation_line : {t : Bool} → Spells Anything t (codes "    variable viol : X01 := '0';\n") (λ s. codes "variable" ∷ codes "viol" ∷ codes ":" ∷ codes "X01" ∷ codes ":=" ∷ codes "'0'" ∷ codes ";" ∷ s) false
+violation_line : {t : Bool} → Spells Anything t (codes "    variable viol : X01 := '0';\n")
+    (λ s. codes "variable" ∷ codes "viol" ∷ codes ":" ∷ codes "X01" ∷ codes ":=" ∷ codes "'0'" ∷ codes ";" ∷ s) false
 violation_line = literal (λ r. refl) refl
 
-state_type : {t : Bool} → Spells Anything t (codes " : std_logic := 'X';\n    variable ") (λ s. codes ":" ∷ codes "std_logic" ∷ codes ":=" ∷ codes "'X'" ∷ codes ";" ∷ codes "variable" ∷ s) false
+state_type : {t : Bool} → Spells Anything t (codes " : std_logic := 'X';\n    variable ")
+    (λ s. codes ":" ∷ codes "std_logic" ∷ codes ":=" ∷ codes "'X'" ∷ codes ";" ∷ codes "variable" ∷ s) false
 unfolding is_reserved is_used vhdl_words used_words
 state_type = literal (λ r. refl) refl
 
-columns_type : {t : Bool} → Spells Anything t (codes " : std_logic_vector (1 to ") (λ s. codes ":" ∷ codes "std_logic_vector" ∷ codes "(" ∷ codes "1" ∷ codes "to" ∷ s) false
+columns_type : {t : Bool} → Spells Anything t
+    (codes " : std_logic_vector (1 to ")
+    (λ s. codes ":" ∷ codes "std_logic_vector" ∷ codes "(" ∷ codes "1" ∷ codes "to" ∷ s) false
 unfolding is_reserved is_used vhdl_words used_words
 columns_type = literal (λ r. refl) refl
 
-columns_end : {t : Bool} → Spells Anything t (codes ") := (others => 'X');\n") (λ s. codes ")" ∷ codes ":=" ∷ codes "(" ∷ codes "others" ∷ codes "=>" ∷ codes "'X'" ∷ codes ")" ∷ codes ";" ∷ s) false
+columns_end : {t : Bool} → Spells Anything t (codes ") := (others => 'X');\n") (λ s. codes ")" ∷ codes ":=" ∷ codes
+    "(" ∷ codes "others" ∷ codes "=>" ∷ codes "'X'" ∷ codes ")" ∷ codes ";" ∷ s) false
 columns_end = literal (λ r. refl) refl
 
-pub output_type : {t : Bool} → Spells Anything t (codes " : std_logic := 'X';\n") (λ s. codes ":" ∷ codes "std_logic" ∷ codes ":=" ∷ codes "'X'" ∷ codes ";" ∷ s) false
+pub output_type : {t : Bool} → Spells Anything t (codes " : std_logic := 'X';\n")
+    (λ s. codes ":" ∷ codes "std_logic" ∷ codes ":=" ∷ codes "'X'" ∷ codes ";" ∷ s) false
 output_type = literal (λ r. refl) refl
 
-pub glitch_type : {t : Bool} → Spells Anything t (codes " : VitalGlitchDataType;\n") (λ s. codes ":" ∷ codes "VitalGlitchDataType" ∷ codes ";" ∷ s) false
+pub glitch_type : {t : Bool} → Spells Anything t (codes " : VitalGlitchDataType;\n")
+    (λ s. codes ":" ∷ codes "VitalGlitchDataType" ∷ codes ";" ∷ s) false
 glitch_type = literal (λ r. refl) refl
 
-data_behind : (kind : CheckKind) → IsBehind (data_text kind) (λ s. codes ":" ∷ data_type (is_period kind) ∷ codes ":=" ∷ first_data (is_period kind) ∷ codes ";" ∷ s)
+data_behind : (kind : CheckKind) → IsBehind (data_text kind)
+    (λ s. codes ":" ∷ data_type (is_period kind) ∷ codes ":=" ∷ first_data (is_period kind) ∷ codes ";" ∷ s)
 data_behind =
-    by_kind (λ (kind : CheckKind). IsBehind (data_text kind) (λ s. codes ":" ∷ data_type (is_period kind) ∷ codes ":=" ∷ first_data (is_period kind) ∷ codes ";" ∷ s))
+    by_kind (λ (kind : CheckKind). IsBehind (data_text kind)
+    (λ s. codes ":" ∷ data_type (is_period kind) ∷ codes ":=" ∷ first_data (is_period kind) ∷ codes ";" ∷ s))
     timing_type timing_type timing_type timing_type period_type period_type
 
 check_spelled : (n : ℕ) (k : TimingCheck) → IsCount n → Spells Anything false (check_variables_text n k) (check_front n k) false
 unfolding check_variables_text
 check_spelled n k h =
-    part_behind 120 n refl h variable_word (λ r q. refl) (part_behind 100 n refl h report_type (λ r q. (data_behind k.kind).begins r) (data_behind k.kind).spelled)
+    part_behind 120 n refl h variable_word (λ r q. refl)
+    (part_behind 100 n refl h report_type (λ r q. (data_behind k.kind).begins r) (data_behind k.kind).spelled)
 
-violation_spelled : (checks : List TimingCheck) → Spells Anything false (violation_variable_text checks) (violation_front checks) false
+violation_spelled : (checks : List TimingCheck)
+    → Spells Anything false (violation_variable_text checks) (violation_front checks) false
 violation_spelled [] = nothing
 violation_spelled (k ∷ checks) = shown (nat_lt 0 (length (k ∷ checks))) (some_items (length checks)) violation_line
 
@@ -114,49 +135,64 @@ violation_spelled (k ∷ checks) = shown (nat_lt 0 (length (k ∷ checks))) (som
 abbrev pub Wide : ℕ → VStateRow → Type 0
 Wide columns row = length row.inputs ≡ columns
 
-first_width : (columns : ℕ) (rows : List VStateRow) → 1 ≤ length rows → AllByRecursion (Wide columns) rows → width_of rows ≡ columns
+first_width : (columns : ℕ) (rows : List VStateRow) → 1 ≤ length rows → AllByRecursion (Wide columns) rows
+    → width_of rows ≡ columns
 first_width columns [] some all = absurd (omega (arith, some))
 first_width columns (row ∷ rows) some all = all.0
 
-pub read_width : (columns : ℕ) (rows : List VStateRow) → 1 ≤ length rows → AllByRecursion (Wide columns) rows → state_width rows ≡ columns
+pub read_width : (columns : ℕ) (rows : List VStateRow) → 1 ≤ length rows → AllByRecursion (Wide columns) rows
+    → state_width rows ≡ columns
 read_width columns [] some all = absurd (omega (arith, some))
 read_width columns (row ∷ rows) some all = all.0
 
-state_spelled : (n : ℕ) (state : VState) → IsCount n → width_of state.table.rows ≡ columns_of state → IsNumber (columns_of state) → Spells Anything false (state_variables_text n state) (state_front n state) false
+state_spelled : (n : ℕ) (state : VState) → IsCount n → width_of state.table.rows ≡ columns_of state → IsNumber (columns_of state)
+    → Spells Anything false (state_variables_text n state) (state_front n state) false
 unfolding state_variables_text
 state_spelled n state h e m =
     subst (λ (w : ℕ). Spells Anything false
-    (codes "    variable s_" ++ (decimal n ++ (codes " : std_logic := 'X';\n    variable p_" ++ (decimal n ++ (codes " : std_logic_vector (1 to " ++ (decimal w ++ codes ") := (others => 'X');\n"))))))
+    (codes "    variable s_" ++ (decimal n
+    ++ (codes " : std_logic := 'X';\n    variable p_"
+    ++ (decimal n ++ (codes " : std_logic_vector (1 to " ++ (decimal w ++ codes ") := (others => 'X');\n"))))))
     (state_front n state) false) (sym e)
     (part_behind 115 n refl h variable_word (λ r q. refl) (part_behind 112 n refl h state_type (λ r q. refl)
     (behind columns_type (joins (number (columns_of state) m) (λ r q. refl) columns_end))))
 
-glitch_spelled : (n : ℕ) (paths : List HPath) → IsCount n → Spells Anything false (if nat_lt 0 (length paths) then glitch_data_text n else []) (glitch_front n paths) false
+glitch_spelled : (n : ℕ) (paths : List HPath) → IsCount n
+    → Spells Anything false (if nat_lt 0 (length paths) then glitch_data_text n else []) (glitch_front n paths) false
 unfolding glitch_data_text
 glitch_spelled n [] h = nothing
-glitch_spelled n (path ∷ paths) h = shown (nat_lt 0 (length (path ∷ paths))) (some_items (length paths)) (part_behind 103 n refl h variable_word (λ r q. refl) glitch_type)
+glitch_spelled n (path ∷ paths) h =
+    shown (nat_lt 0 (length (path ∷ paths))) (some_items (length paths))
+    (part_behind 103 n refl h variable_word (λ r q. refl) glitch_type)
 
-output_spelled : (n : ℕ) (output : VOutput) → IsCount n → Spells Anything false (output_variables_text n output) (output_front n output) false
+output_spelled : (n : ℕ) (output : VOutput) → IsCount n
+    → Spells Anything false (output_variables_text n output) (output_front n output) false
 unfolding output_variables_text
-output_spelled n output h = part_behind 122 n refl h variable_word (λ r q. refl) (behind output_type (glitch_spelled n output.paths h))
+output_spelled n output h = part_behind 122 n refl h variable_word (λ r q. refl)
+    (behind output_type (glitch_spelled n output.paths h))
 
-pub wide_at : (e : VEntity) → IsWellFormedEntity e → (before : List VState) (state : VState) (after : List VState) → before ++ state ∷ after ≡ e.states → AllByRecursion (Wide (columns_of state)) state.table.rows
+pub wide_at : (e : VEntity) → IsWellFormedEntity e → (before : List VState) (state : VState) (after : List VState)
+    → before ++ state ∷ after ≡ e.states → AllByRecursion (Wide (columns_of state)) state.table.rows
 wide_at e w before state after same =
-    recursion_from_All (Wide (columns_of state)) state.table.rows (fact_at (IsState e) e.states w.sound.states before state after same).rows
+    recursion_from_All (Wide (columns_of state)) state.table.rows
+    (fact_at (IsState e) e.states w.sound.states before state after same).rows
 
 -- the variables of a well formed entity
 pub variables_spelled : (e : VEntity) → IsWellFormedEntity e → Spells Anything false (variables_text e) (variables_front e) false
 unfolding variables_text
 variables_spelled e w =
     behind (counted_anywhere check_variables_text check_front e.checks
-    (λ before k after same. check_spelled (length before + 1) k (check_number e w (length before + 1) (place_below before k after e.checks same))))
+    (λ before k after same. check_spelled (length before + 1) k
+    (check_number e w (length before + 1) (place_below before k after e.checks same))))
     (behind (violation_spelled e.checks)
     (behind (counted_anywhere state_variables_text state_front e.states
-    (λ before state after same. (let written : IsWrittenState state = fact_at IsWrittenState e.states w.states before state after same in
+    (λ before state after same. (let written : IsWrittenState state =
+    fact_at IsWrittenState e.states w.states before state after same in
     state_spelled (length before + 1) state (state_number e w (length before + 1) (place_below before state after e.states same))
     (first_width (columns_of state) state.table.rows written.rows (wide_at e w before state after same)) written.width)))
     (counted_anywhere output_variables_text output_front e.outputs
-    (λ before output after same. output_spelled (length before + 1) output (output_number e w (length before + 1) (place_below before output after e.outputs same))))))
+    (λ before output after same. output_spelled (length before + 1) output
+    (output_number e w (length before + 1) (place_below before output after e.outputs same))))))
 
 abbrev pub is_period_check : TimingCheck → Bool
 is_period_check k = is_period k.kind

@@ -35,7 +35,8 @@ report_front n k s = (120 ∷ 95 ∷ decimal n) ∷ s
 
 abbrev pub violation_by : List TimingCheck → Front
 violation_by [] s = s
-violation_by (k ∷ checks) s = codes "viol" ∷ codes ":=" ∷ apart_front (λ q. codes "or" ∷ q) report_front (k ∷ checks) (codes ";" ∷ s)
+violation_by (k ∷ checks) s = codes "viol" ∷ codes ":=" ∷ apart_front (λ q. codes "or" ∷ q) report_front (k ∷ checks)
+    (codes ";" ∷ s)
 
 abbrev pub violation_front : VEntity → Front
 violation_front e s = violation_by e.checks s
@@ -44,37 +45,54 @@ report_text_is : (n : ℕ) (k : TimingCheck) → report_text n k ≡ apart_text 
 unfolding report_text
 report_text_is n k = refl
 
-violation_by_spelled : (e : VEntity) → IsWellFormedEntity e → (checks : List TimingCheck) → checks ≡ e.checks → Spells Anything false (violation_text checks) (violation_by checks) false
+violation_by_spelled : (e : VEntity) → IsWellFormedEntity e → (checks : List TimingCheck) → checks ≡ e.checks
+    → Spells Anything false (violation_text checks) (violation_by checks) false
 unfolding reports_text
 violation_by_spelled e w [] same = nothing
 violation_by_spelled e w (k ∷ checks) same =
     shown (nat_lt 0 (length (k ∷ checks))) (some_items (length checks))
-    (behind violation_start (joins (apart_spelled {P = Ends} (codes " or ") (λ q. codes "or" ∷ q) report_text (λ n x. 120 ∷ 95 ∷ decimal n) report_front report_text_is or_word (λ r. refl) k checks
-    (λ before x after at. part 120 (length before + 1) refl (check_number e w (length before + 1) (place_below before x after e.checks (at ∙ same))))) (λ r q. refl) line_end))
+    (behind violation_start (joins (apart_spelled {P = Ends} (codes " or ") (λ q. codes "or" ∷ q) report_text
+    (λ n x. 120 ∷ 95 ∷ decimal n) report_front report_text_is or_word (λ r. refl) k checks
+    (λ before x after at. part 120 (length before + 1) refl
+    (check_number e w (length before + 1) (place_below before x after e.checks (at ∙ same))))) (λ r q. refl) line_end))
 
-pub violation_spelled : (e : VEntity) → IsWellFormedEntity e → Spells Anything false (violation_text e.checks) (violation_front e) false
+pub violation_spelled : (e : VEntity) → IsWellFormedEntity e
+    → Spells Anything false (violation_text e.checks) (violation_front e) false
 violation_spelled e w = violation_by_spelled e w e.checks refl
 
-report_read : (e : VEntity) → IsWellFormedEntity e → (before : List TimingCheck) (k : TimingCheck) (after : List TimingCheck) (q : List (List ℕ)) → before ++ k ∷ after ≡ e.checks
-    → Reads (next_report (length e.checks) (length before)) ((120 ∷ 95 ∷ decimal (length before + 1)) ∷ q) (length (before ++ k ∷ [])) q
+report_read : (e : VEntity) → IsWellFormedEntity e
+    → (before : List TimingCheck) (k : TimingCheck) (after : List TimingCheck) (q : List (List ℕ))
+    → before ++ k ∷ after ≡ e.checks
+    → Reads (next_report (length e.checks) (length before)) ((120 ∷ 95 ∷ decimal (length before + 1)) ∷ q)
+    (length (before ++ k ∷ [])) q
 unfolding next_report
 report_read e w before k after q same =
     let below : length before + 1 ≤ length e.checks = place_below before k after e.checks same in
     to_same (one_longer before k)
-    (in_turn (part_read (nat_lt (length before) (length e.checks)) 120 (length before + 1) refl (check_number e w (length before + 1) below) (less (length before) (length e.checks) (omega (arith, below)))) gives)
+    (in_turn (part_read (nat_lt (length before) (length e.checks)) 120 (length before + 1) refl
+    (check_number e w (length before + 1) below) (less (length before) (length e.checks) (omega (arith, below)))) gives)
 
-violation_by_read : (e : VEntity) → IsWellFormedEntity e → (checks : List TimingCheck) → checks ≡ e.checks → (s : List (List ℕ)) → Reads (violation (length checks)) (violation_by checks s) tt s
+violation_by_read : (e : VEntity) → IsWellFormedEntity e → (checks : List TimingCheck) → checks ≡ e.checks → (s : List (List ℕ))
+    → Reads (violation (length checks)) (violation_by checks s) tt s
 unfolding any_report
 violation_by_read e w [] same s = gives
 violation_by_read e w (k ∷ checks) same s =
-    let step : (before : List TimingCheck) (x : TimingCheck) (after : List TimingCheck) (q : List (List ℕ)) → before ++ x ∷ after ≡ k ∷ checks
-    → Reads (next_report (length (k ∷ checks)) (length before)) ((120 ∷ 95 ∷ decimal (length before + 1)) ∷ q) (length (before ++ x ∷ [])) q =
-    (λ before x after q at. subst (λ (n : ℕ). Reads (next_report n (length before)) ((120 ∷ 95 ∷ decimal (length before + 1)) ∷ q) (length (before ++ x ∷ [])) q) (ap length (sym same))
+    let step : (before : List TimingCheck) (x : TimingCheck) (after : List TimingCheck) (q : List (List ℕ))
+    → before ++ x ∷ after ≡ k ∷ checks
+    → Reads (next_report (length (k ∷ checks)) (length before)) ((120 ∷ 95 ∷ decimal (length before + 1)) ∷ q)
+    (length (before ++ x ∷ [])) q =
+    (λ before x after q at. subst (λ (n : ℕ). Reads (next_report n (length before)) ((120 ∷ 95 ∷ decimal (length before + 1)) ∷ q)
+    (length (before ++ x ∷ [])) q) (ap length (sym same))
     (report_read e w before x after q (at ∙ same))) in
-    in_turn two_expected (in_turn (step [] k checks (counted (λ n y q. codes "or" ∷ report_front n y q) 2 checks (codes ";" ∷ s)) refl)
-    (in_turn (over (λ (l : List TimingCheck). length l) (λ n y q. codes "or" ∷ report_front n y q) (k ∷ []) checks (λ before x after q at rest. turns (turn refl (step before x after q at)) rest) (codes ";" ∷ s) (no_turn refl))
-    (in_turn (goes_on (nat_eq (length (k ∷ checks)) (length (k ∷ checks))) (codes ";" ∷ s) (equal (length (k ∷ checks)) (length (k ∷ checks)) refl)) expected)))
+    in_turn two_expected (in_turn (step [] k checks (counted (λ n y q. codes "or" ∷ report_front n y q) 2 checks (codes ";" ∷ s))
+    refl)
+    (in_turn (over (λ (l : List TimingCheck). length l) (λ n y q. codes "or" ∷ report_front n y q) (k ∷ []) checks
+    (λ before x after q at rest. turns (turn refl (step before x after q at)) rest) (codes ";" ∷ s) (no_turn refl))
+    (in_turn (goes_on (nat_eq (length (k ∷ checks)) (length (k ∷ checks))) (codes ";" ∷ s)
+    (equal (length (k ∷ checks)) (length (k ∷ checks)) refl)) expected)))
 
-pub violation_read : (e : VEntity) → IsWellFormedEntity e → (s : List (List ℕ)) → Reads (violation (length (scope e).variables.periods)) (violation_front e s) tt s
+pub violation_read : (e : VEntity) → IsWellFormedEntity e → (s : List (List ℕ))
+    → Reads (violation (length (scope e).variables.periods)) (violation_front e s) tt s
 violation_read e w s =
-    subst (λ (n : ℕ). Reads (violation n) (violation_front e s) tt s) (sym (length-map e.checks is_period_check)) (violation_by_read e w e.checks refl s)
+    subst (λ (n : ℕ). Reads (violation n) (violation_front e s) tt s) (sym (length-map e.checks is_period_check))
+    (violation_by_read e w e.checks refl s)

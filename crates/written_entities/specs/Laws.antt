@@ -1,5 +1,5 @@
--- What is written reads back: the tables of an architecture's constants, and whole entities. (IEEE 1076.4-2000, the VITAL table types and symbols; IEEE
--- 1076-1993, 7.3.2, aggregates; the layout is this project's.)
+-- What is written reads back: the tables of an architecture's constants, and whole entities. (IEEE 1076.4-2000, the VITAL table
+-- types and symbols; IEEE 1076-1993, 7.3.2, aggregates; the layout is this project's.)
 use Rattle.std.specs.Prelude.{◌≡◌, ℕ, ◌≤◌, List, [], ◌++◌, length, None, codes}
 use Rattle.std.specs.List.{flat_map}
 use Rattle.grammar_rules.specs.Rule.{Takes}
@@ -22,7 +22,8 @@ truth_table_text table = codes "(" ++ (truth_rows_text table ++ codes ")")
 unfoldable pub state_table_text : VState → List ℕ
 state_table_text state = codes "(" ++ (state_rows_text state ++ codes ")")
 
--- The bytes are the text of this truth table alone: they are tokens, without a lexical fault, that the grammar of truth tables takes.
+-- The bytes are the text of this truth table alone: they are tokens, without a lexical fault, that the grammar of truth tables
+-- takes.
 pub record IsTruthTableText (bytes : List ℕ) (table : TruthTable) : Type 0 where
   pub lexes : lexical_place bytes ≡ None
   pub takes : Takes truth_table (text_tokens bytes) table []
@@ -45,7 +46,8 @@ pub record StateTableReadBack (state : VState) : Type 0 where
 -- a truth table of rows that are equally long reads back from what is written of it
 abbrev pub WrittenTruthTablesReadBack : Type 0
 WrittenTruthTablesReadBack =
-    (columns : ℕ) (table : TruthTable) → 1 ≤ columns → 1 ≤ length table.rows → IsTruthTable columns table → TruthTableReadBack table
+    (columns : ℕ) (table : TruthTable) → 1 ≤ columns → 1 ≤ length table.rows → IsTruthTable columns table
+    → TruthTableReadBack table
 
 -- the table of a state that a text can tell reads back from what is written of it
 abbrev pub WrittenStateTablesReadBack : Type 0

@@ -15,8 +15,8 @@ pub fn written_state_table_reads_back()
     ensures { WrittenStateTablesReadBack }
 {}
 
-/// A law: the text that is written of well formed entities is the text of these entities, and of no others. (IEEE 1076-1993, 1.1 and
-/// 1.2; IEEE 1076.4-2000.)
+/// A law: the text that is written of well formed entities is the text of these entities, and of no others. (IEEE 1076-1993, 1.1
+/// and 1.2; IEEE 1076.4-2000.)
 pub fn written_entities_read_back()
     ensures { WrittenEntitiesReadBack }
 {}

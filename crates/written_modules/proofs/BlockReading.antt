@@ -37,7 +37,8 @@ no_path check_kind.Removal = refl
 no_path check_kind.Width = refl
 no_path check_kind.Period = refl
 
-paths_end : (m : VModule) (all : List TimingCheck) (s : List (List ℕ)) → Stops (begins_by is_path_start) (each (check_tokens m) all (codes "endspecify" ∷ s))
+paths_end : (m : VModule) (all : List TimingCheck) (s : List (List ℕ))
+    → Stops (begins_by is_path_start) (each (check_tokens m) all (codes "endspecify" ∷ s))
 paths_end m [] s = refl
 paths_end m (k ∷ all) s = no_path k.kind
 
@@ -49,17 +50,42 @@ empty_if (x ∷ xs) h = absurd (grind (arith, nat_tests))
 without_block : (m : VModule) → has_block m ≡ false → joined m ≡ m
 without_block m h =
     let parts = both_no (nat_lt 0 (length m.paths)) (nat_lt 0 (length m.checks)) h in
-    ap (λ (p : List VPath). record { name = m.name; ports = m.ports; wires = m.wires; notifier = m.notifier; udps = m.udps; instances = m.instances; paths = p; checks = [] }) (sym (empty_if m.paths parts.0))
-    ∙ ap (λ (c : List TimingCheck). record { name = m.name; ports = m.ports; wires = m.wires; notifier = m.notifier; udps = m.udps; instances = m.instances; paths = m.paths; checks = c }) (sym (empty_if m.checks parts.1))
+    ap (λ (p : List VPath). record {
+      name = m.name;
+      ports = m.ports;
+      wires = m.wires;
+      notifier = m.notifier;
+      udps =
+          m.udps;
+      instances = m.instances;
+      paths = p;
+      checks = [];
+    }) (sym (empty_if m.paths parts.0))
+    ∙ ap (λ (c : List TimingCheck). record {
+      name = m.name;
+      ports = m.ports;
+      wires = m.wires;
+      notifier = m.notifier;
+      udps =
+          m.udps;
+      instances = m.instances;
+      paths = m.paths;
+      checks = c;
+    }) (sym (empty_if m.checks parts.1))
 
-block_read : (m : VModule) → IsWritten m → AreTimed m → (b : Bool) → has_block m ≡ b → (s : List (List ℕ)) → Reads (specify (joined m)) (block_by b m (codes "endmodule" ∷ s)) m (codes "endmodule" ∷ s)
+block_read : (m : VModule) → IsWritten m → AreTimed m → (b : Bool) → has_block m ≡ b → (s : List (List ℕ))
+    → Reads (specify (joined m)) (block_by b m (codes "endmodule" ∷ s)) m (codes "endmodule" ∷ s)
 unfolding specify block paths checks
 block_read m w t true e s =
     chosen refl
-    (in_turn (through (λ (l : List VPath). l) (path_tokens m) [] m.paths (path_turn m w m.paths t.paths t.delays) (each (check_tokens m) m.checks (codes "endspecify" ∷ codes "endmodule" ∷ s)) (paths_end m m.checks (codes "endmodule" ∷ s)))
-    (in_turn (through (λ (l : List TimingCheck). l) (check_tokens m) [] m.checks (check_turn m w m.checks t.checks t.limits) (codes "endspecify" ∷ codes "endmodule" ∷ s) refl)
+    (in_turn (through (λ (l : List VPath). l) (path_tokens m) [] m.paths (path_turn m w m.paths t.paths t.delays)
+    (each (check_tokens m) m.checks (codes "endspecify" ∷ codes "endmodule" ∷ s))
+    (paths_end m m.checks (codes "endmodule" ∷ s)))
+    (in_turn (through (λ (l : List TimingCheck). l) (check_tokens m) [] m.checks (check_turn m w m.checks t.checks t.limits)
+    (codes "endspecify" ∷ codes "endmodule" ∷ s) refl)
     (in_turn expected gives)))
 block_read m w t false e s = to_same (without_block m e) (passed refl gives)
 
-pub specify_read : (m : VModule) → IsWritten m → AreTimed m → (s : List (List ℕ)) → Reads (specify (joined m)) (block_by (has_block m) m (codes "endmodule" ∷ s)) m (codes "endmodule" ∷ s)
+pub specify_read : (m : VModule) → IsWritten m → AreTimed m → (s : List (List ℕ))
+    → Reads (specify (joined m)) (block_by (has_block m) m (codes "endmodule" ∷ s)) m (codes "endmodule" ∷ s)
 specify_read m w t s = block_read m w t (has_block m) refl s

@@ -58,11 +58,14 @@ edge_read edge.Any x s n = passed (no_edge x n) gives
 edge_read edge.Rise x s n = chosen refl gives
 edge_read edge.Fall x s n = chosen refl gives
 
-event_read : (m : VModule) → IsWritten m → (e : Event) {s : List (List ℕ)} → IsTrue (is_input_port m.ports e.pin) → Reads (an_event (joined m)) (event_tokens m e s) e s
+event_read : (m : VModule) → IsWritten m → (e : Event) {s : List (List ℕ)} → IsTrue (is_input_port m.ports e.pin)
+    → Reads (an_event (joined m)) (event_tokens m e s) e s
 unfolding an_event
-event_read m w e {s} h = in_turn (edge_read e.edge (port_at m e.pin) s (input_name m w e.pin h)) (in_turn (input_read m w e.pin h) gives)
+event_read m w e {s} h = in_turn (edge_read e.edge (port_at m e.pin) s (input_name m w e.pin h))
+    (in_turn (input_read m w e.pin h) gives)
 
-edge_event_read : (m : VModule) → IsWritten m → (e : Edge) (p : ℕ) {s : List (List ℕ)} → (e ≡ edge.Any → ⊥) → IsTrue (is_input_port m.ports p)
+edge_event_read : (m : VModule) → IsWritten m → (e : Edge) (p : ℕ) {s : List (List ℕ)} → (e ≡ edge.Any → ⊥)
+    → IsTrue (is_input_port m.ports p)
     → Reads (an_edge_event (joined m)) (edge_tokens e (port_at m p ∷ s)) (record { pin = p; edge = e }) s
 unfolding an_edge_event
 edge_event_read m w edge.Any p some h = absurd (some refl)
@@ -75,7 +78,8 @@ condition_name_is : (m : VModule) → IsWritten m → (c : Option ℕ) → IsTru
 condition_name_is m w None h = tt
 condition_name_is m w (Some v) h = condition_named m w v h
 
-condition_read : (m : VModule) → IsWritten m → (c : Option ℕ) {s : List (List ℕ)} → IsTrue (is_enabling m c) → Reads (condition (joined m)) (condition_tokens m c (codes "," ∷ s)) c (codes "," ∷ s)
+condition_read : (m : VModule) → IsWritten m → (c : Option ℕ) {s : List (List ℕ)} → IsTrue (is_enabling m c)
+    → Reads (condition (joined m)) (condition_tokens m c (codes "," ∷ s)) c (codes "," ∷ s)
 unfolding condition condition_name
 condition_read m w None h = passed refl gives
 condition_read m w (Some v) h = chosen refl (in_turn (wire_read m w v h) gives)
@@ -83,10 +87,12 @@ condition_read m w (Some v) h = chosen refl (in_turn (wire_read m w v h) gives)
 its_wire : (m : VModule) (v : ℕ) → IsKnown m (net.Wire v) → slice_get m.wires v ≡ Some (wire_at m v)
 its_wire m v (x, e) = rw e refl
 
-same_condition_read : (m : VModule) → IsWritten m → (c : Option ℕ) {s : List (List ℕ)} → IsTrue (is_enabling m c) → Reads (same_condition (joined m) c) (condition_tokens m c s) tt s
+same_condition_read : (m : VModule) → IsWritten m → (c : Option ℕ) {s : List (List ℕ)} → IsTrue (is_enabling m c)
+    → Reads (same_condition (joined m) c) (condition_tokens m c s) tt s
 unfolding same_condition
 same_condition_read m w None h = gives
-same_condition_read m w (Some v) h = in_turn expected (so_named (slice_get m.wires v) (condition_named m w v h) (its_wire m v (condition_known m w v h)))
+same_condition_read m w (Some v) h =
+    in_turn expected (so_named (slice_get m.wires v) (condition_named m w v h) (its_wire m v (condition_known m w v h)))
 
 -- Ends.
 
@@ -96,25 +102,39 @@ its_register m (x, e) = rw e refl
 register_name : (m : VModule) → IsWritten m → IsTrue (is_some m.notifier) → IsName (notifier_in m)
 register_name m w h = named_net m w.declared net.Notifier (register_known m h)
 
-end_read : (m : VModule) → IsWritten m → {s : List (List ℕ)} → IsTrue (is_some m.notifier) → Reads (check_end (joined m)) (end_tokens m s) tt s
+end_read : (m : VModule) → IsWritten m → {s : List (List ℕ)} → IsTrue (is_some m.notifier)
+    → Reads (check_end (joined m)) (end_tokens m s) tt s
 unfolding check_end
-end_read m w h = in_turn expected (in_turn (so_named m.notifier (register_name m w h) (its_register m (register_known m h))) (in_turn expected expected))
+end_read m w h = in_turn expected
+    (in_turn (so_named m.notifier (register_name m w h) (its_register m (register_known m h))) (in_turn expected expected))
 
 -- Checks.
 
-of_kind : (k : TimingCheck) (kind : CheckKind) → k.kind ≡ kind → record { kind = kind; first = k.first; second = k.second; limit = k.limit; condition = k.condition } ≡ k
-of_kind k kind e = ap (λ (c : CheckKind). record { kind = c; first = k.first; second = k.second; limit = k.limit; condition = k.condition }) (sym e)
+of_kind : (k : TimingCheck) (kind : CheckKind) → k.kind ≡ kind
+    → record { kind = kind; first = k.first; second = k.second; limit = k.limit; condition = k.condition } ≡ k
+of_kind k kind e = ap (λ (c : CheckKind). record {
+  kind = c;
+  first = k.first;
+  second = k.second;
+  limit = k.limit;
+  condition =
+      k.condition;
+}) (sym e)
 
-ordered_read : (m : VModule) → IsWritten m → (k : TimingCheck) (kind : CheckKind) (s : List (List ℕ)) → k.kind ≡ kind → IsCheck m k → IsNumber k.limit → Reads (ordered_check kind (joined m)) (ordered_tokens m k s) k s
+ordered_read : (m : VModule) → IsWritten m → (k : TimingCheck) (kind : CheckKind) (s : List (List ℕ)) → k.kind ≡ kind
+    → IsCheck m k → IsNumber k.limit → Reads (ordered_check kind (joined m)) (ordered_tokens m k s) k s
 unfolding ordered_check
 ordered_read m w k kind s e h n =
-    to_same (of_kind k kind e) (in_turn (event_read m w k.first h.first) (in_turn expected (in_turn (event_read m w k.second h.second) (in_turn (condition_read m w k.condition h.enabled)
+    to_same (of_kind k kind e) (in_turn (event_read m w k.first h.first)
+    (in_turn expected (in_turn (event_read m w k.second h.second) (in_turn (condition_read m w k.condition h.enabled)
     (in_turn expected (in_turn (number_read k.limit n) (in_turn (end_read m w h.notified) gives)))))))
 
-turned_read : (m : VModule) → IsWritten m → (k : TimingCheck) (kind : CheckKind) (s : List (List ℕ)) → k.kind ≡ kind → IsCheck m k → IsNumber k.limit → Reads (turned_check kind (joined m)) (turned_tokens m k s) k s
+turned_read : (m : VModule) → IsWritten m → (k : TimingCheck) (kind : CheckKind) (s : List (List ℕ)) → k.kind ≡ kind → IsCheck m k
+    → IsNumber k.limit → Reads (turned_check kind (joined m)) (turned_tokens m k s) k s
 unfolding turned_check
 turned_read m w k kind s e h n =
-    to_same (of_kind k kind e) (in_turn (event_read m w k.second h.second) (in_turn (condition_read m w k.condition h.enabled) (in_turn expected (in_turn (event_read m w k.first h.first)
+    to_same (of_kind k kind e) (in_turn (event_read m w k.second h.second)
+    (in_turn (condition_read m w k.condition h.enabled) (in_turn expected (in_turn (event_read m w k.first h.first)
     (in_turn expected (in_turn (number_read k.limit n) (in_turn (end_read m w h.notified) gives)))))))
 
 opposites : (a b : Edge) → are_opposite a b ≡ true → (a ≡ edge.Any → ⊥) × (opposite a ≡ b)
@@ -132,16 +152,20 @@ same_event e p g a b = ap (λ (q : ℕ). record { pin = q; edge = g }) a ∙ ap 
 with_second : (k : TimingCheck) (kind : CheckKind) (second : Event) → k.kind ≡ kind → second ≡ k.second
     → record { kind = kind; first = k.first; second = second; limit = k.limit; condition = k.condition } ≡ k
 with_second k kind second e f =
-    ap (λ (v : Event). record { kind = kind; first = k.first; second = v; limit = k.limit; condition = k.condition }) f ∙ of_kind k kind e
+    ap (λ (v : Event). record { kind = kind; first = k.first; second = v; limit = k.limit; condition = k.condition }) f
+    ∙ of_kind k kind e
 
-width_read : (m : VModule) → IsWritten m → (k : TimingCheck) (s : List (List ℕ)) → k.kind ≡ check_kind.Width → IsTrue (has_written_events k check_kind.Width) → IsCheck m k → IsNumber k.limit
+width_read : (m : VModule) → IsWritten m → (k : TimingCheck) (s : List (List ℕ)) → k.kind ≡ check_kind.Width
+    → IsTrue (has_written_events k check_kind.Width) → IsCheck m k → IsNumber k.limit
     → Reads (width_check (joined m)) (width_tokens m k s) k s
 unfolding width_check
 width_read m w k s e v h n =
     let parts = and_parts (nat_eq k.first.pin k.second.pin) (are_opposite k.first.edge k.second.edge) v in
     let turn = opposites k.first.edge k.second.edge parts.1 in
-    to_same (with_second k check_kind.Width (record { pin = k.first.pin; edge = opposite k.first.edge }) e (same_event k.second k.first.pin (opposite k.first.edge) (eqb-true k.first.pin k.second.pin parts.0) turn.1))
-    (in_turn (edge_event_read m w k.first.edge k.first.pin turn.0 h.first) (in_turn (condition_read m w k.condition h.enabled) (in_turn expected (in_turn (number_read k.limit n)
+    to_same (with_second k check_kind.Width (record { pin = k.first.pin; edge = opposite k.first.edge }) e
+    (same_event k.second k.first.pin (opposite k.first.edge) (eqb-true k.first.pin k.second.pin parts.0) turn.1))
+    (in_turn (edge_event_read m w k.first.edge k.first.pin turn.0 h.first)
+    (in_turn (condition_read m w k.condition h.enabled) (in_turn expected (in_turn (number_read k.limit n)
     (in_turn expected (in_turn expected (in_turn (end_read m w h.notified) gives)))))))
 
 any_edge_is : (e : Edge) → is_any_edge e ≡ true → edge.Any ≡ e
@@ -157,32 +181,53 @@ unfolding same_number
 same_number_read n h = token (ap (equal_to n) (number_is n h) ∙ rw (equal_numbers n n refl) refl)
 
 second_read : (m : VModule) → IsWritten m → (k : TimingCheck) (s : List (List ℕ)) → IsCheck m k → IsNumber k.limit
-    → Reads (second_period (joined m) k.first.pin k.condition k.limit) (codes "$period" ∷ codes "(" ∷ period_tokens (codes "negedge") m k s) tt s
+    → Reads (second_period (joined m) k.first.pin k.condition k.limit)
+    (codes "$period" ∷ codes "(" ∷ period_tokens (codes "negedge") m k s) tt s
 unfolding second_period
 second_read m w k s h n =
     in_turn expected (in_turn expected (in_turn expected
-    (in_turn (so_named (option_map port_name (slice_get m.ports k.first.pin)) (input_name m w k.first.pin h.first) (its_port m k.first.pin (input_known m k.first.pin h.first)))
-    (in_turn (same_condition_read m w k.condition h.enabled) (in_turn expected (in_turn (same_number_read k.limit n) (end_read m w h.notified)))))))
+    (in_turn (so_named (option_map port_name (slice_get m.ports k.first.pin)) (input_name m w k.first.pin h.first)
+    (its_port m k.first.pin (input_known m k.first.pin h.first)))
+    (in_turn (same_condition_read m w k.condition h.enabled)
+    (in_turn expected (in_turn (same_number_read k.limit n) (end_read m w h.notified)))))))
 
 of_period : (k : TimingCheck) → k.kind ≡ check_kind.Period → IsTrue (has_written_events k check_kind.Period)
-    → record { kind = check_kind.Period; first = record { pin = k.first.pin; edge = edge.Any }; second = record { pin = k.first.pin; edge = edge.Any }; limit = k.limit; condition = k.condition } ≡ k
+    → record {
+      kind = check_kind.Period;
+      first = record { pin = k.first.pin; edge = edge.Any };
+      second =
+          record { pin = k.first.pin; edge = edge.Any };
+      limit = k.limit;
+      condition = k.condition;
+    } ≡ k
 of_period k e v =
     let parts = and_parts (nat_eq k.first.pin k.second.pin) (is_any_edge k.first.edge && is_any_edge k.second.edge) v in
     let edges = and_parts (is_any_edge k.first.edge) (is_any_edge k.second.edge) parts.1 in
     let first = same_event k.first k.first.pin edge.Any refl (any_edge_is k.first.edge edges.0) in
-    let second = same_event k.second k.first.pin edge.Any (eqb-true k.first.pin k.second.pin parts.0) (any_edge_is k.second.edge edges.1) in
-    ap (λ (v : Event). record { kind = check_kind.Period; first = v; second = record { pin = k.first.pin; edge = edge.Any }; limit = k.limit; condition = k.condition }) first
+    let second = same_event k.second k.first.pin edge.Any (eqb-true k.first.pin k.second.pin parts.0)
+    (any_edge_is k.second.edge edges.1) in
+    ap (λ (v : Event). record {
+      kind = check_kind.Period;
+      first = v;
+      second =
+          record { pin = k.first.pin; edge = edge.Any };
+      limit = k.limit;
+      condition = k.condition;
+    }) first
     ∙ with_second k check_kind.Period (record { pin = k.first.pin; edge = edge.Any }) e second
 
-period_read : (m : VModule) → IsWritten m → (k : TimingCheck) (s : List (List ℕ)) → k.kind ≡ check_kind.Period → IsTrue (has_written_events k check_kind.Period) → IsCheck m k → IsNumber k.limit
+period_read : (m : VModule) → IsWritten m → (k : TimingCheck) (s : List (List ℕ)) → k.kind ≡ check_kind.Period
+    → IsTrue (has_written_events k check_kind.Period) → IsCheck m k → IsNumber k.limit
     → Reads (period_check (joined m)) (check_more m k check_kind.Period s) k s
 unfolding period_check
 period_read m w k s e v h n =
     to_same (of_period k e v)
-    (in_turn expected (in_turn (input_read m w k.first.pin h.first) (in_turn (condition_read m w k.condition h.enabled) (in_turn expected (in_turn (number_read k.limit n)
+    (in_turn expected (in_turn (input_read m w k.first.pin h.first)
+    (in_turn (condition_read m w k.condition h.enabled) (in_turn expected (in_turn (number_read k.limit n)
     (in_turn (end_read m w h.notified) (in_turn (second_read m w k s h n) gives)))))))
 
-kind_read : (m : VModule) → IsWritten m → (k : TimingCheck) (kind : CheckKind) (s : List (List ℕ)) → k.kind ≡ kind → IsTrue (has_written_events k kind) → IsCheck m k → IsNumber k.limit
+kind_read : (m : VModule) → IsWritten m → (k : TimingCheck) (kind : CheckKind) (s : List (List ℕ)) → k.kind ≡ kind
+    → IsTrue (has_written_events k kind) → IsCheck m k → IsNumber k.limit
     → Reads (check_of_kind (joined m) kind) (check_more m k kind s) k s
 unfolding check_of_kind ordered_check turned_check width_check period_check
 kind_read m w k check_kind.Setup s e v h n = ordered_read m w k check_kind.Setup s e h n
@@ -212,7 +257,8 @@ check_named m w k h n = record {
   limit = n;
 }
 
-pub check_turn : (m : VModule) → IsWritten m → (checks : List TimingCheck) → AllByRecursion (IsCheck m) checks → AllByRecursion HasNumber checks
+pub check_turn : (m : VModule) → IsWritten m → (checks : List TimingCheck) → AllByRecursion (IsCheck m) checks
+    → AllByRecursion HasNumber checks
     → (before : List TimingCheck) (k : TimingCheck) (after : List TimingCheck) (s : List (List ℕ)) → before ++ k ∷ after ≡ checks
     → Turn (λ _. begins_as check_of) (next_check (joined m)) before (check_tokens m k s) (before ++ k ∷ []) s
 unfolding next_check check

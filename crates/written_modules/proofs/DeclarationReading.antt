@@ -30,15 +30,18 @@ pub stops : (w : List ℕ) (s : List (List ℕ)) → Other w s → Stops (begins
 stops w [] h = tt
 stops w (x ∷ s) h = rw h refl
 
-pub each_other : {A : Type 0} (w : List ℕ) (f : A → Front) → ((x : A) (s : List (List ℕ)) → Other w s → Other w (f x s)) → (xs : List A) (s : List (List ℕ)) → Other w s → Other w (each f xs s)
+pub each_other : {A : Type 0} (w : List ℕ) (f : A → Front) → ((x : A) (s : List (List ℕ)) → Other w s → Other w (f x s))
+    → (xs : List A) (s : List (List ℕ)) → Other w s → Other w (each f xs s)
 each_other w f h [] s o = o
 each_other w f h (x ∷ xs) s o = h x (each f xs s) (each_other w f h xs s o)
 
-register_other : (w : List ℕ) (n : Option (List ℕ)) (s : List (List ℕ)) → bytes_eq (codes "reg") w ≡ false → Other w s → Other w (register_tokens n s)
+register_other : (w : List ℕ) (n : Option (List ℕ)) (s : List (List ℕ)) → bytes_eq (codes "reg") w ≡ false → Other w s
+    → Other w (register_tokens n s)
 register_other w None s e o = o
 register_other w (Some x) s e o = e
 
-pub where_other : (w word x : List ℕ) (b : Bool) (s : List (List ℕ)) → bytes_eq word w ≡ false → Other w s → Other w (declared_where b word x s)
+pub where_other : (w word x : List ℕ) (b : Bool) (s : List (List ℕ)) → bytes_eq word w ≡ false → Other w s
+    → Other w (declared_where b word x s)
 where_other w word x true s e o = e
 where_other w word x false s e o = o
 
@@ -58,35 +61,53 @@ pub record AreDeclared (m : VModule) : Type 0 where
   pub register : IsNamed m.notifier
   pub apart : AreApart (port_names m.ports ++ (m.wires ++ register_names m.notifier))
 
-wire_turn : (ports : List VPort) (wires others : List (List ℕ)) → AllByRecursion IsName wires → AreApart (port_names ports ++ (wires ++ others))
+wire_turn : (ports : List VPort) (wires others : List (List ℕ)) → AllByRecursion IsName wires
+    → AreApart (port_names ports ++ (wires ++ others))
     → (before : List (List ℕ)) (x : List ℕ) (after s : List (List ℕ)) → before ++ x ∷ after ≡ wires
-    → Turn (λ _. begins (codes "wire")) (λ wires _. declared_wire ports wires) before (declared (codes "wire") x s) (before ++ x ∷ []) s
+    → Turn (λ _. begins (codes "wire")) (λ wires _. declared_wire ports wires) before (declared (codes "wire") x s)
+    (before ++ x ∷ []) s
 unfolding declared_wire
 wire_turn ports wires others named apart before x after s same =
     let split : port_names ports ++ (wires ++ others) ≡ (port_names ports ++ before) ++ x ∷ (after ++ others) =
-    ap (λ (l : List (List ℕ)). port_names ports ++ (l ++ others)) (sym same) ∙ ap (λ (l : List (List ℕ)). port_names ports ++ l) (append_assoc before (x ∷ after) others)
+    ap (λ (l : List (List ℕ)). port_names ports ++ (l ++ others)) (sym same)
+    ∙ ap (λ (l : List (List ℕ)). port_names ports ++ l) (append_assoc before (x ∷ after) others)
     ∙ sym (append_assoc (port_names ports) before (x ∷ (after ++ others))) in
-    turn refl (in_turn (newly_named (port_names ports ++ before) (at_place IsName before x after (subst (AllByRecursion IsName) (sym same) named))
+    turn refl (in_turn (newly_named (port_names ports ++ before)
+    (at_place IsName before x after (subst (AllByRecursion IsName) (sym same) named))
     (is_new (port_names ports ++ before) x (after ++ others) (subst AreApart split apart))) (in_turn expected gives))
 
-wires_read : (ports : List VPort) (wires others s : List (List ℕ)) → AllByRecursion IsName wires → AreApart (port_names ports ++ (wires ++ others)) → Stops (begins (codes "wire")) s
+wires_read : (ports : List VPort) (wires others s : List (List ℕ)) → AllByRecursion IsName wires
+    → AreApart (port_names ports ++ (wires ++ others)) → Stops (begins (codes "wire")) s
     → Reads (declared_wires ports) (each (declared (codes "wire")) wires s) wires s
 unfolding declared_wires
-wires_read ports wires others s named apart stop = through (λ (l : List (List ℕ)). l) (declared (codes "wire")) [] wires (wire_turn ports wires others named apart) s stop
+wires_read ports wires others s named apart stop =
+    through (λ (l : List (List ℕ)). l) (declared (codes "wire")) [] wires (wire_turn ports wires others named apart) s stop
 
-register_read : (ports : List VPort) (wires : List (List ℕ)) (n : Option (List ℕ)) (s : List (List ℕ)) → IsNamed n → AreApart (port_names ports ++ (wires ++ register_names n)) → Other (codes "reg") s
+register_read : (ports : List VPort) (wires : List (List ℕ)) (n : Option (List ℕ)) (s : List (List ℕ)) → IsNamed n
+    → AreApart (port_names ports ++ (wires ++ register_names n)) → Other (codes "reg") s
     → Reads (notifier ports wires) (register_tokens n s) n s
 unfolding notifier declared_notifier
 register_read ports wires None s h apart o = passed (stops (codes "reg") s o) gives
 register_read ports wires (Some x) s h apart o =
-    chosen refl (in_turn (newly_named (port_names ports ++ wires) h (is_new (port_names ports ++ wires) x [] (subst AreApart (sym (append_assoc (port_names ports) wires (x ∷ []))) apart)))
+    chosen refl (in_turn (newly_named (port_names ports ++ wires) h
+    (is_new (port_names ports ++ wires) x [] (subst AreApart (sym (append_assoc (port_names ports) wires (x ∷ []))) apart)))
     (in_turn expected gives))
 
 -- All declarations.
 
 -- a module without instances
 abbrev pub bare : VModule → VModule
-bare m = record { name = m.name; ports = m.ports; wires = m.wires; notifier = m.notifier; udps = m.udps; instances = []; paths = []; checks = [] }
+bare m = record {
+  name = m.name;
+  ports = m.ports;
+  wires = m.wires;
+  notifier = m.notifier;
+  udps = m.udps;
+  instances = [];
+  paths =
+      [];
+  checks = [];
+}
 
 pub declarations_read : (m : VModule) (s : List (List ℕ)) → AreDeclared m → EndsDeclarations s
     → Reads (declarations m.name m.udps) (codes "(" ∷ listed m.ports (codes ")" ∷ codes ";" ∷ declaration_tokens m s)) (bare m) s
@@ -99,11 +120,16 @@ declarations_read m s h e =
     let outputs : List (List ℕ) = each output_tokens m.ports wires in
     let no_wire : Other (codes "wire") registers = register_other (codes "wire") m.notifier s refl e.wire in
     let no_output : Other (codes "output") wires =
-    each_other (codes "output") (declared (codes "wire")) (λ x s o. refl) m.wires registers (register_other (codes "output") m.notifier s refl e.output) in
+    each_other (codes "output") (declared (codes "wire")) (λ x s o. refl) m.wires registers
+    (register_other (codes "output") m.notifier s refl e.output) in
     let no_input : Other (codes "input") outputs =
-    each_other (codes "input") output_tokens (λ port s o. where_other (codes "input") (codes "output") port.name (not port.input) s refl o) m.ports wires
-    (each_other (codes "input") (declared (codes "wire")) (λ x s o. refl) m.wires registers (register_other (codes "input") m.notifier s refl e.input)) in
+    each_other (codes "input") output_tokens
+    (λ port s o. where_other (codes "input") (codes "output") port.name (not port.input) s refl o) m.ports wires
+    (each_other (codes "input") (declared (codes "wire")) (λ x s o. refl) m.wires registers
+    (register_other (codes "input") m.notifier s refl e.input)) in
     let found = inputs_read m.ports others outputs ports (stops (codes "input") outputs no_input) in
-    in_turn (header_read m.ports others (declaration_tokens m s) ports) (in_turn found.1 (in_turn (outputs_read m.ports wires h.ports (stops (codes "output") wires no_output))
-    (in_turn (wires_read m.ports m.wires (register_names m.notifier) registers h.wires h.apart (stops (codes "wire") registers no_wire))
+    in_turn (header_read m.ports others (declaration_tokens m s) ports)
+    (in_turn found.1 (in_turn (outputs_read m.ports wires h.ports (stops (codes "output") wires no_output))
+    (in_turn (wires_read m.ports m.wires (register_names m.notifier) registers h.wires h.apart
+    (stops (codes "wire") registers no_wire))
     (in_turn (register_read m.ports m.wires m.notifier s h.register h.apart e.reg) gives))))

@@ -47,7 +47,8 @@ use Rattle.written_modules.proofs.BlockReading.{AreTimed, specify_read}
 
 -- What holds of a well formed module.
 
-pub all_parts : {A : Type 0} (P : A → Type 0) (xs ys : List A) → AllByRecursion P (xs ++ ys) → AllByRecursion P xs × AllByRecursion P ys
+pub all_parts : {A : Type 0} (P : A → Type 0) (xs ys : List A) → AllByRecursion P (xs ++ ys) → AllByRecursion P xs
+    × AllByRecursion P ys
 all_parts P [] ys h = (tt, h)
 all_parts P (x ∷ xs) ys h = let rest = all_parts P xs ys h.1 in ((h.0, rest.0), rest.1)
 
@@ -62,7 +63,8 @@ one_register (Some x) h = h.0
 declared : (m : VModule) → IsWellFormedModule m → AreDeclared m
 declared m h =
     let registers : List (List ℕ) = register_names m.notifier in
-    let first = all_parts IsName (port_names m.ports ++ m.wires) registers (recursion_from_All IsName ((port_names m.ports ++ m.wires) ++ registers) h.inner) in
+    let first = all_parts IsName (port_names m.ports ++ m.wires) registers
+    (recursion_from_All IsName ((port_names m.ports ++ m.wires) ++ registers) h.inner) in
     let second = all_parts IsName (port_names m.ports) m.wires first.0 in
     record {
       ports = all_ports m.ports second.0;
@@ -73,7 +75,14 @@ declared m h =
 
 pub written : (m : VModule) (others : List (List ℕ)) → IsWellFormedModule m → AreApart (udp_names m.udps ++ others) → IsWritten m
 written m others h apart =
-    record { declared = declared m h; udps = recursion_from_All IsWellFormedUdp m.udps h.udps; others = others; apart = apart; sound = h.sound }
+    record {
+      declared = declared m h;
+      udps = recursion_from_All IsWellFormedUdp m.udps h.udps;
+      others = others;
+      apart =
+          apart;
+      sound = h.sound;
+    }
 
 timed : (m : VModule) → IsWellFormedModule m → AreTimed m
 timed m h = record {
@@ -85,14 +94,17 @@ timed m h = record {
 
 -- The names of instances.
 
-all_fed : (m : VModule) → IsWritten m → (before : List Instance) → AllByRecursion (DrivesNet m) before → (b : Bool) (inputs : List VNet)
+all_fed : (m : VModule) → IsWritten m → (before : List Instance) → AllByRecursion (DrivesNet m) before
+    → (b : Bool) (inputs : List VNet)
     → list_all (if b then feeds_state m else feeds_value m before) inputs ≡ true → AllByRecursion (IsNamedNet m) inputs
 all_fed m w before all b [] h = tt
 all_fed m w before all b (n ∷ inputs) h =
-    let p = and_parts ((if b then feeds_state m else feeds_value m before) n) (list_all (if b then feeds_state m else feeds_value m before) inputs) h in
+    let p = and_parts ((if b then feeds_state m else feeds_value m before) n)
+    (list_all (if b then feeds_state m else feeds_value m before) inputs) h in
     (named_net m w.declared n (feeding_known m before b n all p.0), all_fed m w before all b inputs p.1)
 
-instance_named : (m : VModule) → IsWritten m → (before : List Instance) → AllByRecursion (DrivesNet m) before → (i : Instance) → IsInstance m before i → AreNamed m i
+instance_named : (m : VModule) → IsWritten m → (before : List Instance) → AllByRecursion (DrivesNet m) before → (i : Instance)
+    → IsInstance m before i → AreNamed m i
 instance_named m w before all (instance.Primitive j output inputs) (udp, e, h) = (
   subst IsName (sym (primitive_name m j udp e)) (all_at IsWellFormedUdp m.udps j udp w.udps e).name,
   named_net m w.declared output (driven_known m output (drives_by m udp.sequential output h.drives)),
@@ -104,10 +116,14 @@ all_push : {A : Type 0} (P : A → Type 0) (xs : List A) (x : A) → AllByRecurs
 all_push P [] x h p = (p, tt)
 all_push P (y ∷ xs) x h p = (h.0, all_push P xs x h.1 p)
 
-instances_named : (m : VModule) → IsWritten m → (before is : List Instance) → AllByRecursion (DrivesNet m) before → AreInstances m before is → AllByRecursion (AreNamed m) is
+instances_named : (m : VModule) → IsWritten m → (before is : List Instance) → AllByRecursion (DrivesNet m) before
+    → AreInstances m before is → AllByRecursion (AreNamed m) is
 instances_named m w before [] all h = tt
-instances_named m w before (i ∷ is) all h =
-    (instance_named m w before all i h.0, instances_named m w (before ++ i ∷ []) is (all_push (DrivesNet m) before i all (drives_net m before i h.0)) h.1)
+instances_named m w before (i ∷ is) all h = (
+  instance_named m w before all i h.0,
+  instances_named m w (before ++ i ∷ []) is
+      (all_push (DrivesNet m) before i all (drives_net m before i h.0)) h.1,
+)
 
 all_named : (m : VModule) → IsWritten m → AllByRecursion (AreNamed m) m.instances
 all_named m w = instances_named m w [] m.instances tt w.sound.instances
@@ -127,25 +143,32 @@ module_tokens m s = codes "module" ∷ module_more m s
 module_end : Spells Anything false (codes "endmodule\n") (λ s. codes "endmodule" ∷ s) false
 module_end = literal (λ r. refl) refl
 
-pub module_spelled : (m : VModule) (others : List (List ℕ)) → IsWellFormedModule m → AreApart (udp_names m.udps ++ others) → Spells Anything false (module_only_text m) (module_tokens m) false
+pub module_spelled : (m : VModule) (others : List (List ℕ)) → IsWellFormedModule m → AreApart (udp_names m.udps ++ others)
+    → Spells Anything false (module_only_text m) (module_tokens m) false
 unfolding module_only_text
 module_spelled m others h apart =
     let w = written m others h apart in
     let t = timed m h in
-    behind (header_spelled m h.name w.declared.ports) (behind (declarations_spelled m w.declared.ports w.declared.wires w.declared.register)
+    behind (header_spelled m h.name w.declared.ports)
+    (behind (declarations_spelled m w.declared.ports w.declared.wires w.declared.register)
     (behind (each_spelled (AreNamed m) (instance_spelled m) (λ i r q. tt) m.instances (all_named m w))
-    (behind (block_spelled m (both (path_named m w) m.paths t.paths t.delays) (both (check_named m w) m.checks t.checks t.limits)) module_end)))
+    (behind (block_spelled m (both (path_named m w) m.paths t.paths t.delays) (both (check_named m w) m.checks t.checks t.limits))
+    module_end)))
 
 -- What follows the declarations.
 
-body_other : (m : VModule) (x : List ℕ) → is_verilog_word x ≡ true → bytes_eq (codes "buf") x ≡ false → bytes_eq (codes "specify") x ≡ false → bytes_eq (codes "endmodule") x ≡ false
-    → (is : List Instance) → AllByRecursion (AreNamed m) is → (b : Bool) (s : List (List ℕ)) → Other x (each (instance_tokens m) is (block_by b m (codes "endmodule" ∷ s)))
+body_other : (m : VModule) (x : List ℕ) → is_verilog_word x ≡ true → bytes_eq (codes "buf") x ≡ false
+    → bytes_eq (codes "specify") x ≡ false → bytes_eq (codes "endmodule") x ≡ false
+    → (is : List Instance) → AllByRecursion (AreNamed m) is → (b : Bool) (s : List (List ℕ))
+    → Other x (each (instance_tokens m) is (block_by b m (codes "endmodule" ∷ s)))
 body_other m x word buffer block end [] h true s = block
 body_other m x word buffer block end [] h false s = end
-body_other m x word buffer block end (instance.Primitive j output inputs ∷ is) h b s = unlike_word (Rattle.verilog_writer.specs.Nets.primitive_at m j) x word h.0.0
+body_other m x word buffer block end (instance.Primitive j output inputs ∷ is) h b s =
+    unlike_word (Rattle.verilog_writer.specs.Nets.primitive_at m j) x word h.0.0
 body_other m x word buffer block end (instance.Constant output one ∷ is) h b s = buffer
 
-ends_declarations : (m : VModule) → AllByRecursion (AreNamed m) m.instances → (s : List (List ℕ)) → EndsDeclarations (body_tokens m s)
+ends_declarations : (m : VModule) → AllByRecursion (AreNamed m) m.instances → (s : List (List ℕ))
+    → EndsDeclarations (body_tokens m s)
 unfolding is_verilog_word verilog_words
 ends_declarations m h s = record {
   input = body_other m (codes "input") refl refl refl refl m.instances h (has_block m) s;
@@ -161,24 +184,32 @@ no_instance m false s = refl
 
 -- All is driven.
 
-outputs_pass : (test : VNet → Bool) (all before after : List VPort) → before ++ after ≡ all → ((p : ℕ) → is_output_port all p ≡ true → test (net.Port p) ≡ true)
+outputs_pass : (test : VNet → Bool) (all before after : List VPort) → before ++ after ≡ all
+    → ((p : ℕ) → is_output_port all p ≡ true → test (net.Port p) ≡ true)
     → list_all test (output_nets (length before) after) ≡ true
 outputs_pass test all before [] same h = refl
 outputs_pass test all before (port ∷ after) same h =
-    by (subst (λ n. list_all test (output_nets n after) ≡ true) (sym (one_longer before port)) (outputs_pass test all (before ++ port ∷ []) after (append_assoc before (port ∷ []) after ∙ same) h)) port.input refl
+    by (subst (λ n. list_all test (output_nets n after) ≡ true) (sym (one_longer before port))
+    (outputs_pass test all (before ++ port ∷ []) after (append_assoc before (port ∷ []) after ∙ same) h)) port.input refl
   where
     by : list_all test (output_nets (length before + 1) after) ≡ true → (t : Bool) → port.input ≡ t
-        → list_all test (if t then output_nets (length before + 1) after else net.Port (length before) ∷ output_nets (length before + 1) after) ≡ true
+        → list_all test (if t then output_nets (length before + 1) after
+        else net.Port (length before) ∷ output_nets (length before + 1) after) ≡ true
     by rest true e = rest
     by rest false e =
         let here : is_output_port all (length before) ≡ true =
-        ap (λ (l : List VPort). is_output_port l (length before)) (sym same) ∙ ap (λ (o : Option VPort). option_map_or (λ (p : VPort). not p.input) o false) (get_at before port after) ∙ ap not e in
-        and_from (test (net.Port (length before))) (list_all test (output_nets (length before + 1) after)) (h (length before) here) rest
+        ap (λ (l : List VPort). is_output_port l (length before)) (sym same)
+        ∙ ap (λ (o : Option VPort). option_map_or (λ (p : VPort). not p.input) o false) (get_at before port after) ∙ ap not e
+        in
+        and_from (test (net.Port (length before))) (list_all test (output_nets (length before + 1) after))
+        (h (length before) here) rest
 
-wires_pass : (test : VNet → Bool) (k : ℕ) (wires : List (List ℕ)) → ((w : ℕ) → w < k + length wires → test (net.Wire w) ≡ true) → list_all test (wire_nets k wires) ≡ true
+wires_pass : (test : VNet → Bool) (k : ℕ) (wires : List (List ℕ)) → ((w : ℕ) → w < k + length wires → test (net.Wire w) ≡ true)
+    → list_all test (wire_nets k wires) ≡ true
 wires_pass test k [] h = refl
 wires_pass test k (x ∷ wires) h =
-    and_from (test (net.Wire k)) (list_all test (wire_nets (k + 1) wires)) (h k (omega arith)) (wires_pass test (k + 1) wires (λ w l. h w (omega (arith, l))))
+    and_from (test (net.Wire k)) (list_all test (wire_nets (k + 1) wires)) (h k (omega arith))
+    (wires_pass test (k + 1) wires (λ w l. h w (omega (arith, l))))
 
 below : (w n : ℕ) → w < n → nat_lt w n ≡ true
 below w n h = grind (arith, Rattle.std.proofs.lemmas.Bool.Decides.nat_tests)
@@ -194,11 +225,13 @@ all_driven m w =
     (wires_pass (is_driven_already m) 0 m.wires (λ v h. driven m w (net.Wire v) (below v (length m.wires) (omega (arith, h)))))
 
 -- a module is read from its tokens behind the first
-pub module_read : (names : List (List ℕ)) (m : VModule) (others : List (List ℕ)) (s : List (List ℕ)) → IsWellFormedModule m → AreApart (udp_names m.udps ++ others) → is_among names m.name ≡ false
+pub module_read : (names : List (List ℕ)) (m : VModule) (others : List (List ℕ)) (s : List (List ℕ)) → IsWellFormedModule m
+    → AreApart (udp_names m.udps ++ others) → is_among names m.name ≡ false
     → Reads (one_module names m.udps) (module_more m s) m s
 unfolding one_module
 module_read names m others s h apart new =
     let w = written m others h apart in
-    in_turn (newly_named names h.name new) (in_turn (declarations_read m (body_tokens m s) w.declared (ends_declarations m (all_named m w) s))
+    in_turn (newly_named names h.name new)
+    (in_turn (declarations_read m (body_tokens m s) w.declared (ends_declarations m (all_named m w) s))
     (in_turn (instances_read m w (block_tokens m (codes "endmodule" ∷ s)) (no_instance m (has_block m) s))
     (in_turn (specify_read m w (timed m h) s) (in_turn (expected_where (are_all_driven m) Undriven (all_driven m w)) gives))))

@@ -43,12 +43,15 @@ port_begins port r e = refl
 
 pub ports : (all : List VPort) → AllByRecursion IsNamedPort all → Spells Ends false (ports_text all) (listed all) false
 ports [] n = nothing
-ports (port ∷ all) n = joins (name port.name n.0) (λ r q. each_begins Ends next_port_text port_begins all r q) (each_spelled IsNamedPort a_port port_begins all n.1)
+ports (port ∷ all) n = joins (name port.name n.0) (λ r q. each_begins Ends next_port_text port_begins all r q)
+    (each_spelled IsNamedPort a_port port_begins all n.1)
 
 pub header_spelled : (m : VModule) → IsName m.name → AllByRecursion IsNamedPort m.ports
-    → Spells Anything false (module_header_text m) (λ s. codes "module" ∷ m.name ∷ codes "(" ∷ listed m.ports (codes ")" ∷ codes ";" ∷ s)) false
+    → Spells Anything false (module_header_text m)
+    (λ s. codes "module" ∷ m.name ∷ codes "(" ∷ listed m.ports (codes ")" ∷ codes ";" ∷ s)) false
 unfolding module_header_text module_opening_text
-header_spelled m n all = behind (behind module_word (joins (name m.name n) (λ r q. refl) opened)) (joins (ports m.ports all) (λ r q. refl) closed)
+header_spelled m n all = behind (behind module_word (joins (name m.name n) (λ r q. refl) opened))
+    (joins (ports m.ports all) (λ r q. refl) closed)
 
 -- Declarations.
 
@@ -70,7 +73,9 @@ abbrev pub IsNamed : Option (List ℕ) → Type 0
 IsNamed None = Unit {0}
 IsNamed (Some x) = IsName x
 
-input_by : (input : Bool) (x : List ℕ) → IsName x → Spells Anything false (if input then codes "  input " ++ (x ++ codes ";\n") else []) (declared_where input (codes "input") x) false
+input_by : (input : Bool) (x : List ℕ) → IsName x
+    → Spells Anything false (if input then codes "  input " ++ (x ++ codes ";\n") else [])
+    (declared_where input (codes "input") x) false
 input_by true x n = behind input_word (joins (name x n) (λ r q. refl) line_end)
 input_by false x n = nothing
 
@@ -78,7 +83,9 @@ pub input : (port : VPort) → IsNamedPort port → Spells Anything false (input
 unfolding input_port_text
 input port n = input_by port.input port.name n
 
-output_by : (input : Bool) (x : List ℕ) → IsName x → Spells Anything false (if input then [] else codes "  output " ++ (x ++ codes ";\n")) (declared_where (not input) (codes "output") x) false
+output_by : (input : Bool) (x : List ℕ) → IsName x
+    → Spells Anything false (if input then [] else codes "  output " ++ (x ++ codes ";\n"))
+    (declared_where (not input) (codes "output") x) false
 output_by true x n = nothing
 output_by false x n = behind output_word (joins (name x n) (λ r q. refl) line_end)
 
@@ -96,18 +103,21 @@ wire x n = behind wire_word (joins (name x n) (λ r q. refl) line_end)
 register_word : Spells Anything false (codes "  reg ") (λ s. codes "reg" ∷ s) false
 register_word = literal (λ r. refl) refl
 
-register : (notifier : Option (List ℕ)) → IsNamed notifier → Spells Anything false (register_text notifier) (register_tokens notifier) false
+register : (notifier : Option (List ℕ)) → IsNamed notifier
+    → Spells Anything false (register_text notifier) (register_tokens notifier) false
 register None n = nothing
 register (Some x) n = behind register_word (joins (name x n) (λ r q. refl) line_end)
 
 abbrev pub declaration_tokens : VModule → Front
-declaration_tokens m s = each input_tokens m.ports (each output_tokens m.ports (each (declared (codes "wire")) m.wires (register_tokens m.notifier s)))
+declaration_tokens m s = each input_tokens m.ports
+    (each output_tokens m.ports (each (declared (codes "wire")) m.wires (register_tokens m.notifier s)))
 
 pub declarations_spelled : (m : VModule) → AllByRecursion IsNamedPort m.ports → AllByRecursion IsName m.wires → IsNamed m.notifier
     → Spells Anything false (declarations_text m) (declaration_tokens m) false
 unfolding declarations_text
 declarations_spelled m p w n =
-    behind (each_spelled IsNamedPort input (λ x r q. tt) m.ports p) (behind (each_spelled IsNamedPort output (λ x r q. tt) m.ports p)
+    behind (each_spelled IsNamedPort input (λ x r q. tt) m.ports p)
+    (behind (each_spelled IsNamedPort output (λ x r q. tt) m.ports p)
     (behind (each_spelled IsName wire (λ x r q. tt) m.wires w) (register m.notifier n)))
 
 -- Instances.
@@ -116,7 +126,8 @@ abbrev pub IsNamedNet : VModule → VNet → Type 0
 IsNamedNet m n = IsName (net_at m n)
 
 abbrev pub AreNamed : VModule → Instance → Type 0
-AreNamed m (instance.Primitive j output inputs) = IsName (primitive_at m j) × IsNamedNet m output × AllByRecursion (IsNamedNet m) inputs
+AreNamed m (instance.Primitive j output inputs) = IsName (primitive_at m j) × IsNamedNet m output
+    × AllByRecursion (IsNamedNet m) inputs
 AreNamed m (instance.Constant output one) = IsNamedNet m output
 
 abbrev pub next_terminal : VModule → VNet → Front
@@ -132,8 +143,10 @@ instance_start m (instance.Primitive j output inputs) = primitive_at m j
 instance_start m (instance.Constant output one) = codes "buf"
 
 abbrev pub instance_more : VModule → Instance → Front
-instance_more m (instance.Primitive j output inputs) s = codes "(" ∷ net_at m output ∷ each (next_terminal m) inputs (codes ")" ∷ codes ";" ∷ s)
-instance_more m (instance.Constant output one) s = codes "(" ∷ net_at m output ∷ codes "," ∷ bit_text one ∷ codes ")" ∷ codes ";" ∷ s
+instance_more m (instance.Primitive j output inputs) s =
+    codes "(" ∷ net_at m output ∷ each (next_terminal m) inputs (codes ")" ∷ codes ";" ∷ s)
+instance_more m (instance.Constant output one) s =
+    codes "(" ∷ net_at m output ∷ codes "," ∷ bit_text one ∷ codes ")" ∷ codes ";" ∷ s
 
 abbrev pub instance_tokens : VModule → Instance → Front
 instance_tokens m i s = instance_start m i ∷ instance_more m i s
@@ -155,14 +168,16 @@ buffer_word = literal (λ r. refl) refl
 driver : (m : VModule) (j : ℕ) (output : VNet) → IsName (primitive_at m j) → IsNamedNet m output
     → Spells Ends false (driver_text m j output) (λ s. primitive_at m j ∷ codes "(" ∷ net_at m output ∷ s) false
 unfolding driver_text
-driver m j output n h = behind indented (joins (name (primitive_at m j) n) (λ r q. refl) (behind opened (name (net_at m output) h)))
+driver m j output n h = behind indented
+    (joins (name (primitive_at m j) n) (λ r q. refl) (behind opened (name (net_at m output) h)))
 
 terminals_begin : (m : VModule) (ns : List VNet) (r : List ℕ) → Ends ((flat_map (terminal_text m) ns ++ codes ");\n") ++ r)
 unfolding terminal_text
 terminals_begin m [] r = refl
 terminals_begin m (n ∷ ns) r = refl
 
-bit : (one : Bool) → Spells Anything false (if one then codes ", 1'b1);\n" else codes ", 1'b0);\n") (λ s. codes "," ∷ bit_text one ∷ codes ")" ∷ codes ";" ∷ s) false
+bit : (one : Bool) → Spells Anything false (if one then codes ", 1'b1);\n" else codes ", 1'b0);\n")
+    (λ s. codes "," ∷ bit_text one ∷ codes ")" ∷ codes ";" ∷ s) false
 bit true = literal (λ r. refl) refl
 bit false = literal (λ r. refl) refl
 
@@ -170,9 +185,11 @@ bit_begins : (one : Bool) (r : List ℕ) → Ends ((if one then codes ", 1'b1);\
 bit_begins true r = refl
 bit_begins false r = refl
 
-pub instance_spelled : (m : VModule) (i : Instance) → AreNamed m i → Spells Anything false (instance_text m i) (instance_tokens m i) false
+pub instance_spelled : (m : VModule) (i : Instance) → AreNamed m i
+    → Spells Anything false (instance_text m i) (instance_tokens m i) false
 unfolding call_text constant_text
 instance_spelled m (instance.Primitive j output inputs) h =
     joins (driver m j output h.0 h.1) (λ r q. terminals_begin m inputs r)
     (joins (each_spelled (IsNamedNet m) (terminal m) (terminal_begins m) inputs h.2) (λ r q. refl) closed)
-instance_spelled m (instance.Constant output one) h = behind buffer_word (joins (name (net_at m output) h) (λ r q. bit_begins one r) (bit one))
+instance_spelled m (instance.Constant output one) h =
+    behind buffer_word (joins (name (net_at m output) h) (λ r q. bit_begins one r) (bit one))

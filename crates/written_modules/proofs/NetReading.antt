@@ -27,27 +27,35 @@ use Rattle.grammar_reader.proofs.ItemPlaces.{same_bytes, found_behind, item_at, 
 use Rattle.written_modules.proofs.ModuleTokens.{IsNamedPort, IsNamed}
 use Rattle.written_modules.proofs.DeclarationReading.{AreDeclared}
 
-among_names : {A : Type 0} (name : A → List ℕ) (x : List ℕ) (ys : List A) → list_any (λ y. bytes_eq x (name y)) ys ≡ is_among (map name ys) x
+among_names : {A : Type 0} (name : A → List ℕ) (x : List ℕ) (ys : List A)
+    → list_any (λ y. bytes_eq x (name y)) ys ≡ is_among (map name ys) x
 among_names name x [] = refl
 among_names name x (y ∷ ys) = ap (λ (t : Bool). bytes_eq x (name y) || t) (among_names name x ys)
 
 -- the number of an item is the place of its name
-pub position_is : {A : Type 0} (name : A → List ℕ) (xs : List A) (others : List (List ℕ)) (i : ℕ) (x : A) → AreApart (map name xs ++ others) → slice_get xs i ≡ Some x
+pub position_is : {A : Type 0} (name : A → List ℕ) (xs : List A) (others : List (List ℕ)) (i : ℕ) (x : A)
+    → AreApart (map name xs ++ others) → slice_get xs i ≡ Some x
     → position (λ y. bytes_eq (name x) (name y)) xs ≡ Some i
 position_is name xs others i x apart e =
     let at = item_at xs i x e in
     let split : map name xs ++ others ≡ map name at.before ++ name x ∷ (map name at.after ++ others) =
-    ap (λ l. map name l ++ others) at.split ∙ ap (λ (l : List (List ℕ)). l ++ others) (map-append name at.before (x ∷ at.after)) ∙ append_assoc (map name at.before) (name x ∷ map name at.after) others in
+    ap (λ l. map name l ++ others) at.split ∙ ap (λ (l : List (List ℕ)). l ++ others) (map-append name at.before (x ∷ at.after))
+    ∙ append_assoc (map name at.before) (name x ∷ map name at.after) others in
     let new : list_any (λ y. bytes_eq (name x) (name y)) at.before ≡ false =
-    among_names name (name x) at.before ∙ is_new (map name at.before) (name x) (map name at.after ++ others) (subst AreApart split apart) in
+    among_names name (name x) at.before ∙ is_new (map name at.before) (name x) (map name at.after ++ others)
+    (subst AreApart split apart) in
     let place : 0 + length at.before ≡ i = omega (arith, at.place) in
-    position_from-zero (λ y. bytes_eq (name x) (name y)) xs ∙ ap (λ l. position_from (λ y. bytes_eq (name x) (name y)) 0 l) at.split ∙ found_behind (λ y. bytes_eq (name x) (name y)) 0 at.before x at.after new (same_bytes (name x)) ∙ ap (λ (n : ℕ). Some n) place
+    position_from-zero (λ y. bytes_eq (name x) (name y)) xs
+    ∙ ap (λ l. position_from (λ y. bytes_eq (name x) (name y)) 0 l) at.split
+    ∙ found_behind (λ y. bytes_eq (name x) (name y)) 0 at.before x at.after new (same_bytes (name x))
+    ∙ ap (λ (n : ℕ). Some n) place
 
 nowhere : {A : Type 0} (test : A → Bool) (i : ℕ) (xs : List A) → list_any test xs ≡ false → position_from test i xs ≡ None
 nowhere test i [] h = refl
 nowhere test i (x ∷ xs) h = by (λ k. nowhere test (i + 1) xs k) (test x) refl h
   where
-    by : (list_any test xs ≡ false → position_from test (i + 1) xs ≡ None) → (t : Bool) → test x ≡ t → (t || list_any test xs) ≡ false → cond (test x) (Some i) (position_from test (i + 1) xs) ≡ None
+    by : (list_any test xs ≡ false → position_from test (i + 1) xs ≡ None) → (t : Bool) → test x ≡ t
+        → (t || list_any test xs) ≡ false → cond (test x) (Some i) (position_from test (i + 1) xs) ≡ None
     by rest true e h = absurd cc
     by rest false e h = rw e (rest h)
 
@@ -77,12 +85,17 @@ both_no true b e = absurd cc
 both_no false b e = (refl, e)
 
 -- a name behind the ports is none of theirs
-no_port : (ports : List VPort) (before : List (List ℕ)) (x : List ℕ) (after : List (List ℕ)) → AreApart ((port_names ports ++ before) ++ x ∷ after)
+no_port : (ports : List VPort) (before : List (List ℕ)) (x : List ℕ) (after : List (List ℕ))
+    → AreApart ((port_names ports ++ before) ++ x ∷ after)
     → (position (λ (port : VPort). bytes_eq x port.name) ports ≡ None) × (position (bytes_eq x) before ≡ None)
 no_port ports before x after apart =
     let none : is_among (port_names ports ++ before) x ≡ false = is_new (port_names ports ++ before) x after apart in
-    let parts = both_no (list_any (bytes_eq x) (port_names ports)) (list_any (bytes_eq x) before) (sym (list_any-append (bytes_eq x) (port_names ports) before) ∙ none) in
-    (unfound (λ (port : VPort). bytes_eq x port.name) ports (among_names port_name x ports ∙ parts.0), unfound (bytes_eq x) before parts.1)
+    let parts = both_no (list_any (bytes_eq x) (port_names ports)) (list_any (bytes_eq x) before)
+    (sym (list_any-append (bytes_eq x) (port_names ports) before) ∙ none) in (
+      unfound (λ (port : VPort). bytes_eq x port.name) ports (among_names port_name x ports ∙ parts.0),
+      unfound
+          (bytes_eq x) before parts.1,
+    )
 
 pub apart_tail : (before after : List (List ℕ)) → AreApart (before ++ after) → AreApart after
 unfolding Rattle.std.specs.List.IsDistinct
@@ -99,23 +112,28 @@ wire_position m h w x e =
     let others : List (List ℕ) = register_names m.notifier in
     let at = item_at m.wires w x e in
     let split : port_names m.ports ++ (m.wires ++ others) ≡ (port_names m.ports ++ at.before) ++ x ∷ (at.after ++ others) =
-    ap (λ (l : List (List ℕ)). port_names m.ports ++ (l ++ others)) at.split ∙ ap (λ (l : List (List ℕ)). port_names m.ports ++ l) (append_assoc at.before (x ∷ at.after) others)
+    ap (λ (l : List (List ℕ)). port_names m.ports ++ (l ++ others)) at.split
+    ∙ ap (λ (l : List (List ℕ)). port_names m.ports ++ l) (append_assoc at.before (x ∷ at.after) others)
     ∙ sym (append_assoc (port_names m.ports) at.before (x ∷ (at.after ++ others))) in (
       (no_port m.ports at.before x (at.after ++ others) (subst AreApart split h.apart)).0,
-      position_is (λ (y : List ℕ). y) m.wires others w x (subst (λ (l : List (List ℕ)). AreApart (l ++ others)) (sym (map_self m.wires)) (apart_tail (port_names m.ports) (m.wires ++ others) h.apart)) e,
+      position_is (λ (y : List ℕ). y) m.wires others w x
+          (subst (λ (l : List (List ℕ)). AreApart (l ++ others)) (sym (map_self m.wires))
+          (apart_tail (port_names m.ports) (m.wires ++ others) h.apart)) e,
     )
 
 register_position : (m : VModule) → AreDeclared m → (x : List ℕ) → m.notifier ≡ Some x
     → (position (λ (port : VPort). bytes_eq x port.name) m.ports ≡ None) × (position (bytes_eq x) m.wires ≡ None)
 register_position m h x e =
     let split : port_names m.ports ++ (m.wires ++ register_names m.notifier) ≡ (port_names m.ports ++ m.wires) ++ x ∷ [] =
-    ap (λ (n : Option (List ℕ)). port_names m.ports ++ (m.wires ++ register_names n)) e ∙ sym (append_assoc (port_names m.ports) m.wires (x ∷ [])) in
+    ap (λ (n : Option (List ℕ)). port_names m.ports ++ (m.wires ++ register_names n)) e
+    ∙ sym (append_assoc (port_names m.ports) m.wires (x ∷ [])) in
     no_port m.ports m.wires x [] (subst AreApart split h.apart)
 
 -- the name of a known net stands for this net
 pub net_read : (m : VModule) → AreDeclared m → (n : VNet) → IsKnown m n → net_of m (net_at m n) ≡ Some n
 net_read m h (net.Port p) (port, e) =
-    let at : position (λ (y : VPort). bytes_eq port.name y.name) m.ports ≡ Some p = position_is port_name m.ports (m.wires ++ register_names m.notifier) p port h.apart e in
+    let at : position (λ (y : VPort). bytes_eq port.name y.name) m.ports ≡ Some p =
+    position_is port_name m.ports (m.wires ++ register_names m.notifier) p port h.apart e in
     rw e (ap (net_by m port.name) at)
 net_read m h (net.Wire w) (x, e) =
     let at = wire_position m h w x e in
@@ -128,10 +146,12 @@ net_read m h net.Notifier (x, e) =
 
 -- Where nets are known.
 
-known_port : (ports : List VPort) (p : ℕ) (test : VPort → Bool) → option_map_or test (slice_get ports p) false ≡ true → (port : VPort) × (slice_get ports p ≡ Some port)
+known_port : (ports : List VPort) (p : ℕ) (test : VPort → Bool) → option_map_or test (slice_get ports p) false ≡ true
+    → (port : VPort) × (slice_get ports p ≡ Some port)
 known_port ports p test h = by (slice_get ports p) refl h
   where
-    by : (o : Option VPort) → slice_get ports p ≡ o → option_map_or test o false ≡ true → (port : VPort) × (slice_get ports p ≡ Some port)
+    by : (o : Option VPort) → slice_get ports p ≡ o → option_map_or test o false ≡ true → (port : VPort)
+        × (slice_get ports p ≡ Some port)
     by None e h = absurd cc
     by (Some port) e h = (port, e)
 
@@ -176,19 +196,25 @@ same_wire net.Notifier w h = absurd cc
 wire_known : (m : VModule) (test : Instance → Bool) (instances : List Instance) (w : ℕ) → AllByRecursion (DrivesNet m) instances
     → list_any (λ (i : Instance). test i && same_net (net_driven i) (net.Wire w)) instances ≡ true → IsKnown m (net.Wire w)
 wire_known m test [] w all h = absurd cc
-wire_known m test (i ∷ instances) w all h = by (wire_known m test instances w all.1) (test i && same_net (net_driven i) (net.Wire w)) refl h
+wire_known m test (i ∷ instances) w all h =
+    by (wire_known m test instances w all.1) (test i && same_net (net_driven i) (net.Wire w)) refl h
   where
-    by : (list_any (λ (i : Instance). test i && same_net (net_driven i) (net.Wire w)) instances ≡ true → IsKnown m (net.Wire w)) → (t : Bool) → (test i && same_net (net_driven i) (net.Wire w)) ≡ t
-        → (t || list_any (λ (i : Instance). test i && same_net (net_driven i) (net.Wire w)) instances) ≡ true → IsKnown m (net.Wire w)
+    by : (list_any (λ (i : Instance). test i && same_net (net_driven i) (net.Wire w)) instances ≡ true → IsKnown m (net.Wire w))
+        → (t : Bool) → (test i && same_net (net_driven i) (net.Wire w)) ≡ t
+        → (t || list_any (λ (i : Instance). test i && same_net (net_driven i) (net.Wire w)) instances) ≡ true
+        → IsKnown m (net.Wire w)
     by rest true e h =
-        let same : net_driven i ≡ net.Wire w = same_wire (net_driven i) w (and_parts (test i) (same_net (net_driven i) (net.Wire w)) e).1 in
+        let same : net_driven i ≡ net.Wire w =
+        same_wire (net_driven i) w (and_parts (test i) (same_net (net_driven i) (net.Wire w)) e).1 in
         driven_known m (net.Wire w) (subst (λ (n : VNet). is_driven m n ≡ true) same all.0)
     by rest false e h = rest h
 
-pub value_known : (m : VModule) (instances : List Instance) (w : ℕ) → AllByRecursion (DrivesNet m) instances → is_value m instances w ≡ true → IsKnown m (net.Wire w)
+pub value_known : (m : VModule) (instances : List Instance) (w : ℕ) → AllByRecursion (DrivesNet m) instances
+    → is_value m instances w ≡ true → IsKnown m (net.Wire w)
 value_known m instances w all h = wire_known m (λ (i : Instance). not (has_state m.udps i)) instances w all h
 
-pub feeding_value_known : (m : VModule) (earlier : List Instance) (n : VNet) → AllByRecursion (DrivesNet m) earlier → feeds_value m earlier n ≡ true → IsKnown m n
+pub feeding_value_known : (m : VModule) (earlier : List Instance) (n : VNet) → AllByRecursion (DrivesNet m) earlier
+    → feeds_value m earlier n ≡ true → IsKnown m n
 feeding_value_known m earlier (net.Port p) all h = input_known m p h
 feeding_value_known m earlier (net.Wire w) all h = wire_known m (λ (i : Instance). has_state m.udps i) earlier w all h
 feeding_value_known m earlier net.Notifier all h = absurd cc

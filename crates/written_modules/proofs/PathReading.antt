@@ -40,24 +40,29 @@ port_name_at m p port e = rw e refl
 
 port_found : (m : VModule) → IsWritten m → (p : ℕ) → IsKnown m (net.Port p) → port_of (joined m) (port_at m p) ≡ Some p
 port_found m w p (port, e) =
-    ap (port_of (joined m)) (port_name_at m p port e) ∙ position_is port_name m.ports (m.wires ++ register_names m.notifier) p port w.declared.apart e
+    ap (port_of (joined m)) (port_name_at m p port e)
+    ∙ position_is port_name m.ports (m.wires ++ register_names m.notifier) p port w.declared.apart e
 
-pub input_name : (m : VModule) → IsWritten m → (p : ℕ) → IsTrue (is_input_port m.ports p) → Rattle.specify_blocks.specs.WellFormed.IsName (port_at m p)
+pub input_name : (m : VModule) → IsWritten m → (p : ℕ) → IsTrue (is_input_port m.ports p)
+    → Rattle.specify_blocks.specs.WellFormed.IsName (port_at m p)
 input_name m w p h = named_net m w.declared (net.Port p) (input_known m p h)
 
-output_name : (m : VModule) → IsWritten m → (p : ℕ) → IsTrue (is_output_port m.ports p) → Rattle.specify_blocks.specs.WellFormed.IsName (port_at m p)
+output_name : (m : VModule) → IsWritten m → (p : ℕ) → IsTrue (is_output_port m.ports p)
+    → Rattle.specify_blocks.specs.WellFormed.IsName (port_at m p)
 output_name m w p h = named_net m w.declared (net.Port p) (output_known m p h)
 
 kept_one : (test : ℕ → Bool) (n : ℕ) → test n ≡ true → kept test (Some n) ≡ Some n
 kept_one test n h = rw h refl
 
-pub input_read : (m : VModule) → IsWritten m → (p : ℕ) {s : List (List ℕ)} → IsTrue (is_input_port m.ports p) → Reads (an_input (joined m)) (port_at m p ∷ s) p s
+pub input_read : (m : VModule) → IsWritten m → (p : ℕ) {s : List (List ℕ)} → IsTrue (is_input_port m.ports p)
+    → Reads (an_input (joined m)) (port_at m p ∷ s) p s
 unfolding an_input
 input_read m w p h =
     known_as (λ x. kept (is_input_port m.ports) (port_of (joined m) x)) (input_name m w p h)
     (ap (kept (is_input_port m.ports)) (port_found m w p (input_known m p h)) ∙ kept_one (is_input_port m.ports) p h)
 
-output_read : (m : VModule) → IsWritten m → (p : ℕ) {s : List (List ℕ)} → IsTrue (is_output_port m.ports p) → Reads (an_output (joined m)) (port_at m p ∷ s) p s
+output_read : (m : VModule) → IsWritten m → (p : ℕ) {s : List (List ℕ)} → IsTrue (is_output_port m.ports p)
+    → Reads (an_output (joined m)) (port_at m p ∷ s) p s
 unfolding an_output
 output_read m w p h =
     known_as (λ x. kept (is_output_port m.ports) (port_of (joined m) x)) (output_name m w p h)
@@ -72,14 +77,17 @@ wire_name_at m v x e = rw e refl
 wire_found : (m : VModule) → IsWritten m → (v : ℕ) → IsKnown m (net.Wire v) → position (bytes_eq (wire_at m v)) m.wires ≡ Some v
 wire_found m w v (x, e) = ap (λ y. position (bytes_eq y) m.wires) (wire_name_at m v x e) ∙ (wire_position m w.declared v x e).1
 
-pub condition_named : (m : VModule) → IsWritten m → (v : ℕ) → IsTrue (is_value m m.instances v) → Rattle.specify_blocks.specs.WellFormed.IsName (wire_at m v)
+pub condition_named : (m : VModule) → IsWritten m → (v : ℕ) → IsTrue (is_value m m.instances v)
+    → Rattle.specify_blocks.specs.WellFormed.IsName (wire_at m v)
 condition_named m w v h = named_net m w.declared (net.Wire v) (condition_known m w v h)
 
-pub wire_read : (m : VModule) → IsWritten m → (v : ℕ) {s : List (List ℕ)} → IsTrue (is_value m m.instances v) → Reads (a_condition (joined m)) (wire_at m v ∷ s) v s
+pub wire_read : (m : VModule) → IsWritten m → (v : ℕ) {s : List (List ℕ)} → IsTrue (is_value m m.instances v)
+    → Reads (a_condition (joined m)) (wire_at m v ∷ s) v s
 unfolding a_condition
 wire_read m w v h =
     known_as (λ x. kept (is_value (joined m) m.instances) (position (bytes_eq x) m.wires)) (condition_named m w v h)
-    (ap (kept (is_value (joined m) m.instances)) (wire_found m w v (condition_known m w v h)) ∙ kept_one (is_value (joined m) m.instances) v h)
+    (ap (kept (is_value (joined m) m.instances)) (wire_found m w v (condition_known m w v h))
+    ∙ kept_one (is_value (joined m) m.instances) v h)
 
 pub number_read : (n : ℕ) {s : List (List ℕ)} → IsNumber n → Reads a_number (decimal n ∷ s) n s
 unfolding a_number
@@ -94,9 +102,17 @@ gate_named m w gate.IfNone h = tt
 
 pub path_named : (m : VModule) → IsWritten m → (one : VPath) → IsPath m one → HasNumbers one → IsNamedPath m one
 path_named m w one h n =
-    record { from = input_name m w one.from h.starts; to = output_name m w one.to h.ends; gate = gate_named m w one.gate h.gated; rise = n.rise; fall = n.fall }
+    record {
+      from = input_name m w one.from h.starts;
+      to = output_name m w one.to h.ends;
+      gate =
+          gate_named m w one.gate h.gated;
+      rise = n.rise;
+      fall = n.fall;
+    }
 
-gate_read : (m : VModule) → IsWritten m → (g : Gate) {s : List (List ℕ)} → IsTrue (is_gate m g) → Reads (path_gate (joined m) (gate_start g)) (gate_more m g s) g s
+gate_read : (m : VModule) → IsWritten m → (g : Gate) {s : List (List ℕ)} → IsTrue (is_gate m g)
+    → Reads (path_gate (joined m) (gate_start g)) (gate_more m g s) g s
 unfolding path_gate if_gate ifnone_gate
 gate_read m w gate.Always h = gives
 gate_read m w (gate.If v) h = in_turn expected (in_turn (wire_read m w v h) (in_turn expected (in_turn expected gives)))
@@ -106,8 +122,10 @@ path_read : (m : VModule) → IsWritten m → (one : VPath) (s : List (List ℕ)
     → Reads (path (joined m) (gate_start one.gate)) (gate_more m one.gate (delay_tokens m one s)) one s
 unfolding path
 path_read m w one s h n =
-    in_turn (gate_read m w one.gate h.gated) (in_turn (input_read m w one.from h.starts) (in_turn expected (in_turn (output_read m w one.to h.ends)
-    (in_turn expected (in_turn expected (in_turn expected (in_turn (number_read one.rise n.rise) (in_turn expected (in_turn (number_read one.fall n.fall)
+    in_turn (gate_read m w one.gate h.gated)
+    (in_turn (input_read m w one.from h.starts) (in_turn expected (in_turn (output_read m w one.to h.ends)
+    (in_turn expected (in_turn expected
+    (in_turn expected (in_turn (number_read one.rise n.rise) (in_turn expected (in_turn (number_read one.fall n.fall)
     (in_turn expected (in_turn expected gives)))))))))))
 
 gate_starts : (g : Gate) → begins_by is_path_start (gate_start g) ≡ Some (Fits (gate_start g))
@@ -115,10 +133,12 @@ gate_starts gate.Always = refl
 gate_starts (gate.If v) = refl
 gate_starts gate.IfNone = refl
 
-pub path_turn : (m : VModule) → IsWritten m → (paths : List VPath) → AllByRecursion (IsPath m) paths → AllByRecursion HasNumbers paths
+pub path_turn : (m : VModule) → IsWritten m → (paths : List VPath) → AllByRecursion (IsPath m) paths
+    → AllByRecursion HasNumbers paths
     → (before : List VPath) (one : VPath) (after : List VPath) (s : List (List ℕ)) → before ++ one ∷ after ≡ paths
     → Turn (λ _. begins_by is_path_start) (next_path (joined m)) before (path_tokens m one s) (before ++ one ∷ []) s
 unfolding next_path
 path_turn m w paths h n before one after s same =
     turn (gate_starts one.gate)
-    (in_turn (path_read m w one s (at_place (IsPath m) before one after (subst (AllByRecursion (IsPath m)) (sym same) h)) (at_place HasNumbers before one after (subst (AllByRecursion HasNumbers) (sym same) n))) gives)
+    (in_turn (path_read m w one s (at_place (IsPath m) before one after (subst (AllByRecursion (IsPath m)) (sym same) h))
+    (at_place HasNumbers before one after (subst (AllByRecursion HasNumbers) (sym same) n))) gives)

@@ -33,13 +33,19 @@ same_others : (s others more : List (List ℕ)) (x : List ℕ) → s ≡ x ∷ o
 same_others s others more x e f = cc
 
 same_value : (s : List (List ℕ)) (a b : Udp) → Takes (primitive []) s a [] → Takes (primitive []) s b [] → a ≡ b
-same_value s a b h k = value_is {T = List ℕ} {K = Refusal} {A = Udp} (sym (complete (primitive []) s a [] h) ∙ complete (primitive []) s b [] k)
+same_value s a b h k = value_is {T = List ℕ} {K = Refusal} {A = Udp}
+    (sym (complete (primitive []) s a [] h) ∙ complete (primitive []) s b [] k)
 
 only_one : (bytes : List ℕ) (udp other : Udp) → IsPrimitiveText bytes udp → IsPrimitiveText bytes other → other ≡ udp
 only_one bytes udp other h k =
     same_value h.others other udp
-    (subst (λ (s : List (List ℕ)). Takes (primitive []) s other []) (same_others (text_tokens bytes) k.others h.others (codes "primitive") k.begins h.begins) k.takes) h.takes
+    (subst (λ (s : List (List ℕ)). Takes (primitive []) s other [])
+    (same_others (text_tokens bytes) k.others h.others (codes "primitive") k.begins h.begins) k.takes) h.takes
 
 -- a primitive that is well formed reads back
 pub primitive_read_back : (udp : Udp) → IsWellFormedUdp udp → PrimitiveReadBack udp
-primitive_read_back udp w = record { text = is_text udp w; only = λ other k. only_one (primitive_text udp) udp other (is_text udp w) k }
+primitive_read_back udp w = record {
+  text = is_text udp w;
+  only =
+      λ other k. only_one (primitive_text udp) udp other (is_text udp w) k;
+}

@@ -60,7 +60,8 @@ output_word = literal (λ r. refl) refl
 primitive_word : Spells Anything false (codes "primitive ") (λ s. codes "primitive" ∷ s) false
 primitive_word = literal (λ r. refl) refl
 
-opening : (udp : Udp) → IsWellFormedUdp udp → Spells Ends false (opening_text udp) (λ s. codes "primitive" ∷ udp.name ∷ codes "(" ∷ udp.output ∷ s) false
+opening : (udp : Udp) → IsWellFormedUdp udp
+    → Spells Ends false (opening_text udp) (λ s. codes "primitive" ∷ udp.name ∷ codes "(" ∷ udp.output ∷ s) false
 unfolding opening_text
 opening udp w = behind primitive_word (joins (name udp.name w.name) (λ r q. refl) (behind opened (name udp.output w.output)))
 
@@ -72,7 +73,8 @@ port_begins : (x : List ℕ) (r : List ℕ) → Ends r → Ends (port_text x ++ 
 unfolding port_text
 port_begins x r e = refl
 
-ports : (xs : List (List ℕ)) → AllByRecursion IsName xs → Spells Anything false (flat_map port_text xs ++ codes ");\n") (λ s. each next_name xs (codes ")" ∷ codes ";" ∷ s)) false
+ports : (xs : List (List ℕ)) → AllByRecursion IsName xs → Spells Anything false (flat_map port_text xs ++ codes ");\n")
+    (λ s. each next_name xs (codes ")" ∷ codes ";" ∷ s)) false
 ports xs all = joins (each_spelled IsName port port_begins xs all) (λ r q. refl) closed
 
 ports_begin : (xs : List (List ℕ)) (r : List ℕ) → Ends ((flat_map port_text xs ++ codes ");\n") ++ r)
@@ -81,11 +83,13 @@ ports_begin [] r = refl
 ports_begin (x ∷ xs) r = refl
 
 abbrev pub header_tokens : Udp → Front
-header_tokens udp s = codes "primitive" ∷ udp.name ∷ codes "(" ∷ udp.output ∷ each next_name udp.inputs (codes ")" ∷ codes ";" ∷ s)
+header_tokens udp s = codes "primitive" ∷ udp.name ∷ codes
+    "(" ∷ udp.output ∷ each next_name udp.inputs (codes ")" ∷ codes ";" ∷ s)
 
 header : (udp : Udp) → IsWellFormedUdp udp → Spells Anything false (header_text udp) (header_tokens udp) false
 unfolding header_text
-header udp w = joins (opening udp w) (λ r q. ports_begin udp.inputs r) (ports udp.inputs (recursion_from_All IsName udp.inputs w.inputs))
+header udp w = joins (opening udp w) (λ r q. ports_begin udp.inputs r)
+    (ports udp.inputs (recursion_from_All IsName udp.inputs w.inputs))
 
 -- Declarations.
 
@@ -97,12 +101,15 @@ output_tokens true x s = codes "output" ∷ x ∷ codes ";" ∷ codes "reg" ∷ 
 output_tokens false x s = codes "output" ∷ x ∷ codes ";" ∷ s
 
 output_by : (sequential : Bool) (x : List ℕ) → IsName x → Spells Anything false
-    (if sequential then codes "  output " ++ (x ++ (codes ";\n  reg " ++ (x ++ codes ";\n"))) else codes "  output " ++ (x ++ codes ";\n"))
+    (if sequential then codes "  output " ++ (x ++ (codes ";\n  reg " ++ (x ++ codes ";\n"))) else codes "  output "
+    ++ (x ++ codes ";\n"))
     (output_tokens sequential x) false
-output_by true x n = behind output_word (joins (name x n) (λ r q. refl) (behind register_word (joins (name x n) (λ r q. refl) line_end)))
+output_by true x n = behind output_word
+    (joins (name x n) (λ r q. refl) (behind register_word (joins (name x n) (λ r q. refl) line_end)))
 output_by false x n = behind output_word (joins (name x n) (λ r q. refl) line_end)
 
-output : (udp : Udp) → IsWellFormedUdp udp → Spells Anything false (output_text udp) (output_tokens udp.sequential udp.output) false
+output : (udp : Udp) → IsWellFormedUdp udp
+    → Spells Anything false (output_text udp) (output_tokens udp.sequential udp.output) false
 unfolding output_text
 output udp w = output_by udp.sequential udp.output w.output
 
@@ -190,7 +197,8 @@ abbrev pub outcome_tokens : Bool → Level → Next → Front
 outcome_tokens true state n s = level_text state ∷ codes ":" ∷ next_text n ∷ codes ";" ∷ s
 outcome_tokens false state n s = next_text n ∷ codes ";" ∷ s
 
-outcome : (sequential : Bool) (row : UdpRow) → InTable (outcome_text sequential row) (λ s. codes ":" ∷ outcome_tokens sequential row.state row.next s)
+outcome : (sequential : Bool) (row : UdpRow)
+    → InTable (outcome_text sequential row) (λ s. codes ":" ∷ outcome_tokens sequential row.state row.next s)
 unfolding outcome_text
 outcome true row = behind colon (behind (a_level row.state) (behind spaced_colon (behind (a_next row.next) row_end)))
 outcome false row = behind colon (behind (a_next row.next) row_end)
@@ -200,7 +208,8 @@ row_tokens sequential row s = each entry_tokens row.inputs (codes ":" ∷ outcom
 
 row : (sequential : Bool) (row : UdpRow) → Any row → InTable (row_text sequential row) (row_tokens sequential row)
 unfolding row_text
-row sequential one any = behind indented (behind (each_spelled Any spaced (λ e r q. tt) one.inputs (all_any one.inputs)) (outcome sequential one))
+row sequential one any = behind indented
+    (behind (each_spelled Any spaced (λ e r q. tt) one.inputs (all_any one.inputs)) (outcome sequential one))
 
 -- The primitive.
 
@@ -218,10 +227,13 @@ unfolding table_text
 table udp = behind table_word (behind (each_spelled Any (row udp.sequential) (λ e r q. tt) udp.rows (all_any udp.rows)) table_end)
 
 abbrev pub primitive_tokens : Udp → Front
-primitive_tokens udp s = header_tokens udp (output_tokens udp.sequential udp.output (each (declared (codes "input")) udp.inputs (table_tokens udp s)))
+primitive_tokens udp s = header_tokens udp
+    (output_tokens udp.sequential udp.output (each (declared (codes "input")) udp.inputs (table_tokens udp s)))
 
 -- the tokens of a primitive's text
-pub primitive_spelled : (udp : Udp) → IsWellFormedUdp udp → Spells Anything false (primitive_text udp) (primitive_tokens udp) false
+pub primitive_spelled : (udp : Udp) → IsWellFormedUdp udp
+    → Spells Anything false (primitive_text udp) (primitive_tokens udp) false
 unfolding primitive_text
 primitive_spelled udp w =
-    behind (header udp w) (behind (output udp w) (behind (each_spelled IsName input (λ x r q. tt) udp.inputs (recursion_from_All IsName udp.inputs w.inputs)) (table udp)))
+    behind (header udp w) (behind (output udp w)
+    (behind (each_spelled IsName input (λ x r q. tt) udp.inputs (recursion_from_All IsName udp.inputs w.inputs)) (table udp)))

@@ -108,7 +108,8 @@ entry_read entry.N = gives
 entry_read entry.Star = gives
 
 -- the entry goes to those before it
-entry_added : (before : List Entry) (e : Entry) {s : List (List ℕ)} → Reads (next_entry before (entry_start e)) (entry_more e s) (before ++ e ∷ []) s
+entry_added : (before : List Entry) (e : Entry) {s : List (List ℕ)}
+    → Reads (next_entry before (entry_start e)) (entry_more e s) (before ++ e ∷ []) s
 unfolding next_entry
 entry_added before e = in_turn (entry_read e) gives
 
@@ -117,11 +118,14 @@ entry_added before e = in_turn (entry_read e) gives
 some_change : (entries : List Entry) → has_change entries ≡ true → 1 ≤ count_by (λ e. not (is_level e)) entries
 some_change [] h = absurd cc
 some_change (e ∷ entries) h = elim (cases_Bool (not (is_level e))) [
-  | inl t ↦ (let here : ◌≡◌ {A = ℕ} (cond (not (is_level e)) 1 0) 1 = rw t refl in omega (arith, here, sum_by-cons (λ e. cond (not (is_level e)) 1 0) e entries))
-  | inr f ↦ (let rest = some_change entries (rw f at h) in omega (arith, rest, sum_by-cons (λ e. cond (not (is_level e)) 1 0) e entries))
+  | inl t ↦ (let here : ◌≡◌ {A = ℕ} (cond (not (is_level e)) 1 0) 1 = rw t refl
+      in omega (arith, here, sum_by-cons (λ e. cond (not (is_level e)) 1 0) e entries))
+  | inr f ↦ (let rest = some_change entries (rw f at h)
+      in omega (arith, rest, sum_by-cons (λ e. cond (not (is_level e)) 1 0) e entries))
 ]
 
-second_level : (before : List Entry) (e : Entry) (after : List Entry) → count_by (λ e. not (is_level e)) (before ++ e ∷ after) ≤ 1 → has_change before ≡ true → not (is_level e) ≡ false
+second_level : (before : List Entry) (e : Entry) (after : List Entry) → count_by (λ e. not (is_level e)) (before ++ e ∷ after) ≤ 1
+    → has_change before ≡ true → not (is_level e) ≡ false
 second_level before e after h c = elim (cases_Bool (not (is_level e))) [
   | inl t ↦ (let some = some_change before c in
       let here : ◌≡◌ {A = ℕ} (cond (not (is_level e)) 1 0) 1 = rw t refl in
@@ -136,11 +140,13 @@ abbrev pub AreEntries : Bool → List Entry → Type 0
 AreEntries true entries = count_by (λ e. not (is_level e)) entries ≤ 1
 AreEntries false entries = list_all is_level entries ≡ true
 
-level_at : (before : List Entry) (e : Entry) (after : List Entry) → list_all is_level (before ++ e ∷ after) ≡ true → is_level e ≡ true
+level_at : (before : List Entry) (e : Entry) (after : List Entry) → list_all is_level (before ++ e ∷ after) ≡ true
+    → is_level e ≡ true
 level_at [] e after h = (and_parts (is_level e) (list_all is_level after) h).0
 level_at (x ∷ before) e after h = level_at before e after (and_parts (is_level x) (list_all is_level (before ++ e ∷ after)) h).1
 
-may_stand : (sequential : Bool) (before : List Entry) (e : Entry) (after : List Entry) → AreEntries sequential (before ++ e ∷ after) → MayStand sequential e
+may_stand : (sequential : Bool) (before : List Entry) (e : Entry) (after : List Entry)
+    → AreEntries sequential (before ++ e ∷ after) → MayStand sequential e
 may_stand true before e after h = either (is_level e)
   where
     either : (a : Bool) → (a || true) ≡ true
@@ -148,7 +154,8 @@ may_stand true before e after h = either (is_level e)
     either false = refl
 may_stand false before e after h = rw (level_at before e after h) refl
 
-no_second : (sequential : Bool) (before : List Entry) (e : Entry) (after : List Entry) → AreEntries sequential (before ++ e ∷ after) → (has_change before && begins_change (entry_start e)) ≡ false
+no_second : (sequential : Bool) (before : List Entry) (e : Entry) (after : List Entry)
+    → AreEntries sequential (before ++ e ∷ after) → (has_change before && begins_change (entry_start e)) ≡ false
 no_second true before e after h = elim (cases_Bool (has_change before)) [
   | inl t ↦ rw (t, change_starts e) (second_level before e after h t)
   | inr f ↦ rw f refl
@@ -159,11 +166,13 @@ no_second false before e after h = rw (change_starts e, level_at before e after 
     neither true = refl
     neither false = refl
 
-entry_turn : (sequential : Bool) (entries : List Entry) → AreEntries sequential entries → (before : List Entry) (e : Entry) (after : List Entry) (s : List (List ℕ)) → before ++ e ∷ after ≡ entries
+entry_turn : (sequential : Bool) (entries : List Entry) → AreEntries sequential entries
+    → (before : List Entry) (e : Entry) (after : List Entry) (s : List (List ℕ)) → before ++ e ∷ after ≡ entries
     → Turn (begins_next_entry sequential) next_entry before (entry_tokens e s) (before ++ e ∷ []) s
 entry_turn sequential entries h before e after s same =
     let all : AreEntries sequential (before ++ e ∷ after) = subst (AreEntries sequential) (sym same) h in
-    turn (rw (entry_starts sequential e (may_stand sequential before e after all), no_second sequential before e after all) refl) (entry_added before e)
+    turn (rw (entry_starts sequential e (may_stand sequential before e after all), no_second sequential before e after all) refl)
+    (entry_added before e)
 
 -- Rows.
 
@@ -173,12 +182,16 @@ pub record IsRow (sequential : Bool) (n : ℕ) (row : UdpRow) : Type 0 where
   pub changes : AreEntries sequential row.inputs
   pub stateless : sequential ≡ false → (row.state ≡ level.Any) × (row.next ≡ next.Keep → ⊥)
 
-outcome_read : (sequential : Bool) (entries : List Entry) (state : Level) (n : Next) (s : List (List ℕ)) → (sequential ≡ false → (state ≡ level.Any) × (n ≡ next.Keep → ⊥))
-    → Reads (row_end sequential entries) (outcome_tokens sequential state n s) (record { inputs = entries; state = state; next = n }) s
+outcome_read : (sequential : Bool) (entries : List Entry) (state : Level) (n : Next) (s : List (List ℕ))
+    → (sequential ≡ false → (state ≡ level.Any) × (n ≡ next.Keep → ⊥))
+    → Reads (row_end sequential entries) (outcome_tokens sequential state n s)
+    (record { inputs = entries; state = state; next = n }) s
 unfolding state_and_next output_level
-outcome_read true entries state n s h = in_turn (level_read state) (in_turn expected (in_turn (next_read n) (in_turn expected gives)))
+outcome_read true entries state n s h =
+    in_turn (level_read state) (in_turn expected (in_turn (next_read n) (in_turn expected gives)))
 outcome_read false entries state n s h =
-    subst (λ (l : Level). Reads (output_level entries) (next_text n ∷ codes ";" ∷ s) (record { inputs = entries; state = l; next = n }) s) (sym (h refl).0)
+    subst (λ (l : Level). Reads (output_level entries) (next_text n ∷ codes ";" ∷ s)
+    (record { inputs = entries; state = l; next = n }) s) (sym (h refl).0)
     (in_turn (output_read n (h refl).1) (in_turn expected gives))
 
 no_entry : (sequential : Bool) (entries : List Entry) → begins_next_entry sequential entries (codes ":") ≡ None
@@ -198,16 +211,21 @@ same_number n m h = grind (arith, nat_tests)
 
 row_behind : (sequential : Bool) (n : ℕ) (e : Entry) (entries : List Entry) (state : Level) (x : Next) (s : List (List ℕ))
     → IsRow sequential n (record { inputs = e ∷ entries; state = state; next = x })
-    → Reads (row sequential n (entry_start e)) (entry_more e (each entry_tokens entries (codes ":" ∷ outcome_tokens sequential state x s))) (record { inputs = e ∷ entries; state = state; next = x }) s
+    → Reads (row sequential n (entry_start e))
+    (entry_more e (each entry_tokens entries (codes ":" ∷ outcome_tokens sequential state x s)))
+    (record { inputs = e ∷ entries; state = state; next = x }) s
 unfolding row more_entries
 row_behind sequential n e entries state x s h =
     in_turn (entry_added [] e)
-    (in_turn (through (λ (l : List Entry). l) entry_tokens (e ∷ []) entries (entry_turn sequential (e ∷ entries) h.changes) (codes ":" ∷ outcome_tokens sequential state x s) (no_entry sequential (e ∷ entries)))
+    (in_turn (through (λ (l : List Entry). l) entry_tokens (e ∷ []) entries (entry_turn sequential (e ∷ entries) h.changes)
+    (codes ":" ∷ outcome_tokens sequential state x s) (no_entry sequential (e ∷ entries)))
     (in_turn (expected_where (length (e ∷ entries) == n) Width (same_number (length (e ∷ entries)) n h.entries))
     (outcome_read sequential (e ∷ entries) state x s h.stateless)))
 
-begun : (sequential : Bool) (n : ℕ) (entries : List Entry) (state : Level) (x : Next) (s : List (List ℕ)) → 1 ≤ n → IsRow sequential n (record { inputs = entries; state = state; next = x })
-    → BeginsRow sequential n (record { inputs = entries; state = state; next = x }) (each entry_tokens entries (codes ":" ∷ outcome_tokens sequential state x s)) s
+begun : (sequential : Bool) (n : ℕ) (entries : List Entry) (state : Level) (x : Next) (s : List (List ℕ)) → 1 ≤ n
+    → IsRow sequential n (record { inputs = entries; state = state; next = x })
+    → BeginsRow sequential n (record { inputs = entries; state = state; next = x })
+    (each entry_tokens entries (codes ":" ∷ outcome_tokens sequential state x s)) s
 begun sequential n [] state x s some h = let none : 0 ≡ n = h.entries in absurd (omega (arith, none, some))
 begun sequential n (e ∷ entries) state x s some h = record {
   start = entry_start e;
@@ -218,5 +236,6 @@ begun sequential n (e ∷ entries) state x s some h = record {
 }
 
 -- a row is read from its tokens
-pub row_begun : (sequential : Bool) (n : ℕ) (row : UdpRow) (s : List (List ℕ)) → 1 ≤ n → IsRow sequential n row → BeginsRow sequential n row (row_tokens sequential row s) s
+pub row_begun : (sequential : Bool) (n : ℕ) (row : UdpRow) (s : List (List ℕ)) → 1 ≤ n → IsRow sequential n row
+    → BeginsRow sequential n row (row_tokens sequential row s) s
 row_begun sequential n row s some h = begun sequential n row.inputs row.state row.next s some h

@@ -18,8 +18,8 @@ verilog = vocabulary lexis bytes_eq
 abbrev pub found : Bool → List ℕ → Found
 found t text = spelled (scan t 0 0 text)
 
--- Before bytes that pass a test the text is these tokens, and no section begins or ends in it. The flags say whether a table is open
--- before and after it.
+-- Before bytes that pass a test the text is these tokens, and no section begins or ends in it. The flags say whether a table is
+-- open before and after it.
 abbrev pub Spells : (List ℕ → Type 0) → Bool → List ℕ → Front → Bool → Type 0
 Spells = SpellsBy lexis (marked verilog verilog_marks)
 

@@ -40,7 +40,8 @@ pub record IsNamedPath (m : VModule) (path : VPath) : Type 0 where
 -- a path between ports of these names and its delays, behind its bracket
 abbrev pub path_line_tokens : List ℕ → List ℕ → ℕ → ℕ → Front
 path_line_tokens from to rise fall s =
-    from ∷ codes "=>" ∷ to ∷ codes ")" ∷ codes "=" ∷ codes "(" ∷ decimal rise ∷ codes "," ∷ decimal fall ∷ codes ")" ∷ codes ";" ∷ s
+    from ∷ codes "=>" ∷ to ∷ codes ")" ∷ codes "=" ∷ codes "(" ∷ decimal rise ∷ codes "," ∷ decimal fall ∷ codes ")" ∷ codes ";"
+    ∷ s
 
 abbrev pub delay_tokens : VModule → VPath → Front
 delay_tokens m path s = path_line_tokens (port_at m path.from) (port_at m path.to) path.rise path.fall s
@@ -86,12 +87,14 @@ path_line_spelled from to rise fall f t r d =
     behind bracket (joins (name from f) (λ r q. refl) (behind arrow (joins (name to t) (λ r q. refl)
     (behind equals (joins (number rise r) (λ r q. refl) (behind comma (joins (number fall d) (λ r q. refl) closed)))))))
 
-delays : (m : VModule) (path : VPath) → IsNamedPath m path → Spells Anything false (delays_text m path) (λ s. codes "(" ∷ delay_tokens m path s) false
+delays : (m : VModule) (path : VPath) → IsNamedPath m path
+    → Spells Anything false (delays_text m path) (λ s. codes "(" ∷ delay_tokens m path s) false
 unfolding delays_text
 delays m path h = path_line_spelled (port_at m path.from) (port_at m path.to) path.rise path.fall h.from h.to h.rise h.fall
 
 path_by : (m : VModule) (path : VPath) (g : Gate) → IsNamedGate m g → IsNamedPath m path
-    → Spells Anything false (gate_text m g ++ delays_text m path) (λ s. gate_start g ∷ gate_more m g (delay_tokens m path s)) false
+    → Spells Anything false (gate_text m g ++ delays_text m path) (λ s. gate_start g ∷ gate_more m g (delay_tokens m path s))
+    false
 unfolding gate_text
 path_by m path gate.Always g h = behind indented (delays m path h)
 path_by m path (gate.If w) g h = behind (behind if_word (joins (name (wire_at m w) g) (λ r q. refl) if_end)) (delays m path h)
@@ -131,16 +134,20 @@ abbrev pub end_tokens : VModule → Front
 end_tokens m s = codes "," ∷ notifier_in m ∷ codes ")" ∷ codes ";" ∷ s
 
 abbrev pub ordered_tokens : VModule → TimingCheck → Front
-ordered_tokens m k s = event_tokens m k.first (codes "," ∷ event_tokens m k.second (condition_tokens m k.condition (codes "," ∷ decimal k.limit ∷ end_tokens m s)))
+ordered_tokens m k s = event_tokens m k.first
+    (codes "," ∷ event_tokens m k.second (condition_tokens m k.condition (codes "," ∷ decimal k.limit ∷ end_tokens m s)))
 
 abbrev pub turned_tokens : VModule → TimingCheck → Front
-turned_tokens m k s = event_tokens m k.second (condition_tokens m k.condition (codes "," ∷ event_tokens m k.first (codes "," ∷ decimal k.limit ∷ end_tokens m s)))
+turned_tokens m k s = event_tokens m k.second
+    (condition_tokens m k.condition (codes "," ∷ event_tokens m k.first (codes "," ∷ decimal k.limit ∷ end_tokens m s)))
 
 abbrev pub width_tokens : VModule → TimingCheck → Front
-width_tokens m k s = event_tokens m k.first (condition_tokens m k.condition (codes "," ∷ decimal k.limit ∷ codes "," ∷ codes "0" ∷ end_tokens m s))
+width_tokens m k s = event_tokens m k.first
+    (condition_tokens m k.condition (codes "," ∷ decimal k.limit ∷ codes "," ∷ codes "0" ∷ end_tokens m s))
 
 abbrev pub period_tokens : List ℕ → VModule → TimingCheck → Front
-period_tokens word m k s = word ∷ port_at m k.first.pin ∷ condition_tokens m k.condition (codes "," ∷ decimal k.limit ∷ end_tokens m s)
+period_tokens word m k s = word ∷ port_at m k.first.pin ∷ condition_tokens m k.condition
+    (codes "," ∷ decimal k.limit ∷ end_tokens m s)
 
 -- the word of a check, and what stands behind it and its bracket
 abbrev pub check_word : CheckKind → List ℕ
@@ -160,7 +167,8 @@ check_more m k check_kind.Hold s = ordered_tokens m k s
 check_more m k check_kind.Recovery s = ordered_tokens m k s
 check_more m k check_kind.Removal s = turned_tokens m k s
 check_more m k check_kind.Width s = width_tokens m k s
-check_more m k check_kind.Period s = period_tokens (codes "posedge") m k (codes "$period" ∷ codes "(" ∷ period_tokens (codes "negedge") m k s)
+check_more m k check_kind.Period s =
+    period_tokens (codes "posedge") m k (codes "$period" ∷ codes "(" ∷ period_tokens (codes "negedge") m k s)
 
 abbrev pub check_tokens : VModule → TimingCheck → Front
 check_tokens m k s = check_word k.kind ∷ codes "(" ∷ check_more m k k.kind s
@@ -177,47 +185,69 @@ zero_threshold : Spells Anything false (codes ", 0, ") (λ s. codes "," ∷ code
 zero_threshold = literal (λ r. refl) refl
 
 -- a condition, where there is one, before a comma
-conditioned : (m : VModule) {v : Bool} {rest : List ℕ} {f : Front} (c : Option ℕ) → IsNamedCondition m c → Spells Anything false rest f v
-    → Spells Anything false (joint_text c ++ (condition_text m c ++ (codes ", " ++ rest))) (λ s. condition_tokens m c (codes "," ∷ f s)) v
+conditioned : (m : VModule) {v : Bool} {rest : List ℕ} {f : Front} (c : Option ℕ) → IsNamedCondition m c
+    → Spells Anything false rest f v
+    → Spells Anything false (joint_text c ++ (condition_text m c ++ (codes ", " ++ rest)))
+    (λ s. condition_tokens m c (codes "," ∷ f s)) v
 conditioned m None n h = behind comma h
 conditioned m (Some w) n h = behind joint (joins (name (wire_at m w) n) (λ r q. refl) (behind comma h))
 
-condition_begins : (m : VModule) (c : Option ℕ) (rest r : List ℕ) → Ends ((joint_text c ++ (condition_text m c ++ (codes ", " ++ rest))) ++ r)
+condition_begins : (m : VModule) (c : Option ℕ) (rest r : List ℕ)
+    → Ends ((joint_text c ++ (condition_text m c ++ (codes ", " ++ rest))) ++ r)
 condition_begins m None rest r = refl
 condition_begins m (Some w) rest r = refl
 
-limited : (m : VModule) (k : TimingCheck) → IsNamedCheck m k → Spells Anything false (decimal k.limit ++ (codes ", " ++ (notifier_in m ++ codes ");\n"))) (λ s. decimal k.limit ∷ end_tokens m s) false
-limited m k h = joins (number k.limit h.limit) (λ r q. refl) (behind comma (joins (name (notifier_in m) h.notifier) (λ r q. refl) closed))
+limited : (m : VModule) (k : TimingCheck) → IsNamedCheck m k
+    → Spells Anything false (decimal k.limit ++ (codes ", " ++ (notifier_in m ++ codes ");\n")))
+    (λ s. decimal k.limit ∷ end_tokens m s) false
+limited m k h = joins (number k.limit h.limit) (λ r q. refl)
+    (behind comma (joins (name (notifier_in m) h.notifier) (λ r q. refl) closed))
 
-ordered : {word : List ℕ} {start : List (List ℕ) → List (List ℕ)} (m : VModule) (k : TimingCheck) → IsNamedCheck m k → Spells Anything false word start false
+ordered : {word : List ℕ} {start : List (List ℕ) → List (List ℕ)} (m : VModule) (k : TimingCheck) → IsNamedCheck m k
+    → Spells Anything false word start false
     → Spells Anything false (ordered_text word m k) (λ s. start (ordered_tokens m k s)) false
 unfolding ordered_text
 ordered m k h w =
-    behind w (behind (an_edge k.first.edge) (joins (name (port_at m k.first.pin) h.first) (λ r q. refl) (behind comma (behind (an_edge k.second.edge)
-    (joins (name (port_at m k.second.pin) h.second) (λ r q. condition_begins m k.condition (decimal k.limit ++ (codes ", " ++ (notifier_in m ++ codes ");\n"))) r)
+    behind w (behind (an_edge k.first.edge)
+    (joins (name (port_at m k.first.pin) h.first) (λ r q. refl) (behind comma (behind (an_edge k.second.edge)
+    (joins (name (port_at m k.second.pin) h.second)
+    (λ r q. condition_begins m k.condition (decimal k.limit ++ (codes ", " ++ (notifier_in m ++ codes ");\n"))) r)
     (conditioned m k.condition h.condition (limited m k h)))))))
 
-back_turned : {word : List ℕ} {start : List (List ℕ) → List (List ℕ)} (m : VModule) (k : TimingCheck) → IsNamedCheck m k → Spells Anything false word start false
+back_turned : {word : List ℕ} {start : List (List ℕ) → List (List ℕ)} (m : VModule) (k : TimingCheck) → IsNamedCheck m k
+    → Spells Anything false word start false
     → Spells Anything false (turned_text word m k) (λ s. start (turned_tokens m k s)) false
 unfolding turned_text
 back_turned m k h w =
     behind w (behind (an_edge k.second.edge)
-    (joins (name (port_at m k.second.pin) h.second) (λ r q. condition_begins m k.condition (edge_text k.first.edge ++ (port_at m k.first.pin ++ (codes ", " ++ (decimal k.limit ++ (codes ", " ++ (notifier_in m ++ codes ");\n")))))) r)
-    (conditioned m k.condition h.condition (behind (an_edge k.first.edge) (joins (name (port_at m k.first.pin) h.first) (λ r q. refl) (behind comma (limited m k h)))))))
+    (joins (name (port_at m k.second.pin) h.second)
+    (λ r q. condition_begins m k.condition
+    (edge_text k.first.edge ++ (port_at m k.first.pin
+    ++ (codes ", " ++ (decimal k.limit ++ (codes ", " ++ (notifier_in m ++ codes ");\n")))))) r)
+    (conditioned m k.condition h.condition
+    (behind (an_edge k.first.edge) (joins (name (port_at m k.first.pin) h.first) (λ r q. refl)
+    (behind comma (limited m k h)))))))
 
-wide : {word : List ℕ} {start : List (List ℕ) → List (List ℕ)} (m : VModule) (k : TimingCheck) → IsNamedCheck m k → Spells Anything false word start false
+wide : {word : List ℕ} {start : List (List ℕ) → List (List ℕ)} (m : VModule) (k : TimingCheck) → IsNamedCheck m k
+    → Spells Anything false word start false
     → Spells Anything false (width_text word m k) (λ s. start (width_tokens m k s)) false
 unfolding width_text
 wide m k h w =
     behind w (behind (an_edge k.first.edge)
-    (joins (name (port_at m k.first.pin) h.first) (λ r q. condition_begins m k.condition (decimal k.limit ++ (codes ", 0, " ++ (notifier_in m ++ codes ");\n"))) r)
-    (conditioned m k.condition h.condition (joins (number k.limit h.limit) (λ r q. refl) (behind zero_threshold (joins (name (notifier_in m) h.notifier) (λ r q. refl) closed))))))
+    (joins (name (port_at m k.first.pin) h.first)
+    (λ r q. condition_begins m k.condition (decimal k.limit ++ (codes ", 0, " ++ (notifier_in m ++ codes ");\n"))) r)
+    (conditioned m k.condition h.condition
+    (joins (number k.limit h.limit) (λ r q. refl)
+    (behind zero_threshold (joins (name (notifier_in m) h.notifier) (λ r q. refl) closed))))))
 
-period : {word : List ℕ} {start : List (List ℕ) → List (List ℕ)} (m : VModule) (k : TimingCheck) → IsNamedCheck m k → Spells Anything false word start false
-    → Spells Anything false (period_line word m k) (λ s. start (port_at m k.first.pin ∷ condition_tokens m k.condition (codes "," ∷ decimal k.limit ∷ end_tokens m s))) false
+period : {word : List ℕ} {start : List (List ℕ) → List (List ℕ)} (m : VModule) (k : TimingCheck) → IsNamedCheck m k
+    → Spells Anything false word start false
+    → Spells Anything false (period_line word m k)
+    (λ s. start (port_at m k.first.pin ∷ condition_tokens m k.condition (codes "," ∷ decimal k.limit ∷ end_tokens m s))) false
 unfolding period_line
 period m k h w =
-    behind w (joins (name (port_at m k.first.pin) h.first) (λ r q. condition_begins m k.condition (decimal k.limit ++ (codes ", " ++ (notifier_in m ++ codes ");\n"))) r)
+    behind w (joins (name (port_at m k.first.pin) h.first)
+    (λ r q. condition_begins m k.condition (decimal k.limit ++ (codes ", " ++ (notifier_in m ++ codes ");\n"))) r)
     (conditioned m k.condition h.condition (limited m k h)))
 
 setup_word : Spells Anything false (codes "    $setup(") (λ s. codes "$setup" ∷ codes "(" ∷ s) false
@@ -241,7 +271,8 @@ rise_word = literal (λ r. refl) refl
 fall_word : Spells Anything false (codes "    $period(negedge ") (λ s. codes "$period" ∷ codes "(" ∷ codes "negedge" ∷ s) false
 fall_word = literal (λ r. refl) refl
 
-kind_spelled : (m : VModule) (k : TimingCheck) (kind : CheckKind) → IsNamedCheck m k → Spells Anything false (kind_text m k kind) (λ s. check_word kind ∷ codes "(" ∷ check_more m k kind s) false
+kind_spelled : (m : VModule) (k : TimingCheck) (kind : CheckKind) → IsNamedCheck m k
+    → Spells Anything false (kind_text m k kind) (λ s. check_word kind ∷ codes "(" ∷ check_more m k kind s) false
 unfolding period_text
 kind_spelled m k check_kind.Setup h = ordered m k h setup_word
 kind_spelled m k check_kind.Hold h = ordered m k h hold_word
@@ -275,9 +306,12 @@ block_end = literal (λ r. refl) refl
 by_need : (b : Bool) (m : VModule) → AllByRecursion (IsNamedPath m) m.paths → AllByRecursion (IsNamedCheck m) m.checks
     → Spells Anything false (if b then lines_text m else []) (block_by b m) false
 unfolding lines_text
-by_need true m p k = behind block_word (behind (each_spelled (IsNamedPath m) (path m) (λ x r q. tt) m.paths p) (behind (each_spelled (IsNamedCheck m) (check m) (λ x r q. tt) m.checks k) block_end))
+by_need true m p k = behind block_word
+    (behind (each_spelled (IsNamedPath m) (path m) (λ x r q. tt) m.paths p)
+    (behind (each_spelled (IsNamedCheck m) (check m) (λ x r q. tt) m.checks k) block_end))
 by_need false m p k = nothing
 
-pub block_spelled : (m : VModule) → AllByRecursion (IsNamedPath m) m.paths → AllByRecursion (IsNamedCheck m) m.checks → Spells Anything false (block_text m) (block_tokens m) false
+pub block_spelled : (m : VModule) → AllByRecursion (IsNamedPath m) m.paths → AllByRecursion (IsNamedCheck m) m.checks
+    → Spells Anything false (block_text m) (block_tokens m) false
 unfolding block_text
 block_spelled m p k = by_need (has_block m) m p k

@@ -22,7 +22,8 @@ use Rattle.written_modules.proofs.Spelling.{verilog, Spells, Ends}
 -- Bytes of one kind and of another.
 
 -- a byte that is one of those does not pass
-one_of : (test : ℕ → Bool) (cs : List ℕ) (b : ℕ) → list_all (λ c. not (test c)) cs ≡ true → list_any (λ c. nat_eq c b) cs ≡ true → test b ≡ false
+one_of : (test : ℕ → Bool) (cs : List ℕ) (b : ℕ) → list_all (λ c. not (test c)) cs ≡ true → list_any (λ c. nat_eq c b) cs ≡ true
+    → test b ≡ false
 one_of test cs b h e = elim (cases_Bool (test b)) [
   | inl t ↦ absurd (cc (e, none_of test cs b h t))
   | inr f ↦ f
@@ -47,7 +48,8 @@ no_separator : (b : ℕ) (s : List ℕ) → is_blank b ≡ false → nat_eq 47 b
 no_separator b s e f = rw (e, f) refl
 
 -- what passes a test that they don't pass is none of the words that mark sections
-unmarked : (test : List ℕ → Bool) → test (codes "`celldefine") ≡ false → test (codes "`endcelldefine") ≡ false → (x : List ℕ) → test x ≡ true → (r : List ℕ) →
+unmarked : (test : List ℕ → Bool) → test (codes "`celldefine") ≡ false → test (codes "`endcelldefine") ≡ false → (x : List ℕ)
+    → test x ≡ true → (r : List ℕ) →
     marked verilog verilog_marks false x r ≡ false
 unmarked test e f x h r = rw (differs (codes "`celldefine") e, differs (codes "`endcelldefine") f) refl
   where
@@ -73,7 +75,8 @@ starts false false low' others h e = absurd (cc (h, e))
 starts_word : (b : ℕ) → begins_name b ≡ true → begins_word b ≡ true
 starts_word b e = starts (is_ascii_alphabetic b) (nat_eq 95 b) (b == 95) (list_any (λ c. nat_eq c b) (36 ∷ 96 ∷ [])) e (flipped b)
 
-word_length_is : (b : ℕ) (w r : List ℕ) → is_mark b ≡ false → begins_word b ≡ true → is_one_of (codes "$`") b ≡ false → prefix_len is_name_byte (w ++ r) ≡ length w
+word_length_is : (b : ℕ) (w r : List ℕ) → is_mark b ≡ false → begins_word b ≡ true → is_one_of (codes "$`") b ≡ false
+    → prefix_len is_name_byte (w ++ r) ≡ length w
     → token_length false (b ∷ w ++ r) ≡ suc (length w)
 word_length_is b w r e f g h = rw (e, f, g, h) (omega arith)
 
@@ -88,7 +91,8 @@ stays_shut x e = rw e (both (bytes_eq x (codes "endtable")))
 -- a name is no word of Verilog
 pub unlike_word : (x w : List ℕ) → is_verilog_word w ≡ true → IsName x → bytes_eq x w ≡ false
 unlike_word x w e n = elim (cases_Bool (bytes_eq x w)) [
-  | inl t ↦ (let same : not (is_verilog_word x) ≡ false = ap not (subst (λ y. is_verilog_word y ≡ true) (sym ((bytes_eq-Decides x w).0 t)) e) in absurd (cc (n.no_word, same)))
+  | inl t ↦ (let same : not (is_verilog_word x) ≡ false =
+      ap not (subst (λ y. is_verilog_word y ≡ true) (sym ((bytes_eq-Decides x w).0 t)) e) in absurd (cc (n.no_word, same)))
   | inr f ↦ f
 ]
 
@@ -103,7 +107,8 @@ name (b ∷ w) n =
     let p = and_parts (begins_name b) (list_all is_name_byte w) n.identifier in
     one_token b w (record {
       alone = λ r e. no_separator b (w ++ r) (none_of begins_name (codes " \t\n") b refl p.0) (unlike begins_name 47 b refl p.0);
-      size = λ r e. word_length_is b w r (none_of begins_name (codes "(),;:") b refl p.0) (starts_word b p.0) (none_of begins_name (codes "$`") b refl p.0)
+      size = λ r e. word_length_is b w r (none_of begins_name (codes "(),;:") b refl p.0) (starts_word b p.0)
+          (none_of begins_name (codes "$`") b refl p.0)
           (run_ends is_name_byte w r p.1 (none_follow is_name_byte (refl, refl) r e));
       free = λ r. unmarked is_identifier refl refl (b ∷ w) n.identifier r;
       after = stays_shut (b ∷ w) (unlike_word (b ∷ w) (codes "table") table_word n);
@@ -112,7 +117,8 @@ name (b ∷ w) n =
 -- a name is a name
 pub name_is : (x : List ℕ) → IsName x → is_name x ≡ true
 name_is [] n = absurd (cc n.identifier)
-name_is (b ∷ w) n = and_from (begins_name b) (not (is_verilog_word (b ∷ w))) (and_parts (begins_name b) (list_all is_name_byte w) n.identifier).0 n.no_word
+name_is (b ∷ w) n = and_from (begins_name b) (not (is_verilog_word (b ∷ w)))
+    (and_parts (begins_name b) (list_all is_name_byte w) n.identifier).0 n.no_word
 
 -- Numbers.
 
@@ -121,7 +127,8 @@ and_no true b e = e
 and_no false b e = refl
 
 -- neither a digit nor a blank nor a mark stands behind digits
-no_more : (l : ℕ) (ls ds r : List ℕ) → NoEnd (λ c. nat_eq l c) → is_ascii_digit l ≡ false → list_all is_ascii_digit ds ≡ true → Ends r → begins_with (ds ++ r) (l ∷ ls) ≡ false
+no_more : (l : ℕ) (ls ds r : List ℕ) → NoEnd (λ c. nat_eq l c) → is_ascii_digit l ≡ false → list_all is_ascii_digit ds ≡ true
+    → Ends r → begins_with (ds ++ r) (l ∷ ls) ≡ false
 no_more l ls [] [] n d h e = refl
 no_more l ls [] (c ∷ r) n d h e = rw (ends_by (λ x. nat_eq l x) n c e) refl
 no_more l ls (c ∷ ds) r n d h e =
@@ -137,8 +144,10 @@ digit_by : (mark letter digit : Bool) (word number sign n : ℕ) → mark ≡ fa
     (if mark then 1 else (if letter then word else (if digit then number else sign))) ≡ n
 digit_by mark letter digit word number sign n e f g h = rw (e, f, g) h
 
-digit_length_is : (b : ℕ) (bs : List ℕ) (n : ℕ) → is_mark b ≡ false → begins_word b ≡ false → is_ascii_digit b ≡ true → number_length (b ∷ bs) ≡ n → token_length false (b ∷ bs) ≡ n
-digit_length_is b bs n e f g h = digit_by (is_mark b) (begins_word b) (is_ascii_digit b) (word_length (b ∷ bs)) (number_length (b ∷ bs)) (sign_length (b ∷ bs)) n e f g h
+digit_length_is : (b : ℕ) (bs : List ℕ) (n : ℕ) → is_mark b ≡ false → begins_word b ≡ false → is_ascii_digit b ≡ true
+    → number_length (b ∷ bs) ≡ n → token_length false (b ∷ bs) ≡ n
+digit_length_is b bs n e f g h = digit_by (is_mark b) (begins_word b) (is_ascii_digit b) (word_length (b ∷ bs))
+    (number_length (b ∷ bs)) (sign_length (b ∷ bs)) n e f g h
 
 no_word_start : (b : ℕ) → is_ascii_digit b ≡ true → begins_word b ≡ false
 no_word_start b e =
@@ -148,10 +157,13 @@ no_word_start b e =
 number_token : (b : ℕ) (w r : List ℕ) → AreFew (b ∷ w) → Ends r → token_length false (b ∷ w ++ r) ≡ suc (length w)
 number_token b w r f e =
     let p = and_parts (is_ascii_digit b) (list_all is_ascii_digit w) f.digits in
-    let run : prefix_len is_ascii_digit (b ∷ w ++ r) ≡ suc (length w) = run_ends is_ascii_digit (b ∷ w) r f.digits (none_follow is_ascii_digit (refl, refl) r e) in
-    let fits : nat_le (prefix_len is_ascii_digit (b ∷ w ++ r)) 15 ≡ true = short (prefix_len is_ascii_digit (b ∷ w ++ r)) (subst (λ n. n ≤ 15) (sym run) f.few) in
+    let run : prefix_len is_ascii_digit (b ∷ w ++ r) ≡ suc (length w) =
+    run_ends is_ascii_digit (b ∷ w) r f.digits (none_follow is_ascii_digit (refl, refl) r e) in
+    let fits : nat_le (prefix_len is_ascii_digit (b ∷ w ++ r)) 15 ≡ true =
+    short (prefix_len is_ascii_digit (b ∷ w ++ r)) (subst (λ n. n ≤ 15) (sym run) f.few) in
     digit_length_is b (w ++ r) (suc (length w)) (none_of is_ascii_digit (codes "(),;:") b refl p.0) (no_word_start b p.0) p.0
-    (number_length_is (begins_with (b ∷ w ++ r) (codes "1ps")) (begins_with (b ∷ w ++ r) (codes "1'b0")) (begins_with (b ∷ w ++ r) (codes "1'b1"))
+    (number_length_is (begins_with (b ∷ w ++ r) (codes "1ps")) (begins_with (b ∷ w ++ r) (codes "1'b0"))
+    (begins_with (b ∷ w ++ r) (codes "1'b1"))
     (nat_le (prefix_len is_ascii_digit (b ∷ w ++ r)) 15) (prefix_len is_ascii_digit (b ∷ w ++ r)) (suc (length w))
     (and_no (nat_eq 49 b) (begins_with (w ++ r) (codes "ps")) (no_more 112 (codes "s") w r (refl, refl) refl p.1 e))
     (and_no (nat_eq 49 b) (begins_with (w ++ r) (codes "'b0")) (no_more 39 (codes "b0") w r (refl, refl) refl p.1 e))
@@ -169,7 +181,8 @@ few_digits [] f some = absurd (omega arith)
 few_digits (b ∷ w) f some =
     let p = and_parts (is_ascii_digit b) (list_all is_ascii_digit w) f.digits in
     one_token b w (record {
-      alone = λ r e. no_separator b (w ++ r) (none_of is_ascii_digit (codes " \t\n") b refl p.0) (unlike is_ascii_digit 47 b refl p.0);
+      alone = λ r e. no_separator b (w ++ r) (none_of is_ascii_digit (codes " \t\n") b refl p.0)
+          (unlike is_ascii_digit 47 b refl p.0);
       size = λ r e. number_token b w r f e;
       free = λ r. unmarked (list_all is_ascii_digit) refl refl (b ∷ w) f.digits r;
       after = stays_shut (b ∷ w) (no_table (b ∷ w) f.digits);

@@ -11,8 +11,8 @@ use Rattle.verilog_writer.specs.Primitive.{primitive_text}
 use Rattle.verilog_writer.specs.Model.{prelude_text, module_text}
 use Rattle.grammar_reader.specs.ReadBack.{ReadsBack}
 
--- The bytes are the text of this primitive alone: tokens, without a lexical fault, of which the first is `primitive` and the grammar
--- takes the others.
+-- The bytes are the text of this primitive alone: tokens, without a lexical fault, of which the first is `primitive` and the
+-- grammar takes the others.
 pub record IsPrimitiveText (bytes : List ℕ) (udp : Udp) : Type 0 where
   pub lexes : lexical_place bytes ≡ None
   pub others : List (List ℕ)

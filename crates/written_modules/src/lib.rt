@@ -3,7 +3,8 @@
 
 ghost use Rattle.written_modules.specs.Laws.{WrittenPrimitivesReadBack, WrittenModulesReadBack};
 
-/// A law: the text that is written of a well formed primitive is the text of this primitive, and of no other. (IEEE 1364-2005, A.5.)
+/// A law: the text that is written of a well formed primitive is the text of this primitive, and of no other. (IEEE 1364-2005,
+/// A.5.)
 pub fn written_primitive_reads_back()
     ensures { WrittenPrimitivesReadBack }
 {}

@@ -17,7 +17,8 @@ use text_io::{
 
 /// The words of a translation of this library to this Verilog text, and of VHDL text to nowhere.
 pub(crate) fn words(alloc: Global, library: &str, verilog: &str) -> Result<Vec<String>, AllocError>
-    ensures { IfOk result (λ words. map string_bytes words.items ≡ codes "translate" ∷ library.now ∷ verilog.now ∷ codes "/dev/null" ∷ []) }
+    ensures { IfOk result (λ words. map string_bytes words.items ≡ codes "translate" ∷ library.now ∷ verilog.now ∷ codes
+        "/dev/null" ∷ []) }
 {
     let mut words = Vec::new(alloc);
     words.push(String::from_str(alloc, "translate")?)?;

@@ -1,9 +1,9 @@
 //! Texts from outside: corner cases of the tokens of Verilog's subset.
 
+use lexer::KeptSpan;
 use std::alloc::{AllocError, Global};
 use std::test::Fail;
 use table_tests::{Row, all_hold};
-use lexer::KeptSpan;
 use verilog_tokens::scan;
 
 /// The tokens of a text, with a blank behind each.

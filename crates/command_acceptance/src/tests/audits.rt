@@ -1,4 +1,5 @@
-//! Runs of `audit`: cells beside the modules that are written for them, beside ones with another row or another limit, and beside none.
+//! Runs of `audit`: cells beside the modules that are written for them, beside ones with another row or another limit, and beside
+//! none.
 use super::scan_flip_flops::SCAN_FLIP_FLOP;
 use super::words_and_udp::is_usage;
 use command_runs::{

@@ -8,7 +8,8 @@ use std::alloc::Global;
 use std::test::Fail;
 use text_io::OutSlot;
 
-/// The status, of how many cells the models are written, and how many lines the report has, where the library is cut to this length.
+/// The status, of how many cells the models are written, and how many lines the report has, where the library is cut to this
+/// length.
 fn cut_to(length: usize) -> (u8, usize, usize) {
     match length {
         0..=107 => (2, 0, 0),

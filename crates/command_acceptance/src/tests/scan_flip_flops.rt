@@ -1,10 +1,10 @@
-//! A scan flip-flop as libraries have it, with tables of seven by seven entries and groups that are skipped: the end of its module and
-//! the line on its test cell.
+//! A scan flip-flop as libraries have it, with tables of seven by seven entries and groups that are skipped: the end of its
+//! module and the line on its test cell.
 use super::translations::{ends_with, reports};
 use std::test::Fail;
 
-/// The library of the flip-flop whose test cell has this attribute at its scan enable, and this next state: with the six rows and the
-/// six entries that are least in a table of positive entries, and those of a table of negative ones.
+/// The library of the flip-flop whose test cell has this attribute at its scan enable, and this next state: with the six rows and
+/// the six entries that are least in a table of positive entries, and those of a table of negative ones.
 macro_rules! scan_library {
     ($enable:literal, $next:literal) => {
         scan_library!(

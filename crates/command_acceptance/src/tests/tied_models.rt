@@ -1,7 +1,8 @@
 //! What the files of a library of one cell have to hold whose output is tied to 1.
 use command_runs::entity_text;
 
-/// The Verilog of a module of this name with these ports, of which these inputs are declared, and with this output, which is tied to 1.
+/// The Verilog of a module of this name with these ports, of which these inputs are declared, and with this output, which is tied
+/// to 1.
 macro_rules! tied_module {
     ($name:literal, $ports:literal, $inputs:literal, $output:literal) => {
         concat!(
@@ -34,8 +35,8 @@ pub(crate) const TIE_MODULE: &str = tied_module!("TIE", "A, Y", "  input A;\n", 
 /// An output alone.
 pub(crate) const LONE_TIE_MODULE: &str = tied_module!("TIE", "Y", "", "Y");
 
-/// The text of the entity of a cell of this name with these ports and an output that is tied to 1: behind these signals, to which its
-/// process responds, up to these statements, with which it ends.
+/// The text of the entity of a cell of this name with these ports and an output that is tied to 1: behind these signals, to which
+/// its process responds, up to these statements, with which it ends.
 macro_rules! tied_entity {
     ($name:literal, $ports:literal, $signals:literal, $last:literal) => {
         entity_text!(

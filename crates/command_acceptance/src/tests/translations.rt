@@ -260,8 +260,8 @@ fn modules_stand_behind_their_primitives(rt: HostRuntime) -> Result<(), Fail> {
     Ok(())
 }
 
-/// An included file, and groups of timing that are none of a delay or a check: under an input without a type, and of a type that is
-/// left out.
+/// An included file, and groups of timing that are none of a delay or a check: under an input without a type, and of a type that
+/// is left out.
 const LEFT_OUT: &str = "library (L) { include_file (\"other.lib\");
 cell (DFF) { ff (IQ, IQN) { next_state : \"D\"; clocked_on : \"CK\"; }
 pin (CK) { direction : input; timing () { related_pin : \"D\"; cell_rise (t) { values (\"1\"); } } }

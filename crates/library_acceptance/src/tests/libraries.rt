@@ -140,8 +140,8 @@ const CHECKS: &str =
 /// Types that may not stand at an input.
 const OTHERS: &str = "skew_rising nochange_high_high non_seq_setup_rising rising_edge";
 
-/// Timing groups of every type, those related to A with these types in place of `CHECKS` and `OTHERS`, each with the tables in place of
-/// `TABLES`. Those that may not stand where they do, or name no pin or an output, are left out.
+/// Timing groups of every type, those related to A with these types in place of `CHECKS` and `OTHERS`, each with the tables in
+/// place of `TABLES`. Those that may not stand where they do, or name no pin or an output, are left out.
 const ALL_TYPES: &str = "library (L) { cell (C) {
     pin (A, B) { direction : input; }
     pin (D) { direction : input;

@@ -26,7 +26,8 @@ fn text_of(alloc: Global, parts: &[Part]) -> Result<String, AllocError> {
     Ok(text)
 }
 
-/// The number of a refusal, and the parts of the statements in a cell that is refused so; where they have no mark, it is accepted.
+/// The number of a refusal, and the parts of the statements in a cell that is refused so; where they have no mark, it is
+/// accepted.
 struct Limit(u8, &'static [Part]);
 
 impl Row for Limit {

@@ -113,9 +113,9 @@ fn refused_cells(rt: HostRuntime) -> Result<(), Fail> {
     all_hold(rt.alloc(), &REFUSED)
 }
 
-/// The statements of a library in picoseconds, and what is read of its last cell: its name, that of its core, how many pins the core
-/// has, and the numbers and names of those that are made, how many outputs it has, which of them are three-state outputs, their paths
-/// and the timing groups that it leaves out.
+/// The statements of a library in picoseconds, and what is read of its last cell: its name, that of its core, how many pins the
+/// core has, and the numbers and names of those that are made, how many outputs it has, which of them are three-state outputs,
+/// their paths and the timing groups that it leaves out.
 struct FloatingCell {
     statements: &'static str,
     name: &'static [u8],

@@ -11,10 +11,10 @@ use cell_machine::{Cell, CellSim, Change, LibertySim};
 use cell_reader::read_cell;
 use liberty_groups::read_library;
 use liberty_text::Unit;
-use stimulus::first_difference;
 use specify_blocks::{VModule, verilog_model};
 use std::alloc::{AllocError, Global};
 use std::test::Fail;
+use stimulus::first_difference;
 use table_interpreters::{VerilogSim, VitalSim};
 use vital_models::{VEntity, vital_model};
 

@@ -74,7 +74,9 @@ fn has_line<S: CellSim>(
     requires inputs { length names.now.inputs ≡ (S.machine sim.now).inputs }
     requires outputs { length names.now.outputs ≡ (S.machine sim.now).outputs }
     requires pin { IfSome change (λ change. change.now.pin < (S.machine sim.now).inputs) }
-    ensures { (h : List ChangeOf) → S.stands sim.now h → IfOk result (λ _. line_text 76 (option_copied change.entry) names.now.inputs names.now.outputs ((S.machine sim.now).line h) ≡ want.now) }
+    ensures { (h : List ChangeOf) → S.stands sim.now h
+        → IfOk result (λ _. line_text 76 (option_copied change.entry) names.now.inputs names.now.outputs
+        ((S.machine sim.now).line h) ≡ want.now) }
 {
     let found = trace_line(alloc, b'L', change, &names.inputs, &names.outputs, sim)?;
     if found.as_slice() != want.as_bytes() {
@@ -115,8 +117,10 @@ fn drive<S: CellSim>(
 /// Wants a cell to show these lines, as they are printed with the tag `L`: the first before any change, and one behind the
 /// change of each row. The times of the changes rise and are below 1,000,000.
 pub fn has_trace(alloc: Global, cell: &Cell, start: &str, rows: &[Row<'_>]) -> Result<(), Fail>
-    ensures start { IfOk result (λ _. line_text 76 None (input_names cell.now.pins) (output_names cell.now.pins) ((cell_machine_of (data_of cell.now)).line []) ≡ start.now) }
-    ensures rows { IfOk result (λ _. HasTrace (input_names cell.now.pins) (output_names cell.now.pins) (cell_machine_of (data_of cell.now)) [] rows.now) }
+    ensures start { IfOk result (λ _. line_text 76 None (input_names cell.now.pins) (output_names cell.now.pins)
+        ((cell_machine_of (data_of cell.now)).line []) ≡ start.now) }
+    ensures rows { IfOk result (λ _. HasTrace (input_names cell.now.pins) (output_names cell.now.pins)
+        (cell_machine_of (data_of cell.now)) [] rows.now) }
 {
     let names = port_names(alloc, cell.pins.as_slice())?;
     let mut sim = LibertySim::start(alloc, cell)?;

@@ -1,5 +1,5 @@
-//! Traces as tests write them: what a cell shows before any change, and then, each behind `; `, the changes with what it shows behind
-//! them, as in `start : Q=x; 10 CK 1 : Q=1@0`.
+//! Traces as tests write them: what a cell shows before any change, and then, each behind `; `, the changes with what it shows
+//! behind them, as in `start : Q=x; 10 CK 1 : Q=1@0`.
 use super::lines::Row;
 use bool_functions::Names;
 use std::alloc::Global;

@@ -17,7 +17,13 @@ impl CellSim for Disabled {
     ghost use Rattle.std.specs.Prelude.{⊤, ◌∷◌, [], Some, None, true, refl};
     ghost use Rattle.trit_cubes.specs.declared.trits.Trit.TheVariants.{Zero, One};
 
-    ghost machine = { λ _. record { inputs = 1; outputs = 2; checks = 1; line = λ _. record { values = One ∷ Zero ∷ []; delays = Some 7 ∷ None ∷ []; reports = true ∷ [] } } };
+    ghost machine = { λ _. record {
+      inputs = 1;
+      outputs = 2;
+      checks = 1;
+      line =
+          λ _. record { values = One ∷ Zero ∷ []; delays = Some 7 ∷ None ∷ []; reports = true ∷ [] };
+    } };
 
     ghost stands = { λ _ _. ⊤ };
 

@@ -5,7 +5,8 @@ ghost use Rattle.udp_tables.specs.Primitive.{IsCombinational};
 ghost use Rattle.udp_tables.specs.Sequential.{HasEntries};
 
 use bool_functions::{Function, read_free};
-use cell_tables::{function_udp, laws::primitive_is_combinational};
+use cell_tables::function_udp;
+use cell_tables::laws::primitive_is_combinational;
 use sqlite_items::Items;
 use std::alloc::{AllocError, Global};
 use std::test::Fail;

@@ -130,7 +130,13 @@ impl CellSim for Still {
     ghost use Rattle.std.specs.Prelude.{⊤, ◌∷◌, [], Some, None, true, false, refl};
     ghost use Rattle.trit_cubes.specs.declared.trits.Trit.TheVariants.{Zero, Unknown};
 
-    ghost machine = { λ _. record { inputs = 1; outputs = 2; checks = 2; line = λ _. record { values = Zero ∷ Unknown ∷ []; delays = None ∷ Some 120 ∷ []; reports = false ∷ true ∷ [] } } };
+    ghost machine = { λ _. record {
+      inputs = 1;
+      outputs = 2;
+      checks = 2;
+      line =
+          λ _. record { values = Zero ∷ Unknown ∷ []; delays = None ∷ Some 120 ∷ []; reports = false ∷ true ∷ [] };
+    } };
 
     ghost stands = { λ _ _. ⊤ };
 

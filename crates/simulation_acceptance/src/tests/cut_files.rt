@@ -37,9 +37,9 @@ const NO_CHANGE: Outcome = (Status::Done, START, "");
 
 const MODULE_START: Outcome = (Status::Done, "cell INV\nV start : Y=x\n", "");
 
-/// Words, a file that is cut, and what its fronts come to. A library is refused, unless only its last line feed is cut off. The first
-/// line of a Verilog file is a whole file without a module, and no byte is a whole VHDL file without an entity. A stimulus is read as
-/// far as it goes.
+/// Words, a file that is cut, and what its fronts come to. A library is refused, unless only its last line feed is cut off. The
+/// first line of a Verilog file is a whole file without a module, and no byte is a whole VHDL file without an entity. A stimulus
+/// is read as far as it goes.
 const SIMULATIONS: [(File, &[Cut]); 4] = [
     (File::Library, &[(110, NO_LIBRARY), (usize::MAX, SIMULATED)]),
     (

@@ -48,7 +48,8 @@ pin (Q) { direction : output; function : \"IQ\"; }
 }
 ";
 
-/// A flip-flop with these attributes of its state, its clock and its data, these inputs before its output, and this output behind it.
+/// A flip-flop with these attributes of its state, its clock and its data, these inputs before its output, and this output behind
+/// it.
 macro_rules! flip_flop {
     ($state:literal, $clock:literal, $data:literal, $inputs:literal, $output:literal) => {
         concat!(

@@ -1,6 +1,7 @@
 use Rattle.std.proofs.Common.{ap, ◌∙◌, slice_index_or, false}
 use Rattle.bool_functions.specs.declared.codes.Code.TheVariants as code
-use Rattle.bool_functions.proofs.CodeLists.{parted_as, no_codes, value_Zero, value_One, value_Name, value_Not, value_Xor, value_both, value_neither, value_first, value_second}
+use Rattle.bool_functions.proofs.CodeLists.{parted_as, no_codes, value_Zero, value_One, value_Name, value_Not, value_Xor}
+use Rattle.bool_functions.proofs.CodeLists.{value_both, value_neither, value_first, value_second}
 use Rattle.bool_functions.proofs.codes.+value.Goals as goal
 
 pub returns-in_default : goal.returns-in_default

@@ -2,7 +2,9 @@ use Rattle.std.proofs.Common.{sym, ap, ◌∙◌, ◌+◌, ◌++◌, [], ◌∷�
 use Rattle.bool_functions.proofs.Runs.{by_word, by_blank, by_mark, moved}
 use Rattle.bool_functions.specs.Token.{spans, span}
 use Rattle.bool_functions.proofs.tokens.spans.Goals as goal
-use Rattle.bool_functions.proofs.tokens.spans.Goals.{then-is_word_byte, else-is_word_byte+in_ok-push_run+then-not-is_blank+in_ok-push, else-is_word_byte+in_ok-push_run+else-not-is_blank}
+use Rattle.bool_functions.proofs.tokens.spans.Goals.{then-is_word_byte}
+use Rattle.bool_functions.proofs.tokens.spans.Goals.{else-is_word_byte+in_ok-push_run+then-not-is_blank+in_ok-push}
+use Rattle.bool_functions.proofs.tokens.spans.Goals.{else-is_word_byte+in_ok-push_run+else-not-is_blank}
 
 pub loop-at-preserved : goal.loop-at-preserved
 loop-at-preserved c = moved c.args.text.now c.loop-at.found.items c.if-is_word_byte.found.items (spans c.args.text.now) c.loop-at.begun c.if-is_word_byte.begun c.loop-at.at c.loop-at-test.true c.loop-at.invariant

@@ -1,6 +1,7 @@
 use Rattle.std.proofs.Common.{length, sym, ap, ◌∙◌, arith}
 use Rattle.std.proofs.lemmas.List.{length-drop}
-use Rattle.cell_cursor.proofs.Stretches.{run_ends, tokens_so_far, mode_so_far, none_so_far, outer_so_far, counted_so_far, passed_token, passed_rest}
+use Rattle.cell_cursor.proofs.Stretches.{run_ends, tokens_so_far, mode_so_far, none_so_far, outer_so_far, counted_so_far}
+use Rattle.cell_cursor.proofs.Stretches.{passed_token, passed_rest}
 use Rattle.cell_cursor.proofs.part.scan_tokens.Goals as goal
 
 pub returns-then-may_end-clause-tokens : goal.returns-then-may_end-clause-tokens

@@ -5,7 +5,8 @@ use Rattle.cell_cursor.specs.Items.{Adds, statements_after}
 use Rattle.cell_cursor.specs.Reached.{EndsInner}
 use Rattle.cell_cursor.proofs.Comings.{failed_inner}
 use Rattle.cell_cursor.proofs.OpenParts.{walked_empty, walked_named, last_open}
-use Rattle.cell_cursor.proofs.StatementSteps.{went_other, went_through, went_open, failed_adds, empty_turn_as, named_turn_as, empty_less, rest_shorter}
+use Rattle.cell_cursor.proofs.StatementSteps.{went_other, went_through, went_open, failed_adds, empty_turn_as, named_turn_as}
+use Rattle.cell_cursor.proofs.StatementSteps.{empty_less, rest_shorter}
 use Rattle.cell_cursor.proofs.statements.read_statements.Goals as goal
 use Rattle.cell_cursor.proofs.statements.read_statements.Goals.{in-Empty, in-Named+in_ok-read_statement-in-Named+else-not-branch}
 

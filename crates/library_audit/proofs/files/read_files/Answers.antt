@@ -3,7 +3,8 @@ use Rattle.library_reader.specs.LibraryCells.{all_described}
 use Rattle.run_outcome.specs.Runs.{RunsAs}
 use Rattle.run_outcome.proofs.FileStepLaws.{err_is}
 use Rattle.library_audit.specs.Outcome.{audit_files, audit_of}
-use Rattle.library_audit.proofs.ReadFiles.{verilog_planned, cells_read, models_read, modules_sound, library_ends, verilog_ends, no_memory}
+use Rattle.library_audit.proofs.ReadFiles.{verilog_planned, cells_read, models_read, modules_sound, library_ends, verilog_ends}
+use Rattle.library_audit.proofs.ReadFiles.{no_memory}
 use Rattle.library_audit.proofs.files.read_files.Goals as goal
 
 pub read_model_file-requires : goal.read_model_file-requires

@@ -6,7 +6,8 @@ use Rattle.run_outcome.proofs.WrittenLaws.{still_bound_all}
 use Rattle.cell_cursor.specs.Stands.{is_failed}
 use Rattle.library_reader.specs.Endings.{library_limit}
 use Rattle.library_reader.proofs.Following.{room_kept, ends_on, stops_at_step, few_given}
-use Rattle.library_reader.proofs.FoldLemmas.{folded_start, folded_next, folds_first, folds_seeking, folds_within, folds_all, still_all_bound, written_all_bound}
+use Rattle.library_reader.proofs.FoldLemmas.{folded_start, folded_next, folds_first, folds_seeking, folds_within, folds_all}
+use Rattle.library_reader.proofs.FoldLemmas.{still_all_bound, written_all_bound}
 use Rattle.library_reader.proofs.items.fold_items.Goals as goal
 
 pub returns-in_err-cursor-clause-items : goal.returns-in_err-cursor-clause-items

@@ -2,7 +2,8 @@ use Rattle.std.proofs.Common.{sym, subst}
 use Rattle.run_outcome.specs.Runs.{RunsAs}
 use Rattle.run_outcome.proofs.FileStepLaws.{err_is}
 use Rattle.library_simulation.specs.Simulate.{simulate_files, simulate_of}
-use Rattle.library_simulation.proofs.SimulationFiles.{one_file, two_files, still_planned, has_verilog, has_vital, cells_read, modules_read, entities_read, library_ends, verilog_ends, vital_ends}
+use Rattle.library_simulation.proofs.SimulationFiles.{one_file, two_files, still_planned, has_verilog, has_vital, cells_read}
+use Rattle.library_simulation.proofs.SimulationFiles.{modules_read, entities_read, library_ends, verilog_ends, vital_ends}
 use Rattle.library_simulation.proofs.SimulateLemmas.{own_names, modules_run, entities_run}
 use Rattle.library_simulation.proofs.simulation.read_cells_and_models.Goals as goal
 

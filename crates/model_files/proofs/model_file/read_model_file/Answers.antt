@@ -2,7 +2,8 @@ use Rattle.std.proofs.Common.{◌≡◌, ◌+◌, ap, subst, ◌∙◌}
 use Rattle.text_io.specs.Desk.{opened}
 use Rattle.text_io.specs.Read.{IsRead, ReadsAtMost}
 use Rattle.run_outcome.specs.Status.{is_decided}
-use Rattle.run_outcome.proofs.FileStepLaws.{err_is, undecided_stop, bound_then, unbound_ends, unread_ends, taken_as_values, taken_ends}
+use Rattle.run_outcome.proofs.FileStepLaws.{err_is, undecided_stop, bound_then, unbound_ends, unread_ends, taken_as_values}
+use Rattle.run_outcome.proofs.FileStepLaws.{taken_ends}
 use Rattle.model_files.specs.Formats.{slot_of}
 use Rattle.model_files.specs.Limits.{model_limit}
 use Rattle.model_files.specs.ModelAnswer.{long_model_stop, models_in_text, model_answer}

@@ -1,7 +1,8 @@
 use Rattle.std.proofs.Common.{ap, ◌∙◌}
 use Rattle.text_io.specs.declared.slots.InSlot.TheVariants.{Stimulus}
 use Rattle.run_outcome.specs.Status.{is_decided}
-use Rattle.run_outcome.proofs.FileStepLaws.{err_is, undecided_stop, bound_then, unbound_ends, unread_ends, taken_as_values, taken_ends}
+use Rattle.run_outcome.proofs.FileStepLaws.{err_is, undecided_stop, bound_then, unbound_ends, unread_ends, taken_as_values}
+use Rattle.run_outcome.proofs.FileStepLaws.{taken_ends}
 use Rattle.model_files.specs.Limits.{stimulus_limit}
 use Rattle.model_files.specs.StimulusAnswer.{long_stimulus_stop, sections_in_text, stimulus_answer}
 use Rattle.model_files.proofs.stimulus_file.read_stimulus_file.Goals as goal

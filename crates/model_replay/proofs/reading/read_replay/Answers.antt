@@ -4,7 +4,8 @@ use Rattle.model_files.specs.ModelNames.{HaveOwnNames}
 use Rattle.run_outcome.proofs.FileStepLaws.{err_is}
 use Rattle.model_replay.specs.ModelPorts.{models_named}
 use Rattle.model_replay.specs.Outcome.{replay_files, replay_of}
-use Rattle.model_replay.proofs.ReplayFiles.{models_planned, stimulus_planned, models_read, models_end, stimulus_ends, no_memory, replay_read}
+use Rattle.model_replay.proofs.ReplayFiles.{models_planned, stimulus_planned, models_read, models_end, stimulus_ends, no_memory}
+use Rattle.model_replay.proofs.ReplayFiles.{replay_read}
 use Rattle.model_replay.proofs.reading.read_replay.Goals as goal
 
 pub read_model_file-requires : goal.read_model_file-requires

@@ -1,7 +1,8 @@
 use Rattle.std.proofs.Common.{[], ◌∙◌, refl, arith}
 use Rattle.std.proofs.lemmas.List.{get_or_default}
 use Rattle.stimulus.specs.Comparison.{three_lines}
-use Rattle.stimulus.proofs.Runs.{Stand, three_shown, stops_in, flushed, written_part, compares_first, compares, three_put, three_alike}
+use Rattle.stimulus.proofs.Runs.{Stand, three_shown, stops_in, flushed, written_part, compares_first, compares, three_put}
+use Rattle.stimulus.proofs.Runs.{three_alike}
 use Rattle.stimulus.proofs.comparison.write_comparison.Goals as goal
 
 pub loop-change-init : goal.loop-change-init

@@ -6,7 +6,8 @@ use Rattle.cell_cursor.specs.declared.item.LibraryItem.{LibraryItem}
 use Rattle.cell_cursor.specs.Stands.{Goes, GoesBy, Advances}
 use Rattle.cell_cursor.specs.Progress.{may_have_ended, is_whole}
 use Rattle.cell_cursor.proofs.SeekingLemmas.{less_to_do, read_to_do, never_by}
-use Rattle.cell_cursor.proofs.AdvanceLemmas.{advance_scanned, advance_fails, advance_failed, advance_takes, advance_reads, advance_ends, nil_of}
+use Rattle.cell_cursor.proofs.AdvanceLemmas.{advance_scanned, advance_fails, advance_failed, advance_takes, advance_reads}
+use Rattle.cell_cursor.proofs.AdvanceLemmas.{advance_ends, nil_of}
 use Rattle.cell_cursor.proofs.TakingLemmas.{takes_none}
 use Rattle.cell_cursor.proofs.cursor.CellCursor.advance.Goals as goal
 

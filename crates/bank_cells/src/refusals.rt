@@ -95,7 +95,7 @@ fn lesser(earlier: Option<usize>, at: usize) -> Option<usize>
 }
 
 /// The least of some offsets.
-#[tactic(auto, using(cell_machine::proofs::ArcDelays::lesser_assoc))]
+#[tactic(auto, using(cell_machine::proofs::LeastLemmas::lesser_assoc))]
 fn least(offsets: &[usize]) -> Option<usize>
     ensures { result ≡ least_of offsets.now }
 {

@@ -16,13 +16,13 @@ use Rattle.cell_attributes.specs.Pins.{owner_as, owners_in}
 use Rattle.cell_attributes.specs.Vocabulary.{Vocabulary}
 use Rattle.cell_attributes.specs.Building.{output_in, outputs_from}
 use Rattle.cell_attributes.specs.Limits.{place_of_group}
-use Rattle.core_groups.specs.Outputs.{is_three_state, outputs_from as floating_from}
+use Rattle.core_groups.specs.Outputs.{ThreeStateOutput, is_three_state, outputs_from as floating_from}
 use Rattle.gathered_cells.proofs.Single.{single, same_at, same_answer, same_output, same_left_out_timing, same_floating}
 use Rattle.gathered_cells.proofs.Single.{its_owner}
 use Rattle.gathered_cells.proofs.Lists.{apart, told, of_pins, of_pins_join, one_of, several_of, each_name}
 
 -- A pin: its group, and its name among those of the group.
-record Owner : Type 0 where
+pub record Owner : Type 0 where
   pub group : Group
   pub name : Value
 
@@ -32,10 +32,10 @@ owner_at group value = record { group = group; name = value }
 abbrev names_in : Group → List Owner
 names_in group = map (owner_at group) group.arguments
 
-abbrev whole : Owner → Group
+abbrev pub whole : Owner → Group
 whole owner = owner.group
 
-abbrev alone : Owner → Group
+abbrev pub alone : Owner → Group
 alone owner = single owner.group owner.name
 
 whole_names : (group : Group) (values : List Value) → map (owner_as group) values ≡ map whole (map (owner_at group) values)
@@ -159,7 +159,7 @@ pub at_apart : (groups : List Group)
     → map place_of_group (of_pins owners_in (flat_map apart groups)) ≡ map place_of_group (of_pins owners_in groups)
 at_apart = owners_apart (map place_of_group) at_each
 
--- The outputs that may float are those of pins, so that none of the one are none of the other.
+-- The three-state outputs are among the pins.
 abbrev is_owned : Owner → Bool
 is_owned owner = is_pin owner.group
 
@@ -180,37 +180,45 @@ all_owned (group ∷ groups) = by (is_pin group) refl (all_owned groups)
         (owned_names group group.arguments e) rest
     by false e rest = rest
 
-none_floats : (f g : Owner → Group)
-    → ((owner : Owner) → is_owned owner ≡ true → is_three_state (f owner) ≡ is_three_state (g owner))
-    → (pin : ℕ) (owners : List Owner) → list_all is_owned owners ≡ true → floating_from pin (map f owners) ≡ []
-    → floating_from pin (map g owners) ≡ []
-none_floats f g same pin [] owned e = refl
-none_floats f g same pin (owner ∷ owners) owned e =
+-- A three-state output: its pin, and the owner of that.
+pub record Floating : Type 0 where
+  pub pin : ℕ
+  pub owner : Owner
+
+abbrev floats_from : ℕ → List Owner → List Floating
+floats_from pin [] = []
+floats_from pin (owner ∷ owners) =
+    (if is_three_state owner.group then record { pin = pin; owner = owner } ∷ [] else []) ++ floats_from (pin + 1) owners
+
+abbrev pub output_by : (Owner → Group) → Floating → ThreeStateOutput
+output_by f one = record { pin = one.pin; group = f one.owner }
+
+floats_shown : (f : Owner → Group)
+    → ((owner : Owner) → is_owned owner ≡ true → is_three_state (f owner) ≡ is_three_state owner.group)
+    → (pin : ℕ) (owners : List Owner) → list_all is_owned owners ≡ true
+    → floating_from pin (map f owners) ≡ map (output_by f) (floats_from pin owners)
+floats_shown f same pin [] owned = refl
+floats_shown f same pin (owner ∷ owners) owned =
     let parts = and_parts (is_owned owner) (list_all is_owned owners) owned in
-    by (is_three_state (f owner)) refl (same owner parts.0) (none_floats f g same (pin + 1) owners parts.1) e
+    (λ i. (if same owner parts.0 i then record { pin = pin; group = f owner } ∷ [] else [])
+    ++ floats_shown f same (pin + 1) owners parts.1 i)
+    ∙ by (is_three_state owner.group)
   where
-    by : (b : Bool) → is_three_state (f owner) ≡ b → is_three_state (f owner) ≡ is_three_state (g owner)
-        → (floating_from (pin + 1) (map f owners) ≡ [] → floating_from (pin + 1) (map g owners) ≡ [])
-        → (if b then record { pin = pin; group = f owner } ∷ [] else []) ++ floating_from (pin + 1) (map f owners) ≡ []
-        → (if is_three_state (g owner) then record { pin = pin; group = g owner } ∷ [] else [])
-        ++ floating_from (pin + 1) (map g owners) ≡ []
-    by true is also rest none = absurd cc
-    by false is also rest none =
-        ap (λ c. (if c then record { pin = pin; group = g owner } ∷ [] else []) ++ floating_from (pin + 1) (map g owners))
-        (sym also ∙ is)
-        ∙ rest none
+    by : (b : Bool)
+        → (if b then record { pin = pin; group = f owner } ∷ [] else []) ++ map (output_by f) (floats_from (pin + 1) owners)
+        ≡ map (output_by f) ((if b then record { pin = pin; owner = owner } ∷ [] else []) ++ floats_from (pin + 1) owners)
+    by true = refl
+    by false = refl
 
-pub none_floats_apart : (groups : List Group) → floating_from 0 (of_pins owners_in groups) ≡ []
-    → floating_from 0 (of_pins owners_in (flat_map apart groups)) ≡ []
-none_floats_apart groups e =
-    ap (floating_from 0) (owners_alone groups)
-    ∙ none_floats whole alone (λ owner is. sym (same_floating owner.group owner.name is)) 0 (of_pins names_in groups)
-    (all_owned groups)
-    (sym (ap (floating_from 0) (owners_whole groups)) ∙ e)
-
-pub none_floats_together : (groups : List Group) → floating_from 0 (of_pins owners_in (flat_map apart groups)) ≡ []
-    → floating_from 0 (of_pins owners_in groups) ≡ []
-none_floats_together groups e =
-    ap (floating_from 0) (owners_whole groups)
-    ∙ none_floats alone whole (λ owner is. same_floating owner.group owner.name is) 0 (of_pins names_in groups) (all_owned groups)
-    (sym (ap (floating_from 0) (owners_alone groups)) ∙ e)
+-- What is the same of three-state outputs alone and of those of whole groups is the same of all groups apart.
+pub floats_apart : {A : Type 0} (f : List ThreeStateOutput → A)
+    → ((outputs : List Floating) → f (map (output_by alone) outputs) ≡ f (map (output_by whole) outputs)) → (groups : List Group)
+    → f (floating_from 0 (of_pins owners_in (flat_map apart groups))) ≡ f (floating_from 0 (of_pins owners_in groups))
+floats_apart f same groups =
+    ap f
+    (ap (floating_from 0) (owners_alone groups)
+    ∙ floats_shown alone (λ owner. same_floating owner.group owner.name) 0 (of_pins names_in groups) (all_owned groups))
+    ∙ (same (floats_from 0 (of_pins names_in groups))
+    ∙ sym (ap f
+    (ap (floating_from 0) (owners_whole groups)
+    ∙ floats_shown whole (λ owner is. refl) 0 (of_pins names_in groups) (all_owned groups))))

@@ -2,5 +2,9 @@ pub mod Single
 pub mod Lists
 pub mod Cells
 pub mod Refused
+pub mod Places
+pub mod Cores
+pub mod Delays
+pub mod Floating
 pub mod Members
 pub mod ReadLemmas

@@ -5,25 +5,35 @@ use Rattle.std.specs.Prelude.{flat_map, bytes_eq, min}
 use Rattle.std.proofs.lemmas.Bool.{ne_eqb}
 use Rattle.std.proofs.lemmas.Grind.{flat_map-append}
 use Rattle.std.proofs.lemmas.Slice.Eq.{bytes_eq-Decides}
-use Rattle.std.proofs.lemmas.List.Elements.{filter-append}
+use Rattle.std.proofs.lemmas.List.Elements.{filter-append, filter_map-append}
 use Rattle.liberty_groups.specs.declared.tree.Value.{Value}
+use Rattle.liberty_groups.specs.declared.tree.Item.{Item, out-Item}
 use Rattle.liberty_groups.specs.declared.tree.Group.{Group}
 use Rattle.cell_machine.specs.Delay.{least, lesser}
 use Rattle.cell_machine.proofs.LeastLemmas.{lesser_assoc}
-use Rattle.cell_attributes.specs.Groups.{is_called, is_pin, is_state}
+use Rattle.cell_attributes.specs.Groups.{is_called, is_pin, is_state, inner_of, inner_groups}
 use Rattle.cell_attributes.specs.States.{states_in}
 use Rattle.cell_attributes.specs.Scans.{bank_in}
 use Rattle.cell_attributes.specs.Declarations.{Declared, declared_pin, declared_in, declared_state}
 use Rattle.gathered_cells.proofs.Single.{single, is_one_pin, is_no_state, no_bank_in, its_declared}
 
 -- A pin group becomes one for each of its names.
-abbrev apart_by : Bool → Group → List Group
+abbrev pub apart_by : Bool → Group → List Group
 apart_by b group = if b then map (single group) group.arguments else group ∷ []
 
 abbrev pub apart : Group → List Group
 apart group = apart_by (is_called (codes "pin") group) group
 
-some_name : (value : Value) (values : List Value) → (length (value ∷ values) == 0) ≡ false
+-- the groups among statements, apart
+abbrev pub apart_in : List Item → List Group
+apart_in items = flat_map apart (inner_groups items)
+
+pub apart_append : (xs ys : List Item) → apart_in (xs ++ ys) ≡ apart_in xs ++ apart_in ys
+apart_append xs ys =
+    ap (flat_map apart) (filter_map-append (λ item. inner_of (out-Item item)) xs ys)
+    ∙ flat_map-append apart (inner_groups xs) (inner_groups ys)
+
+pub some_name : (value : Value) (values : List Value) → (length (value ∷ values) == 0) ≡ false
 some_name value values = ne_eqb (length (value ∷ values)) 0 (λ e. omega (arith, e))
 
 -- the pins among groups
@@ -83,6 +93,15 @@ several_of h group = ap (flat_map h) (pins_apart group) ∙ by (is_pin group)
         then flat_map h (map (single group) group.arguments) else [])
     by true = refl
     by false = refl
+
+-- each of the pin groups, apart
+abbrev pub split : Group → List Group
+split group = map (single group) group.arguments
+
+pub pins_split : (groups : List Group) → filter is_pin (flat_map apart groups) ≡ of_pins split groups
+pins_split groups =
+    told (λ xs ys. xs ++ ys) (filter is_pin) (of_pins split) refl (filter-append is_pin) (of_pins_join split)
+    (λ group. pins_apart group ∙ sym (one_of split group)) groups
 
 -- What is made of each name is made of them apart.
 pub each_name :

@@ -3,9 +3,7 @@ use Rattle.std.proofs.Common.{◌≡◌, ℕ, ◌+◌, Bool, true, false, ◌&&�
 use Rattle.std.proofs.Common.{sym, ap, ◌∙◌, codes, append-nil}
 use Rattle.std.specs.Prelude.{flat_map, bytes_eq}
 use Rattle.std.specs.List.{cons_option}
-use Rattle.std.proofs.lemmas.Grind.{flat_map-append}
 use Rattle.std.proofs.lemmas.List.{map-append}
-use Rattle.std.proofs.lemmas.List.Elements.{filter_map-append}
 use Rattle.liberty_groups.specs.declared.tree.Value.{Value}
 use Rattle.liberty_groups.specs.declared.tree.Item.{Item, out-Item}
 use Rattle.liberty_groups.specs.declared.tree.Item.TheOpen.{Item-F, Group-F}
@@ -14,7 +12,6 @@ use Rattle.liberty_groups.specs.declared.tree.Item.TheVariants as made
 use Rattle.liberty_groups.specs.declared.tree.Item.TheViews.{outs-Inner, out-roll-Group}
 use Rattle.liberty_groups.specs.declared.tree.Group.{Group, roll-Group, out-Group}
 use Rattle.cell_attributes.specs.Groups.{is_called, inner_of, inner_groups}
-use Rattle.core_groups.specs.Outputs.{three_state_outputs}
 use Rattle.bus_texts.specs.declared.bus_types.BusType.{BusType}
 use Rattle.bus_texts.specs.declared.vectors.Vector.{Vector}
 use Rattle.bus_texts.specs.Vectors.{is_bank, pin_vectors, cell_vectors}
@@ -27,8 +24,8 @@ use Rattle.bank_cells.specs.Gathered.{gathered_item, gathered_cell, gathered}
 use Rattle.bank_cells.proofs.AlikeLemmas.{statements_same, no_own}
 use Rattle.gathered_cells.specs.Laws.{IsReadAs}
 use Rattle.gathered_cells.proofs.Single.{single, same_items, same_at, its_name, is_called_pin}
-use Rattle.gathered_cells.proofs.Lists.{apart}
-use Rattle.gathered_cells.proofs.Refused.{read_alike}
+use Rattle.gathered_cells.proofs.Lists.{apart, apart_in, apart_append}
+use Rattle.gathered_cells.proofs.Floating.{read_alike}
 
 -- So a member's pin is one of the gathered ones.
 abbrev pin_with : Value → List Item → ℕ → Group
@@ -80,15 +77,6 @@ single_apart group value =
     ap (λ b. if b then map (single (single group value)) (single group value).arguments else single group value ∷ [])
     (is_called_pin group value)
     ∙ (ap (map (single (single group value))) (its_name group value) ∙ ap (λ (g : Group). g ∷ []) (single_again group value))
-
--- The groups among statements, apart.
-abbrev apart_in : List Item → List Group
-apart_in items = flat_map apart (inner_groups items)
-
-apart_append : (xs ys : List Item) → apart_in (xs ++ ys) ≡ apart_in xs ++ apart_in ys
-apart_append xs ys =
-    ap (flat_map apart) (filter_map-append (λ item. inner_of (out-Item item)) xs ys)
-    ∙ flat_map-append apart (inner_groups xs) (inner_groups ys)
 
 inner_apart : (group : Group) (items : List Item) → apart_in (made.Inner group ∷ items) ≡ apart group ++ apart_in items
 inner_apart group items = ap (λ one. flat_map apart (cons_option (inner_of one) (inner_groups items))) (outs-Inner group)
@@ -172,17 +160,16 @@ module _ (types : List BusType) (cell : Group) where
       → f (out-Group (gathered_cell types cell)) ≡ f (out-Group (expanded_cell types cell))
   same f e = ap f (out-roll-Group in_gathered) ∙ (e ∙ sym (ap f (out-roll-Group in_expanded)))
 
-  cell_read : three_state_outputs (gathered_cell types cell) ≡ [] → IsReadAs (gathered_cell types cell) (expanded_cell types cell)
+  cell_read : IsReadAs (gathered_cell types cell) (expanded_cell types cell)
   cell_read =
       read_alike (gathered_cell types cell) (expanded_cell types cell) (same (λ one. one.arguments) refl)
       (same (λ one. one.at) refl)
       (same (λ one. apart_in one.items) (statements_apart types (cell_vectors types cell) cell.items))
 
-  read_by : (b : Bool) → three_state_outputs (if b then gathered_cell types cell else cell) ≡ []
-      → IsReadAs (if b then gathered_cell types cell else cell) (if b then expanded_cell types cell else cell)
-  read_by true e = cell_read e
-  read_by false e = record { same_refusal = λ unit earlier. refl; same_data = λ unit number. refl }
+  read_by : (b : Bool) → IsReadAs (if b then gathered_cell types cell else cell) (if b then expanded_cell types cell else cell)
+  read_by true = cell_read
+  read_by false = record { same_refusal = λ unit earlier. refl; same_data = λ unit number. refl }
 
-  pub gathered_read : three_state_outputs (gathered types cell) ≡ [] → IsReadAs (gathered types cell) (expanded types cell)
+  pub gathered_read : IsReadAs (gathered types cell) (expanded types cell)
   unfolding gathered expanded
-  gathered_read e = read_by (has_many cell) e
+  gathered_read = read_by (has_many cell)

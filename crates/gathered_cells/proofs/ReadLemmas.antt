@@ -1,12 +1,9 @@
--- A gathered group whose outputs never float is read as the expanded one.
-use Rattle.std.proofs.Common.{◌≡◌, ℕ, ◌==◌, true, List, [], ◌∷◌, length, Option, None, Result, IfOk, IfErr, refl, sym, subst}
-use Rattle.std.proofs.Common.{arith}
-use Rattle.std.proofs.lemmas.Bool.{eqb-true}
+-- A gathered group is read as the expanded one.
+use Rattle.std.proofs.Common.{◌≡◌, ℕ, List, Option, None, Result, IfOk, IfErr, sym, subst}
 use Rattle.liberty_text.specs.declared.time.Unit.{Unit}
 use Rattle.liberty_groups.specs.declared.tree.Group.{Group}
 use Rattle.cell_reader.specs.declared.fault.CellFault.{CellFault}
 use Rattle.cell_reader.specs.CellTexts.{Tells}
-use Rattle.core_groups.specs.Outputs.{three_state_outputs}
 use Rattle.three_state_cells.specs.declared.driven_cell.DrivenCell.{DrivenCell}
 use Rattle.three_state_cells.specs.DrivenCells.{driven_data, driven_data_of}
 use Rattle.three_state_cells.specs.Refusals.{driven_refusal}
@@ -16,18 +13,12 @@ use Rattle.bank_cells.specs.Gathered.{gathered}
 use Rattle.gathered_cells.specs.Laws.{IsReadAs}
 use Rattle.gathered_cells.proofs.Members.{gathered_read}
 
-empty : {A : Type 0} (xs : List A) → (length xs == 0) ≡ true → xs ≡ []
-empty [] e = refl
-empty (x ∷ xs) e = let none : length (x ∷ xs) ≡ 0 = eqb-true (length (x ∷ xs)) 0 e in absurd (omega (arith, none))
-
 module _
     (types : List BusType) (cell group : Group) (unit : Option Unit) (number : ℕ) (earlier : List (List ℕ))
     (result : Result DrivenCell CellFault)
-    (is : group ≡ gathered types cell) (never : (length (three_state_outputs group) == 0) ≡ true) where
+    (is : group ≡ gathered types cell) where
   alike : IsReadAs group (expanded types cell)
-  alike =
-      subst (λ g. three_state_outputs g ≡ [] → IsReadAs g (expanded types cell)) (sym is) (gathered_read types cell)
-      (empty (three_state_outputs group) never)
+  alike = subst (λ g. IsReadAs g (expanded types cell)) (sym is) (gathered_read types cell)
 
   pub same_cell : IfOk result (λ (driven : DrivenCell). driven_data_of driven ≡ driven_data unit number group)
       → IfOk result (λ (driven : DrivenCell). driven_data_of driven ≡ driven_data unit number (expanded types cell))

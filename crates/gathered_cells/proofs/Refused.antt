@@ -41,17 +41,13 @@ use Rattle.cell_reader.specs.CellTexts.{subject_with, subject_of}
 use Rattle.cell_reader.specs.Written.{coupled_of, own_conditions_of, wide_conditions_of, no_support_of, wide_support_of}
 use Rattle.cell_reader.specs.Refusals.{refused_or, timing_answers, timing_places, malformed, unknown_names, coupled}
 use Rattle.cell_reader.specs.Refusals.{own_conditions, numbers, limits, udp_inputs, refusal_of, left_out_of}
-use Rattle.core_groups.specs.Outputs.{three_state_outputs, outputs_from as floating_from}
-use Rattle.three_state_cells.specs.DrivenCells.{DrivenData, plain_of, data_by, driven_data}
-use Rattle.three_state_cells.specs.Refusals.{refusal_by, driven_refusal}
-use Rattle.gathered_cells.specs.Laws.{IsReadAs}
+use Rattle.three_state_cells.specs.DrivenCells.{DrivenData, plain_of, data_by}
 use Rattle.gathered_cells.proofs.Single.{single, its_pin, its_entry, same_text, same_directions, same_three_states, same_left_out}
 use Rattle.gathered_cells.proofs.Single.{same_no_function, same_wide_output, same_malformed, same_unknown, same_own, same_wide}
 use Rattle.gathered_cells.proofs.Single.{same_numbers, same_check_at, same_arc_at}
 use Rattle.gathered_cells.proofs.Lists.{apart, of_pins, by_name, least_join, least_same, states_apart, banks_apart}
 use Rattle.gathered_cells.proofs.Lists.{declared_apart}
 use Rattle.gathered_cells.proofs.Cells.{places_apart, answers_apart, left_out_apart, outputs_apart, offsets_apart, at_apart}
-use Rattle.gathered_cells.proofs.Cells.{none_floats_apart, none_floats_together}
 
 -- what the states, the texts and the outputs of a cell hang on
 record Known : Type 0 where
@@ -91,14 +87,14 @@ join_same xs ys zs ws e f =
 module _
     (one other : Group) (arguments : one.arguments ≡ other.arguments) (place : one.at ≡ other.at)
     (all_apart : flat_map apart (inner_groups one.items) ≡ flat_map apart (inner_groups other.items)) where
-  both : {A : Type 0} (f : List Group → A) → ((groups : List Group) → f (flat_map apart groups) ≡ f groups)
+  pub both : {A : Type 0} (f : List Group → A) → ((groups : List Group) → f (flat_map apart groups) ≡ f groups)
       → f (inner_groups one.items) ≡ f (inner_groups other.items)
   both f same = sym (same (inner_groups one.items)) ∙ (ap f all_apart ∙ same (inner_groups other.items))
 
   same_states : state_groups one ≡ state_groups other
   same_states = both (filter is_state) states_apart
 
-  same_pins : pins_of one ≡ pins_of other
+  pub same_pins : pins_of one ≡ pins_of other
   same_pins = both (of_pins pins_in) (by_name pins_in pins_in pin_as its_pin (λ group. refl))
 
   same_entries : flat_map (pin_entries (states_of other)) (pin_groups one) ≡ flat_map (pin_entries (states_of other))
@@ -204,7 +200,7 @@ module _
       ∙ ap (widths_as k (owners_of other)) (same_places wide_conditions_of (λ s group value. same_wide group value s) s))
 
   -- Why they are refused.
-  refused_alike : (s : Subject) (earlier : List (List ℕ)) → refusal_of s earlier one ≡ refusal_of s earlier other
+  pub refused_alike : (s : Subject) (earlier : List (List ℕ)) → refusal_of s earlier one ≡ refusal_of s earlier other
   refused_alike s earlier =
       next reason.Direction (least (directions one)) (least (directions other)) _ _ (same_least direction_in same_directions)
       (next reason.ThreeState (least (three_states one)) (least (three_states other)) _ _
@@ -273,10 +269,10 @@ module _
       ∙ both (λ groups. left_out_from 0 (of_pins owners_in groups) (timing_answers s other))
       (left_out_apart (timing_answers s other))
 
-  same_subject : (unit : Option Unit) → subject_of unit one ≡ subject_of unit other
+  pub same_subject : (unit : Option Unit) → subject_of unit one ≡ subject_of unit other
   same_subject unit = ap (subject_with unit) same_pins
 
-  data_alike : (unit : Option Unit) (number : ℕ) → data_by unit number one [] ≡ data_by unit number other []
+  pub data_alike : (unit : Option Unit) (number : ℕ) → data_by unit number one [] ≡ data_by unit number other []
   data_alike unit number =
       let s : Subject = subject_of unit one in
       let t : Subject = subject_of unit other in
@@ -290,19 +286,3 @@ module _
       (same_answers t)
       ∙ ap (data_as unit number other.arguments (known other) (outputs_of other) (timing_answers t other))
       (same_left_out_of t)))))
-
-  pub other_floats : three_state_outputs one ≡ [] → three_state_outputs other ≡ []
-  other_floats e =
-      none_floats_together (inner_groups other.items)
-      (sym (ap (λ groups. floating_from 0 (of_pins owners_in groups)) all_apart) ∙ none_floats_apart (inner_groups one.items) e)
-
-  pub read_alike : three_state_outputs one ≡ [] → IsReadAs one other
-  unfolding driven_refusal driven_data
-  read_alike e = record {
-    same_refusal = λ unit earlier.
-        ap (refusal_by unit earlier one) e
-        ∙ (ap (λ s. refusal_of s earlier one) (same_subject unit)
-        ∙ (refused_alike (subject_of unit other) earlier ∙ sym (ap (refusal_by unit earlier other) (other_floats e))));
-    same_data = λ unit number.
-        ap (data_by unit number one) e ∙ (data_alike unit number ∙ sym (ap (data_by unit number other) (other_floats e)));
-  }

@@ -24,6 +24,9 @@ use Rattle.timing_arcs.specs.Making.{checks_in}
 use Rattle.timing_arcs.specs.Merging.{merged, merged_at}
 use Rattle.timing_arcs.specs.Timing as timing
 use Rattle.cell_reader.specs.PinTimings.{Answer, arc_at_of, type_at, left_out_in}
+use Rattle.cell_reader.specs.Refusals.{met, first_refusal}
+use Rattle.cell_reader.specs.declared.refusal.Reason.TheVariants as reason
+use Rattle.cell_reader.specs.declared.refusal.Refusal.{Refusal}
 use Rattle.cell_reader.specs.Written as written
 use Rattle.cell_attributes.specs.Vocabulary.{Entry, Vocabulary, is_bound, class_as, entry_with, pin_entry, pin_entries}
 use Rattle.cell_attributes.specs.States.{StateName}
@@ -40,6 +43,8 @@ use Rattle.cell_attributes.specs.Outputs.{node_as, output_with, pin_text_as, pin
 use Rattle.cell_attributes.specs.Building.{output_pin, output_in}
 use Rattle.cell_attributes.specs.Limits.{wide_text, wide_output}
 use Rattle.core_groups.specs.Outputs.{is_three_state}
+use Rattle.core_groups.specs.DriverGroups.{driver_item, driver_pin}
+use Rattle.three_state_cells.specs.Refusals.{wrong_delays}
 
 abbrev shape : Group → Value → Group-F Item Group
 shape group value = record { name = codes "pin"; arguments = value ∷ []; items = group.items; at = group.at }
@@ -51,13 +56,13 @@ single group value = roll-Group (record { name = codes "pin"; arguments = value 
 abbrev attribute_in : List Item → List ℕ → Option Attribute
 attribute_in items name = last_or None (attributes_named name items)
 
-abbrev timings_in : List Item → List Group
+abbrev pub timings_in : List Item → List Group
 timings_in items = groups_named (codes "timing") items
 
 abbrev limit_in : Subject → List Item → List ℕ → Option Attribute
 limit_in s items name = if is_input_pin s.pins s.place then attribute_in items name else None
 
-abbrev numbers_in : Subject → List Item → List ℕ
+abbrev pub numbers_in : Subject → List Item → List ℕ
 numbers_in s items =
     flat_map (timing.bad_numbers_in s) (timings_in items)
     ++ (timing.bad_attribute s (limit_in s items (codes "min_pulse_width_high"))
@@ -85,12 +90,29 @@ timing_in s items = record {
   wide = least (flat_map (timing.wide_in s) (timings_in items));
 }
 
-abbrev answer_in : Subject → List Item → Answer
+abbrev pub answer_in : Subject → List Item → Answer
 answer_in s items =
     timing.unless_at fault.Malformed (least (flat_map (timing.malformed_in s) (timings_in items)))
     (timing.unless_at fault.UnknownName (least (flat_map (timing.unknown_in s) (timings_in items)))
     (timing.unless_at fault.OwnCondition (least (flat_map (timing.own_in s) (timings_in items)))
     (timing.unless_at fault.Number (least (numbers_in s items)) (Ok (timing_in s items)))))
+
+abbrev wrong_in : Subject → List Item → Option Refusal
+wrong_in s items =
+    first_refusal
+    (met reason.UnknownName (flat_map (timing.unknown_in s) (timings_in items)) ∷ met reason.Number (numbers_in s items) ∷ [])
+
+abbrev driver_shape : Group → Group-F Item Group
+driver_shape group = record {
+  name = group.name;
+  arguments = group.arguments;
+  items = map driver_item (timings_in group.items);
+  at = group.at;
+}
+
+driver_items : (group : Group) → (driver_pin group).items ≡ map driver_item (timings_in group.items)
+unfolding driver_pin
+driver_items group = ap (λ (one : Group-F Item Group). one.items) (out-roll-Group (driver_shape group))
 
 module _ (group : Group) (value : Value) where
   pub same_items : (single group value).items ≡ group.items
@@ -301,3 +323,16 @@ module _ (group : Group) (value : Value) where
   same_left_out_timing pin (Ok timing) =
       ap (λ items. map (λ place. record { pin = pin; kind = type_at items place }) timing.left_out) same_items
   same_left_out_timing pin (Err e) = refl
+
+  -- its delays, where it may float
+  same_driver_items : (driver_pin (single group value)).items ≡ (driver_pin group).items
+  same_driver_items =
+      driver_items (single group value)
+      ∙ (ap (λ items. map driver_item (timings_in items)) same_items ∙ sym (driver_items group))
+
+  pub same_wrong_delays_of : (s : Subject) → wrong_delays s (single group value) ≡ wrong_delays s group
+  same_wrong_delays_of s = ap (wrong_in s) same_driver_items
+
+  pub same_driver_answer : (s : Subject)
+      → timing.reading_answer s (driver_pin (single group value)) ≡ timing.reading_answer s (driver_pin group)
+  same_driver_answer s = ap (answer_in s) same_driver_items

@@ -1,8 +1,7 @@
 -- What is read of a cell in which the alike pins of buses and bundles are gathered.
-use Rattle.std.specs.Prelude.{◌≡◌, ℕ, List, [], Option}
+use Rattle.std.specs.Prelude.{◌≡◌, ℕ, List, Option}
 use Rattle.liberty_text.specs.declared.time.Unit.{Unit}
 use Rattle.liberty_groups.specs.declared.tree.Group.{Group}
-use Rattle.three_state_cells.specs.Outputs.{three_state_outputs}
 use Rattle.three_state_cells.specs.DrivenCells.{driven_data}
 use Rattle.three_state_cells.specs.Refusals.{driven_refusal}
 use Rattle.bus_texts.specs.declared.bus_types.BusType.{BusType}
@@ -15,8 +14,7 @@ pub record IsReadAs (one other : Group) : Type 0 where
       → driven_refusal unit earlier one ≡ driven_refusal unit earlier other
   pub same_data : (unit : Option Unit) (number : ℕ) → driven_data unit number one ≡ driven_data unit number other
 
--- A gathered cell without three-state outputs is read as the expanded one.
+-- A gathered cell is read as the expanded one.
 abbrev pub GatheredCellsAreReadAsExpanded : Type 0
 GatheredCellsAreReadAsExpanded =
-    (types : List BusType) (cell : Group)
-    → three_state_outputs (gathered types cell) ≡ [] → IsReadAs (gathered types cell) (expanded types cell)
+    (types : List BusType) (cell : Group) → IsReadAs (gathered types cell) (expanded types cell)

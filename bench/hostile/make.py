@@ -120,16 +120,17 @@ def flip_flops(n):
     return library(cell(inputs(names), groups, 'pin (Y) { direction : output; function : "q0"; }\n'))
 
 
-def state_table(columns, nodes, rows):
-    """a cell whose one output shows the first node of a table with these rows"""
-    return library(
-        cell(
-            inputs(columns),
-            'statetable ("%s", "%s") { table : "%s"; }\n' % (" ".join(columns), " ".join(nodes), ", ".join(rows)),
-            *('pin (%s) { direction : internal; internal_node : "%s"; }\n' % (node, node) for node in nodes),
-            'pin (Y) { direction : output; state_function : "%s"; }\n' % nodes[0],
-        )
+def table_parts(columns, nodes, rows):
+    """a table with these rows, the pins of its nodes, and an output that shows the first one"""
+    return (
+        'statetable ("%s", "%s") { table : "%s"; }\n' % (" ".join(columns), " ".join(nodes), ", ".join(rows))
+        + "".join('pin (%s) { direction : internal; internal_node : "%s"; }\n' % (node, node) for node in nodes)
+        + 'pin (Y) { direction : output; state_function : "%s"; }\n' % nodes[0]
     )
+
+
+def state_table(columns, nodes, rows):
+    return library(cell(inputs(columns), table_parts(columns, nodes, rows)))
 
 
 def table_rows(n):
@@ -140,9 +141,13 @@ def table_rows(n):
 EIGHT = ["D%d" % k for k in range(8)]
 
 
-def falling_rows(n):
+def falling(columns, n):
     """rows that fit no change of one input"""
-    return state_table(EIGHT, ["Q"], [" ".join(["F"] * 8) + " : - : L"] * n)
+    return [" ".join(["F"] * len(columns)) + " : - : L"] * n
+
+
+def falling_rows(n):
+    return state_table(EIGHT, ["Q"], falling(EIGHT, n))
 
 
 def rows_of_nodes(n):
@@ -174,6 +179,15 @@ def scan_cell(pins, others, groups, names, behind):
 
     test = part(others, others, 'signal_type : "test_scan_enable"; ')
     return library(cell(part(pins, pins + others, ""), "test_cell () {\n" + test + "}\n"))
+
+
+def test_tables(n):
+    """such rows in a cell and in its test cell, over other pins"""
+    others = ["E%d" % k for k in range(7)]
+    enable = "pin (SE) { direction : input; %s}\n"
+    test = inputs(others) + enable % 'signal_type : "test_scan_enable"; ' + table_parts(others, ["Q"], falling(others, n))
+    own = inputs(EIGHT + others) + enable % "" + table_parts(EIGHT, ["Q"], falling(EIGHT, n))
+    return library(cell(own, "test_cell () {\n" + test + "}\n"))
 
 
 def test_groups(n):
@@ -487,6 +501,7 @@ TRANSLATED = {
     "falling_rows": (falling_rows, (10000, 20000, 40000)),
     "rows_of_nodes": (rows_of_nodes, (5000, 10000, 20000)),
     "halved_rows": (halved_rows, (10000, 20000, 40000)),
+    "test_tables": (test_tables, (1000, 2000, 4000)),
     "test_groups": (test_groups, (4, 8, 16)),
     "test_outputs": (test_outputs, (10, 20, 40)),
     "timing_of_a_bus": (timing_of_a_bus, (250, 500, 1000)),

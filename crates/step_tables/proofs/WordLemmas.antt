@@ -1,27 +1,166 @@
--- The words of a node's inputs.
-use Rattle.std.proofs.Common.{◌≡◌, ℕ, ◌<◌, Bool, false, List, [], ◌∷◌, length, map, slice_index_or, refl, sym, subst, ◌∙◌}
-use Rattle.std.proofs.lemmas.List.{length-map, get_or-map}
-use Rattle.statetables.specs.Lanes.{lane, before_at, after_at}
-use Rattle.cell_machine.specs.Values.{picked}
-use Rattle.step_tables.specs.NodeSteps.{word_of, words_of}
-use Rattle.step_tables.proofs.PointLemmas.{lane-number}
+-- Words of places and of names.
+use Rattle.std.proofs.Common.{◌≡◌, ◌≢◌, ℕ, zero, suc, ◌+◌, ◌*◌, ◌-◌, ◌/◌, ◌%◌, ◌^◌, ◌<◌, ◌≤◌, Bool, true, false, not, cond, nat_eq}
+use Rattle.std.proofs.Common.{List, [], ◌∷◌, ◌++◌, length, map, take, drop, get_or, refl, sym, ap, ◌∙◌, arith}
+use Rattle.std.proofs.Common.{inl, inr, subst}
+use Rattle.std.specs.Prelude.{bit_xor, slice_set}
+use Rattle.std.specs.List.{range_with_len}
+use Rattle.std.specs.Int.{bit_at}
+use Rattle.std.proofs.lemmas.Bool.{agree_below, agree_below_at, cases_eq, eq-eqb, ne_eqb}
+use Rattle.std.proofs.lemmas.List.{get_or-set_same, get_or-set_other, take_more, map-append, get_or_past, get_or-replicate, length-set}
+use Rattle.std.proofs.lemmas.Nat.Bits.{bit_at-suc, bit_at_lowest, bit_at_cat_low, bit_at_cat_high, bit_at_xor, bit_at_ones, bit_at-lt}
+use Rattle.std.proofs.lemmas.Nat.Bits.{bit_at-pow_same, bit_at-pow_other}
+use Rattle.statetables.specs.declared.lanes.InputWords.{InputWords}
+use Rattle.trit_cubes.specs.Sets.{point_of}
+use Rattle.statetables.specs.Lanes.{lane}
+use Rattle.statetables.proofs.LaneLemmas.{lane_none}
+use Rattle.cell_machine.specs.Values.{no_values, written}
+use Rattle.cell_machine.proofs.GroupSteps.{length-no_values}
+use Rattle.step_tables.specs.Turned.{turned}
 
--- a bit of a name's word is its value there
-lane-word : (name : ℕ) (values : List (List Bool)) (k : ℕ) → k < length values
-    → lane k (word_of name values) ≡ slice_index_or (slice_index_or values k []) name false
-lane-word name values k h =
-    lane-number (map (λ v. slice_index_or v name false) values) k
-    (subst (λ n. k < n) (sym (length-map {A = List Bool} {B = Bool} values (λ v. slice_index_or v name false))) h)
-    ∙ get_or-map (λ (v : List Bool). slice_index_or v name false) values k [] false h
+other_bit : (x : ℕ) → x < 2 → nat_eq ((x + 1) % 2) 1 ≡ not (nat_eq x 1)
+other_bit zero h = refl
+other_bit (suc zero) h = refl
+other_bit (suc (suc x)) h = absurd (omega (arith, h))
 
-pub before_words : (before after : List (List Bool)) (k : ℕ) (names : List ℕ) → k < length before
-    → before_at k (map (words_of before after) names) ≡ picked (slice_index_or before k []) names
-before_words before after k [] h = refl
-before_words before after k (name ∷ names) h =
-    λ i. lane-word name before k h i ∷ before_words before after k names h i
+-- the word of the other values
+pub lane_inverted : (word k : ℕ) → k < 64 → lane k (bit_xor word 18446744073709551615) ≡ not (lane k word)
+unfolding lane
+lane_inverted word k h =
+    ap (λ x. nat_eq x 1) (bit_at_xor word 18446744073709551615 k ∙ ap (λ x. (bit_at word k + x) % 2) (bit_at_ones 64 k h))
+    ∙ other_bit (bit_at word k) (bit_at-lt word k)
 
-pub after_words : (before after : List (List Bool)) (k : ℕ) (names : List ℕ) → k < length after
-    → after_at k (map (words_of before after) names) ≡ picked (slice_index_or after k []) names
-after_words before after k [] h = refl
-after_words before after k (name ∷ names) h =
-    λ i. lane-word name after k h i ∷ after_words before after k names h i
+-- a place that repeats within 64 points
+pub low_place :
+    (place word block k : ℕ) → place < 6 → agree_below (λ j. lane j word) (λ j. lane place j) 64 ≡ true → k < 64
+    → lane k word ≡ lane place (64 * block + k)
+unfolding lane
+low_place place word block k below agree h =
+    let at : block * 2 ^ 6 + k ≡ 64 * block + k = omega arith in
+    agree_below_at (λ j. lane j word) (λ j. lane place j) 64 k agree h
+    ∙ ap (λ x. nat_eq x 1) (sym (bit_at_cat_low block 6 k place below) ∙ ap (λ n. bit_at n place) at)
+
+-- a place that is the same at all of them
+pub high_place : (place block k : ℕ) → 6 ≤ place → k < 64 → lane (place - 6) block ≡ lane place (64 * block + k)
+unfolding lane
+high_place place block k above h =
+    let at : block * 2 ^ 6 + k ≡ 64 * block + k = omega arith in
+    ap (λ x. nat_eq x 1) (sym (bit_at_cat_high block 6 k place (omega (arith, h)) above) ∙ ap (λ n. bit_at n place) at)
+
+lane_first : (m : ℕ) → lane 0 m ≡ nat_eq (m % 2) 1
+unfolding lane
+lane_first m = ap (λ x. nat_eq x 1) (bit_at_lowest m)
+
+lane_next : (j m : ℕ) → lane (suc j) m ≡ lane j (m / 2)
+unfolding lane
+lane_next j m = ap (λ x. nat_eq x 1) (bit_at-suc m j)
+
+places_next : (m j n : ℕ) → map (λ i. lane i m) (range_with_len (j + 1) n) ≡ map (λ i. lane i (m / 2)) (range_with_len j n)
+places_next m j zero = refl
+places_next m j (suc n) =
+    let more : j + 1 ≡ suc j = omega arith in
+    λ i. (ap (λ q. lane q m) more ∙ lane_next j m) i ∷ places_next m (j + 1) n i
+
+-- the places of a point
+pub places_point : (n m : ℕ) → map (λ i. lane i m) (range_with_len 0 n) ≡ point_of n m
+places_point zero m = refl
+places_point (suc n) m = λ i. lane_first m i ∷ (places_next m 0 n ∙ places_point n (m / 2)) i
+
+lanes_append : (k : ℕ) (xs ys : List ℕ) → map (lane k) (xs ++ ys) ≡ map (lane k) xs ++ map (lane k) ys
+lanes_append k [] ys = refl
+lanes_append k (x ∷ xs) ys = ap (λ zs. lane k x ∷ zs) (lanes_append k xs ys)
+
+-- one more place
+pub words_turn :
+    (k place m word : ℕ) (words next : List ℕ) → next ≡ words ++ word ∷ [] → lane k word ≡ lane place m
+    → map (lane k) words ≡ map (λ i. lane i m) (range_with_len 0 place)
+    → map (λ i. lane i m) (range_with_len 0 (place + 1)) ≡ map (λ i. lane i m) (range_with_len 0 place) ++ lane place m ∷ []
+    → map (lane k) next ≡ map (λ i. lane i m) (range_with_len 0 (place + 1))
+words_turn k place m word words next is here so_far more =
+    ap (map (lane k)) is ∙ lanes_append k words (word ∷ []) ∙ (λ i. so_far i ++ here i ∷ []) ∙ sym more
+
+-- the words of the places of points at which one is turned
+pub lanes_turned :
+    (k place word : ℕ) (words : List ℕ) → place < length words → lane k word ≡ not (lane k (get_or words place 0))
+    → map (lane k) ((take place words ++ word ∷ []) ++ drop (suc place) words) ≡ turned place (map (lane k) words)
+lanes_turned k place word [] h e = absurd (omega (arith, h))
+lanes_turned k zero word (x ∷ words) h e = λ i. e i ∷ map (lane k) words
+lanes_turned k (suc place) word (x ∷ words) h e =
+    ap (λ zs. lane k x ∷ zs) (lanes_turned k place word words (omega (arith, h)) e)
+
+-- two points that differ in one place alone
+same_places :
+    (n a b : ℕ) → ((i : ℕ) → lane i b ≡ lane i a) → point_of n b ≡ point_of n a
+same_places zero a b h = refl
+same_places (suc n) a b h =
+    λ i. (sym (lane_first b) ∙ h 0 ∙ lane_first a) i
+    ∷ same_places n (a / 2) (b / 2) (λ j. sym (lane_next j b) ∙ h (suc j) ∙ lane_next j a) i
+
+other_places :
+    (n p a b : ℕ) → p < n → lane p b ≡ not (lane p a) → ((i : ℕ) → i ≢ p → lane i b ≡ lane i a)
+    → point_of n b ≡ turned p (point_of n a)
+other_places zero p a b l turns h = absurd (omega (arith, l))
+other_places (suc n) zero a b l turns h =
+    λ i. (sym (lane_first b) ∙ turns ∙ ap not (lane_first a)) i
+    ∷ same_places n (a / 2) (b / 2) (λ j. sym (lane_next j b) ∙ h (suc j) (λ e. omega (arith, e)) ∙ lane_next j a) i
+other_places (suc n) (suc p) a b l turns h =
+    λ i. (sym (lane_first b) ∙ h 0 (λ e. omega (arith, e)) ∙ lane_first a) i
+    ∷ other_places n p (a / 2) (b / 2) (omega (arith, l)) (sym (lane_next p b) ∙ turns ∙ ap not (lane_next p a))
+    (λ j ne. sym (lane_next j b) ∙ h (suc j) (λ e. ne (omega (arith, e))) ∙ lane_next j a) i
+
+same_bit : (x : ℕ) → x < 2 → nat_eq ((x + 0) % 2) 1 ≡ nat_eq x 1
+same_bit zero h = refl
+same_bit (suc zero) h = refl
+same_bit (suc (suc x)) h = absurd (omega (arith, h))
+
+pub turned_point :
+    (n p before after : ℕ) → p < n → bit_xor after (2 ^ p) ≡ before → point_of n before ≡ turned p (point_of n after)
+unfolding lane
+turned_point n p before after l is =
+    subst (λ b. point_of n b ≡ turned p (point_of n after)) is
+    (other_places n p after (bit_xor after (2 ^ p)) l
+    (ap (λ x. nat_eq x 1) (bit_at_xor after (2 ^ p) p ∙ ap (λ x. (bit_at after p + x) % 2) (bit_at-pow_same p))
+    ∙ other_bit (bit_at after p) (bit_at-lt after p))
+    (λ i ne. ap (λ x. nat_eq x 1) (bit_at_xor after (2 ^ p) i ∙ ap (λ x. (bit_at after i + x) % 2) (bit_at-pow_other p i ne))
+    ∙ same_bit (bit_at after i) (bit_at-lt after i)))
+
+-- one more name
+pub name_turn :
+    (k name first word found : ℕ) (values : List Bool) → name < length values → lane k found ≡ get_or values name false
+    → lane k (cond (nat_eq first name) word found) ≡ get_or (slice_set values first (lane k word)) name false
+name_turn k name first word found values inside so_far =
+    elim (cases_eq first name) [
+      | inl e ↦
+          ap (λ b. lane k (cond b word found)) (eq-eqb first name e)
+          ∙ sym (ap (λ x. get_or (slice_set values first (lane k word)) x false) (sym e)
+          ∙ get_or-set_same values first (lane k word) false (omega (arith, e, inside)))
+      | inr ne ↦
+          ap (λ b. lane k (cond b word found)) (ne_eqb first name ne) ∙ so_far
+          ∙ sym (get_or-set_other values first name (lane k word) false (λ e. ne (sym e)))
+    ]
+
+-- one more column
+pub columns_turn :
+    (f : InputWords → Bool) (g : ℕ → Bool) (names : List ℕ) (i name : ℕ) (words next : List InputWords) (w : InputWords)
+    → i < length names → name ≡ get_or names i name → next ≡ words ++ w ∷ [] → f w ≡ g name
+    → map f words ≡ map g (take i names) → map f next ≡ map g (take (i + 1) names)
+columns_turn f g names i name words next w within is more here so_far =
+    ap (map f) more ∙ map-append f words (w ∷ []) ∙ (λ j. so_far j ++ here j ∷ [])
+    ∙ sym (ap (map g) (take_more names i name within ∙ ap (λ x. take i names ++ x ∷ []) (sym is)) ∙ map-append g (take i names) (name ∷ []))
+
+length-written : (values : List Bool) (names : List ℕ) (point : List Bool) → length (written values names point) ≡ length values
+length-written values [] point = refl
+length-written values (name ∷ names) [] = refl
+length-written values (name ∷ names) (b ∷ point) =
+    length-written (slice_set values name b) names point ∙ length-set values name b
+
+-- a name from 96 on has no value
+pub no_name : (k name : ℕ) (names : List ℕ) (point : List Bool) → 96 ≤ name
+    → lane k 0 ≡ get_or (written no_values names point) name false
+no_name k name names point h =
+    let long : length (written no_values names point) ≡ 96 = length-written no_values names point ∙ length-no_values in
+    lane_none k ∙ sym (get_or_past (written no_values names point) name false (omega (arith, long, h)))
+
+-- before any name is written
+pub nothing_written : (k name : ℕ) → name < 96 → lane k 0 ≡ get_or no_values name false
+unfolding no_values
+nothing_written k name h = lane_none k ∙ sym (get_or-replicate 96 name false false h)

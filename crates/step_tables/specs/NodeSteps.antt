@@ -1,10 +1,8 @@
 -- The next states of a node of a state table at the points of its support, 64 at a time.
-use Rattle.std.specs.Prelude.{◌≡◌, ℕ, ◌+◌, ◌*◌, ◌<◌, ◌≤◌, ◌^◌, Bool, false, List, length, map, slice_get, slice_index_or, Option}
+use Rattle.std.specs.Prelude.{◌≡◌, ℕ, ◌+◌, ◌*◌, ◌/◌, ◌%◌, ◌<◌, ◌≤◌, ◌^◌, ◌==◌, Bool, List, length, slice_get, Option}
 use Rattle.std.specs.Prelude.{Some, None}
-use Rattle.trit_cubes.specs.Filling.{number}
 use Rattle.trit_cubes.specs.Sets.{point_of}
 use Rattle.statetables.specs.declared.table.StateTable.{StateTable}
-use Rattle.statetables.specs.declared.lanes.InputWords.{InputWords}
 use Rattle.statetables.specs.declared.lanes.StepWords.{StepWords}
 use Rattle.statetables.specs.Step.{table_step}
 use Rattle.statetables.specs.Lanes.{found_at}
@@ -12,18 +10,6 @@ use Rattle.cell_machine.specs.Machine.{Step}
 use Rattle.cell_machine.specs.Step.{trit_or_unknown}
 use Rattle.cell_machine.specs.Values.{no_values, written, picked}
 use Rattle.step_tables.specs.Turned.{turned}
-
--- the values of all names at the point with this number, with this place turned
-abbrev pub turned_values : List ℕ → ℕ → ℕ → List Bool
-turned_values support p k = written no_values support (turned p (point_of (length support) k))
-
--- the word of a name's values
-abbrev pub word_of : ℕ → List (List Bool) → ℕ
-word_of name values = number (map (λ v. slice_index_or v name false) values)
-
--- the words of a name before a change and after it
-abbrev pub words_of : List (List Bool) → List (List Bool) → ℕ → InputWords
-words_of before after name = record { before = word_of name before; after = word_of name after }
 
 -- the next state of a node with this support, whose table has these pins as inputs
 abbrev pub node_next : StateTable → ℕ → List ℕ → List ℕ → List Bool → List Bool → Bool → Option Bool
@@ -47,3 +33,9 @@ pub record TellFrom (next : ℕ → Option Bool) (start : ℕ) (words : StepWord
 pub record TellAll (next : ℕ → Option Bool) (n : ℕ) (words : List StepWords) : Type 0 where
   pub enough : 2 ^ n ≤ 64 * length words
   pub each : (block : ℕ) (w : StepWords) → slice_get words block ≡ Some w → TellFrom next (64 * block) w
+
+-- Words that tell what is found at one of the 18 changes to a point, over 64 points: number 18 * b + 2 * p + s is of the change of
+-- place p (of none, where there is no such place) from state s to the points from 64 * b on.
+abbrev pub TellChange : StateTable → ℕ → List ℕ → List ℕ → ℕ → StepWords → Type 0
+TellChange table node inputs support j words =
+    TellFrom (next_at table node inputs support (j % 18 / 2) (j % 2 == 1)) (64 * (j / 18)) words

@@ -1,12 +1,13 @@
 //! The step of a node of a state table at changes of one input.
-ghost use Rattle.std.specs.Prelude.{◌≡◌, ◌≤◌, ◌<◌, ◌*◌, ◌^◌, Option, Bool, ℕ, length, IfOk};
+ghost use Rattle.std.specs.Prelude.{◌≡◌, ◌≤◌, ◌<◌, ◌*◌, ◌^◌, Option, None, Bool, ℕ, length, map, IfOk};
 ghost use Rattle.trit_cubes.specs.Filling.{number};
 ghost use Rattle.trit_cubes.specs.Sets.{AreValuesOf};
 ghost use Rattle.cell_machine.specs.Step.{trit_or_unknown as trit_or_unknown_of};
-ghost use Rattle.step_tables.specs.Turned.{turned_step};
-ghost use Rattle.step_tables.specs.NodeSteps.{node_step, next_at, TellFrom, TellAll};
+ghost use Rattle.statetables.specs.Lanes.{lane, found_at};
+ghost use Rattle.step_tables.specs.Turned.{turned, turned_step};
+ghost use Rattle.step_tables.specs.NodeSteps.{node_next, node_step, next_at, TellFrom, TellAll};
 
-use crate::input_words::{POINTS, input_words, values_from, word_of_all};
+use crate::input_words::{POINTS, input_words, place_words, turned_words, word_of_all};
 use crate::points::number_of;
 use statetables::{StateTable, StepWords};
 use std::alloc::{AllocError, Global};
@@ -26,7 +27,7 @@ pub struct TableNode<'a> {
 }
 
 /// How many words the points of so many places take.
-fn word_count(places: usize) -> usize
+pub fn word_count(places: usize) -> usize
     requires { places ≤ 8 }
     ensures enough { 2 ^ places ≤ 64 * result }
     ensures few { result ≤ 4 }
@@ -34,26 +35,29 @@ fn word_count(places: usize) -> usize
     ((1 << places) + (POINTS - 1)) / POINTS
 }
 
-/// What is found of a node at changes of a place from a state, at 64 points after them from this number on.
-fn step_words(
-    alloc: Global,
-    node: TableNode<'_>,
-    place: usize,
-    state: bool,
-    start: usize,
-) -> Result<StepWords, AllocError>
-    requires few { length node.support.now ≤ 8 }
-    requires start { start ≤ 192 }
-    ensures { IfOk result (TellFrom (next_at node.entry.table.now node.entry.node node.entry.inputs.now node.entry.support.now
-        place state) start) }
+/// What is found of a node at changes of a place from a state to 64 points, at which the places of the node's support have these
+/// words.
+pub fn step_words(node: TableNode<'_>, place: usize, state: bool, after: &[u64]) -> StepWords
+    requires few { length after.now ≤ 8 }
+    requires inputs { length node.inputs.now ≤ 64 }
+    ensures { (k : ℕ) → k < 64 → found_at k result None ≡ node_next node.entry.table.now node.entry.node node.entry.inputs.now
+        node.entry.support.now (turned place (map (lane k) after.now)) (map (lane k) after.now) state }
 {
-    let before = values_from(alloc, node.support, place, start)?;
-    let after = values_from(alloc, node.support, node.support.len(), start)?;
-    let inputs = input_words(alloc, &before, &after, node.inputs)?;
-    Ok(
-        node.table
-            .step_words(node.node, &inputs, word_of_all(state)),
-    )
+    let before = turned_words(place, after);
+    let inputs = input_words(node.inputs, node.support, before.as_slice(), after);
+    node.table
+        .step_words(node.node, inputs.as_slice(), word_of_all(state))
+}
+
+/// The same at the points of the support of which so many times 64 stand before.
+pub fn block_words(node: TableNode<'_>, place: usize, state: bool, block: usize) -> StepWords
+    requires few { length node.support.now ≤ 8 }
+    requires inputs { length node.inputs.now ≤ 64 }
+    ensures { TellFrom (next_at node.entry.table.now node.entry.node node.entry.inputs.now node.entry.support.now place state)
+        (64 * block) result }
+{
+    let after = place_words(node.support.len(), block);
+    step_words(node, place, state, after.as_slice())
 }
 
 /// The same at all points.
@@ -63,7 +67,8 @@ fn all_words(
     place: usize,
     state: bool,
 ) -> Result<Vec<StepWords>, AllocError>
-    requires { length node.support.now ≤ 8 }
+    requires few { length node.support.now ≤ 8 }
+    requires inputs { length node.inputs.now ≤ 64 }
     ensures { IfOk result (λ words. TellAll
         (next_at node.entry.table.now node.entry.node node.entry.inputs.now node.entry.support.now place state)
         (length node.entry.support.now) words.items) }
@@ -71,7 +76,7 @@ fn all_words(
     let count = word_count(node.support.len());
     let mut words = Vec::with_capacity(alloc, count)?;
     for block in 0..count {
-        words.push(step_words(alloc, node, place, state, POINTS * block)?)?;
+        words.push(block_words(node, place, state, block))?;
     }
     Ok(words)
 }
@@ -87,7 +92,7 @@ fn found(words: &[StepWords], number: usize) -> Option<bool>
 }
 
 /// A next state as a trit.
-fn trit_or_unknown(next: Option<bool>) -> Trit
+pub fn trit_or_unknown(next: Option<bool>) -> Trit
     ensures { result ≡ trit_or_unknown_of next }
 {
     match next {
@@ -114,7 +119,8 @@ pub fn node_values(
     place: usize,
     state: bool,
 ) -> Result<Vec<Trit>, AllocError>
-    requires { length node.support.now ≤ 8 }
+    requires few { length node.support.now ≤ 8 }
+    requires inputs { length node.inputs.now ≤ 64 }
     ensures { IfOk result (λ values. AreValuesOf (length node.entry.support.now)
         (turned_step (node_step node.entry.table.now node.entry.node node.entry.inputs.now node.entry.support.now) place state)
         values.items) }

@@ -1,5 +1,5 @@
 //! Points of the inputs of a group.
-ghost use Rattle.std.specs.Prelude.{◌≡◌, ◌≤◌, ◌<◌, ◌^◌, false, length, slice_index_or};
+ghost use Rattle.std.specs.Prelude.{◌≡◌, ◌≤◌, ◌<◌, ◌^◌, false, length, slice_index_or, IfSome};
 ghost use Rattle.trit_cubes.specs.Filling.{number};
 ghost use Rattle.trit_cubes.specs.Sets.{point_of as point_with};
 ghost use Rattle.step_tables.specs.Turned.{turned as turned_point};
@@ -51,4 +51,33 @@ pub fn turned(place: usize, point: &[bool]) -> Few<bool, 8>
         all.push(turned_at(place, point, i));
     }
     all
+}
+
+/// What a place of a point weighs in its number.
+fn weight(place: usize) -> usize
+    requires { place < 8 }
+    ensures { result ≡ 2 ^ place }
+{
+    1 << place
+}
+
+/// The place in which the points with these numbers differ over so many places, and the number of places where they are one;
+/// none where they differ otherwise.
+pub fn changed_place(places: usize, before: usize, after: usize) -> Option<usize>
+    requires { places ≤ 8 }
+    ensures { IfSome result (λ place. (place < 9) × (point_with places before ≡ turned_point place (point_with places after))) }
+{
+    if before == after {
+        return Some(places);
+    }
+    let place = (before ^ after).trailing_zeros() as usize;
+    if place >= places {
+        return None;
+    }
+    let turn = weight(place);
+    if after ^ turn == before {
+        Some(place)
+    } else {
+        None
+    }
 }

@@ -8,6 +8,7 @@ ghost use Rattle.cell_machine.specs.CellTrace.{support_at, step_at};
 ghost use Rattle.step_tables.specs.declared.step_table.StateValues.{StateValues as ValuesOf};
 ghost use Rattle.step_tables.specs.Turned.{turned as turned_point, turned_step, both_steps, AreSteps};
 
+use crate::input_words::MOST_INPUTS;
 use crate::node_values::{TableNode, node_values};
 use crate::points::{number_of, turned};
 use cell_machine::{Cell, GroupKind, boolean_step};
@@ -70,7 +71,7 @@ fn values_from(
             table,
             node,
             inputs,
-        } => node_values(
+        } if inputs.len() <= MOST_INPUTS => node_values(
             alloc,
             TableNode {
                 table,
@@ -81,11 +82,11 @@ fn values_from(
             place,
             state,
         ),
-        GroupKind::Ff(_) | GroupKind::Latch(_) => stepped_values(alloc, cell, group, place, state),
+        _ => stepped_values(alloc, cell, group, place, state),
     }
 }
 
-/// The same of a flip-flop or a latch.
+/// The same, point by point.
 fn stepped_values(
     alloc: Global,
     cell: &Cell,

@@ -12,7 +12,7 @@ loop-block-preserved c =
     let long : length words ≡ c.loop-block.block = search rules in (
       pushed.len ∙ ap (λ n. n + 1) c.loop-block.invariant.0,
       λ b w at.
-          push_each (λ q v. TellFrom next (64 * q) v) words c.in_ok-step_words.field-0 c.loop-block.invariant.1
-          (subst (λ m. TellFrom next (64 * m) c.in_ok-step_words.field-0) (sym long) c.in_ok-step_words.ensures)
+          push_each (λ q v. TellFrom next (64 * q) v) words c.block_words.result c.loop-block.invariant.1
+          (subst (λ m. TellFrom next (64 * m) c.block_words.result) (sym long) c.block_words.ensures)
           b w (ap (λ (xs : List StepWords). slice_get xs b) (sym pushed.items) ∙ at),
     )

@@ -3,3 +3,4 @@ pub mod LeastPaths
 pub mod Fronts
 pub mod NumberedListLemmas
 pub mod PlaceLemmas
+pub mod StampLemmas

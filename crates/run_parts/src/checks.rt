@@ -1,8 +1,8 @@
 //! Whether the timing checks of a model report, by the times that they keep, in both languages.
-ghost use Rattle.std.specs.Prelude.{◌≡◌, ◌<◌, length, replicate, false};
+ghost use Rattle.std.specs.Prelude.{◌≡◌, ◌<◌, ◌||◌, length, nat_eq, replicate, false};
 ghost use Rattle.cell_machine.specs.Each.{each};
 ghost use Rattle.cell_machine.specs.Report.{happens};
-ghost use Rattle.model_traces.specs.PortNumbers.{input_event};
+ghost use Rattle.model_traces.specs.PortNumbers.{input_event, input_number};
 ghost use Rattle.model_traces.specs.CheckTimes.{stamped, opened, reports_where};
 
 use crate::conditions::Conditions;
@@ -31,10 +31,23 @@ fn happens(seen: &InputChange, event: Event) -> bool
         && moves(event.edge, seen.from, seen.change.to)
 }
 
-/// The times that a check keeps after a change.
+/// Whether a change is of the pin of an event of a check.
+fn is_of_events(seen: &InputChange, check: &TimingCheck) -> bool
+    ensures { result ≡ (nat_eq seen.now.change.pin (input_number seen.now.ports.list.now check.now.first.pin)
+        || nat_eq seen.now.change.pin (input_number seen.now.ports.list.now check.now.second.pin)) }
+{
+    seen.change.pin == input_number(&seen.ports, check.first.pin)
+        || seen.change.pin == input_number(&seen.ports, check.second.pin)
+}
+
+/// The times that a check keeps after a change: a change of another pin leaves them as they are.
+#[tactic(auto, using(crate::proofs::StampLemmas::unstamped))]
 fn stamped(seen: &InputChange, check: &TimingCheck, stamps: Times) -> Times
     ensures { result ≡ stamped seen.now.ports.list.now seen.now.from seen.now.change check.now stamps }
 {
+    if !is_of_events(seen, check) {
+        return stamps;
+    }
     let at = seen.change.at;
     let pin = check.second.pin;
     let edge = Edge::Rise;

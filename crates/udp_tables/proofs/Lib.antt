@@ -6,6 +6,7 @@ pub mod CubeLemmas
 pub mod SymbolLemmas
 pub mod RowWordLemmas
 pub mod RowKeyLemmas
+pub mod RowMatches
 pub mod SequentialRows
 pub mod ModelFaultPlaces
 pub mod FaultCases

@@ -13,10 +13,10 @@ use Rattle.udp_tables.specs.Tables.{columns_match}
 use Rattle.udp_tables.specs.Primitive.{level_matches}
 use Rattle.udp_tables.specs.RowWords.{level_of, asked_bits, value_bits, words_of, row_words, value_word, may_match}
 
-asked_bits-below : (l : Level) → asked_bits l < 4
+pub asked_bits-below : (l : Level) → asked_bits l < 4
 asked_bits-below l = grind arith
 
-value_bits-below : (l : Level) → value_bits l < 4
+pub value_bits-below : (l : Level) → value_bits l < 4
 value_bits-below l = grind arith
 
 pub asked-below : (ls : List Level) (k : ℕ) → length ls ≤ k → (words_of ls).asked < 4 ^ k
@@ -108,3 +108,21 @@ words-room f es left w some short w-is =
     let few : length (map f (drop left es)) ≤ 31 = omega (arith, length-map (drop left es) f, length-drop left es) in
     let room : (v : RowWords) → Type 0 = λ v. (v.asked < 2 ^ 62) × (v.values < 2 ^ 62) in
     subst room (sym w-is) (asked-below (map f (drop left es)) 31 few, values-below (map f (drop left es)) 31 few)
+
+-- the word of one value more
+pub word-more :
+    (ts : List Trit) (left : ℕ) (t : Trit) (b w : ℕ)
+    → 0 < left → slice_get ts (left - 1) ≡ Some t → b ≡ value_bits (level_of t)
+    → w ≡ (words_of (map level_of (drop left ts))).values
+    → b + 4 * w ≡ (words_of (map level_of (drop (left - 1) ts))).values
+word-more ts left t b w some is b-is w-is =
+    let next : left ≡ suc (left - 1) = omega arith in
+    let words = w-is ∙ ap (λ n. (words_of (map level_of (drop n ts))).values) next in
+    (λ i. b-is i + 4 * words i) ∙ ap (λ (x : RowWords). x.values) (sym (words-step level_of ts (left - 1) t is))
+
+-- there is room for one value more
+pub word-room : (ts : List Trit) (left w : ℕ) → 0 < left → length ts ≤ 32
+    → w ≡ (words_of (map level_of (drop left ts))).values → w < 2 ^ 62
+word-room ts left w some short w-is =
+    let few : length (map level_of (drop left ts)) ≤ 31 = omega (arith, length-map (drop left ts) level_of, length-drop left ts) in
+    subst (λ v. v < 2 ^ 62) (sym w-is) (values-below (map level_of (drop left ts)) 31 few)

@@ -40,14 +40,18 @@ pub fn keyed_level(udp: &Udp, keys: &[RowKey], inputs: &[Trit]) -> Trit
 
 impl UdpRow {
     /// Whether each entry matches its input, where no input changes. The row has this key, and the inputs this word.
-    #[tactic(auto, using(crate::proofs::RowKeyLemmas::entries_ruled_out))]
+    #[tactic(auto, using(crate::proofs::RowKeyLemmas::entries_ruled_out, crate::proofs::RowMatches::same_levels_decide))]
     fn matches(&self, key: RowKey, word: u64, inputs: &[Trit]) -> bool
         requires entries { length self.now.inputs ≡ length inputs.now }
         requires key { key ≡ row_key self.now }
         requires word { word ≡ value_word inputs.now }
         ensures { result ≡ inputs_match inputs.now self.now }
     {
-        key.words.may_match(word) && entries_match(self.inputs.as_slice(), inputs)
+        if !key.words.may_match(word) {
+            return false;
+        }
+        let entries = self.inputs.as_slice();
+        key.of_levels && entries.len() <= 32 || entries_match(entries, inputs)
     }
 }
 

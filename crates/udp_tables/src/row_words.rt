@@ -1,7 +1,7 @@
 //! Two words of a row of a table, by which most rows that do not match are known without a look at their entries. A value takes
 //! two bits of a word, the first column the lowest; of the columns behind the first 32 the words say nothing.
 ghost use Rattle.std.specs.Prelude.{◌≡◌, ◌≤◌, ◌<◌, ◌+◌, ◌*◌, ◌^◌, length, map};
-ghost use Rattle.udp_tables.specs.RowWords.{value_word, words_of};
+ghost use Rattle.udp_tables.specs.RowWords.{level_of, value_bits, value_word, words_of};
 
 use crate::table::Level;
 use trit_cubes::Trit;
@@ -98,7 +98,37 @@ impl RowWords {
 pub fn value_word(values: &[Trit]) -> u64
     ensures { result ≡ value_word values.now }
 {
-    RowWords::of(values).values
+    if values.len() <= 32 {
+        word_of(values)
+    } else {
+        word_of(&values[..32])
+    }
+}
+
+/// The two bits of a value.
+fn trit_bits(value: Trit) -> u64
+    ensures is { result ≡ value_bits (level_of value) }
+    ensures below { result < 4 }
+{
+    match value {
+        Trit::Zero => 0,
+        Trit::One => 1,
+        Trit::Unknown => 2,
+    }
+}
+
+/// The word of these values, the last one first.
+fn word_of(values: &[Trit]) -> u64
+    requires { length values.now ≤ 32 }
+    ensures { result ≡ (words_of (map level_of values.now)).values }
+{
+    let mut word = 0;
+    let mut left = values.len();
+    while left > 0 {
+        left -= 1;
+        word = trit_bits(values[left]) + 4 * word;
+    }
+    word
 }
 
 /// The words of these columns, the last one first.

@@ -1,16 +1,18 @@
 //! The next state of a sequential primitive, by IEEE 1364-2005, clause 8.
-ghost use Rattle.std.specs.Prelude.{◌≡◌, ◌<◌, IsTrue, All, length, slice_set, slice_index_or};
+ghost use Rattle.std.specs.Prelude.{◌≡◌, ◌<◌, IsTrue, All, Some, false, length, slice_set, slice_index_or};
+ghost use Rattle.std.specs.Prelude.{unwrap_or};
 ghost use Rattle.std.specs.List.{list_all};
 ghost use Rattle.trit_cubes.specs.declared.trits.Trit.TheVariants as trit;
-ghost use Rattle.udp_tables.specs.Tables.{columns_match, first, AreKept};
+ghost use Rattle.udp_tables.specs.Tables.{columns_match, AreKept};
 ghost use Rattle.udp_tables.specs.Primitive.{entry_matches, is_level};
-ghost use Rattle.udp_tables.specs.Sequential.{row_matches, is_level_row, row_next, edge_hit, udp_next, HasEntries};
+ghost use Rattle.udp_tables.specs.Sequential.{row_matches, is_level_row, udp_next, HasEntries};
 ghost use Rattle.udp_tables.specs.RowWords.{value_word};
 ghost use Rattle.udp_tables.specs.RowKeys.{row_key};
 
 use crate::row_keys::RowKey;
 use crate::row_words::value_word;
 use crate::table::{Entry, Udp, UdpRow};
+use sqlite_items::at;
 use trit_cubes::Trit;
 
 /// The next state of a sequential primitive whose inputs are `inputs` after a change of the input with the number
@@ -47,11 +49,12 @@ pub fn keyed_next(
         old,
         state,
     };
-    level_next(udp, keys, &seen)
+    seen_next(udp, keys, &seen)
 }
 
-/// What the first row of levels that matches gives, else the first row with a change entry that matches, x without one.
-fn level_next(udp: &Udp, keys: &[RowKey], seen: &Seen) -> Trit
+/// What the first row of levels that matches gives, else the first row with a change entry that matches, x without one: that one is
+/// noted on the way.
+fn seen_next(udp: &Udp, keys: &[RowKey], seen: &Seen) -> Trit
     requires table { HasEntries udp.now }
     requires entries { length seen.now.inputs.now ≡ length udp.now.inputs }
     requires keys { AreKept row_key keys.now udp.now.rows }
@@ -59,31 +62,27 @@ fn level_next(udp: &Udp, keys: &[RowKey], seen: &Seen) -> Trit
     ensures { result ≡ udp_next udp.now.rows (slice_set seen.now.inputs.now seen.now.changed seen.now.old) seen.now.inputs.now
         seen.now.state }
 {
+    let mut found = None;
     for (i, row) in udp.rows.as_slice().iter().enumerate() {
         let key = RowKey::kept(keys, i, row);
-        if key.of_levels && row.matches_change(key, seen) {
-            return row.next.after(seen.state);
+        if row.matches_change(key, seen) {
+            if key.of_levels {
+                return row.next.after(seen.state);
+            }
+            found = earlier(found, row.next.after(seen.state));
         }
     }
-    edge_next(udp, keys, seen)
+    found.unwrap_or(Trit::Unknown)
 }
 
-/// What the first row with a change entry that matches gives, x without one.
-fn edge_next(udp: &Udp, keys: &[RowKey], seen: &Seen) -> Trit
-    requires table { HasEntries udp.now }
-    requires entries { length seen.now.inputs.now ≡ length udp.now.inputs }
-    requires keys { AreKept row_key keys.now udp.now.rows }
-    requires word { seen.now.word ≡ value_word seen.now.inputs.now }
-    ensures { result ≡ first (edge_hit (slice_set seen.now.inputs.now seen.now.changed seen.now.old) seen.now.inputs.now
-        seen.now.state) (row_next seen.now.state) udp.now.rows trit.Unknown }
+/// What was found, and this where nothing was.
+fn earlier(found: Option<Trit>, next: Trit) -> Option<Trit>
+    ensures { result ≡ Some (unwrap_or found next) }
 {
-    for (i, row) in udp.rows.as_slice().iter().enumerate() {
-        let key = RowKey::kept(keys, i, row);
-        if !key.of_levels && row.matches_change(key, seen) {
-            return row.next.after(seen.state);
-        }
+    match found {
+        Some(first) => Some(first),
+        None => Some(next),
     }
-    Trit::Unknown
 }
 
 /// A change of one input, as a primitive with a state sees it.
@@ -121,7 +120,7 @@ impl UdpRow {
     }
 
     /// Whether the entries of the row, which has this key, match a change of one input.
-    #[tactic(auto, using(crate::proofs::RowKeyLemmas::entries_ruled_out))]
+    #[tactic(auto, using(crate::proofs::RowKeyLemmas::entries_ruled_out, crate::proofs::RowMatches::levels_decide))]
     fn entries_match_change(&self, key: RowKey, seen: &Seen) -> bool
         requires entries { length self.now.inputs ≡ length seen.now.inputs.now }
         requires key { key ≡ row_key self.now }
@@ -129,9 +128,33 @@ impl UdpRow {
         ensures { result ≡ columns_match entry_matches self.now.inputs
             (slice_set seen.now.inputs.now seen.now.changed seen.now.old) seen.now.inputs.now }
     {
-        key.words.may_match(seen.word)
-            && changes_match(self.inputs.as_slice(), seen.inputs, seen.changed, seen.old)
+        if !key.words.may_match(seen.word) {
+            return false;
+        }
+        let entries = self.inputs.as_slice();
+        if key.of_levels && entries.len() <= 32 {
+            return true;
+        }
+        if !key.of_levels && is_no_change(entries, seen.inputs, seen.changed, seen.old) {
+            return false;
+        }
+        changes_match(entries, seen.inputs, seen.changed, seen.old)
     }
+}
+
+/// Whether the entry of the changed input is a level or a change that the input did not make: then a row that has a change entry
+/// does not match.
+fn is_no_change(entries: &[Entry], inputs: &[Trit], changed: usize, old: Trit) -> bool
+    ensures { IsTrue result → list_all is_level entries.now ≡ false
+        → columns_match entry_matches entries.now (slice_set inputs.now changed old) inputs.now ≡ false }
+{
+    let Some(entry) = at(entries, changed) else {
+        return false;
+    };
+    let Some(value) = at(inputs, changed) else {
+        return false;
+    };
+    entry.is_level() || !entry.matches(old, *value)
 }
 
 /// Whether no entry is a change.

@@ -1,6 +1,6 @@
 use Rattle.udp_tables.specs.RowKeys.{row_key}
 use Rattle.udp_tables.proofs.RowKeyLemmas.{kept_key}
-use Rattle.udp_tables.proofs.sequential.level_next.Goals as goal
+use Rattle.udp_tables.proofs.sequential.seen_next.Goals as goal
 
 pub kept-key-requires : goal.kept-key-requires
 kept-key-requires c =

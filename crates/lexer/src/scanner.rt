@@ -1,6 +1,6 @@
 //! One scanner for the texts of every language.
 
-ghost use Rattle.std.specs.Prelude.{◌≡◌, ◌<◌, ◌≤◌, ◌^◌, length, true, false, IfOk, Some};
+ghost use Rattle.std.specs.Prelude.{◌≡◌, ◌<◌, ◌≤◌, ◌^◌, length, true, false, IfOk, Some, vec_len, vec_capacity};
 ghost use Rattle.lexer.specs.Tokens.{scan_of};
 ghost use Rattle.lexer.specs.Spans.{LieInside, tokens_of, from_here};
 
@@ -21,43 +21,48 @@ struct Scanner<L> {
 
 impl<'a, L: TokenState<'a>> Scanner<L> {
     /// Goes behind the separator or the token that stands next, and behind the blanks that follow it. False says that neither
-    /// does. The tokens that were found so far stand apart from the scanner, so that its place can stay in registers.
+    /// does. The tokens that were found so far stand apart from the scanner, so that its place can stay in registers, and have a
+    /// place for each byte of the text.
     #[inline(always)]
-    fn step(&mut self, tokens: &mut Vec<KeptSpan>, text: &'a [u8]) -> Result<bool, AllocError>
+    fn step(&mut self, tokens: &mut Vec<KeptSpan>, text: &'a [u8]) -> bool
         requires here { self.old.next < length text.now }
         requires short { length text.now < 2 ^ 32 }
         requires inside { LieInside text.now tokens.old.items }
-        ensures goes_on { IfOk result (λ good. good ≡ true
+        requires few { vec_len tokens.old ≤ self.old.next }
+        requires room { length text.now ≤ vec_capacity tokens.old }
+        ensures goes_on { result ≡ true
             → from_here L.lexis text.now tokens.new.items (L.flag self.new.before) self.new.next self.new.next ≡ from_here L.lexis
-            text.now tokens.old.items (L.flag self.old.before) self.old.next self.old.next) }
-        ensures onwards { IfOk result (λ good. good ≡ true → self.old.next < self.new.next) }
-        ensures within { IfOk result (λ good. self.new.next ≤ length text.now) }
-        ensures stops { IfOk result (λ good. good ≡ false
+            text.now tokens.old.items (L.flag self.old.before) self.old.next self.old.next }
+        ensures onwards { result ≡ true → self.old.next < self.new.next }
+        ensures within { self.new.next ≤ length text.now }
+        ensures stops { result ≡ false
             → from_here L.lexis text.now tokens.old.items (L.flag self.old.before) self.old.next
-            self.old.next ≡ (tokens_of text.now tokens.new.items, Some self.new.next)) }
-        ensures inside { IfOk result (λ good. LieInside text.now tokens.new.items) }
+            self.old.next ≡ (tokens_of text.now tokens.new.items, Some self.new.next) }
+        ensures inside { LieInside text.now tokens.new.items }
+        ensures few { vec_len tokens.new ≤ self.new.next }
+        ensures room { vec_capacity tokens.new ≡ vec_capacity tokens.old }
     {
         let at = self.next;
         let (_, rest) = text.split_at(at);
         let length = self.before.token_length(rest);
         if length > 0 {
             let token = KeptSpan::new(at, length);
-            tokens.push(token)?;
+            tokens.push_reserved(token);
             self.before = self.before.after(&rest[..length]);
             self.next = behind_blanks(text, at + length);
-            return Ok(true);
+            return true;
         }
         let skipped = L::separator_length(rest);
         if skipped == 0 {
-            return Ok(false);
+            return false;
         }
         self.next = behind_blanks(text, at + skipped);
-        Ok(true)
+        true
     }
 }
 
 /// The tokens of a text before its lexical fault, and the offset of the fault, if there is one. There is no memory for those of a
-/// text of 4 GiB or more.
+/// text of 4 GiB or more. Room for a token at each byte is asked for at first, of which no more is used than there are tokens.
 #[inline(always)]
 pub fn scan<'a, L: TokenState<'a>>(alloc: Global, text: &'a [u8]) -> Result<Scan, AllocError>
     ensures tokens { IfOk result (λ found. tokens_of text.now found.tokens.items ≡ (scan_of L.lexis text.now).0) }
@@ -67,19 +72,21 @@ pub fn scan<'a, L: TokenState<'a>>(alloc: Global, text: &'a [u8]) -> Result<Scan
     if text.len() > MOST_BYTES {
         return Err(AllocError);
     }
-    let mut tokens = Vec::new(alloc);
+    let mut tokens = Vec::with_capacity(alloc, text.len())?;
     let mut scanner = Scanner {
         before: L::start(),
         next: 0,
     };
     while scanner.next < text.len() {
-        if !scanner.step(&mut tokens, text)? {
+        if !scanner.step(&mut tokens, text) {
+            tokens.shrink_to_fit();
             return Ok(Scan {
                 tokens,
                 fault: Some(scanner.next),
             });
         }
     }
+    tokens.shrink_to_fit();
     Ok(Scan {
         tokens,
         fault: None,

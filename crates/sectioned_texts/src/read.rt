@@ -1,7 +1,7 @@
 //! A text to its models and drivers, or to its fault.
-ghost use Rattle.std.specs.Prelude.{◌≡◌, Ok, Err, IfOk, IfErr};
+ghost use Rattle.std.specs.Prelude.{◌≡◌, Ok, Err, length, IfOk, IfErr};
 ghost use Rattle.lexer.specs.Spans.{LieInside};
-ghost use Rattle.driver_sections.specs.Sections.{sections};
+ghost use Rattle.driver_sections.specs.Sections.{sections, blanked, StandApart};
 ghost use Rattle.sectioned_texts.specs.Drivers.{AllMayStand};
 ghost use Rattle.sectioned_texts.specs.Faults.{IsFaultIn};
 ghost use Rattle.sectioned_texts.specs.DrivenModels as spec;
@@ -71,14 +71,34 @@ fn driven_by<L: SectionLanguage>(
     }
 }
 
+/// The models and the drivers of a text with these sections, or its fault. Where there are none the text itself is the rest, of
+/// which no copy is made.
+fn driven_around<L: SectionLanguage>(
+    alloc: Global,
+    text: &[u8],
+    found: &[Span],
+) -> Answer<DrivenModels<L::Model>>
+    requires inside { LieInside text.now found.now }
+    requires apart { StandApart 0 (length text.now) found.now }
+    ensures { IfOk result (λ answer. answer ≡ spec.driven_by L.language text.now found.now (blanked text.now found.now)
+        (L.language.text (blanked text.now found.now))) }
+{
+    match found {
+        [] => driven_by::<L>(alloc, text, found, text),
+        _ => {
+            let rest = blanked(alloc, text, found)?;
+            driven_by::<L>(alloc, text, found, &rest)
+        }
+    }
+}
+
 /// The models and the drivers of a text, or its fault.
 #[tactic(auto, unfolding(crate::specs::DrivenModels::driven_models))]
 fn driven_models<L: SectionLanguage>(alloc: Global, text: &[u8]) -> Answer<DrivenModels<L::Model>>
     ensures { IfOk result (λ answer. answer ≡ spec.driven_models L.language text.now) }
 {
     let found = L::sections(alloc, text)?;
-    let rest = blanked(alloc, text, &found)?;
-    driven_by::<L>(alloc, text, &found, &rest)
+    driven_around::<L>(alloc, text, &found)
 }
 
 /// The models of a text in a language, and the drivers that its sections hold.

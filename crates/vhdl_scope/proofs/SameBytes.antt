@@ -1,6 +1,8 @@
 -- Tokens that are spelled alike stand for the same.
-use Rattle.std.proofs.Common.{◌≡◌, ℕ, Bool, true, false, if◌then◌else◌, List, refl, subst}
+use Rattle.std.proofs.Common.{◌≡◌, ℕ, ◌==◌, ◌&&◌, Bool, true, false, if◌then◌else◌, List, [], ◌∷◌, length, refl, sym, ap, subst, ◌∙◌}
+use Rattle.std.specs.Char.{to_ascii_lowercase}
 use Rattle.std.specs.Str.{bytes_eq, str_eq_ignore_ascii_case, str_to_ascii_lowercase}
+use Rattle.std.proofs.lemmas.List.{length-map}
 use Rattle.std.proofs.lemmas.Slice.Eq.{bytes_eq-Decides}
 use Rattle.vhdl_tokens.specs.Spelling.{is_character, is_same}
 
@@ -10,3 +12,31 @@ own x false = (bytes_eq-Decides (str_to_ascii_lowercase x) (str_to_ascii_lowerca
 
 pub same_bytes : (x y : List ℕ) → bytes_eq x y ≡ true → is_same x y ≡ true
 same_bytes x y e = subst (λ z. is_same x z ≡ true) ((bytes_eq-Decides x y).0 e) (own x (is_character x))
+
+-- one byte alone is another where they are equal
+pub same_byte : (x y : ℕ) → bytes_eq (x ∷ []) (y ∷ []) ≡ (x == y)
+same_byte x y = by (x == y)
+  where
+    by : (b : Bool) → (b && true) ≡ b
+    by true = refl
+    by false = refl
+
+unlike_bytes : (x y : List ℕ) → (length x ≡ length y → ⊥) → bytes_eq x y ≡ false
+unlike_bytes x y h = by (bytes_eq x y) refl
+  where
+    by : (b : Bool) → bytes_eq x y ≡ b → b ≡ false
+    by true e = absurd (h (ap length ((bytes_eq-Decides x y).0 e)))
+    by false e = refl
+
+unlike_letters : (x y : List ℕ) → (length x ≡ length y → ⊥) → str_eq_ignore_ascii_case x y ≡ false
+unlike_letters x y h =
+    unlike_bytes (str_to_ascii_lowercase x) (str_to_ascii_lowercase y)
+    (λ e. h (sym (length-map x to_ascii_lowercase) ∙ e ∙ length-map y to_ascii_lowercase))
+
+-- tokens of unlike lengths do not stand for the same
+pub unlike : (x y : List ℕ) → (length x ≡ length y → ⊥) → is_same x y ≡ false
+unlike x y h = by (is_character x)
+  where
+    by : (b : Bool) → (if b then bytes_eq x y else str_eq_ignore_ascii_case x y) ≡ false
+    by true = unlike_bytes x y h
+    by false = unlike_letters x y h

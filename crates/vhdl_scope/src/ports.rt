@@ -1,9 +1,11 @@
 //! The ports of an entity, with a list that finds a name at once.
 
 ghost use Rattle.std.specs.Prelude.{◌≡◌, [], ◌∷◌, ◌++◌, if◌then◌else◌, IfOk};
+ghost use Rattle.vhdl_grammar.specs.VhdlNames.{port_of};
 
+use crate::language::Vhdl;
 use bool_functions::Names;
-use grammar_reader::Stop;
+use grammar_reader::{Language, Stop};
 use sqlite_items::Items;
 use std::alloc::{AllocError, Global};
 use std::marker::Model;
@@ -44,6 +46,18 @@ fn outputs_with(
         outputs.push(number)?;
     }
     Ok(outputs)
+}
+
+/// How many ports are compared one by one.
+const FEW: usize = 16;
+
+/// The number of the port with this name, looked for one after another.
+fn number_among(ports: &[VPort], name: &[u8]) -> Option<usize>
+    ensures { result ≡ port_of ports.now name.now }
+{
+    ports
+        .iter()
+        .position(|port| Vhdl::is_same(name, port.name.as_slice()))
 }
 
 impl Ports {
@@ -91,6 +105,9 @@ impl Ports {
     pub fn number(&self, name: &[u8]) -> Result<Option<usize>, AllocError>
         ensures { is_name name.now ≡ true → IfOk result (λ found. found ≡ port_of self.now name.now) }
     {
+        if self.ports.len() <= FEW {
+            return Ok(number_among(self.ports.as_slice(), name));
+        }
         let lowered = name.to_ascii_lowercase(self.alloc)?;
         Ok(self.lowered.number(&lowered))
     }

@@ -16,14 +16,14 @@ returns-then-length-gt0-clause-goes_on g c _ =
     let e = over_blanks x g.met.L.Lexicon.blank_length c.args.text.now (c.args.tokens.now.items ++ record { at = at; end = at + n } ∷ []) (x.flag_after t (take n (drop at c.args.text.now)))
     (at + n) c.behind_blanks-self.result c.behind_blanks-self.ensures.value
     ∙ behind_token x c.args.text.now c.args.tokens.now.items t at n w z l p in
-    rw (c.in_ok-push.ensures.items, c.new-token.ensures, c.after-self.ensures, c.split_at.ensures.back) e
+    rw (c.push_reserved.ensures.items, c.new-token.ensures, c.after-self.ensures, c.split_at.ensures.back) e
 
 pub returns-then-length-gt0-clause-inside : goal.returns-then-length-gt0-clause-inside
 returns-then-length-gt0-clause-inside g c =
     let w : c.args.self.now.next + c.token_length-length.result ≤ length c.args.text.now = omega (arith, length-drop c.args.self.now.next c.args.text.now, ap (length {A = ℕ}) c.split_at.ensures.back, c.token_length-length.ensures.within) in
     let i = inside_more c.args.text.now c.args.tokens.now.items (record { at = c.args.self.now.next; end = c.args.self.now.next + c.token_length-length.result })
     c.requires.inside (omega arith) w in
-    rw (c.in_ok-push.ensures.items, c.new-token.ensures) i
+    rw (c.push_reserved.ensures.items, c.new-token.ensures) i
 
 pub returns-then-skipped-eq0-clause-stops : goal.returns-then-skipped-eq0-clause-stops
 returns-then-skipped-eq0-clause-stops g c _ =

@@ -3,7 +3,6 @@
 ghost use Rattle.std.specs.Prelude.{◌≡◌, ◌≤◌, length};
 ghost use Rattle.liberty_text.specs.Idle.{is_blank, is_plain_in_word, is_plain_in_text, front_run, idle_run};
 
-use crate::class::{Class, class_of};
 use crate::scanner::Mode;
 use lexer::{ByteClass, byte_table, run_length};
 use memchr::memchr2;
@@ -14,11 +13,9 @@ struct Blank;
 impl ByteClass for Blank {
     ghost has = { is_blank };
 
+    #[inline(always)]
     fn contains(byte: u8) -> bool {
-        match class_of(byte) {
-            Class::Blank => true,
-            _ => false,
-        }
+        byte == b' ' || byte == b'\t' || byte == b'\r'
     }
 }
 

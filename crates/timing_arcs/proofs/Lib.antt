@@ -9,3 +9,4 @@ pub mod SoundLemmas
 pub mod SumLemmas
 pub mod TextLemmas
 pub mod FoldedWords
+pub mod PlainEntries

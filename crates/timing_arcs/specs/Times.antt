@@ -15,3 +15,8 @@ time_as unit (Err fault) = None
 unfoldable pub time_of : Option TimeUnit → List ℕ → Option ℕ
 time_of None text = None
 time_of (Some unit) text = time_as unit (fixed_of text)
+
+-- The time of a number, in picoseconds.
+abbrev pub time_in : Option TimeUnit → Fixed → Option ℕ
+time_in None number = None
+time_in (Some unit) number = picoseconds_of number unit

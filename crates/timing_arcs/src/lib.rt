@@ -11,6 +11,7 @@ mod making;
 mod offsets;
 mod pin_limits;
 mod pin_timing;
+mod plain_entries;
 mod related;
 mod subject;
 mod tables;

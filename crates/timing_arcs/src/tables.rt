@@ -1,19 +1,20 @@
 //! The tables of timing groups and the times in them.
-ghost use Rattle.std.specs.Prelude.{◌≡◌};
+ghost use Rattle.std.specs.Prelude.{◌≡◌, ◌≤◌, length, take};
 ghost use Rattle.std.specs.Option.{option_copied};
 ghost use Rattle.liberty_groups.specs.declared.tree.Item.{out-Item};
 ghost use Rattle.liberty_groups.specs.Attributes.{groups_named, first_of};
 ghost use Rattle.cell_machine.specs.Delay.{least};
-ghost use Rattle.timing_arcs.specs.Times.{time_of};
-ghost use Rattle.timing_arcs.specs.Tables.{limit_of, bad_numbers_at};
-ghost use Rattle.timing_arcs.specs.Sums.{first_unless, no_sum, with_entry, with_text, with_arguments, with_item, with_table};
+ghost use Rattle.timing_arcs.specs.Times.{time_of, time_in};
+ghost use Rattle.timing_arcs.specs.Tables.{limit_of, bad_numbers_at, is_separator};
+ghost use Rattle.timing_arcs.specs.Sums.{first_unless, no_sum, with_time, with_text, with_arguments, with_item, with_table};
 ghost use Rattle.timing_arcs.specs.Sums.{with_tables};
-ghost use Rattle.timing_arcs.specs.Words.{with_word};
+ghost use Rattle.timing_arcs.specs.Words.{with_word, word_length};
 
 use crate::offsets::lesser;
+use crate::plain_entries::plain_entry;
 use crate::words::{behind_first, entry_length};
 use liberty_groups::{Group, Item, Value, inner_group};
-use liberty_text::{Unit, fixed, picoseconds};
+use liberty_text::{Fixed, Unit, fixed, picoseconds};
 
 /// What some entries of tables give.
 #[derive(Clone, Copy)]
@@ -48,6 +49,41 @@ pub(crate) fn time(unit: Option<Unit>, text: &[u8]) -> Option<u64>
     }
 }
 
+/// The entry at the front of a text, up to its end or to a separator.
+#[derive(Clone, Copy)]
+struct FrontEntry {
+    /// How many bytes it has.
+    length: usize,
+    time: Option<u64>,
+}
+
+/// The time of a number, in picoseconds: nothing where the unit is unknown or the time is above the greatest.
+fn time_in(unit: Option<Unit>, number: Fixed) -> Option<u64>
+    ensures { result ≡ time_in unit number }
+{
+    picoseconds(number, unit?)
+}
+
+/// The entry at the front of a text.
+#[tactic(auto, using(crate::proofs::PlainEntries::time_in_is))]
+fn front_entry(unit: Option<Unit>, text: &[u8]) -> FrontEntry
+    ensures length { result.length ≡ word_length is_separator text.now }
+    ensures within { result.length ≤ length text.now }
+    ensures time { result.time ≡ time_of unit (take (word_length is_separator text.now) text.now) }
+{
+    if let Some(entry) = plain_entry(text) {
+        return FrontEntry {
+            length: entry.length,
+            time: time_in(unit, entry.number),
+        };
+    }
+    let (word, _) = text.split_at(entry_length(text));
+    FrontEntry {
+        length: word.len(),
+        time: time(unit, word),
+    }
+}
+
 impl Sum {
     /// That of no entries.
     fn new() -> Sum
@@ -60,24 +96,29 @@ impl Sum {
         }
     }
 
-    /// Adds an entry, in the statement at this offset.
-    fn add_entry(&mut self, unit: Option<Unit>, at: usize, text: &[u8])
-        ensures { self.new ≡ with_entry unit at self.old text.now }
+    /// Adds an entry, in the statement at this offset, that is this time or none.
+    fn add_time(&mut self, at: usize, time: Option<u64>)
+        ensures { self.new ≡ with_time at self.old time }
     {
         self.has_entry = true;
-        match time(unit, text) {
+        match time {
             Some(time) => self.greatest = self.greatest.max(time),
             None => self.bad_at = lesser(self.bad_at, Some(at)),
         }
     }
 
-    /// Adds a word as an entry, in the statement at this offset, if it has a byte.
-    fn add_word(&mut self, unit: Option<Unit>, at: usize, word: &[u8])
-        ensures { self.new ≡ with_word unit at self.old word.now }
+    /// Adds the entry at the front of a text, in the statement at this offset, if one is there, and answers how many bytes it has.
+    #[tactic(auto, using(crate::proofs::PlainEntries::joined, crate::proofs::PlainEntries::passed))]
+    fn add_front(&mut self, unit: Option<Unit>, at: usize, text: &[u8]) -> usize
+        ensures sum { self.new ≡ with_word unit at self.old (take (word_length is_separator text.now) text.now) }
+        ensures length { result ≡ word_length is_separator text.now }
+        ensures within { result ≤ length text.now }
     {
-        if word.len() != 0 {
-            self.add_entry(unit, at, word);
+        let front = front_entry(unit, text);
+        if front.length != 0 {
+            self.add_time(at, front.time);
         }
+        front.length
     }
 
     /// Adds the entries of a text, in the statement at this offset.
@@ -86,8 +127,7 @@ impl Sum {
     {
         let mut left = text;
         while left.len() != 0 {
-            let (word, behind) = left.split_at(entry_length(left));
-            self.add_word(unit, at, word);
+            let (_, behind) = left.split_at(self.add_front(unit, at, left));
             left = behind_first(behind);
         }
     }

@@ -15,7 +15,7 @@ fn is_space(byte: u8) -> bool
 }
 
 /// Whether a byte separates the entries of a table: a comma, a space, a tab, a carriage return or a line feed.
-fn is_separator(byte: u8) -> bool
+pub(crate) fn is_separator(byte: u8) -> bool
     ensures { result ≡ is_separator byte }
 {
     byte == b',' || byte == b' ' || byte == b'\t' || byte == b'\r' || byte == b'\n'

@@ -1,0 +1,194 @@
+-- Entries of tables that are digits, a point and digits.
+use Rattle.std.proofs.Common.{◌≡◌, ℕ, ◌+◌, ◌-◌, ◌*◌, ◌<◌, ◌≤◌, ◌++◌, suc, Bool, true, false, List, [], ◌∷◌, Some, length, take, drop}
+use Rattle.std.proofs.Common.{Ok, Err, Option, None, ◌==◌, ◌||◌, subst, refl, sym, ◌∙◌, ap, arith, cond}
+use Rattle.std.specs.Prelude.{nat_lt, pos, ◌-ℤ◌}
+use Rattle.std.proofs.lemmas.Bool.Decides.{nat_tests}
+use Rattle.std.proofs.lemmas.List.{take-append-drop, append-nil, length-append, length-take-le}
+use Rattle.liberty_text.specs.declared.decimal.Fixed.{Fixed}
+use Rattle.liberty_text.specs.declared.decimal.NumberFault.TheVariants.{TooManyDigits, TooLarge}
+use Rattle.liberty_text.specs.declared.time.Unit.{Unit as TimeUnit}
+use Rattle.liberty_text.specs.Number.{Written, IsNumber, is_digit, digit_run, digits_value, significant, fixed_written, fixed_with}
+use Rattle.liberty_text.specs.Number.{fixed_found, fixed_of}
+use Rattle.liberty_text.specs.Number as n
+use Rattle.liberty_text.proofs.Spelling.{run_digits, number_complete}
+use Rattle.timing_arcs.specs.declared.tables.Sum.{Sum}
+use Rattle.timing_arcs.specs.Times.{time_as, time_of, time_in}
+use Rattle.timing_arcs.specs.Tables.{is_separator}
+use Rattle.timing_arcs.specs.Sums.{with_time, with_entry}
+use Rattle.timing_arcs.specs.Words.{word_length, with_word, front_number}
+
+-- the digits at the front, read one after another
+pub front_is : (before : ℕ) (bs : List ℕ) → front_number before bs ≡ digits_value before (take (digit_run bs) bs)
+front_is before [] = refl
+front_is before (b ∷ bs) = by_test (front_is (before * 10 + (b - 48)) bs) (is_digit b)
+  where
+    by_test : front_number (before * 10 + (b - 48)) bs ≡ digits_value (before * 10 + (b - 48)) (take (digit_run bs) bs)
+        → (q : Bool) → cond q (front_number (before * 10 + (b - 48)) bs) before
+        ≡ digits_value before (take (cond q (1 + digit_run bs) 0) (b ∷ bs))
+    by_test next true =
+        let more : suc (digit_run bs) ≡ 1 + digit_run bs = omega arith in
+        next ∙ ap (λ k. digits_value before (take k (b ∷ bs))) more
+    by_test next false = refl
+
+-- no digit is a separator
+digit_joins : (b : ℕ) → is_digit b ≡ true → is_separator b ≡ false
+digit_joins b e =
+    let comma : (b == 44) ≡ false = grind (arith, nat_tests, e) in
+    let space : (b == 32) ≡ false = grind (arith, nat_tests, e) in
+    let tab : (b == 9) ≡ false = grind (arith, nat_tests, e) in
+    let return_ : (b == 13) ≡ false = grind (arith, nat_tests, e) in
+    let feed : (b == 10) ≡ false = grind (arith, nat_tests, e) in
+    rw (comma, space, tab, return_, feed) refl
+
+-- an entry goes on behind digits
+word_run : (bs : List ℕ) → word_length is_separator bs ≡ digit_run bs + word_length is_separator (drop (digit_run bs) bs)
+word_run [] = refl
+word_run (b ∷ bs) = by_test (word_run bs) (is_digit b) refl
+  where
+    by_test : word_length is_separator bs ≡ digit_run bs + word_length is_separator (drop (digit_run bs) bs) → (q : Bool)
+        → is_digit b ≡ q → word_length is_separator (b ∷ bs)
+        ≡ cond q (1 + digit_run bs) 0 + word_length is_separator (drop (cond q (1 + digit_run bs) 0) (b ∷ bs))
+    by_test next true e =
+        let first : word_length is_separator (b ∷ bs) ≡ suc (word_length is_separator bs) =
+        ap (λ q. cond q 0 (suc (word_length is_separator bs))) (digit_joins b e) in
+        let more : suc (digit_run bs) ≡ 1 + digit_run bs = omega arith in
+        let tail : word_length is_separator (drop (digit_run bs) bs) ≡ word_length is_separator (drop (1 + digit_run bs) (b ∷ bs)) =
+        ap (λ k. word_length is_separator (drop k (b ∷ bs))) more in
+        omega (arith, first, next, tail)
+    by_test next false e = omega arith
+
+-- What is seen at the front of a text: digits, a point and digits, behind which an entry ends.
+pub record IsPlain (text fraction behind : List ℕ) (count places : ℕ) : Type 0 where
+  pub count_is : count ≡ digit_run text
+  pub within : count ≤ length text
+  pub point : drop count text ≡ 46 ∷ fraction
+  pub places_is : places ≡ digit_run fraction
+  pub inside : places ≤ length fraction
+  pub behind_is : behind ≡ drop places fraction
+  pub ends : (word_length is_separator behind == 0) ≡ true
+
+-- so many bytes has the entry
+pub plain_length : (text fraction behind : List ℕ) (count places : ℕ) → IsPlain text fraction behind count places
+    → count + places + 1 ≡ word_length is_separator text
+plain_length text fraction behind count places k =
+    let whole = word_run text in
+    let point : drop (digit_run text) text ≡ 46 ∷ fraction = ap (λ m. drop m text) (sym k.count_is) ∙ k.point in
+    let behind_point : word_length is_separator (drop (digit_run text) text) ≡ suc (word_length is_separator fraction) =
+    ap (word_length is_separator) point in
+    let part = word_run fraction in
+    let last : word_length is_separator (drop (digit_run fraction) fraction) ≡ word_length is_separator behind =
+    ap (word_length is_separator) (ap (λ m. drop m fraction) (sym k.places_is) ∙ sym k.behind_is) in
+    let none : word_length is_separator behind ≡ 0 = grind (arith, nat_tests, k.ends) in
+    omega (arith, whole, behind_point, part, last, none, k.count_is, k.places_is)
+
+take_behind : (xs ys : List ℕ) (m : ℕ) → take (length xs + m) (xs ++ ys) ≡ xs ++ take m ys
+take_behind [] ys m = let same : 0 + m ≡ m = omega arith in ap (λ k. take k ys) same
+take_behind (x ∷ xs) ys m =
+    let same : length (x ∷ xs) + m ≡ suc (length xs + m) = omega arith in
+    ap (λ k. take k (x ∷ xs ++ ys)) same ∙ ap (λ l. x ∷ l) (take_behind xs ys m)
+
+significant_within : (ds : List ℕ) → significant ds ≤ length ds
+significant_within [] = omega arith
+significant_within (d ∷ ds) = by_test (significant_within ds) (d == 48)
+  where
+    by_test : significant ds ≤ length ds → (q : Bool) → cond q (significant ds) (length (d ∷ ds)) ≤ length (d ∷ ds)
+    by_test next true = omega (arith, next)
+    by_test next false = omega arith
+
+-- its bytes
+entry_is : (text fraction behind : List ℕ) (count places : ℕ) → IsPlain text fraction behind count places
+    → take (word_length is_separator text) text ≡ take count text ++ 46 ∷ take places fraction
+entry_is text fraction behind count places k =
+    let whole = take count text in
+    let size : length whole ≡ count = length-take-le count text k.within in
+    let long : word_length is_separator text ≡ length whole + suc places =
+    let all = plain_length text fraction behind count places k in omega (arith, size, all) in
+    let parts : text ≡ whole ++ 46 ∷ fraction = sym (take-append-drop count text) ∙ ap (λ l. whole ++ l) k.point in
+    ap (λ m. take m text) long ∙ ap (take (length whole + suc places)) parts ∙ take_behind whole (46 ∷ fraction) (suc places)
+
+-- digits, a point and digits, not many, are a number
+number_of_digits : (whole part : List ℕ) → n.AreDigits whole → n.AreDigits part → 0 < length whole + length part
+    → length whole + length part ≤ 18
+    → fixed_of (whole ++ 46 ∷ part) ≡ Ok (record {
+      mantissa = pos (digits_value (digits_value 0 whole) part);
+      exponent = pos 0 -ℤ pos (length part);
+    })
+number_of_digits whole part all more some few =
+    let w : Written = record {
+      negative = false;
+      whole = whole;
+      fraction = part;
+      exponent_negative = false;
+      exponent = [];
+    } in
+    let number : IsNumber (whole ++ 46 ∷ part) w = record {
+      sign = [];
+      dot = 46 ∷ [];
+      tail = [];
+      sign_is = n.no_sign;
+      dot_is = n.some_point;
+      tail_is = n.no_exponent;
+      whole_is = all;
+      fraction_is = more;
+      some = some;
+      text_is = ap (λ l. whole ++ 46 ∷ l) (sym (append-nil part));
+    } in
+    let size = length-append whole part in
+    let within = significant_within (whole ++ part) in
+    let short : nat_lt 18 (significant (whole ++ part)) ≡ false = grind (arith, nat_tests, size, within, few) in
+    let places : nat_lt 30 (length part) ≡ false = grind (arith, nat_tests, few) in
+    ap fixed_found (number_complete (whole ++ 46 ∷ part) w number)
+    ∙ ap (λ q. cond q (Err TooManyDigits) (cond (false || nat_lt 30 (length part)) (Err TooLarge) (Ok (fixed_written w)))) short
+    ∙ ap (λ q. cond q (Err TooLarge) (Ok (fixed_written w))) places
+
+-- the number that the entry is
+pub plain_number : (text fraction behind : List ℕ) (count places first number : ℕ)
+    → IsPlain text fraction behind count places → first ≡ front_number 0 text → number ≡ front_number first fraction
+    → 0 < count + places → count + places ≤ 18
+    → fixed_of (take (word_length is_separator text) text)
+    ≡ Ok (record { mantissa = pos number; exponent = pos 0 -ℤ pos places })
+plain_number text fraction behind count places first number k f g some few =
+    let whole = take count text in
+    let part = take places fraction in
+    let whole_size : length whole ≡ count = length-take-le count text k.within in
+    let part_size : length part ≡ places = length-take-le places fraction k.inside in
+    let whole_is : take (digit_run text) text ≡ whole = ap (λ m. take m text) (sym k.count_is) in
+    let part_is : take (digit_run fraction) fraction ≡ part = ap (λ m. take m fraction) (sym k.places_is) in
+    let value : number ≡ digits_value (digits_value 0 whole) part =
+    g ∙ front_is first fraction ∙ ap (digits_value first) part_is
+    ∙ ap (λ m. digits_value m part) (f ∙ front_is 0 text ∙ ap (digits_value 0) whole_is) in
+    ap fixed_of (entry_is text fraction behind count places k)
+    ∙ number_of_digits whole part (subst n.AreDigits whole_is (run_digits text)) (subst n.AreDigits part_is (run_digits fraction))
+    (omega (arith, whole_size, part_size, some)) (omega (arith, whole_size, part_size, few))
+    ∙ ap (λ m. Ok (record { mantissa = pos m; exponent = pos 0 -ℤ pos (length part) })) (sym value)
+    ∙ ap (λ m. Ok (record { mantissa = pos number; exponent = pos 0 -ℤ pos m })) part_size
+
+-- its time
+pub time_in_is : (unit : Option TimeUnit) (text : List ℕ) (number : Fixed) → fixed_of text ≡ Ok number
+    → time_in unit number ≡ time_of unit text
+unfolding time_of
+time_in_is None text number e = refl
+time_in_is (Some unit) text number e = sym (ap (time_as unit) e)
+
+-- an entry joins the sum, if it has a byte
+
+pub joined : (unit : Option TimeUnit) (at : ℕ) (sum after : Sum) (text : List ℕ) (size : ℕ) (time : Option ℕ)
+    → size ≡ word_length is_separator text → size ≤ length text → ¬ (size ≡ 0)
+    → time ≡ time_of unit (take (word_length is_separator text) text) → after ≡ with_time at sum time
+    → after ≡ with_word unit at sum (take (word_length is_separator text) text)
+joined unit at sum after text size time e within some t a =
+    let word = take (word_length is_separator text) text in
+    let long : length word ≡ word_length is_separator text =
+    length-take-le (word_length is_separator text) text (omega (arith, e, within)) in
+    let has : (length word == 0) ≡ false = grind (arith, nat_tests, long, e, some) in
+    a ∙ ap (with_time at sum) t ∙ sym (ap (λ q. cond q sum (with_entry unit at sum word)) has)
+
+pub passed : (unit : Option TimeUnit) (at : ℕ) (sum : Sum) (text : List ℕ) (size : ℕ)
+    → size ≡ word_length is_separator text → size ≤ length text → size ≡ 0
+    → sum ≡ with_word unit at sum (take (word_length is_separator text) text)
+passed unit at sum text size e within none =
+    let word = take (word_length is_separator text) text in
+    let long : length word ≡ word_length is_separator text =
+    length-take-le (word_length is_separator text) text (omega (arith, e, within)) in
+    let has : (length word == 0) ≡ true = grind (arith, nat_tests, long, e, none) in
+    sym (ap (λ q. cond q sum (with_entry unit at sum word)) has)

@@ -1,0 +1,108 @@
+//! Entries of tables that are digits, a point and digits, as nearly all are.
+ghost use Rattle.std.specs.Prelude.{◌≡◌, ◌∷◌, ◌==◌, ◌≤◌, ◌<◌, ◌^◌, length, take, IfSome, Ok, pos, ◌-ℤ◌};
+ghost use Rattle.liberty_text.specs.Number.{digit_run, fixed_of};
+ghost use Rattle.timing_arcs.specs.Tables.{is_separator as separates};
+ghost use Rattle.timing_arcs.specs.Words.{word_length, front_number};
+
+use crate::words::is_separator;
+use liberty_text::Fixed;
+
+/// A number behind which a digit more is no machine number for sure.
+const LARGE: u64 = 100_000_000_000_000_000;
+
+/// The most digits of a plain entry.
+const MOST_DIGITS: usize = 18;
+
+/// An entry at the front of a text.
+#[derive(Clone, Copy)]
+pub(crate) struct PlainEntry {
+    pub(crate) number: Fixed,
+    /// How many bytes it has.
+    pub(crate) length: usize,
+}
+
+/// Digits at the front of a text.
+#[derive(Clone, Copy)]
+struct Digits {
+    /// The number that they spell, behind a number.
+    number: u64,
+    count: usize,
+}
+
+/// The digits at the front of a text, behind a number. None where they are too many.
+#[inline(always)]
+fn digits_behind(before: u64, text: &[u8]) -> Option<Digits>
+    requires { before < 2 ^ 63 }
+    ensures count { IfSome result (λ digits. digits.count ≡ digit_run text.now) }
+    ensures number { IfSome result (λ digits. digits.number ≡ front_number before text.now) }
+    ensures fits { IfSome result (λ digits. digits.number < 2 ^ 63) }
+    ensures within { IfSome result (λ digits. digits.count ≤ length text.now) }
+{
+    let mut number = before;
+    for (at, byte) in text.iter().enumerate() {
+        if !byte.is_ascii_digit() {
+            return Some(Digits { number, count: at });
+        }
+        if number >= LARGE {
+            return None;
+        }
+        number = number * 10 + u64::from(*byte - b'0');
+    }
+    Some(Digits {
+        number,
+        count: text.len(),
+    })
+}
+
+/// A text without the point that it begins with.
+fn behind_point(text: &[u8]) -> Option<&[u8]>
+    ensures { IfSome result (λ behind. text.now ≡ 46 ∷ behind.now) }
+{
+    match text {
+        [b'.', behind @ ..] => Some(behind),
+        _ => None,
+    }
+}
+
+/// Whether an entry ends where this text begins.
+fn is_end(text: &[u8]) -> bool
+    ensures { result ≡ (word_length separates text.now == 0) }
+{
+    match text {
+        [first, ..] => is_separator(*first),
+        [] => true,
+    }
+}
+
+/// The entry at the front of a text, where it is digits, a point and digits, not many.
+pub(crate) fn plain_entry(text: &[u8]) -> Option<PlainEntry>
+    ensures length { IfSome result (λ entry. entry.length ≡ word_length separates text.now) }
+    ensures within { IfSome result (λ entry. entry.length ≤ length text.now) }
+    ensures number { IfSome result (λ entry. fixed_of (take (word_length separates text.now) text.now) ≡ Ok entry.number) }
+{
+    let whole = digits_behind(0, text)?;
+    let (_, rest) = text.split_at(whole.count);
+    let fraction = behind_point(rest)?;
+    let all = digits_behind(whole.number, fraction)?;
+    let digits = whole.count + all.count;
+    let (_, behind) = fraction.split_at(all.count);
+    if digits == 0 || digits > MOST_DIGITS || !is_end(behind) {
+        return None;
+    }
+    Some(PlainEntry {
+        number: decimal(all.number, all.count),
+        length: digits + 1,
+    })
+}
+
+/// Digits, of which so many stand behind the point.
+fn decimal(digits: u64, places: usize) -> Fixed
+    requires digits { digits < 2 ^ 63 }
+    requires places { places ≤ 18 }
+    ensures { result ≡ record { mantissa = pos digits; exponent = pos 0 -ℤ pos places } }
+{
+    Fixed {
+        mantissa: digits as i64,
+        exponent: 0 - places as i8,
+    }
+}

@@ -25,3 +25,4 @@ pub mod Each
 pub mod Fillings
 pub mod Supports
 pub mod Laws
+pub use Rattle.bool_functions.specs as bool_functions

@@ -7,3 +7,5 @@ pub mod TextLaws
 pub mod Repeated
 pub mod Rests
 pub mod ReadBack
+pub use Rattle.lexer.specs as lexer
+pub use Rattle.grammar_rules.specs as grammar_rules

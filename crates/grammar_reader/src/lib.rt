@@ -18,6 +18,7 @@ mod words;
 
 pub use cursor::Cursor;
 pub use language::Language;
+pub use lexer as tokens;
 pub use parts::{RepeatedPart, one_or_more, while_next};
 pub use refusal::{Read, Refusal, Stop};
 pub use rests::{where_read, with_end, with_read};

@@ -9,3 +9,4 @@ pub use Rattle.file_models.proofs as file_models
 pub use Rattle.library_reader.proofs as library_reader
 pub use Rattle.model_files.proofs as model_files
 pub use Rattle.simulation_catalog.proofs as simulation_catalog
+pub use Rattle.model_replay.proofs as model_replay

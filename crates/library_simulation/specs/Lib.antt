@@ -9,3 +9,4 @@ pub use Rattle.library_report.specs as library_report
 pub use Rattle.library_reader.specs as library_reader
 pub use Rattle.model_files.specs as model_files
 pub use Rattle.simulation_catalog.specs as simulation_catalog
+pub use Rattle.model_replay.specs as model_replay

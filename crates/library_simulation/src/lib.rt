@@ -8,5 +8,6 @@ mod known_beside;
 mod run;
 mod simulation;
 
+pub use model_replay as replays;
 pub use model_replay::{Verilog, Vital};
 pub use run::simulate_library;

@@ -1,8 +1,8 @@
 -- A run on which no call failed did all that it was asked for.
-use Rattle.std.proofs.Common.{◌≡◌, ◌≤◌, ℕ, Bool, true, false, List, [], take, length, nat_le, Some, ◌⊎◌, inl, inr, if◌then◌else◌}
-use Rattle.std.proofs.Common.{IsTrue, refl, sym, ap, subst, ◌∙◌, arith}
+use Rattle.std.proofs.Common.{◌≡◌, ℕ, Bool, true, false, List, [], take, length, Some, ◌⊎◌, inl, inr, if◌then◌else◌}
+use Rattle.std.proofs.Common.{IsTrue, refl, sym, ap, subst, ◌∙◌}
 use Rattle.std.proofs.lemmas.List.{take_all}
-use Rattle.std.proofs.lemmas.Bool.Decides.{nat_tests}
+use Rattle.std.proofs.lemmas.Bool.{le-leb as fits_within}
 use Rattle.text_io.specs.declared.file_commands.FileCommand.{FileCommand}
 use Rattle.text_io.specs.declared.file_commands.FileCommand.TheVariants.{Translate, Simulate, ReplayVerilog, ReplayVital, Audit}
 use Rattle.text_io.specs.declared.slots.OutSlot.TheVariants.{Faults}
@@ -42,9 +42,9 @@ use Rattle.library_audit.specs.Outcome.{audit_files, audit_outcome, audits_outco
 use Rattle.library_audit.proofs.WholeAudits.{audited_whole}
 use Rattle.library_simulation.specs.simulation_catalog.FaultLines.{cause_stop}
 use Rattle.library_simulation.specs.model_files.Languages.{Language}
-use Rattle.model_replay.specs.Outcome.{replay_files, replay_outcome}
-use Rattle.model_replay.specs.Complete.{CanBeReplayed}
-use Rattle.model_replay.proofs.Completes.{replayed_whole}
+use Rattle.library_simulation.specs.model_replay.Outcome.{replay_files, replay_outcome}
+use Rattle.library_simulation.specs.model_replay.Complete.{CanBeReplayed}
+use Rattle.library_simulation.proofs.model_replay.Completes.{replayed_whole}
 use Rattle.library_simulation.specs.Verilog.{verilog}
 use Rattle.library_simulation.specs.Vital.{vital}
 
@@ -60,9 +60,6 @@ decided_or status.Stimulus = inr (inr cc)
 decided_or status.Model = inr (inr cc)
 decided_or status.Differ = inr (inr cc)
 decided_or status.TooLong = inr (inr cc)
-
-fits_within : (n limit : ℕ) → n ≤ limit → nat_le n limit ≡ true
-fits_within n limit h = grind (arith, nat_tests, h)
 
 -- a whole library within its limit ends so
 ends_whole : (bytes : List ℕ) → IsWholeLibrary bytes → ending_of library_limit bytes ≡ ending.Whole

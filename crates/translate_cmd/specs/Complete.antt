@@ -13,7 +13,7 @@ use Rattle.command_words.specs.declared.commands.Command.TheVariants as command
 use Rattle.command_words.specs.Reading.{reading}
 use Rattle.run_outcome.specs.Written.{wrote_all}
 use Rattle.run_outcome.specs.Binding.{bound_state, AreNamed, took_all, Tells, bytes_at}
-use Rattle.model_replay.specs.Complete.{CanBeReplayed}
+use Rattle.library_simulation.specs.model_replay.Complete.{CanBeReplayed}
 use Rattle.library_simulation.specs.model_files.Limits.{model_limit, stimulus_limit}
 use Rattle.cell_cursor.specs.Ends.{items_within}
 use Rattle.generated_driven_models.specs.specify_blocks.declared.model.VModule.{VModule}

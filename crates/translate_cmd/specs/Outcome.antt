@@ -9,7 +9,7 @@ use Rattle.run_outcome.specs.declared.status.Status.TheVariants.{Done, Usage}
 use Rattle.run_outcome.specs.Written.{nothing_written, in_report}
 use Rattle.run_outcome.specs.Binding.{Files}
 use Rattle.run_outcome.specs.Outcome.{Outcome}
-use Rattle.model_replay.specs.Outcome.{replay_of}
+use Rattle.library_simulation.specs.model_replay.Outcome.{replay_of}
 use Rattle.library_simulation.specs.Verilog.{verilog}
 use Rattle.library_simulation.specs.Vital.{vital}
 use Rattle.selftest_runs.specs.OwnCounts.{own_counts}

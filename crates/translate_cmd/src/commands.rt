@@ -6,9 +6,9 @@ ghost use Rattle.command_words.specs.Reading.{reading};
 ghost use Rattle.translate_cmd.specs.Runs.{Runs};
 
 use library_audit::audit_library;
+use library_simulation::replays::replay_models;
 use library_simulation::{Verilog, Vital, simulate_library};
 use library_translation::translate_library;
-use model_replay::replay_models;
 use run_outcome::{Status, ended};
 use selftest_runs::{selftest_counts, write_report};
 use std::alloc::Global;

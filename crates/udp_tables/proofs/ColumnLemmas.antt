@@ -1,18 +1,12 @@
 -- Columns of rows: a list with an entry put in at a place, or at its end, and what columns match.
 use Rattle.std.proofs.Common.{◌≡◌, ◌≢◌, ℕ, zero, suc, ◌<◌, ◌≤◌, Bool, true, false, ◌&&◌, List, [], ◌∷◌, ◌++◌, length, get_or, set}
 use Rattle.std.proofs.Common.{refl, sym, ◌∙◌, ap, arith}
+pub use Rattle.std.proofs.Math.Bool.{and-false, and-true}
 use Rattle.trit_cubes.specs.declared.trits.Trit.{Trit}
 use Rattle.trit_cubes.specs.declared.trits.Trit.TheVariants.{Unknown}
 use Rattle.cell_machine.specs.Machine.{insert, without}
+pub use Rattle.cell_machine.proofs.Tables.{insert_long as length-insert}
 use Rattle.udp_tables.specs.Tables.{columns_match}
-
-pub and-true : (x : Bool) → (x && true) ≡ x
-and-true true = refl
-and-true false = refl
-
-pub and-false : (x : Bool) → (x && false) ≡ false
-and-false true = refl
-and-false false = refl
 
 pub and-assoc : (x y z : Bool) → (x && (y && z)) ≡ ((x && y) && z)
 and-assoc true y z = refl
@@ -21,12 +15,6 @@ and-assoc false y z = refl
 pub and-swap : (x y z : Bool) → (x && (y && z)) ≡ (y && (x && z))
 and-swap true y z = refl
 and-swap false y z = sym (and-false y)
-
--- a list with x at a place
-pub length-insert : {X : Type 0} (p : ℕ) (x : X) (xs : List X) → length (insert p x xs) ≡ suc (length xs)
-length-insert zero x xs = refl
-length-insert (suc p) x [] = refl
-length-insert (suc p) x (y ∷ ys) = ap suc (length-insert p x ys)
 
 pub at-insert : {X : Type 0} (p : ℕ) (x d : X) (xs : List X) → p ≤ length xs → get_or (insert p x xs) p d ≡ x
 at-insert zero x d xs l = refl

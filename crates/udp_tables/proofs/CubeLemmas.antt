@@ -3,6 +3,7 @@ use Rattle.std.proofs.Common.{◌≡◌, ◌≢◌, ℕ, zero, suc, ◌<◌, Boo
 use Rattle.std.proofs.Common.{length, refl, sym, ◌∙◌, ap, subst, arith}
 use Rattle.std.proofs.lemmas.Bool.{and_parts, cases_lt, false_from_ne_true}
 use Rattle.std.proofs.lemmas.List.{length_push}
+use Rattle.std.proofs.Math.Bool.{and-false, and-true}
 use Rattle.trit_cubes.specs.declared.trits.Trit.{Trit}
 use Rattle.trit_cubes.specs.declared.trits.Trit.TheVariants.{Zero, One, Unknown}
 use Rattle.trit_cubes.specs.Filling.{is_unknown, same, covers, IsFilling}
@@ -14,19 +15,15 @@ use Rattle.trit_cubes.proofs.ListLemmas.{append-among_right}
 use Rattle.trit_cubes.proofs.SplitLemmas.{prime_list-gives, prime_list-length}
 use Rattle.trit_cubes.proofs.InsideLemmas.{res-fillings, fillings-res}
 use Rattle.cell_machine.specs.Machine.{Step, init, last, edge_value, machine_step}
+pub use Rattle.cell_machine.proofs.StillLemmas.{same-self}
 use Rattle.udp_tables.specs.Tables.{value_rows}
 use Rattle.udp_tables.specs.Edges.{moves, edge_cubes, each_below}
 use Rattle.udp_tables.proofs.FirstLemmas.{any-found, found-any}
-use Rattle.udp_tables.proofs.ColumnLemmas.{and-true, and-false, and-assoc}
+use Rattle.udp_tables.proofs.ColumnLemmas.{and-assoc}
 
 -- whether a place of a cube allows a value
 abbrev pub admits : Trit → Trit → Bool
 admits w t = is_unknown w || same w t
-
-pub same-self : (v : Trit) → same v v ≡ true
-same-self Zero = refl
-same-self One = refl
-same-self Unknown = refl
 
 pub same-is : (v t : Trit) → same v t ≡ true → t ≡ v
 same-is v t e = grind arith

@@ -1,10 +1,11 @@
 -- The symbols of a row for the places of a cube, as they are put together.
-use Rattle.std.proofs.Common.{◌≡◌, ℕ, zero, suc, ◌+◌, ◌<◌, ◌≤◌, List, [], ◌∷◌, ◌++◌, map, take, drop, length, slice_get, Some}
+use Rattle.std.proofs.Common.{◌≡◌, ℕ, zero, suc, ◌+◌, ◌<◌, ◌≤◌, List, [], ◌∷◌, ◌++◌, map, drop, length, slice_get, Some}
 use Rattle.std.proofs.Common.{refl, sym, ◌∙◌, ap, arith, append_assoc}
 use Rattle.std.proofs.lemmas.List.{drop_more, length-map}
 use Rattle.std.proofs.lemmas.Option.{get_or_from_slice_get}
 use Rattle.trit_cubes.specs.declared.trits.Trit.{Trit}
 use Rattle.cell_machine.specs.Machine.{insert, init, last}
+pub use Rattle.cell_machine.proofs.Tables.{insert_parts as insert-parts}
 use Rattle.udp_tables.specs.Edges.{change_columns}
 
 -- one more symbol of a row
@@ -18,12 +19,6 @@ symbols-more place cube i t es more l e f =
     ap (λ xs. xs ++ map place (drop (i + 1) cube)) f
     ∙ append_assoc es (place t ∷ []) (map place (drop (i + 1) cube))
     ∙ ap (λ xs. es ++ map place xs) (sym rest)
-
--- a list with an entry at a place, as its parts
-pub insert-parts : {X : Type 0} (p : ℕ) (x : X) (xs : List X) → p ≤ length xs → take p xs ++ x ∷ drop p xs ≡ insert p x xs
-insert-parts zero x xs l = refl
-insert-parts (suc p) x [] l = absurd (omega arith)
-insert-parts (suc p) x (y ∷ ys) l = ap (λ zs. y ∷ zs) (insert-parts p x ys (omega arith))
 
 -- a list less its last entry
 pub length-init : {X : Type 0} (x : X) (xs : List X) → length (init (x ∷ xs)) ≡ length xs

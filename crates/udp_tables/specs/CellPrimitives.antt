@@ -3,9 +3,9 @@
 use Rattle.std.specs.Prelude.{◌<◌, ℕ, ◌+◌, Bool, true, nat_lt, List, ◌++◌, length, take, count_by, slice_index_or, codes, decimal}
 use Rattle.std.specs.Prelude.{if◌then◌else◌}
 use Rattle.trit_cubes.specs.declared.trits.Trit.{Trit}
-use Rattle.bool_functions.specs.declared.tree.Node.{Node}
-use Rattle.bool_functions.specs.declared.tree.Node.TheVariants as node
-use Rattle.bool_functions.specs.Support.{support_of}
+use Rattle.cell_machine.specs.bool_functions.declared.tree.Node.{Node}
+use Rattle.cell_machine.specs.bool_functions.declared.tree.Node.TheVariants as node
+use Rattle.cell_machine.specs.bool_functions.Support.{support_of}
 use Rattle.cell_machine.specs.declared.outputs.OutputPin.{OutputPin}
 use Rattle.cell_machine.specs.Outputs.{condition_at}
 use Rattle.udp_tables.specs.declared.table.Udp.{Udp}

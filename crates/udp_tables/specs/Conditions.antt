@@ -2,14 +2,14 @@
 -- before arcs, equal trees once.
 use Rattle.std.specs.Prelude.{ℕ, ◌+◌, ◌≤◌, length, List, [], ◌∷◌, ◌++◌, Option, Some, None, filter, flat_map, if◌then◌else◌}
 use Rattle.std.specs.List.{list_any}
-use Rattle.bool_functions.specs.declared.tree.Node.{Node}
-use Rattle.bool_functions.specs.Tree.{name_bound}
-pub use Rattle.bool_functions.specs.Support.{support_of}
+use Rattle.cell_machine.specs.bool_functions.declared.tree.Node.{Node}
+use Rattle.cell_machine.specs.bool_functions.Tree.{name_bound}
+pub use Rattle.cell_machine.specs.bool_functions.Support.{support_of}
 use Rattle.cell_machine.specs.declared.checks.Check.{Check}
 use Rattle.cell_machine.specs.declared.arcs.Arc.{Arc}
 use Rattle.cell_machine.specs.CellTrace.{same_pins}
 pub use Rattle.cell_machine.specs.Outputs.{condition_at}
-use Rattle.bool_functions.specs.SameTrees.{same_tree}
+use Rattle.cell_machine.specs.bool_functions.SameTrees.{same_tree}
 use Rattle.cell_machine.specs.CellData.{CellData}
 
 -- a condition that may be absent, as a list

@@ -4,8 +4,8 @@ use Rattle.trit_cubes.specs.declared.trits.Trit.{Trit}
 use Rattle.trit_cubes.specs.declared.trits.Trit.TheVariants as trit
 use Rattle.trit_cubes.specs.Filling.{trit_of}
 use Rattle.trit_cubes.specs.Resolution.{res}
-use Rattle.bool_functions.specs.declared.tree.Node.{Node}
-use Rattle.bool_functions.specs.Tree.{value_of}
+use Rattle.cell_machine.specs.bool_functions.declared.tree.Node.{Node}
+use Rattle.cell_machine.specs.bool_functions.Tree.{value_of}
 use Rattle.udp_tables.specs.declared.table.Level.TheVariants as level
 use Rattle.udp_tables.specs.declared.table.Entry.{Entry}
 use Rattle.udp_tables.specs.declared.table.Entry.TheVariants as entry

@@ -4,7 +4,7 @@ use Rattle.trit_cubes.specs.declared.trits.Trit.{Trit}
 use Rattle.trit_cubes.specs.declared.trits.Trit.TheVariants.{Unknown}
 use Rattle.cell_machine.specs.Machine.{Step, without, machine_step, forced}
 use Rattle.trit_cubes.specs.Resolution.{res}
-use Rattle.bool_functions.specs.declared.tree.Node.{Node}
+use Rattle.cell_machine.specs.bool_functions.declared.tree.Node.{Node}
 use Rattle.udp_tables.specs.declared.parts.Part.{Part}
 use Rattle.udp_tables.specs.Primitive.{level_output}
 use Rattle.udp_tables.specs.Sequential.{udp_next, noted, sequential_rows, compact_rows, IsSequential}

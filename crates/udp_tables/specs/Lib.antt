@@ -15,3 +15,4 @@ pub mod Laws
 pub mod ModelFaults
 pub mod VerilogRules
 pub mod VerilogPrimitives
+pub use Rattle.cell_machine.specs as cell_machine

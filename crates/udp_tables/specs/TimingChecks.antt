@@ -1,7 +1,7 @@
 -- The timing checks of a cell's models. Both languages have the same events and limits, and number conditions by their place
 -- among the conditions of the cell: a module behind the wires of its states, an entity from 0.
 use Rattle.std.specs.Prelude.{ℕ, ◌+◌, List, option_map}
-use Rattle.bool_functions.specs.declared.tree.Node.{Node}
+use Rattle.cell_machine.specs.bool_functions.declared.tree.Node.{Node}
 use Rattle.cell_machine.specs.declared.pins.Pin.{Pin}
 use Rattle.cell_machine.specs.declared.checks.Check.{Check}
 use Rattle.cell_machine.specs.CellData.{CellData}

@@ -4,8 +4,8 @@ use Rattle.std.specs.Prelude.{length, slice_get, Option, Some, None, is_some, co
 use Rattle.std.specs.List.{list_any}
 use Rattle.std.specs.Option.{option_map}
 use Rattle.std.specs.Str.{bytes_eq}
-use Rattle.grammar_rules.specs.Rule.{Verdict, Fits, Foul, Misfit}
-use Rattle.grammar_rules.specs.Rule as r
+use Rattle.grammar_reader.specs.grammar_rules.Rule.{Verdict, Fits, Foul, Misfit}
+use Rattle.grammar_reader.specs.grammar_rules.Rule as r
 use Rattle.udp_tables.specs.declared.table.Level.{Level}
 use Rattle.udp_tables.specs.declared.table.Level.TheVariants as level
 use Rattle.udp_tables.specs.declared.table.Entry.{Entry}

@@ -3,7 +3,7 @@
 use Rattle.std.specs.Prelude.{ℕ, Bool, List, Option, drop}
 use Rattle.std.specs.List.{position_from}
 use Rattle.std.specs.Str.{bytes_eq}
-use Rattle.grammar_rules.specs.Rule.{Verdict}
+use Rattle.grammar_reader.specs.grammar_rules.Rule.{Verdict}
 use Rattle.grammar_reader.specs.declared.refusal.Refusal.{Refusal}
 use Rattle.grammar_reader.specs.Words.{Grammar}
 use Rattle.grammar_reader.specs.Words as words

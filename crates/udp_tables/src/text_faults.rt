@@ -2,12 +2,12 @@
 
 ghost use Rattle.std.specs.Prelude.{◌≡◌, length};
 ghost use Rattle.grammar_reader.specs.Texts.{refusal_fault};
-ghost use Rattle.lexer.specs.Spans.{tokens_of};
+ghost use Rattle.grammar_reader.specs.lexer.Spans.{tokens_of};
 ghost use Rattle.udp_tables.specs.ModelFaults.{fault_at, model_faults};
 
 use crate::models::ModelFault;
+use grammar_reader::tokens::{KeptSpan, place_of};
 use grammar_reader::{Cursor, Language, Refusal};
-use lexer::{KeptSpan, place_of};
 
 /// The fault of a refusal at an offset.
 fn fault_at(refusal: Refusal, at: usize) -> ModelFault

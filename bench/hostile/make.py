@@ -299,6 +299,29 @@ def timing_of_an_output_bundle(n):
     return library(cell(inputs(["R"]), *bundles))
 
 
+def timing_of_a_floating_bundle(n):
+    """a bundle of outputs that may float, with this many members and as many timing groups, which each of them has"""
+    members = ", ".join("A%d" % k for k in range(n))
+    said = 'direction : output; function : "R"; three_state : "E"; ' + 'timing () { related_pin : "R"; }\n' * n
+    return library(cell(inputs(["R", "E"]), "bundle (B) { members (%s); %s}\n" % (members, said)))
+
+
+def timing_of_a_bundle_with_a_pin(n):
+    """a bundle with this many members and as many timing groups, and a pin group for its first member"""
+    members = ", ".join("A%d" % k for k in range(n))
+    said = 'direction : input; pin (A0) { } ' + 'timing () { related_pin : "R"; }\n' * n
+    return library(cell(inputs(["R"]), "bundle (B) { members (%s); %s}\n" % (members, said)))
+
+
+def timing_that_names_a_bundle(n):
+    """a bundle with this many members and as many timing groups, whose related pin is another bundle of as many members"""
+    bundles = (
+        "bundle (%s) { members (%s); direction : input; %s}\n" % (name, ", ".join("%s%d" % (name, k) for k in range(n)), said)
+        for name, said in (("A", ""), ("B", 'timing () { related_pin : "A"; }\n' * n))
+    )
+    return library(cell(*bundles))
+
+
 def related_words(n):
     """as many buses as words of a related pin"""
     buses = ('bus (B%d) { bus_type : T; direction : input; }\n' % k for k in range(n))
@@ -511,6 +534,9 @@ TRANSLATED = {
     "bundle_of_one_name": (bundle_of_one_name, (7500, 15000, 30000)),
     "timing_of_a_bundle": (timing_of_a_bundle, (100, 200, 400)),
     "timing_of_an_output_bundle": (timing_of_an_output_bundle, (100, 200, 400)),
+    "timing_of_a_floating_bundle": (timing_of_a_floating_bundle, (100, 200, 400)),
+    "timing_of_a_bundle_with_a_pin": (timing_of_a_bundle_with_a_pin, (100, 200, 400)),
+    "timing_that_names_a_bundle": (timing_that_names_a_bundle, (100, 200, 400)),
     "related_words": (related_words, (2000, 4000, 8000)),
     "lines_without_semicolons": (lines_without_semicolons, (2500000, 5000000, 10000000)),
     "delay_file": (delay_file, (150000, 300000, 600000)),

@@ -2,7 +2,7 @@
 ghost use Rattle.std.specs.Prelude.{◌≡◌, IfOk};
 ghost use Rattle.bank_cells.specs.Copies.{with_items as with_items_of};
 
-use liberty_groups::{Group, Item, copy_bytes, copy_values};
+use liberty_groups::{Group, Item, copy_arguments, copy_text};
 use sqlite_items::Items;
 use std::alloc::{AllocError, Global};
 
@@ -15,8 +15,8 @@ pub(crate) fn with_items(
     ensures { IfOk result (λ group. group ≡ with_items_of like.now items) }
 {
     Ok(Group {
-        name: copy_bytes(alloc, like.name.as_slice())?,
-        arguments: copy_values(alloc, like.arguments.as_slice())?,
+        name: copy_text(alloc, like.name.as_slice())?,
+        arguments: copy_arguments(alloc, like.arguments.as_slice())?,
         items,
         at: like.at,
     })

@@ -11,31 +11,31 @@ use crate::refusals::{bank_refusal, has_many, is_pins};
 use crate::room::with_room;
 use crate::shared::{add_shared_at, shared_items};
 use bus_texts::{BusTypes, Vector, Vectors, cell_vectors, pin_vectors};
-use liberty_groups::{Group, Item, Value, copy_bytes, copy_group};
+use liberty_groups::{Arguments, Group, Item, Value, Values, copy_group, copy_text};
 use sqlite_items::Items;
 use std::alloc::{AllocError, Global};
 
 /// Adds names as arguments of a pin group.
-fn add_names(alloc: Global, found: &mut Items<Value>, names: &[Items<u8>]) -> Result<(), AllocError>
+fn add_names(alloc: Global, found: &mut Values, names: &[Items<u8>]) -> Result<(), AllocError>
     ensures { OnOk result (found.new ≡ found.old ++ map spec.name_value names.now) }
 {
     for name in names {
-        let bytes = copy_bytes(alloc, name.as_slice())?;
+        let bytes = copy_text(alloc, name.as_slice())?;
         let quoted = true;
-        found.push(Value { bytes, quoted })?;
+        found.push(alloc, Value { bytes, quoted })?;
     }
     Ok(())
 }
 
 /// The names of all members as arguments of a pin group.
-fn all_names(alloc: Global, several: &[Vector]) -> Result<Items<Value>, AllocError>
+fn all_names(alloc: Global, several: &[Vector]) -> Result<Arguments, AllocError>
     ensures { IfOk result (λ found. found ≡ map spec.name_value (spec.members_of several.now)) }
 {
-    let mut found = Items::new(alloc);
+    let mut found = Values::new();
     for vector in several {
         add_names(alloc, &mut found, vector.members.as_slice())?;
     }
-    Ok(found)
+    Arguments::from_values(alloc, found)
 }
 
 /// What the statements of a bus or bundle become at its first position.
@@ -60,7 +60,7 @@ fn gathered_pin(
 {
     let items = first_items(alloc, vectors, group.items.as_slice())?;
     Ok(Group {
-        name: copy_bytes(alloc, b"pin")?,
+        name: copy_text(alloc, b"pin")?,
         arguments: all_names(alloc, several)?,
         items,
         at: group.at,

@@ -12,7 +12,7 @@ use crate::room::with_room;
 use crate::shared::{Shared, add_shared_at, shared_items};
 use crate::timings::timing_at;
 use bus_texts::{Vector, Vectors, is_called};
-use liberty_groups::{Group, Item, copy_bytes, copy_item};
+use liberty_groups::{Arguments, Group, Item, copy_bytes, copy_item, copy_text};
 use sqlite_items::Items;
 use std::alloc::{AllocError, Global};
 
@@ -85,8 +85,8 @@ fn member_pin(
     let items = member_pin_items(alloc, vectors, group, shared, member)?;
     let name = copy_bytes(alloc, member.name)?;
     Ok(Group {
-        name: copy_bytes(alloc, b"pin")?,
-        arguments: one_value(alloc, name, true)?,
+        name: copy_text(alloc, b"pin")?,
+        arguments: Arguments::from_values(alloc, one_value(alloc, name, true)?)?,
         items,
         at: group.at,
     })

@@ -7,25 +7,19 @@ ghost use Rattle.bank_cells.specs.Expanded as spec;
 use crate::faults::Place;
 use crate::room::with_room;
 use bus_texts::{is_called, text_for};
-use liberty_groups::{Group, Item, Value, copy_bytes, copy_item, copy_values};
+use liberty_groups::{Group, Item, Value, Values, copy_item, copy_text, copy_values, value_of};
 use sqlite_items::Items;
 use std::alloc::{AllocError, Global};
 
 /// One value.
-pub(crate) fn one_value(
-    alloc: Global,
-    bytes: Items<u8>,
-    quoted: bool,
-) -> Result<Items<Value>, AllocError>
+pub(crate) fn one_value(alloc: Global, bytes: Items<u8>, quoted: bool) -> Result<Values, AllocError>
     ensures { IfOk result (λ values. values ≡ spec.one_value bytes quoted) }
 {
-    let mut values = with_room(alloc, 1)?;
-    values.push(Value { bytes, quoted })?;
-    Ok(values)
+    Ok(Values::one(value_of(alloc, bytes, quoted)?))
 }
 
 /// The values of a text as it becomes at a place.
-fn values_at(alloc: Global, place: Place<'_>, values: &[Value]) -> Result<Items<Value>, AllocError>
+fn values_at(alloc: Global, place: Place<'_>, values: &[Value]) -> Result<Values, AllocError>
     ensures { IfOk result (λ made. made ≡ spec.values_at place.entry.vectors.now place.entry.position values.now) }
 {
     let [value] = values else {
@@ -41,7 +35,7 @@ fn values_if(
     place: Place<'_>,
     is_text: bool,
     values: &[Value],
-) -> Result<Items<Value>, AllocError>
+) -> Result<Values, AllocError>
     ensures { IfOk result (λ made. made ≡ spec.values_if place.entry.vectors.now place.entry.position is_text values.now) }
 {
     if is_text {
@@ -104,7 +98,7 @@ pub(crate) fn pin_text(alloc: Global, place: Place<'_>, item: &Item) -> Result<I
 {
     match item {
         Item::Simple { name, value, at } => Ok(Item::Simple {
-            name: copy_bytes(alloc, name.as_slice())?,
+            name: copy_text(alloc, name.as_slice())?,
             value: values_if(alloc, place, is_pin_text(name.as_slice()), value.as_slice())?,
             at: *at,
         }),
@@ -118,7 +112,7 @@ pub(crate) fn timing_text(alloc: Global, place: Place<'_>, item: &Item) -> Resul
 {
     match item {
         Item::Simple { name, value, at } => Ok(Item::Simple {
-            name: copy_bytes(alloc, name.as_slice())?,
+            name: copy_text(alloc, name.as_slice())?,
             value: values_if(
                 alloc,
                 place,
@@ -143,7 +137,7 @@ fn state_text(
 {
     match item {
         Item::Simple { name, value, at } => Ok(Item::Simple {
-            name: copy_bytes(alloc, name.as_slice())?,
+            name: copy_text(alloc, name.as_slice())?,
             value: values_if(
                 alloc,
                 place,

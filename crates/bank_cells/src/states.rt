@@ -5,20 +5,20 @@ ghost use Rattle.bank_cells.specs.Expanded as spec;
 
 use crate::faults::Place;
 use crate::rewritten::state_items;
-use crate::room::with_room;
 use bus_texts::{Bank, Vectors, is_called, member_name, positions};
-use liberty_groups::{Group, Item, Value, copy_bytes};
+use liberty_groups::{Arguments, Group, Item, Value, Values, copy_text, value_of};
+use small_bytes::SmallBytes;
 use sqlite_items::Items;
 use std::alloc::{AllocError, Global};
 
 /// The name of the state groups that a bank becomes.
-fn state_name(alloc: Global, group: &Group) -> Result<Items<u8>, AllocError>
+fn state_name(alloc: Global, group: &Group) -> Result<SmallBytes, AllocError>
     ensures { IfOk result (λ name. name ≡ spec.state_name group.now) }
 {
     if is_called(group, b"ff_bank") {
-        copy_bytes(alloc, b"ff")
+        copy_text(alloc, b"ff")
     } else {
-        copy_bytes(alloc, b"latch")
+        copy_text(alloc, b"latch")
     }
 }
 
@@ -27,18 +27,17 @@ fn variable(alloc: Global, name: &[u8], bit: u16) -> Result<Value, AllocError>
     ensures { IfOk result (λ value. value ≡ spec.variable_value name.now bit) }
 {
     let bytes = member_name(alloc, name, bit)?;
-    let quoted = true;
-    Ok(Value { bytes, quoted })
+    value_of(alloc, bytes, true)
 }
 
 /// The variables of a bank's state.
-fn variables(alloc: Global, bank: Bank<'_>, bit: u16) -> Result<Items<Value>, AllocError>
+fn variables(alloc: Global, bank: Bank<'_>, bit: u16) -> Result<Arguments, AllocError>
     ensures { IfOk result (λ values. values ≡ spec.variables_at (shown_bank bank.entry) bit) }
 {
-    let mut values = with_room(alloc, 2)?;
-    values.push(variable(alloc, bank.first, bit)?)?;
-    values.push(variable(alloc, bank.second, bit)?)?;
-    Ok(values)
+    let mut values = Values::with_capacity(alloc, 2)?;
+    values.push(alloc, variable(alloc, bank.first, bit)?)?;
+    values.push(alloc, variable(alloc, bank.second, bit)?)?;
+    Arguments::from_values(alloc, values)
 }
 
 /// The state of a bank at a position.

@@ -8,7 +8,7 @@ use crate::related::{pins_named, related_words};
 use crate::rewritten::{one_value, timing_text};
 use crate::room::with_room;
 use bus_texts::{VectorKind, Vectors, member_at, vector_named};
-use liberty_groups::{Attribute, Group, Item, copy_bytes, copy_item, simple_attribute};
+use liberty_groups::{Attribute, Group, Item, copy_item, copy_text, simple_attribute};
 use sqlite_items::Items;
 use std::alloc::{AllocError, Global};
 
@@ -89,7 +89,7 @@ fn related_pins(alloc: Global, text: Vec<u8>, at: usize) -> Result<Item, AllocEr
     ensures { IfOk result (λ item. item ≡ spec.related_pins text.items at) }
 {
     Ok(Item::Simple {
-        name: copy_bytes(alloc, b"related_pin")?,
+        name: copy_text(alloc, b"related_pin")?,
         value: one_value(alloc, Items::from_vec(text), true)?,
         at,
     })

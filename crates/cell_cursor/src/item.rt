@@ -5,7 +5,6 @@ ghost use Rattle.std.specs.Option.{option_to_list};
 ghost use Rattle.cell_cursor.specs.Items.{named_item, given, next_of};
 
 use liberty_groups::{Group, Item, UnitLine, one_text};
-use std::alloc::Global;
 
 /// What is read of a library: an item.
 #[derive(Drop)]
@@ -65,13 +64,13 @@ fn group_item(group: Group) -> Option<LibraryItem>
 
 /// The item that a statement of the library is, where it is one.
 #[tactic(auto, unfolding(crate::specs::Items::given))]
-pub(crate) fn item_of(alloc: Global, statement: Item) -> Option<LibraryItem>
+pub(crate) fn item_of(statement: Item) -> Option<LibraryItem>
     ensures { option_to_list result ≡ given statement }
 {
     match statement {
         Item::Simple { name, value, at } => {
             if name.as_slice() == b"time_unit".as_slice() {
-                let value = one_text(alloc, value);
+                let value = one_text(value);
                 return Some(LibraryItem::Unit(UnitLine { value, at }));
             }
             named_item(name.as_slice(), at)

@@ -70,7 +70,7 @@ fn read_statement(
     let (name, at) = cursor.name(alloc)?;
     let statement = whole_statement(cursor, alloc, LEVELS_INSIDE, name, at)?;
     let has_ended = has_ended(&statement, cursor);
-    add(items, item_of(alloc, statement))?;
+    add(items, item_of(statement))?;
     Ok(has_ended)
 }
 

@@ -2,7 +2,7 @@
 ghost use Rattle.std.specs.Prelude.{◌≡◌, IfOk};
 ghost use Rattle.core_groups.specs.Copies.{with_statements};
 
-use liberty_groups::{Group, Item, copy_bytes, copy_values};
+use liberty_groups::{Group, Item, copy_arguments, copy_text};
 use sqlite_items::Items;
 use std::alloc::{AllocError, Global};
 
@@ -11,8 +11,8 @@ pub fn with_items(alloc: Global, like: &Group, items: Items<Item>) -> Result<Gro
     ensures { IfOk result (λ group. group ≡ with_statements like.now items) }
 {
     Ok(Group {
-        name: copy_bytes(alloc, like.name.as_slice())?,
-        arguments: copy_values(alloc, like.arguments.as_slice())?,
+        name: copy_text(alloc, like.name.as_slice())?,
+        arguments: copy_arguments(alloc, like.arguments.as_slice())?,
         items,
         at: like.at,
     })

@@ -9,7 +9,9 @@ ghost use Rattle.core_groups.specs.CoreGroups.{enable_pins};
 
 use crate::outputs::ThreeStateOutput;
 use bool_functions::{FunctionFault, read_free};
-use liberty_groups::{Attribute, Group, Item, Value, copy_bytes, last_attribute};
+use liberty_groups::{
+    Arguments, Attribute, Group, Item, Values, copy_bytes, copy_text, last_attribute, value_of,
+};
 use sqlite_items::Items;
 use std::alloc::{AllocError, Global};
 use vhdl_tokens::numbered_name;
@@ -39,13 +41,10 @@ fn enable_function(alloc: Global, text: &[u8]) -> Result<Items<u8>, AllocError>
 }
 
 /// One text as the values of a statement or the arguments of a group.
-fn one_value(alloc: Global, bytes: Items<u8>) -> Result<Items<Value>, AllocError>
+fn one_value(alloc: Global, bytes: Items<u8>) -> Result<Values, AllocError>
     ensures { IfOk result (λ values. values ≡ one_value_of bytes) }
 {
-    let mut values = Items::new(alloc);
-    let quoted = true;
-    values.push(Value { bytes, quoted })?;
-    Ok(values)
+    Ok(Values::one(value_of(alloc, bytes, true)?))
 }
 
 /// A simple attribute with one text.
@@ -53,7 +52,7 @@ fn simple(alloc: Global, name: &[u8], text: Items<u8>, at: usize) -> Result<Item
     ensures { IfOk result (λ item. item ≡ Item.Simple name.now (one_value_of text) at) }
 {
     Ok(Item::Simple {
-        name: copy_bytes(alloc, name)?,
+        name: copy_text(alloc, name)?,
         value: one_value(alloc, text)?,
         at,
     })
@@ -78,8 +77,8 @@ fn enable_pin(alloc: Global, number: usize, floats: Attribute<'_>) -> Result<Ite
 {
     let name = numbered_name(alloc, b"-e", number + 1)?;
     Ok(Item::Inner(Group {
-        name: copy_bytes(alloc, b"pin")?,
-        arguments: one_value(alloc, name)?,
+        name: copy_text(alloc, b"pin")?,
+        arguments: Arguments::from_values(alloc, one_value(alloc, name)?)?,
         items: enable_statements(alloc, floats)?,
         at: floats.at,
     }))

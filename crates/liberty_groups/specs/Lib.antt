@@ -7,4 +7,5 @@ pub mod Grammar
 pub mod Lexeme
 pub mod Library
 pub mod Outline
+pub mod Values
 pub mod Writing

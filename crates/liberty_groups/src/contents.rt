@@ -5,14 +5,15 @@ ghost use Rattle.liberty_groups.specs.Library.{nothing_found, found_of, one_text
 
 use crate::fault::Stop;
 use crate::tree::{Group, Item, Value};
-use sqlite_items::Items;
+use crate::values::Values;
+use small_bytes::SmallBytes;
 use std::alloc::Global;
 
 /// A time unit of a library: the text of a simple attribute `time_unit`, which is that of its one
 /// value, and empty with no value or with several. `at` is the offset of the statement.
 #[derive(Drop)]
 pub struct UnitLine {
-    pub value: Items<u8>,
+    pub value: SmallBytes,
     pub at: usize,
 }
 
@@ -26,13 +27,13 @@ pub struct Contents {
 }
 
 /// The text of a simple attribute with these values.
-pub fn one_text(alloc: Global, mut values: Items<Value>) -> Items<u8>
+pub fn one_text(mut values: Values) -> SmallBytes
     ensures { result ≡ one_text values }
 {
     let last = values.pop();
     match last {
         Some(value) if values.is_empty() => value.bytes,
-        _ => Items::new(alloc),
+        _ => SmallBytes::new(),
     }
 }
 
@@ -79,14 +80,14 @@ impl Contents {
 
     /// A statement of the library.
     #[tactic(auto, unfolding(crate::specs::Library::counted))]
-    pub fn count(&mut self, alloc: Global, item: Item) -> Result<(), Stop>
+    pub fn count(&mut self, item: Item) -> Result<(), Stop>
         ensures ok { OnOk result (found_of self.new ≡ counted (found_of self.old) item) }
         ensures memory { OnErr result (result ≡ Err Stop.Memory) }
     {
         match item {
             Item::Simple { name, value, at } => {
                 if name.as_slice() == b"time_unit".as_slice() {
-                    let value = one_text(alloc, value);
+                    let value = one_text(value);
                     self.units.push(UnitLine { value, at })?;
                     return Ok(());
                 }

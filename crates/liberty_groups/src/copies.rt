@@ -2,6 +2,8 @@
 ghost use Rattle.std.specs.Prelude.{◌≡◌, IfOk};
 
 use crate::tree::{Group, Item, Value};
+use crate::values::{Arguments, Values};
+use small_bytes::SmallBytes;
 use sqlite_items::Items;
 use std::alloc::{AllocError, Global};
 
@@ -12,17 +14,40 @@ pub fn copy_bytes(alloc: Global, bytes: &[u8]) -> Result<Items<u8>, AllocError>
     Ok(Items::from_slice(alloc, bytes)?)
 }
 
+/// A copy of the bytes of a name or a value. An `Err` comes only where memory is wanting.
+pub fn copy_text(alloc: Global, bytes: &[u8]) -> Result<SmallBytes, AllocError>
+    ensures { IfOk result (λ copy. copy ≡ bytes.now) }
+{
+    Ok(SmallBytes::from_slice(alloc, bytes)?)
+}
+
+/// A value of these bytes. An `Err` comes only where memory is wanting.
+pub fn value_of(alloc: Global, bytes: Items<u8>, quoted: bool) -> Result<Value, AllocError>
+    ensures bytes { IfOk result (λ value. value.bytes ≡ bytes) }
+    ensures quoted { IfOk result (λ value. value.quoted ≡ quoted) }
+{
+    let bytes = SmallBytes::from_items(alloc, bytes)?;
+    Ok(Value { bytes, quoted })
+}
+
 /// A copy of some values. An `Err` comes only where memory is wanting.
-pub fn copy_values(alloc: Global, values: &[Value]) -> Result<Items<Value>, AllocError>
+pub fn copy_values(alloc: Global, values: &[Value]) -> Result<Values, AllocError>
     ensures { IfOk result (λ copy. copy ≡ values.now) }
 {
-    let mut copy = Items::from_vec(Vec::with_capacity(alloc, values.len())?);
+    let mut copy = Values::with_capacity(alloc, values.len())?;
     for value in values {
-        let bytes = copy_bytes(alloc, value.bytes.as_slice())?;
+        let bytes = copy_text(alloc, value.bytes.as_slice())?;
         let quoted = value.quoted;
-        copy.push(Value { bytes, quoted })?;
+        copy.push(alloc, Value { bytes, quoted })?;
     }
     Ok(copy)
+}
+
+/// A copy of the arguments of a group. An `Err` comes only where memory is wanting.
+pub fn copy_arguments(alloc: Global, values: &[Value]) -> Result<Arguments, AllocError>
+    ensures { IfOk result (λ copy. copy ≡ values.now) }
+{
+    Arguments::from_values(alloc, copy_values(alloc, values)?)
 }
 
 /// A copy of a statement with all that stands in it. An `Err` comes only where memory is wanting.
@@ -32,7 +57,7 @@ pub fn copy_item(alloc: Global, item: &Item) -> Result<Item, AllocError>
 {
     match item {
         Item::Simple { name, value, at } => Ok(Item::Simple {
-            name: copy_bytes(alloc, name.as_slice())?,
+            name: copy_text(alloc, name.as_slice())?,
             value: copy_values(alloc, value.as_slice())?,
             at: *at,
         }),
@@ -41,7 +66,7 @@ pub fn copy_item(alloc: Global, item: &Item) -> Result<Item, AllocError>
             arguments,
             at,
         } => Ok(Item::Complex {
-            name: copy_bytes(alloc, name.as_slice())?,
+            name: copy_text(alloc, name.as_slice())?,
             arguments: copy_values(alloc, arguments.as_slice())?,
             at: *at,
         }),
@@ -67,8 +92,8 @@ pub fn copy_group(alloc: Global, group: &Group) -> Result<Group, AllocError>
     ensures { IfOk result (λ copy. copy ≡ group.now) }
 {
     Ok(Group {
-        name: copy_bytes(alloc, group.name.as_slice())?,
-        arguments: copy_values(alloc, group.arguments.as_slice())?,
+        name: copy_text(alloc, group.name.as_slice())?,
+        arguments: copy_arguments(alloc, group.arguments.as_slice())?,
         items: copy_items(alloc, group.items.as_slice())?,
         at: group.at,
     })

@@ -10,14 +10,16 @@ use crate::cursor::Cursor;
 use crate::fault::{Expected, Refusal, Stop};
 use crate::reader::{Mark, Place, Start};
 use crate::tree::{Group, Item, Value};
+use crate::values::{Arguments, Values};
+use small_bytes::SmallBytes;
 use sqlite_items::Items;
 use std::alloc::{AllocError, Global};
 
-/// A list of at most so many statements is moved to exactly the room that it needs, since the first growth was one of four
-/// places.
-const FEW: usize = 2;
+/// A list of at most so many statements is moved to exactly the room that it needs, since it grows by doubling, first to four
+/// places. A longer one keeps its room, of which the system has given no memory yet for most of what is not used.
+const FEW: usize = 1024;
 
-/// The same statements, few of them in no more room than they need. An `Err` comes only where memory is wanting.
+/// The same statements, in no more room than they need where they are not many. An `Err` comes only where memory is wanting.
 fn fitted(alloc: Global, items: Items<Item>) -> Result<Items<Item>, AllocError>
     ensures { IfOk result (λ same. same ≡ items) }
 {
@@ -31,13 +33,13 @@ fn fitted(alloc: Global, items: Items<Item>) -> Result<Items<Item>, AllocError>
 
 impl Cursor<'_> {
     /// The bytes and the offset of the next token, which is taken.
-    pub fn name(&mut self, alloc: Global) -> Result<(Items<u8>, usize), Stop>
+    pub fn name(&mut self, alloc: Global) -> Result<(SmallBytes, usize), Stop>
         ensures name { IfOk result (λ found. found ≡ (next_bytes self.old, next_at self.old)) }
         ensures left { OnOk result (self.new ≡ rest self.old) }
         ensures memory { OnErr result (result ≡ Err Stop.Memory) }
     {
         let at = self.at();
-        let bytes = Items::from_slice(alloc, self.bytes())?;
+        let bytes = SmallBytes::from_slice(alloc, self.bytes())?;
         self.skip();
         Ok((bytes, at))
     }
@@ -48,7 +50,7 @@ impl Cursor<'_> {
         &mut self,
         alloc: Global,
         levels: usize,
-        name: Items<u8>,
+        name: SmallBytes,
         at: usize,
     ) -> Result<Item, Stop>
         ensures { Reads (read (spec.statement levels name at) self.old) result self.new }
@@ -68,7 +70,7 @@ impl Cursor<'_> {
         &mut self,
         alloc: Global,
         levels: usize,
-        name: Items<u8>,
+        name: SmallBytes,
         at: usize,
     ) -> Result<Item, Stop>
         ensures { Reads (read (spec.bracketed levels (spec.body levels) name at) self.old) result self.new }
@@ -85,8 +87,8 @@ impl Cursor<'_> {
         &mut self,
         alloc: Global,
         levels: usize,
-        name: Items<u8>,
-        arguments: Items<Value>,
+        name: SmallBytes,
+        arguments: Values,
         at: usize,
     ) -> Result<Item, Stop>
         ensures { Reads (read (spec.complex_or_group levels (spec.body levels) name arguments at) self.old) result self.new }
@@ -103,6 +105,7 @@ impl Cursor<'_> {
         }
         self.skip();
         let items = self.statements(alloc, levels - 1)?;
+        let arguments = Arguments::from_values(alloc, arguments)?;
         Ok(Item::Inner(Group {
             name,
             arguments,

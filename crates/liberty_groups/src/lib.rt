@@ -12,11 +12,14 @@ mod outline;
 mod read;
 mod reader;
 mod tree;
+mod values;
 mod writing;
 
 pub use attributes::{Attribute, inner_group, last_attribute, simple_attribute};
 pub use contents::{UnitLine, one_text};
-pub use copies::{copy_bytes, copy_group, copy_item, copy_items, copy_values};
+pub use copies::{
+    copy_arguments, copy_bytes, copy_group, copy_item, copy_items, copy_text, copy_values, value_of,
+};
 pub use cursor::Cursor;
 pub use fault::{Expected, LibraryFault, Refusal, Stop, fault_at, lexical_fault};
 pub use library::LEVELS_INSIDE;
@@ -24,4 +27,5 @@ pub use outline::{Standing, next_standing};
 pub use read::{End, Halt, Reading, fault_of, faults_are_first, one_reading, read_library};
 pub use reader::{Mark, Place, Start, goes_on};
 pub use tree::{Group, Item, Value};
+pub use values::{Arguments, Values};
 pub use writing::{writable_parts, writing_reads_back};

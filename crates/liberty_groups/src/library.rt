@@ -11,7 +11,7 @@ use crate::cursor::Cursor;
 use crate::fault::{Expected, Refusal, Stop};
 use crate::reader::{Mark, Start};
 use liberty_text::TokenKind;
-use sqlite_items::Items;
+use small_bytes::SmallBytes;
 use std::alloc::Global;
 
 /// Groups inside the library may be open to this many levels: the library itself is the first of 32.
@@ -47,7 +47,7 @@ impl Cursor<'_> {
     fn counted_statement(
         &mut self,
         alloc: Global,
-        name: Items<u8>,
+        name: SmallBytes,
         at: usize,
         contents: &mut Contents,
     ) -> Result<(), Stop>
@@ -55,7 +55,7 @@ impl Cursor<'_> {
             (found_of contents.new) self.new }
     {
         let item = self.statement(alloc, LEVELS_INSIDE, name, at)?;
-        contents.count(alloc, item)
+        contents.count(item)
     }
 
     /// The statements of the library from here on.

@@ -9,8 +9,9 @@ ghost use Rattle.liberty_groups.specs.Grammar.{Reads, next_part, next_start, nex
 use crate::cursor::Cursor;
 use crate::fault::{Expected, Refusal, Stop};
 use crate::tree::{Item, Value};
+use crate::values::Values;
 use liberty_text::{Token, TokenKind, text_value};
-use sqlite_items::Items;
+use small_bytes::SmallBytes;
 use std::alloc::{AllocError, Global};
 
 /// Where a list of values stands.
@@ -167,7 +168,7 @@ impl Cursor<'_> {
     }
 
     /// Takes the next token, and adds what it is in a list of values.
-    fn add_part(&mut self, alloc: Global, found: &mut Items<Value>) -> Result<(), Stop>
+    fn add_part(&mut self, alloc: Global, found: &mut Values) -> Result<(), Stop>
         ensures found { OnOk result (found.new ≡ found.old ++ next_part self.old) }
         ensures left { OnOk result (self.new ≡ rest self.old) }
         ensures memory { OnErr result (result ≡ Err Stop.Memory) }
@@ -176,14 +177,17 @@ impl Cursor<'_> {
             return Ok(());
         };
         match token.kind {
-            TokenKind::Word => found.push(Value {
-                bytes: Items::from_slice(alloc, self.bytes())?,
-                quoted: false,
-            })?,
-            TokenKind::Text => found.push(Value {
-                bytes: text_value(alloc, between_quotes(self.bytes()))?,
-                quoted: true,
-            })?,
+            TokenKind::Word => {
+                let bytes = SmallBytes::from_slice(alloc, self.bytes())?;
+                let quoted = false;
+                found.push(alloc, Value { bytes, quoted })?;
+            }
+            TokenKind::Text => {
+                let value = text_value(alloc, between_quotes(self.bytes()))?;
+                let bytes = SmallBytes::from_items(alloc, value)?;
+                let quoted = true;
+                found.push(alloc, Value { bytes, quoted })?;
+            }
             _ => {}
         }
         self.skip();
@@ -191,12 +195,7 @@ impl Cursor<'_> {
     }
 
     /// The values from here on, behind those that there are.
-    fn parts(
-        &mut self,
-        alloc: Global,
-        place: Place,
-        mut found: Items<Value>,
-    ) -> Result<Items<Value>, Stop>
+    fn parts(&mut self, alloc: Global, place: Place, mut found: Values) -> Result<Values, Stop>
         ensures { Reads (read (spec.parts place found) self.old) result self.new }
     {
         for _turn in 0..self.left() {
@@ -210,11 +209,11 @@ impl Cursor<'_> {
 
     /// The arguments up to the closing bracket, and the bracket.
     #[tactic(auto, unfolding(crate::specs::Grammar::arguments))]
-    pub fn arguments(&mut self, alloc: Global) -> Result<Items<Value>, Stop>
+    pub fn arguments(&mut self, alloc: Global) -> Result<Values, Stop>
         ensures { Reads (read spec.arguments self.old) result self.new }
     {
         // exactly the room that they need: the first growth of a list would be one of four places
-        let room = Items::from_vec(Vec::with_capacity(alloc, self.values_ahead())?);
+        let room = Values::with_capacity(alloc, self.values_ahead())?;
         let found = self.parts(alloc, Place::Arguments, room)?;
         self.expect(Mark::Close, Expected::Argument)?;
         Ok(found)
@@ -232,13 +231,12 @@ impl Cursor<'_> {
 
     /// The value of a simple attribute, after its colon.
     #[tactic(auto, unfolding(crate::specs::Grammar::value, crate::specs::Grammar::more_value, crate::specs::Grammar::no_value))]
-    fn value(&mut self, alloc: Global) -> Result<Items<Value>, Stop>
+    fn value(&mut self, alloc: Global) -> Result<Values, Stop>
         ensures { Reads (read spec.value self.old) result self.new }
     {
         match self.peek() {
             Some(token) if goes_on(Place::ValueStart, token) => {
-                // nearly every value is one token
-                let mut found = Items::from_vec(Vec::with_capacity(alloc, 1)?);
+                let mut found = Values::new();
                 self.add_part(alloc, &mut found)?;
                 let found = self.parts(alloc, Place::Value, found)?;
                 self.value_end(Place::Value)?;
@@ -246,14 +244,19 @@ impl Cursor<'_> {
             }
             _ => {
                 self.value_end(Place::ValueStart)?;
-                Ok(Items::new(alloc))
+                Ok(Values::new())
             }
         }
     }
 
     /// A simple attribute, after its colon.
     #[tactic(auto, unfolding(crate::specs::Grammar::simple))]
-    pub(crate) fn simple(&mut self, alloc: Global, name: Items<u8>, at: usize) -> Result<Item, Stop>
+    pub(crate) fn simple(
+        &mut self,
+        alloc: Global,
+        name: SmallBytes,
+        at: usize,
+    ) -> Result<Item, Stop>
         ensures { Reads (read (spec.simple name at) self.old) result self.new }
     {
         let value = self.value(alloc)?;

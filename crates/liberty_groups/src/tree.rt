@@ -1,11 +1,14 @@
 //! Group trees, the data of a Liberty text.
 
+use crate::values::{Arguments, Values};
+use small_bytes::SmallBytes;
 use sqlite_items::Items;
+use std::mem::size_of;
 
 /// A value of a statement or an argument: a Word, or what a quoted text stands for.
 #[derive(Drop)]
 pub struct Value {
-    pub bytes: Items<u8>,
+    pub bytes: SmallBytes,
     /// Whether it stood between double quotes.
     pub quoted: bool,
 }
@@ -14,8 +17,8 @@ pub struct Value {
 #[cycle(group)]
 #[derive(Drop)]
 pub struct Group {
-    pub name: Items<u8>,
-    pub arguments: Items<Value>,
+    pub name: SmallBytes,
+    pub arguments: Arguments,
     /// The statements between the braces, in order. Empty statements leave nothing.
     pub items: Items<Item>,
     /// The offset of the first byte of its name.
@@ -28,15 +31,18 @@ pub struct Group {
 pub enum Item {
     /// A simple attribute, `name : value`. Of the value the Words and texts are kept.
     Simple {
-        name: Items<u8>,
-        value: Items<Value>,
+        name: SmallBytes,
+        value: Values,
         at: usize,
     },
     /// A complex attribute, `name (arguments)`.
     Complex {
-        name: Items<u8>,
-        arguments: Items<Value>,
+        name: SmallBytes,
+        arguments: Values,
         at: usize,
     },
     Inner(Group),
 }
+
+// A cell of statements of four bytes each is held in 18 times its text.
+const _: () = prove!(size_of::<Item>() == 72);

@@ -7,7 +7,9 @@ ghost use Rattle.scan_cells.specs.TestGroup.{view_group as view_group_of, name_v
 ghost use Rattle.cell_attributes.specs.Groups.{inner_groups as inner_groups_of};
 
 use cell_attributes::groups::inner_groups;
-use liberty_groups::{Group, Item, Value, copy_bytes, copy_values, inner_group};
+use liberty_groups::{
+    Arguments, Group, Item, Value, Values, copy_arguments, copy_text, copy_values, inner_group,
+};
 use sqlite_items::Items;
 use std::alloc::{AllocError, Global};
 
@@ -40,7 +42,7 @@ fn add_kept(alloc: Global, kept: &mut Items<Item>, item: &Item) -> Result<(), Al
         Item::Simple { name, value, at } => {
             if !is_time(name.as_slice()) {
                 kept.push(Item::Simple {
-                    name: copy_bytes(alloc, name.as_slice())?,
+                    name: copy_text(alloc, name.as_slice())?,
                     value: copy_values(alloc, value.as_slice())?,
                     at: *at,
                 })?;
@@ -52,7 +54,7 @@ fn add_kept(alloc: Global, kept: &mut Items<Item>, item: &Item) -> Result<(), Al
             at,
         } => {
             kept.push(Item::Complex {
-                name: copy_bytes(alloc, name.as_slice())?,
+                name: copy_text(alloc, name.as_slice())?,
                 arguments: copy_values(alloc, arguments.as_slice())?,
                 at: *at,
             })?;
@@ -78,8 +80,8 @@ fn untimed(alloc: Global, group: &Group) -> Result<Group, AllocError>
     ensures { IfOk result (λ kept. kept ≡ untimed_group group.now) }
 {
     Ok(Group {
-        name: copy_bytes(alloc, group.name.as_slice())?,
-        arguments: copy_values(alloc, group.arguments.as_slice())?,
+        name: copy_text(alloc, group.name.as_slice())?,
+        arguments: copy_arguments(alloc, group.arguments.as_slice())?,
         items: copy_kept(alloc, group.items.as_slice())?,
         at: group.at,
     })
@@ -98,14 +100,12 @@ fn view_items(alloc: Global, test: &Group) -> Result<Items<Item>, AllocError>
 }
 
 /// The arguments of a group with this name.
-fn name_arguments(alloc: Global, name: &[u8]) -> Result<Items<Value>, AllocError>
+fn name_arguments(alloc: Global, name: &[u8]) -> Result<Arguments, AllocError>
     ensures { IfOk result (λ arguments. arguments ≡ name_value_of name.now ∷ []) }
 {
-    let bytes = copy_bytes(alloc, name)?;
+    let bytes = copy_text(alloc, name)?;
     let quoted = true;
-    let mut arguments = Items::new(alloc);
-    arguments.push(Value { bytes, quoted })?;
-    Ok(arguments)
+    Arguments::from_values(alloc, Values::one(Value { bytes, quoted }))
 }
 
 /// A test cell as the group of a cell with this name.
@@ -113,7 +113,7 @@ pub fn view_group(alloc: Global, name: &[u8], test: &Group) -> Result<Group, All
     ensures { IfOk result (λ group. group ≡ view_group_of name.now test.now) }
 {
     Ok(Group {
-        name: copy_bytes(alloc, b"cell")?,
+        name: copy_text(alloc, b"cell")?,
         arguments: name_arguments(alloc, name)?,
         items: view_items(alloc, test)?,
         at: test.at,

@@ -7,7 +7,7 @@ ghost use Rattle.liberty_groups.specs.Grammar.{Reads};
 ghost use Rattle.skipped_statements.specs.Skipping as skipping;
 
 use liberty_groups::{Cursor, Expected, Item, Mark, Place, Refusal, Start, Stop, goes_on};
-use sqlite_items::Items;
+use small_bytes::SmallBytes;
 use std::alloc::Global;
 
 /// A statement with more tokens than these is gone past before a tree is made of it.
@@ -124,7 +124,7 @@ pub fn whole_statement(
     cursor: &mut Cursor<'_>,
     alloc: Global,
     levels: usize,
-    name: Items<u8>,
+    name: SmallBytes,
     at: usize,
 ) -> Result<Item, Stop>
     ensures { Reads (read (spec.statement levels name at) cursor.old) result cursor.new }

@@ -4,7 +4,7 @@ ghost use Rattle.std.specs.Prelude.{IfOk, IsTrue};
 ghost use Rattle.liberty_groups.specs.Writing.{is_writable};
 
 use group_writer::write_group;
-use liberty_groups::{Group, Item, Value};
+use liberty_groups::{Arguments, Group, Item, Value, Values, copy_text};
 use sqlite_items::Items;
 use std::alloc::{AllocError, Global};
 use std::test::Fail;
@@ -13,25 +13,23 @@ use std::test::Fail;
 fn cell(alloc: Global) -> Result<Group, AllocError>
     ensures { IfOk result (λ group. IsTrue (is_writable 32 group)) }
 {
-    let mut value = Items::new(alloc);
-    value.push(Value {
-        bytes: Items::from_slice(alloc, b"1.5")?,
+    let value = Values::one(Value {
+        bytes: copy_text(alloc, b"1.5")?,
         quoted: false,
-    })?;
+    });
     let mut items = Items::new(alloc);
     items.push(Item::Simple {
-        name: Items::from_slice(alloc, b"area")?,
+        name: copy_text(alloc, b"area")?,
         value,
         at: 0,
     })?;
-    let mut arguments = Items::new(alloc);
-    arguments.push(Value {
-        bytes: Items::from_slice(alloc, b"A\"B")?,
+    let arguments = Values::one(Value {
+        bytes: copy_text(alloc, b"A\"B")?,
         quoted: true,
-    })?;
+    });
     Ok(Group {
-        name: Items::from_slice(alloc, b"cell")?,
-        arguments,
+        name: copy_text(alloc, b"cell")?,
+        arguments: Arguments::from_values(alloc, arguments)?,
         items,
         at: 0,
     })

@@ -1,0 +1,14 @@
+-- The values that stand in the place of a list.
+use Rattle.std.specs.Prelude.{List, [], ◌∷◌, Option, Some, None}
+use Rattle.liberty_groups.specs.declared.tree.Value.{Value}
+use Rattle.liberty_groups.specs.declared.values.HeldValues.{HeldValues}
+use Rattle.liberty_groups.specs.declared.values.HeldValues.TheVariants.{Nothing, One, Several}
+
+abbrev pub held_values : HeldValues → List Value
+held_values Nothing = []
+held_values (One value) = value ∷ []
+held_values (Several values) = values
+
+abbrev pub held_arguments : Option (List Value) → List Value
+held_arguments (Some values) = values
+held_arguments None = []

@@ -1,0 +1,189 @@
+//! The values of a statement, of which one stands in place.
+
+ghost use Rattle.std.specs.Prelude.{◌≡◌, ◌↔◌, ◌++◌, ◌∷◌, [], length, IsTrue, IfOk, OnOk, MatchOption};
+ghost use Rattle.liberty_groups.specs.Values.{held_values};
+
+use crate::tree::Value;
+use sqlite_items::{Boxed, Items};
+use std::alloc::{AllocError, Global};
+use std::marker::Model;
+use std::mem::replace;
+use std::slice::from_ref;
+
+/// What stands in the place of some values.
+#[derive(Drop)]
+enum HeldValues {
+    Nothing,
+    One(Value),
+    Several(Items<Value>),
+}
+
+/// Some values, of which a single one needs no list. Contracts see the list of them.
+#[derive(Drop)]
+pub struct Values {
+    held: HeldValues,
+}
+
+impl Model for Values {
+    ghost use Rattle.std.specs.Prelude.{List};
+    ghost use Rattle.liberty_groups.specs.declared.tree.Value.{Value as OneValue};
+
+    ghost Value = { List OneValue };
+
+    ghost use Rattle.liberty_groups.specs.Values.{held_values};
+
+    ghost view = { λ values. held_values values.held };
+}
+
+/// The same list with one more value.
+fn with_more(alloc: Global, held: HeldValues, value: Value) -> Result<HeldValues, AllocError>
+    ensures { IfOk result (λ more. held_values more ≡ held_values held ++ value ∷ []) }
+{
+    match held {
+        HeldValues::Nothing => Ok(HeldValues::One(value)),
+        HeldValues::One(first) => {
+            let mut several = Items::from_vec(Vec::with_capacity(alloc, 2)?);
+            several.push(first)?;
+            several.push(value)?;
+            Ok(HeldValues::Several(several))
+        }
+        HeldValues::Several(mut several) => {
+            several.push(value)?;
+            Ok(HeldValues::Several(several))
+        }
+    }
+}
+
+impl Values {
+    /// No values.
+    pub fn new() -> Values
+        ensures { result ≡ [] }
+    {
+        Values {
+            held: HeldValues::Nothing,
+        }
+    }
+
+    /// One value.
+    pub fn one(value: Value) -> Values
+        ensures { result ≡ value ∷ [] }
+    {
+        Values {
+            held: HeldValues::One(value),
+        }
+    }
+
+    /// No values, with room for so many. An `Err` comes only where memory is wanting.
+    pub fn with_capacity(alloc: Global, count: usize) -> Result<Values, AllocError>
+        ensures { IfOk result (λ values. values ≡ []) }
+    {
+        if count <= 1 {
+            return Ok(Values::new());
+        }
+        let several = Items::from_vec(Vec::with_capacity(alloc, count)?);
+        Ok(Values {
+            held: HeldValues::Several(several),
+        })
+    }
+
+    /// Adds a value at the end. An `Err` comes only where memory is wanting.
+    pub fn push(&mut self, alloc: Global, value: Value) -> Result<(), AllocError>
+        ensures { OnOk result (self.new ≡ self.old ++ value ∷ []) }
+    {
+        if let HeldValues::Several(several) = &mut self.held {
+            several.push(value)?;
+            return Ok(());
+        }
+        let held = replace(&mut self.held, HeldValues::Nothing);
+        self.held = with_more(alloc, held, value)?;
+        Ok(())
+    }
+
+    /// Takes the last value.
+    pub fn pop(&mut self) -> Option<Value>
+        ensures { MatchOption result ((self.old ≡ []) × (self.new ≡ [])) (λ last. self.old ≡ self.new ++ last ∷ []) }
+    {
+        if let HeldValues::Several(several) = &mut self.held {
+            return several.pop();
+        }
+        match replace(&mut self.held, HeldValues::Nothing) {
+            HeldValues::One(last) => Some(last),
+            _ => None,
+        }
+    }
+
+    pub fn as_slice(&self) -> &[Value]
+        ensures { result.now ≡ self.now }
+    {
+        match &self.held {
+            HeldValues::Nothing => &[],
+            HeldValues::One(value) => from_ref(value),
+            HeldValues::Several(several) => several.as_slice(),
+        }
+    }
+
+    pub fn len(&self) -> usize
+        ensures { result ≡ length self.now }
+    {
+        self.as_slice().len()
+    }
+
+    pub fn is_empty(&self) -> bool
+        ensures { IsTrue result ↔ (self.now ≡ []) }
+    {
+        self.as_slice().is_empty()
+    }
+}
+
+/// The arguments of a group, which mostly has none or few beside what stands in it: they stand behind a box. Contracts see the
+/// list of them.
+#[derive(Drop)]
+pub struct Arguments {
+    held: Option<Boxed<Values>>,
+}
+
+impl Model for Arguments {
+    ghost use Rattle.std.specs.Prelude.{List};
+    ghost use Rattle.liberty_groups.specs.declared.tree.Value.{Value as OneValue};
+
+    ghost Value = { List OneValue };
+
+    ghost use Rattle.liberty_groups.specs.Values.{held_arguments};
+
+    ghost view = { λ arguments. held_arguments arguments.held };
+}
+
+impl Arguments {
+    /// The same values. An `Err` comes only where memory is wanting.
+    pub fn from_values(alloc: Global, values: Values) -> Result<Arguments, AllocError>
+        ensures { IfOk result (λ same. same ≡ values) }
+    {
+        if values.is_empty() {
+            return Ok(Arguments { held: None });
+        }
+        Ok(Arguments {
+            held: Some(Boxed::new(alloc, values)?),
+        })
+    }
+
+    pub fn as_slice(&self) -> &[Value]
+        ensures { result.now ≡ self.now }
+    {
+        match &self.held {
+            Some(values) => values.get().as_slice(),
+            None => &[],
+        }
+    }
+
+    pub fn len(&self) -> usize
+        ensures { result ≡ length self.now }
+    {
+        self.as_slice().len()
+    }
+
+    pub fn is_empty(&self) -> bool
+        ensures { IsTrue result ↔ (self.now ≡ []) }
+    {
+        self.as_slice().is_empty()
+    }
+}

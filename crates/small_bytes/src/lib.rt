@@ -1,0 +1,6 @@
+//! Bytes that need no memory of their own while they are few.
+#![tactic(auto)]
+
+mod bytes;
+
+pub use bytes::SmallBytes;

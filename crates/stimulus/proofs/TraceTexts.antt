@@ -1,6 +1,7 @@
 -- The parts of a line of a trace.
 use Rattle.std.proofs.Common.{◌≡◌, ℕ, suc, ◌+◌, ◌<◌, List, [], ◌∷◌, ◌++◌, length, drop, get_or, sym, ap, ◌∙◌, add-one, arith}
 use Rattle.std.proofs.Common.{drop-cons, append_assoc}
+use Rattle.std.proofs.lemmas.List.{append-nil}
 use Rattle.std.specs.Prelude.{Option, Some, None, slice_get}
 use Rattle.std.proofs.lemmas.Option.{get_or_from_slice_get}
 use Rattle.cell_machine.specs.declared.changes.Change.{Change}
@@ -59,3 +60,19 @@ put_together text tag change inputs outputs line t1 t2 t3 t4 t5 e1 e2 e3 e4 e5 =
 -- a text that was empty is what was put behind it
 pub alone : (old line new : List ℕ) → old ≡ [] → new ≡ old ++ line → new ≡ line
 alone old line new empty e = e ∙ ap (λ t. t ++ line) empty
+
+-- a piece behind those that wait
+pub gathered_next : (text pieces more piece : List ℕ) → more ≡ pieces ++ piece → text ++ more ≡ (text ++ pieces) ++ piece
+gathered_next text pieces more piece e = ap (λ t. text ++ t) e ∙ sym (append_assoc text pieces piece)
+
+-- a piece that waits where all others were appended
+pub gathered_first : (text pieces whole none more piece : List ℕ) → whole ≡ text ++ pieces → none ≡ [] → more ≡ none ++ piece
+    → whole ++ more ≡ (text ++ pieces) ++ piece
+gathered_first text pieces whole none more piece e n m =
+    (λ i. e i ++ m i) ∙ ap (λ t. (text ++ pieces) ++ (t ++ piece)) n
+
+-- a piece that was appended behind all others
+pub gathered_all : (text pieces whole none more piece : List ℕ) → whole ≡ text ++ pieces → none ≡ [] → more ≡ whole ++ piece
+    → more ++ none ≡ (text ++ pieces) ++ piece
+gathered_all text pieces whole none more piece e n m =
+    (λ i. (m ∙ ap (λ t. t ++ piece) e) i ++ n i) ∙ append-nil ((text ++ pieces) ++ piece)

@@ -11,6 +11,7 @@ mod faults;
 mod heading;
 mod judged;
 mod laws;
+mod line_pieces;
 mod lines;
 mod next_line;
 mod ports;

@@ -6,14 +6,12 @@ ghost use Rattle.stimulus.specs.TraceLine.{value_text, head_text, change_text, o
 ghost use Rattle.stimulus.specs.TraceLine.{report_text, reports_text, drive_line_text};
 
 use crate::drives::Drive;
+use crate::line_pieces::{Pieces, append_pieces, gather, gather_byte};
 use crate::trace_sim::TraceSim;
 use bool_functions::Names;
-use cell_machine::Change;
+use cell_machine::{Change, Few};
 use itoa::Buffer;
 use std::alloc::{AllocError, Global};
-
-/// How many bytes a text is given room for ahead of a line: most lines are shorter.
-const ROOM: usize = 64;
 
 /// The line of a trace that a simulator shows after its last change, with the line feed at its end: the tag; `start` or
 /// the change's time in picoseconds, input and value; what each output shows, `z` where it floats, with its delay in
@@ -56,48 +54,60 @@ pub fn append_trace_line<S: TraceSim>(
         → text.new.items ≡ text.old.items ++ drive_line_text tag (option_copied change.entry) inputs.now outputs.now
         ((S.machine sim.now).line h)) }
 {
-    text.reserve(ROOM)?;
-    text.push(tag)?;
-    push_head(text, change, inputs)?;
-    push_outputs(text, outputs, sim)?;
-    push_reports(text, sim)?;
-    text.push(b'\n')?;
+    let mut pieces = Few::new(0);
+    gather_byte(text, &mut pieces, tag)?;
+    push_head(text, &mut pieces, change, inputs)?;
+    push_outputs(text, &mut pieces, outputs, sim)?;
+    push_reports(text, &mut pieces, sim)?;
+    gather_byte(text, &mut pieces, b'\n')?;
+    append_pieces(text, &mut pieces)?;
     Ok(())
 }
 
 /// What the line is on.
-fn push_head(text: &mut Vec<u8>, change: Option<&Change>, inputs: &Names) -> Result<(), AllocError>
+fn push_head(
+    text: &mut Vec<u8>,
+    pieces: &mut Pieces,
+    change: Option<&Change>,
+    inputs: &Names,
+) -> Result<(), AllocError>
     requires { IfSome change (λ change. change.now.pin < length inputs.now) }
-    ensures { OnOk result (text.new.items ≡ text.old.items ++ head_text inputs.now (option_copied change.entry)) }
+    ensures { OnOk result (text.new.items ++ pieces.new ≡ (text.old.items ++ pieces.old)
+        ++ head_text inputs.now (option_copied change.entry)) }
 {
     match change {
-        None => text.extend_from_slice(b" start :")?,
-        Some(change) => push_change(text, change, inputs)?,
+        None => gather(text, pieces, b" start :")?,
+        Some(change) => push_change(text, pieces, change, inputs)?,
     }
     Ok(())
 }
 
 /// A change.
 #[tactic(auto, unfolding(crate::specs::TraceLine::change_text))]
-fn push_change(text: &mut Vec<u8>, change: &Change, inputs: &Names) -> Result<(), AllocError>
+fn push_change(
+    text: &mut Vec<u8>,
+    pieces: &mut Pieces,
+    change: &Change,
+    inputs: &Names,
+) -> Result<(), AllocError>
     requires { change.now.pin < length inputs.now }
-    ensures { OnOk result (text.new.items ≡ text.old.items ++ change_text inputs.now change.now) }
+    ensures { OnOk result (text.new.items ++ pieces.new ≡ (text.old.items ++ pieces.old) ++ change_text inputs.now change.now) }
 {
     let mut time = Buffer::new();
-    push_word(text, time.format(change.at).as_bytes())?;
-    push_word(text, inputs.name(change.pin))?;
-    text.push(b' ')?;
-    text.push(value_letter(Drive::of(change.to)))?;
-    text.extend_from_slice(b" :")?;
+    push_word(text, pieces, time.format(change.at).as_bytes())?;
+    push_word(text, pieces, inputs.name(change.pin))?;
+    gather_byte(text, pieces, b' ')?;
+    gather_byte(text, pieces, value_letter(Drive::of(change.to)))?;
+    gather(text, pieces, b" :")?;
     Ok(())
 }
 
 /// A word behind a space.
-fn push_word(text: &mut Vec<u8>, word: &[u8]) -> Result<(), AllocError>
-    ensures { OnOk result (text.new.items ≡ text.old.items ++ (codes " " ++ word.now)) }
+fn push_word(text: &mut Vec<u8>, pieces: &mut Pieces, word: &[u8]) -> Result<(), AllocError>
+    ensures { OnOk result (text.new.items ++ pieces.new ≡ (text.old.items ++ pieces.old) ++ (codes " " ++ word.now)) }
 {
-    text.push(b' ')?;
-    text.extend_from_slice(word)?;
+    gather_byte(text, pieces, b' ')?;
+    gather(text, pieces, word)?;
     Ok(())
 }
 
@@ -114,14 +124,25 @@ fn value_letter(value: Drive) -> u8
 }
 
 /// The outputs, in order.
-fn push_outputs<S: TraceSim>(text: &mut Vec<u8>, names: &Names, sim: &S) -> Result<(), AllocError>
+fn push_outputs<S: TraceSim>(
+    text: &mut Vec<u8>,
+    pieces: &mut Pieces,
+    names: &Names,
+    sim: &S,
+) -> Result<(), AllocError>
     requires { length names.now ≡ (S.machine sim.now).outputs }
     ensures { OnOk result ((h : List ChangeOf) → S.stands sim.now h
-        → text.new.items ≡ text.old.items ++ outputs_text names.now ((S.machine sim.now).line h).values
-        ((S.machine sim.now).line h).delays) }
+        → text.new.items ++ pieces.new ≡ (text.old.items ++ pieces.old)
+        ++ outputs_text names.now ((S.machine sim.now).line h).values ((S.machine sim.now).line h).delays) }
 {
     for place in 0..names.len() {
-        push_output(text, names.name(place), sim.value(place), sim.delay(place))?;
+        push_output(
+            text,
+            pieces,
+            names.name(place),
+            sim.value(place),
+            sim.delay(place),
+        )?;
     }
     Ok(())
 }
@@ -130,50 +151,60 @@ fn push_outputs<S: TraceSim>(text: &mut Vec<u8>, names: &Names, sim: &S) -> Resu
 #[tactic(auto, unfolding(crate::specs::TraceLine::output_text))]
 fn push_output(
     text: &mut Vec<u8>,
+    pieces: &mut Pieces,
     name: &[u8],
     value: Drive,
     delay: Option<u64>,
 ) -> Result<(), AllocError>
-    ensures { OnOk result (text.new.items ≡ text.old.items ++ output_text name.now value delay) }
+    ensures { OnOk result (text.new.items ++ pieces.new ≡ (text.old.items ++ pieces.old) ++ output_text name.now value delay) }
 {
-    push_word(text, name)?;
-    text.push(b'=')?;
-    text.push(value_letter(value))?;
-    push_delay(text, delay)
+    push_word(text, pieces, name)?;
+    gather_byte(text, pieces, b'=')?;
+    gather_byte(text, pieces, value_letter(value))?;
+    push_delay(text, pieces, delay)
 }
 
 /// The delay of an output that changed.
-fn push_delay(text: &mut Vec<u8>, delay: Option<u64>) -> Result<(), AllocError>
-    ensures { OnOk result (text.new.items ≡ text.old.items ++ delay_text delay) }
+fn push_delay(text: &mut Vec<u8>, pieces: &mut Pieces, delay: Option<u64>) -> Result<(), AllocError>
+    ensures { OnOk result (text.new.items ++ pieces.new ≡ (text.old.items ++ pieces.old) ++ delay_text delay) }
 {
     if let Some(delay) = delay {
         let mut digits = Buffer::new();
-        text.push(b'@')?;
-        text.extend_from_slice(digits.format(delay).as_bytes())?;
+        gather_byte(text, pieces, b'@')?;
+        gather(text, pieces, digits.format(delay).as_bytes())?;
     }
     Ok(())
 }
 
 /// The checks that reported.
-fn push_reports<S: TraceSim>(text: &mut Vec<u8>, sim: &S) -> Result<(), AllocError>
+fn push_reports<S: TraceSim>(
+    text: &mut Vec<u8>,
+    pieces: &mut Pieces,
+    sim: &S,
+) -> Result<(), AllocError>
     ensures { OnOk result ((h : List ChangeOf) → S.stands sim.now h
-        → text.new.items ≡ text.old.items ++ reports_text 1 ((S.machine sim.now).line h).reports) }
+        → text.new.items ++ pieces.new ≡ (text.old.items ++ pieces.old) ++ reports_text 1 ((S.machine sim.now).line h).reports) }
 {
     for check in 0..sim.checks() {
-        push_report(text, check + 1, sim.reported(check))?;
+        push_report(text, pieces, check + 1, sim.reported(check))?;
     }
     Ok(())
 }
 
 /// A check that may have reported, by its number from 1.
 #[tactic(auto, unfolding(crate::specs::TraceLine::report_text))]
-fn push_report(text: &mut Vec<u8>, number: usize, reported: bool) -> Result<(), AllocError>
-    ensures { OnOk result (text.new.items ≡ text.old.items ++ report_text number reported) }
+fn push_report(
+    text: &mut Vec<u8>,
+    pieces: &mut Pieces,
+    number: usize,
+    reported: bool,
+) -> Result<(), AllocError>
+    ensures { OnOk result (text.new.items ++ pieces.new ≡ (text.old.items ++ pieces.old) ++ report_text number reported) }
 {
     if reported {
         let mut digits = Buffer::new();
-        text.extend_from_slice(b" !")?;
-        text.extend_from_slice(digits.format(number).as_bytes())?;
+        gather(text, pieces, b" !")?;
+        gather(text, pieces, digits.format(number).as_bytes())?;
     }
     Ok(())
 }

@@ -194,33 +194,35 @@ fn primitive_inputs(cursor: &mut Cursor<'_>, inputs: &[Items<u8>]) -> Read<()>
     cursor.go_on_where(count == inputs.len())
 }
 
-/// One more row, behind its first token.
+/// Puts one more row, behind its first token, behind these.
 #[tactic(auto, unfolding(udp_tables::specs::VerilogPrimitives::next_row))]
-fn first_row(
+fn next_row(
     cursor: &mut Cursor<'_>,
     alloc: Global,
     sequential: bool,
     inputs: usize,
     first: &[u8],
-) -> Read<Items<UdpRow>>
-    ensures { Reads (read (spec.next_row sequential inputs [] first.now) cursor.old) result cursor.new }
+    rows: &mut Vec<UdpRow>,
+) -> Read<()>
+    ensures { ReadsAs (λ _. rows.new.items) (read (spec.next_row sequential inputs rows.old.items first.now) cursor.old) result
+        cursor.new }
 {
-    let mut rows = Items::from_vec(Vec::with_capacity(alloc, SOME_ROWS)?);
-    rows.push(row(cursor, alloc, sequential, inputs, first)?)?;
-    Ok(rows)
+    let next = row(cursor, alloc, sequential, inputs, first)?;
+    rows.push(next)?;
+    Ok(())
 }
 
-/// The rows of a table behind these.
-#[tactic(auto, unfolding(udp_tables::specs::VerilogPrimitives::next_row), using(grammar_reader::proofs::Repeats::turn, crate::proofs::Entries::no_row, crate::proofs::Entries::one_row))]
+/// Puts the rows of a table behind these.
+#[tactic(auto, using(grammar_reader::proofs::Repeats::turn, crate::proofs::Entries::no_row, crate::proofs::Entries::one_row))]
 fn more_rows(
     cursor: &mut Cursor<'_>,
     alloc: Global,
     sequential: bool,
     inputs: usize,
-    mut rows: Items<UdpRow>,
-) -> Read<Items<UdpRow>>
-    ensures { Reads (read (Many (λ _. spec.begins_row sequential) (spec.next_row sequential inputs) rows) cursor.old) result
-        cursor.new }
+    rows: &mut Vec<UdpRow>,
+) -> Read<()>
+    ensures { ReadsAs (λ _. rows.new.items) (read (Many (λ _. spec.begins_row sequential) (spec.next_row sequential inputs)
+        rows.old.items) cursor.old) result cursor.new }
 {
     for _turn in 0..cursor.left() {
         let token = cursor.bytes();
@@ -228,9 +230,9 @@ fn more_rows(
             break;
         }
         cursor.skip();
-        rows.push(row(cursor, alloc, sequential, inputs, token)?)?;
+        next_row(cursor, alloc, sequential, inputs, token, rows)?;
     }
-    Ok(rows)
+    Ok(())
 }
 
 /// Goes behind the first token of a table's first row.
@@ -245,8 +247,27 @@ fn begin_row(cursor: &mut Cursor<'_>, sequential: bool) -> Read<()>
     Ok(())
 }
 
-/// The table of a primitive.
+/// Puts the rows of a primitive's table, of which the first word is next, into a list that has none.
 #[tactic(auto, unfolding(udp_tables::specs::VerilogPrimitives::table))]
+fn table_rows(
+    cursor: &mut Cursor<'_>,
+    alloc: Global,
+    sequential: bool,
+    inputs: usize,
+    rows: &mut Vec<UdpRow>,
+) -> Read<()>
+    requires { rows.old.items ≡ [] }
+    ensures { ReadsAs (λ _. rows.new.items) (read (spec.table sequential inputs) cursor.old) result cursor.new }
+{
+    cursor.expect(b"table")?;
+    let token = cursor.bytes();
+    begin_row(cursor, sequential)?;
+    next_row(cursor, alloc, sequential, inputs, token, rows)?;
+    more_rows(cursor, alloc, sequential, inputs, rows)?;
+    cursor.expect(b"endtable")
+}
+
+/// The table of a primitive, in a list without room for more rows.
 fn table(
     cursor: &mut Cursor<'_>,
     alloc: Global,
@@ -255,13 +276,10 @@ fn table(
 ) -> Read<Items<UdpRow>>
     ensures { Reads (read (spec.table sequential inputs) cursor.old) result cursor.new }
 {
-    cursor.expect(b"table")?;
-    let token = cursor.bytes();
-    begin_row(cursor, sequential)?;
-    let first = first_row(cursor, alloc, sequential, inputs, token)?;
-    let rows = more_rows(cursor, alloc, sequential, inputs, first)?;
-    cursor.expect(b"endtable")?;
-    Ok(rows)
+    let mut rows = Vec::with_capacity(alloc, SOME_ROWS)?;
+    table_rows(cursor, alloc, sequential, inputs, &mut rows)?;
+    rows.shrink_to_fit();
+    Ok(Items::from_vec(rows))
 }
 
 /// A primitive behind the word `primitive`, where primitives and modules of these names stand before it. Its own name is then

@@ -8,9 +8,9 @@ ghost use Rattle.vhdl_grammar.specs.VhdlOutputs as spec;
 use crate::outputs::{Lines, assignment, call_or_assignment, is_next_unpathed};
 use grammar_reader::{Read, Refusal, Stop};
 use sqlite_items::Items;
+use vhdl_scope::entities::HPath;
 use vhdl_scope::{Cursor, Declarations, Uses};
 use vhdl_tokens::is_name;
-use vital_models::HPath;
 
 /// The lines of outputs, which stand behind these then.
 #[tactic(auto, using(grammar_reader::proofs::Repeats::turn, crate::proofs::NextLine::so_named, crate::proofs::NextLine::no_line, crate::proofs::NextLine::other_line, crate::proofs::NextLine::this_line))]

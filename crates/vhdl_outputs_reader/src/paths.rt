@@ -8,10 +8,10 @@ ghost use Rattle.vhdl_grammar.specs.VhdlOutputs as spec;
 use grammar_reader::{Read, RepeatedPart, one_or_more, where_read, while_next};
 use sqlite_items::Items;
 use std::mem::replace;
+use vhdl_scope::entities::{HGate, HPath};
 use vhdl_scope::{
     Cursor, Declarations, Uses, Vhdl, an_input, condition, expect_all, this_number, time,
 };
-use vital_models::{HGate, HPath};
 
 /// The conditions so far that have to be 0, and the lists of the conditions that were looked up.
 type Zeros = (Items<usize>, Uses);

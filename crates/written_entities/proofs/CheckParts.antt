@@ -5,6 +5,7 @@ use Rattle.std.specs.Option.{option_map, option_map_or}
 use Rattle.std.proofs.lemmas.Bool.Decides.{nat_tests}
 use Rattle.std.proofs.lemmas.List.{length-map}
 use Rattle.std.proofs.lemmas.Option.{slice_get-map}
+use Rattle.std.proofs.lemmas.Bool.{lt-ltb as less}
 use Rattle.cell_machine.specs.declared.checks.CheckKind.{CheckKind}
 use Rattle.cell_machine.specs.declared.checks.Edge.{Edge}
 use Rattle.cell_machine.specs.declared.checks.Edge.TheVariants as edge
@@ -24,7 +25,7 @@ use Rattle.written_entities.proofs.Parts.{place_below, check_number}
 use Rattle.written_entities.proofs.PortLookUps.{input_read}
 use Rattle.written_entities.proofs.LookUpOrder.{seen_after, seen_with_item}
 use Rattle.written_entities.proofs.ConditionReading.{scope, uses_of, Looks, condition_read}
-use Rattle.written_entities.proofs.Tests.{if_true, less}
+use Rattle.written_entities.proofs.Tests.{if_true}
 use Rattle.written_entities.proofs.CheckTokens.{edge_word, transition_front, tested_front, referred_front, limits_front}
 use Rattle.written_entities.proofs.CheckTokens.{enabled_behind, limit_front}
 use Rattle.written_entities.proofs.CheckFacts.{of_when, conditions_are}

@@ -1,7 +1,7 @@
 -- The calls of timing checks in a written entity are read from their tokens.
 use Rattle.std.proofs.Common.{◌≡◌, ℕ, ◌+◌, true, false, ◌&&◌, nat_eq, List, [], ◌∷◌, ◌++◌, length, flat_map, ◌⊎◌, inl, inr, Some}
 use Rattle.std.proofs.Common.{refl, sym, ap, ◌∙◌, codes}
-use Rattle.std.proofs.lemmas.Bool.{and_parts, eqb-true}
+use Rattle.std.proofs.lemmas.Bool.{and_parts, eqb-true, eq-eqb as equal}
 use Rattle.std.proofs.lemmas.List.{length-map}
 use Rattle.grammar_rules.specs.Rule as r
 use Rattle.cell_machine.specs.declared.checks.CheckKind.{CheckKind}
@@ -24,7 +24,6 @@ use Rattle.written_entities.proofs.NameReading.{expected, two_expected}
 use Rattle.written_entities.proofs.Counting.{counted, over}
 use Rattle.written_entities.proofs.LookUpOrder.{seen_after}
 use Rattle.written_entities.proofs.ConditionReading.{scope, uses_of}
-use Rattle.written_entities.proofs.Tests.{equal}
 use Rattle.written_entities.proofs.CheckTokens.{high_token, setup_hold_front, recovery_token, active_token}
 use Rattle.written_entities.proofs.CheckTokens.{recovery_removal_front, width_token, pulse_token, period_pulse_front, check_word}
 use Rattle.written_entities.proofs.CheckTokens.{check_more, check_front}

@@ -4,7 +4,7 @@ use Rattle.std.proofs.Common.{◌++◌, length, map, take, Option, Some, None, s
 use Rattle.std.proofs.Common.{decimal}
 use Rattle.std.specs.List.{AllByRecursion, IsDistinct, list_all, list_any}
 use Rattle.std.specs.Option.{option_map, option_map_or}
-use Rattle.std.proofs.lemmas.Bool.{and_parts}
+use Rattle.std.proofs.lemmas.Bool.{and_parts, eq-eqb as equal}
 use Rattle.std.proofs.lemmas.Bool.Decides.{nat_tests}
 use Rattle.std.proofs.lemmas.List.{length-map, length-take-le}
 use Rattle.std.proofs.lemmas.List.Elements.{recursion_from_All}
@@ -37,7 +37,7 @@ use Rattle.written_entities.proofs.Parts.{part_behind, condition_number}
 use Rattle.written_entities.proofs.PortLookUps.{input_named, input_found, kept_one}
 use Rattle.written_entities.proofs.VariableReading.{all_tables, variables_of}
 use Rattle.written_entities.proofs.LookUpOrder.{seen_with, next_look_up, no_more, at_front, take_next, known_item}
-use Rattle.written_entities.proofs.Tests.{if_true, equal, equal_self, numbers_turned}
+use Rattle.written_entities.proofs.Tests.{if_true, equal_self, numbers_turned}
 
 -- the declarations of a written entity
 abbrev pub scope : VEntity → Scope

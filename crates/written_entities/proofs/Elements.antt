@@ -36,13 +36,13 @@ line_end = literal (λ r. refl) refl
 pub indented : Spells Anything false (codes "    ") (λ s. s) false
 indented = literal (λ r. refl) refl
 
-only_start : {t : Bool} → Spells Anything t (codes "(0 => ") (λ s. codes "(" ∷ codes "0" ∷ codes "=>" ∷ s) false
+pub only_start : {t : Bool} → Spells Anything t (codes "(0 => ") (λ s. codes "(" ∷ codes "0" ∷ codes "=>" ∷ s) false
 only_start = literal (λ r. refl) refl
 
-several_start : {t : Bool} → Spells Anything t (codes "(") (λ s. codes "(" ∷ s) false
+pub several_start : {t : Bool} → Spells Anything t (codes "(") (λ s. codes "(" ∷ s) false
 several_start = literal (λ r. refl) refl
 
-is_several : (count : ℕ) → nat_eq (suc (suc count)) 1 ≡ false
+pub is_several : (count : ℕ) → nat_eq (suc (suc count)) 1 ≡ false
 is_several count = grind (arith, nat_tests)
 
 -- names that are written one behind the other

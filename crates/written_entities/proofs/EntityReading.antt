@@ -5,6 +5,7 @@ use Rattle.std.specs.List.{position_from}
 use Rattle.std.proofs.lemmas.List.{length-map}
 use Rattle.std.proofs.lemmas.Iterator.Adapters.{position_from-zero}
 use Rattle.std.proofs.Math.Seq.{take-length}
+use Rattle.std.proofs.lemmas.Bool.{eq-eqb as equal}
 use Rattle.grammar_rules.specs.Rule.{Stops}
 use Rattle.udp_tables.specs.declared.models.VPort.{VPort}
 use Rattle.vital_models.specs.declared.table.TruthTable.{TruthTable}
@@ -49,7 +50,6 @@ use Rattle.written_entities.proofs.StateReading.{state_front, columns_for, state
 use Rattle.written_entities.proofs.ValueReading.{value_front, assigned_by, assigned_of, values_spelled, values_read}
 use Rattle.written_entities.proofs.OutputReading.{line_front, paths_of, lines_up_to, seen_by_checks, seen_before, lines_look}
 use Rattle.written_entities.proofs.OutputReading.{lines_spelled, lines_read}
-use Rattle.written_entities.proofs.Tests.{equal}
 use Rattle.written_entities.proofs.ViolationReading.{violation_by, violation_front, violation_spelled, violation_read}
 use Rattle.written_entities.proofs.CheckTokens.{check_front, checks_spelled}
 use Rattle.written_entities.proofs.VariableTokens.{variables_front, variables_spelled}

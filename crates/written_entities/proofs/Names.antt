@@ -1,7 +1,8 @@
 -- What names and words of VHDL text are, and which are the same.
 use Rattle.std.proofs.Common.{◌≡◌, ℕ, ◌^◌, ◌<◌, Bool, true, false, not, ◌&&◌, ◌||◌, ◌==◌, nat_eq, if◌then◌else◌, List, [], ◌∷◌}
 use Rattle.std.proofs.Common.{None, refl, sym, ap, ◌∙◌, arith, subst, decimal}
-use Rattle.std.proofs.lemmas.Bool.{and_parts, and_from, eqb-true, true≢false}
+use Rattle.std.proofs.lemmas.Bool.{and_parts, and_from, eqb-true, true≢false, not-true as is_other}
+use Rattle.std.proofs.lemmas.Bool.{or_from as neither, and_right as and_no}
 use Rattle.std.proofs.lemmas.Bool.Decides.{nat_tests, same_from_decides}
 use Rattle.std.proofs.lemmas.Fmt.{decimal_is_IsNumeral}
 use Rattle.std.proofs.lemmas.Slice.Eq.{bytes_eq-Decides}
@@ -16,7 +17,6 @@ use Rattle.vhdl_tokens.specs.Spelling.{is_character, is_same}
 use Rattle.vhdl_grammar.specs.WellFormed.{is_spelled_as_name, IsEntityName, IsPortName}
 use Rattle.grammar_reader.proofs.Bytes.{all_digits}
 use Rattle.grammar_reader.proofs.ItemPlaces.{same_bytes}
-use Rattle.written_entities.proofs.Tests.{and_no}
 
 -- A name: it is spelled as one, and is no word.
 pub record IsNamed (x : List ℕ) : Type 0 where
@@ -61,10 +61,6 @@ other_second [] = true
 other_second (a ∷ []) = true
 other_second (a ∷ c ∷ w) = not (nat_eq 95 (to_ascii_lowercase c))
 
-is_other : (t : Bool) → not t ≡ true → t ≡ false
-is_other true h = absurd cc
-is_other false h = refl
-
 pub unlike_scored : (b : ℕ) (ds w : List ℕ) → other_second w ≡ true → str_eq_ignore_ascii_case (b ∷ 95 ∷ ds) w ≡ false
 unlike_scored b ds [] h = refl
 unlike_scored b ds (a ∷ []) h = and_no (nat_eq (to_ascii_lowercase b) (to_ascii_lowercase a)) false refl
@@ -87,9 +83,6 @@ reserved_unscored = refl
 used_unscored : list_all other_second used_words ≡ true
 unfolding used_words
 used_unscored = refl
-
-neither : (a b : Bool) → a ≡ false → b ≡ false → (a || b) ≡ false
-neither a b e f = rw e f
 
 pub scored_no_word : (b : ℕ) (ds : List ℕ) → is_vhdl_word (b ∷ 95 ∷ ds) ≡ false
 unfolding is_reserved is_used

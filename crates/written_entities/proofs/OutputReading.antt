@@ -4,6 +4,7 @@ use Rattle.std.proofs.Common.{length, map, flat_map, Option, Some, slice_get, re
 use Rattle.std.specs.Option.{option_map, option_map_or, option_and_then}
 use Rattle.std.proofs.lemmas.List.{length-map, map-append, append-nil}
 use Rattle.std.proofs.lemmas.Option.{slice_get-map}
+use Rattle.std.proofs.lemmas.Bool.{and_from as and_yes, eq-eqb as equal}
 use Rattle.grammar_rules.specs.Rule.{Verdict, Fits, Stops}
 use Rattle.grammar_rules.specs.Rule as r
 use Rattle.grammar_reader.specs.declared.refusal.Refusal.{Refusal}
@@ -40,7 +41,7 @@ use Rattle.written_entities.proofs.VariableReading.{has_paths, so_many_outputs}
 use Rattle.written_entities.proofs.LookUpOrder.{seen_after, behind_look_ups, seen_with_item, looks_at}
 use Rattle.written_entities.proofs.ConditionReading.{scope, uses_of, Looks}
 use Rattle.written_entities.proofs.QuotedNames.{quoted, quoted_behind, quoted_is}
-use Rattle.written_entities.proofs.Tests.{if_true, if_false, some_items, equal, and_yes}
+use Rattle.written_entities.proofs.Tests.{if_true, if_false, some_items}
 use Rattle.written_entities.proofs.PathReading.{path_front, ArePaths, paths_spelled, paths_read}
 
 abbrev call_front : VEntity → ℕ → ℕ → List HPath → Front

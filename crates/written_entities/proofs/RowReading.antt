@@ -9,6 +9,7 @@ use Rattle.std.proofs.lemmas.Bool.{cases_Bool}
 use Rattle.std.proofs.lemmas.Bool.Decides.{nat_tests}
 use Rattle.std.proofs.lemmas.List.Sums.{sum_by-append, sum_by-cons}
 use Rattle.std.proofs.Math.Seq.{take-append_seam}
+use Rattle.std.proofs.Math.Bool.{and-false as and_false}
 use Rattle.grammar_rules.specs.Rule.{Fits}
 use Rattle.grammar_rules.specs.Rule as r
 use Rattle.grammar_reader.specs.declared.refusal.Refusal.TheVariants.{Syntax}
@@ -188,10 +189,6 @@ second_edge before y after h c = elim (cases_Bool (is_edge y)) [
       absurd (omega (arith, some, here, cons, split, h)))
   | inr f ↦ f
 ]
-
-and_false : (b : Bool) → (b && false) ≡ false
-and_false true = refl
-and_false false = refl
 
 no_second : (before : List VSymbol) (y : VSymbol) (after : List VSymbol) → count_by is_edge (before ++ y ∷ after) ≤ 1
     → (is_edge y && list_any is_edge before) ≡ false

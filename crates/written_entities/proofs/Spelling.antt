@@ -1,5 +1,6 @@
 -- How the tokens of a VHDL text come from those of its pieces, by the sections of drivers that begin or end in them.
 use Rattle.std.proofs.Common.{◌≡◌, ℕ, ◌+◌, ◌≤◌, Bool, false, List, [], ◌∷◌, ◌++◌, Some, refl, arith, codes}
+use Rattle.std.proofs.lemmas.Bool.{or_parts}
 use Rattle.vhdl_tokens.specs.Tokens.{lexis}
 use Rattle.vhdl_tokens.specs.Spelling.{is_same}
 use Rattle.vhdl_writer.specs.Joined.{numbered_texts}
@@ -9,7 +10,6 @@ use Rattle.section_outlines.specs.VhdlMarks.{vhdl_marks}
 use Rattle.grammar_reader.proofs.Fronts.{Front, Anything, each}
 use Rattle.grammar_reader.proofs.Passages.{passed}
 use Rattle.grammar_reader.proofs.Spelling.{SpellsBy, barred_less, literal, behind, nothing}
-use Rattle.written_entities.proofs.Tests.{or_parts}
 
 -- the tokens of VHDL, and which stand for a word
 abbrev pub vhdl : Vocabulary

@@ -4,6 +4,7 @@ use Rattle.std.proofs.Common.{[], ◌∷◌, ◌++◌, length, map, refl, sym, a
 use Rattle.std.specs.List.{IsDistinct, list_all}
 use Rattle.std.proofs.lemmas.Bool.Decides.{nat_tests}
 use Rattle.std.proofs.lemmas.List.{length-map, map-append}
+use Rattle.std.proofs.lemmas.Bool.{and_right as and_no, and_from as and_yes, eq-eqb as equal, lt-ltb as less}
 use Rattle.grammar_rules.specs.Rule.{Stops}
 use Rattle.vital_models.specs.declared.model.VState.{VState}
 use Rattle.vital_models.specs.declared.model.VEntity.{VEntity}
@@ -31,13 +32,13 @@ use Rattle.written_entities.proofs.Spelling.{Spells, argument}
 use Rattle.written_entities.proofs.Words.{Ends, word, name}
 use Rattle.written_entities.proofs.NameReading.{two_expected, three_expected, four_expected, expected, part_read}
 use Rattle.written_entities.proofs.Counting.{counted, counted_spelled, counted_anywhere, begins_at, over}
-use Rattle.written_entities.proofs.Elements.{names_front, comma, closed, elements_read, call_end}
+use Rattle.written_entities.proofs.Elements.{names_front, comma, closed, elements_read, call_end, only_start, several_start}
 use Rattle.written_entities.proofs.Parts.{part_behind, fact_at, place_below, state_number}
 use Rattle.written_entities.proofs.PortLookUps.{input_named}
 use Rattle.written_entities.proofs.VariableReading.{all_tables, width_is}
 use Rattle.written_entities.proofs.ConditionReading.{scope, data_word, input_at, inputs_spelled, new_input, input_fits}
 use Rattle.written_entities.proofs.ConditionReading.{list_end_read}
-use Rattle.written_entities.proofs.Tests.{if_true, if_false, less, equal, and_yes, and_no}
+use Rattle.written_entities.proofs.Tests.{if_true, if_false}
 
 -- Tokens.
 
@@ -65,12 +66,6 @@ state_front e n state s = codes "VitalStateTable" ∷ state_more e n state s
 state_table_word : {t : Bool} → Spells Anything t
     (codes "    VitalStateTable (Result => ") (λ s. codes "VitalStateTable" ∷ codes "(" ∷ codes "Result" ∷ codes "=>" ∷ s) false
 state_table_word = literal (λ r. refl) refl
-
-only_start : {t : Bool} → Spells Anything t (codes "(0 => ") (λ s. codes "(" ∷ codes "0" ∷ codes "=>" ∷ s) false
-only_start = literal (λ r. refl) refl
-
-several_start : {t : Bool} → Spells Anything t (codes "(") (λ s. codes "(" ∷ s) false
-several_start = literal (λ r. refl) refl
 
 violation_word : {t : Bool} → Spells Ends t (codes "viol") (λ s. codes "viol" ∷ s) false
 unfolding is_reserved is_used vhdl_words used_words

@@ -1,7 +1,7 @@
 -- Written tables are read from their tokens.
 use Rattle.std.proofs.Common.{◌≡◌, ℕ, ◌≤◌, true, nat_eq, List, [], ◌∷◌, ◌++◌, length, refl, sym, ◌∙◌, arith, subst, codes}
 use Rattle.std.specs.List.{AllByRecursion}
-use Rattle.std.proofs.lemmas.Bool.Decides.{nat_tests}
+use Rattle.std.proofs.lemmas.Bool.{eq-eqb as equal}
 use Rattle.grammar_reader.specs.Words.{Grammar}
 use Rattle.vital_models.specs.declared.table.TruthRow.{TruthRow}
 use Rattle.vital_models.specs.declared.table.TruthTable.{TruthTable}
@@ -31,9 +31,6 @@ rows_read {R = R} front element (row ∷ one ∷ rows) some h s =
     (in_turn (expected refl) (in_turn (h (row ∷ []) one rows others refl)
     (through (λ (l : List R). l) (λ r q. codes "," ∷ codes "(" ∷ front r q) (row ∷ one ∷ []) rows
     (λ before x after q e. turn refl (h before x after q e)) (codes ")" ∷ s) refl))))
-
-equal : (a b : ℕ) → a ≡ b → nat_eq a b ≡ true
-equal a b e = grind (arith, nat_tests)
 
 -- a row that has so many columns
 abbrev HasWidth : {R : Type 0} → (R → ℕ) → ℕ → R → Type 0

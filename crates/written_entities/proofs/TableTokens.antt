@@ -17,6 +17,7 @@ use Rattle.vhdl_writer.specs.Tables.{level_apart_text, state_row_text, truth_row
 use Rattle.grammar_reader.proofs.Fronts.{Front, Anything, each}
 use Rattle.grammar_reader.proofs.Spelling.{literal, behind}
 use Rattle.written_entities.proofs.Spelling.{Spells, numbered_spelled}
+use Rattle.written_entities.proofs.Elements.{is_several}
 
 -- Symbols.
 
@@ -136,9 +137,6 @@ rows_front f (row ∷ more ∷ rows) s = codes "(" ∷ f row (each (λ r q. code
 
 is_later : (n : ℕ) → 2 ≤ n → nat_eq n 1 ≡ false
 is_later n h = grind (arith, nat_tests)
-
-is_several : (count : ℕ) → nat_eq (suc (suc count)) 1 ≡ false
-is_several count = grind (arith, nat_tests)
 
 -- the row with this number behind the first of several
 later_row : {R : Type 0} (more : R → List ℕ) (f : R → Front) → ((row : R) → Spells Anything false (more row) (f row) false)

@@ -1,5 +1,5 @@
 -- Tests of numbers, and tests of which both hold, or neither.
-use Rattle.std.proofs.Common.{◌≡◌, ℕ, suc, ◌<◌, Bool, true, false, not, ◌&&◌, ◌||◌, nat_eq, nat_lt, if◌then◌else◌, refl, arith}
+use Rattle.std.proofs.Common.{◌≡◌, ℕ, suc, Bool, true, false, nat_eq, nat_lt, if◌then◌else◌, refl, arith}
 use Rattle.std.proofs.lemmas.Bool.Decides.{nat_tests}
 
 pub if_true : {A : Type 0} (b : Bool) (x y : A) → b ≡ true → (if b then x else y) ≡ x
@@ -16,33 +16,11 @@ if_either false = refl
 pub some_items : (n : ℕ) → nat_lt 0 (suc n) ≡ true
 some_items n = grind (arith, nat_tests)
 
-pub less : (m n : ℕ) → m < n → nat_lt m n ≡ true
-less m n h = grind (arith, nat_tests, h)
-
 pub no_less : (m n : ℕ) → m ≡ n → nat_lt m n ≡ false
 no_less m n h = grind (arith, nat_tests, h)
-
-pub equal : (m n : ℕ) → m ≡ n → nat_eq m n ≡ true
-equal m n h = grind (arith, nat_tests, h)
 
 pub equal_self : (n : ℕ) → nat_eq n n ≡ true
 equal_self n = grind (arith, nat_tests)
 
 pub numbers_turned : (m n : ℕ) → nat_eq m n ≡ nat_eq n m
 numbers_turned m n = grind (arith, nat_tests)
-
-pub and_yes : (a b : Bool) → a ≡ true → b ≡ true → (a && b) ≡ true
-and_yes a b e f = rw (e, f) refl
-
-pub and_no : (a b : Bool) → b ≡ false → (a && b) ≡ false
-and_no true b e = e
-and_no false b e = refl
-
-pub and_not : (a : Bool) → (a && not a) ≡ false
-and_not true = refl
-and_not false = refl
-
--- neither of two tests holds
-pub or_parts : (a b : Bool) → (a || b) ≡ false → (a ≡ false) × (b ≡ false)
-or_parts true b e = absurd cc
-or_parts false b e = (refl, e)

@@ -4,12 +4,12 @@ use Rattle.std.proofs.Common.{◌++◌, length, map, Option, Some, None, slice_g
 use Rattle.std.proofs.Common.{length-append}
 use Rattle.std.specs.List.{AllByRecursion, IsDistinct, list_all, list_any, position_from}
 use Rattle.std.specs.Option.{option_map, option_map_or}
-use Rattle.std.proofs.lemmas.Bool.Decides.{nat_tests}
 use Rattle.std.proofs.lemmas.List.{length-map, map-append}
 use Rattle.std.proofs.lemmas.List.Sums.{sum_by-cons}
 use Rattle.std.proofs.lemmas.List.Elements.{recursion_from_All}
 use Rattle.std.proofs.lemmas.Grind.{flat_map-append}
 use Rattle.std.proofs.lemmas.Iterator.Adapters.{position_from-zero}
+use Rattle.std.proofs.lemmas.Bool.{ltb-true as below, and_from as and_yes, eq-eqb as equal, lt-ltb as less}
 use Rattle.grammar_rules.specs.Rule.{Verdict, Fits, Stops}
 use Rattle.grammar_rules.specs.Rule as r
 use Rattle.cell_machine.specs.declared.outputs.Source.{Source}
@@ -56,7 +56,7 @@ use Rattle.written_entities.proofs.ConstantReading.{output_tables, its_number, i
 use Rattle.written_entities.proofs.VariableReading.{all_tables, so_many_outputs}
 use Rattle.written_entities.proofs.ConditionReading.{scope, lookup_word, data_word, passes_at, new_item, listed_fits}
 use Rattle.written_entities.proofs.ConditionReading.{list_end_read, truth_wide}
-use Rattle.written_entities.proofs.Tests.{if_true, less, no_less, equal, numbers_turned, and_yes}
+use Rattle.written_entities.proofs.Tests.{if_true, no_less, numbers_turned}
 
 -- Tokens.
 
@@ -84,9 +84,6 @@ zero_bit : Spells Anything false (codes "'0'") (λ s. codes "'0'" ∷ s) false
 zero_bit = literal (λ r. refl) refl
 
 -- Sources.
-
-below : (m n : ℕ) → nat_lt m n ≡ true → m < n
-below m n h = grind (arith, nat_tests, h)
 
 source_named : (e : VEntity) → IsWellFormedEntity e → (s : Source) → feeds e s ≡ true → IsNamed (source_name e s)
 unfolding source_name

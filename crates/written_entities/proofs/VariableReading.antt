@@ -4,6 +4,8 @@ use Rattle.std.proofs.Common.{Option, Some, slice_get, refl, sym, ap, ◌∙◌,
 use Rattle.std.specs.Option.{option_map, option_map_or}
 use Rattle.std.proofs.lemmas.List.{map-append, length-map}
 use Rattle.std.proofs.lemmas.Option.{slice_get-map}
+use Rattle.std.proofs.lemmas.Bool.{and_right as and_no, and_from as and_yes, eq-eqb as equal, lt-ltb as less}
+use Rattle.std.proofs.Math.Bool.{and-not_self as and_not}
 use Rattle.grammar_rules.specs.Rule.{Fits}
 use Rattle.grammar_rules.specs.Rule as r
 use Rattle.cell_machine.specs.declared.checks.CheckKind.{CheckKind}
@@ -39,7 +41,7 @@ use Rattle.written_entities.proofs.NameReading.{this_number_read}
 use Rattle.written_entities.proofs.Counting.{counted, over}
 use Rattle.written_entities.proofs.Parts.{fact_at, place_below, output_number, state_number, check_number}
 use Rattle.written_entities.proofs.ConstantReading.{tables_up_to}
-use Rattle.written_entities.proofs.Tests.{if_true, if_false, some_items, less, no_less, equal, and_yes, and_no, and_not}
+use Rattle.written_entities.proofs.Tests.{if_true, if_false, some_items, no_less}
 use Rattle.written_entities.proofs.VariableTokens.{is_period, data_type, check_front, violation_front, state_front, glitch_front}
 use Rattle.written_entities.proofs.VariableTokens.{output_front, variables_front, read_width, wide_at, is_period_check}
 

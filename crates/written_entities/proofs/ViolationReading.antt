@@ -2,6 +2,7 @@
 use Rattle.std.proofs.Common.{◌≡◌, ℕ, ◌+◌, ◌≤◌, Bool, false, nat_eq, nat_lt, List, [], ◌∷◌, ◌++◌, length, refl, sym, ap, ◌∙◌}
 use Rattle.std.proofs.Common.{arith, subst, codes, decimal}
 use Rattle.std.proofs.lemmas.List.{length-map}
+use Rattle.std.proofs.lemmas.Bool.{eq-eqb as equal, lt-ltb as less}
 use Rattle.udp_tables.specs.declared.timing_checks.TimingCheck.{TimingCheck}
 use Rattle.vital_models.specs.declared.model.VEntity.{VEntity}
 use Rattle.vhdl_tokens.specs.Words.{is_reserved, is_used, vhdl_words, used_words}
@@ -19,7 +20,7 @@ use Rattle.written_entities.proofs.NameReading.{expected, two_expected, part_rea
 use Rattle.written_entities.proofs.Counting.{counted, apart_front, apart_spelled, over}
 use Rattle.written_entities.proofs.Parts.{shown, place_below, check_number}
 use Rattle.written_entities.proofs.ConditionReading.{scope}
-use Rattle.written_entities.proofs.Tests.{some_items, less, equal}
+use Rattle.written_entities.proofs.Tests.{some_items}
 use Rattle.written_entities.proofs.Elements.{line_end}
 use Rattle.written_entities.proofs.VariableTokens.{is_period_check}
 

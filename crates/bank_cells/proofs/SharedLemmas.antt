@@ -1,14 +1,12 @@
 -- The statements that each member of a bus or bundle has.
-use Rattle.std.proofs.Common.{◌≡◌, ℕ, List, [], ◌∷◌, ◌++◌, map, Some, refl, sym, ap, ◌∙◌, append_assoc}
-use Rattle.std.specs.Prelude.{All, filter, flat_map, Result, Ok, Err, OnOk}
+use Rattle.std.proofs.Common.{◌≡◌, ℕ, List, [], ◌∷◌, ◌++◌, map, Some, refl, sym, ap, ◌∙◌}
+use Rattle.std.specs.Prelude.{All, filter}
 use Rattle.std.proofs.lemmas.List.{map-append}
-use Rattle.std.proofs.lemmas.Grind.{flat_map-append}
 use Rattle.std.proofs.lemmas.List.Elements.{All-nil, All-cons}
 use Rattle.liberty_groups.specs.declared.tree.Item.{Item}
 use Rattle.bus_texts.specs.declared.vectors.Vector.{Vector}
 use Rattle.bank_cells.specs.declared.shared.Shared.{Shared}
-use Rattle.bank_cells.specs.Members.{is_shared}
-use Rattle.bank_cells.specs.Faults.{pin_texts, text_faults, timing_faults_in, pin_faults}
+use Rattle.bank_refusals.specs.Members.{is_shared}
 use Rattle.bank_cells.specs.Expanded.{pin_item}
 use Rattle.bank_cells.specs.Fixed.{SharedItem, shown_shared, shared_of, shared_items, fixed_timing, IsSharedOf, items_of}
 
@@ -48,11 +46,6 @@ pub items_are : (vectors : List Vector) (items : List Item) (shared : List Share
     → items_of shared ≡ filter is_shared items
 items_are vectors items shared e = them vectors shared (filter is_shared items) e
 
--- what a call that went well comes to
-pub where_went : {X E A B : Type 0} (result : Result X E) → (A → B) → OnOk result A → OnOk result B
-where_went (Ok x) f a = f a
-where_went (Err e) f a = tt
-
 module _ (vectors : List Vector) (at : ℕ) (statements : List Item) (shared : List Shared) (own : List Item) where
   all_items : map shown_shared shared ≡ shared_items vectors statements
       → items_of shared ++ own ≡ filter is_shared statements ++ own
@@ -67,21 +60,3 @@ module _ (vectors : List Vector) (at : ℕ) (statements : List Item) (shared : L
       more ∙ ap (λ items. items ++ map (pin_item vectors (Some at)) own)
       (some ∙ ap (λ items. items ++ map (pin_item vectors (Some at)) (items_of shared)) none)
       ∙ sym (map-append (pin_item vectors (Some at)) (items_of shared) own) ∙ ap (map (pin_item vectors (Some at))) (all_items e)
-
-  -- and its faults
-  pub made_faults :
-      (items : List Item) (old texts first all : List ℕ) → map shown_shared shared ≡ shared_items vectors statements
-      → items ≡ items_of shared ++ own
-      → texts ≡ old ++ text_faults vectors (Some at) pin_texts items
-      → first ≡ texts ++ flat_map (timing_faults_in vectors (Some at)) (items_of shared)
-      → all ≡ first ++ flat_map (timing_faults_in vectors (Some at)) own
-      → all ≡ old ++ pin_faults vectors (Some at) (filter is_shared statements ++ own)
-  made_faults items old texts first all e are said some more =
-      let said_of : List Item → List ℕ = text_faults vectors (Some at) pin_texts in
-      let timed : List Item → List ℕ = flat_map (timing_faults_in vectors (Some at)) in
-      more ∙ ap (λ l. l ++ timed own) (some ∙ ap (λ l. l ++ timed (items_of shared)) (said ∙ ap (λ i. old ++ said_of i) are))
-      ∙ append_assoc (old ++ said_of (items_of shared ++ own)) (timed (items_of shared)) (timed own)
-      ∙ append_assoc old (said_of (items_of shared ++ own)) (timed (items_of shared) ++ timed own)
-      ∙ ap (λ l. old ++ (said_of (items_of shared ++ own) ++ l))
-      (sym (flat_map-append (timing_faults_in vectors (Some at)) (items_of shared) own))
-      ∙ ap (λ i. old ++ pin_faults vectors (Some at) i) (all_items e)

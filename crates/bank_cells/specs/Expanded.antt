@@ -1,7 +1,7 @@
 -- The group of a cell, expanded to single bits (Liberty Reference Manual, `bus`, `bundle`, `ff_bank`, `latch_bank` and
 -- `related_bus_pins`). Offsets of what is made are those of what it is made from.
-use Rattle.std.specs.Prelude.{◌≡◌, ℕ, Bool, true, List, [], ◌∷◌, ◌++◌, map, flat_map, codes, bytes_eq}
-use Rattle.std.specs.Prelude.{Option, Some, None, Result, Ok, Err, if◌then◌else◌}
+use Rattle.std.specs.Prelude.{ℕ, Bool, true, List, [], ◌∷◌, ◌++◌, map, flat_map, codes, bytes_eq}
+use Rattle.std.specs.Prelude.{Option, Some, None, if◌then◌else◌}
 use Rattle.std.specs.List.{list_any}
 use Rattle.liberty_groups.specs.declared.tree.Value.{Value}
 use Rattle.liberty_groups.specs.declared.tree.Item.{Item, out-Item}
@@ -17,11 +17,9 @@ use Rattle.bus_texts.specs.declared.vectors.VectorKind.TheVariants as kinds
 use Rattle.bus_texts.specs.Vectors.{Bank, is_called, is_bank, bank_of, member_name}
 use Rattle.bus_texts.specs.Vectors.{pin_vectors, cell_vectors, positions, vector_named}
 use Rattle.bus_texts.specs.Texts.{member_of, text_for}
-use Rattle.bank_cells.specs.declared.expansion.BankFault.{BankFault}
-use Rattle.bank_cells.specs.declared.expansion.BankFault.TheVariants.{Refused, Memory}
-use Rattle.bank_cells.specs.Members.{member_items}
-use Rattle.bank_cells.specs.Faults.{pin_texts, timing_texts, pins_named, related_words}
-use Rattle.bank_cells.specs.Refusals.{is_pins, has_many, along, state_texts, bank_refusal}
+use Rattle.bank_refusals.specs.Members.{member_items}
+use Rattle.bank_refusals.specs.Faults.{pin_texts, timing_texts, pins_named, related_words}
+use Rattle.bank_refusals.specs.Refusals.{is_pins, has_many, along, state_texts}
 
 -- A value, and a text between quotes.
 abbrev pub one_value : List ℕ → Bool → List Value
@@ -214,14 +212,3 @@ expanded_cell types cell =
 -- The expanded group of a cell. One without such groups stays as it is.
 unfoldable pub expanded : List BusType → Group → Group
 expanded types cell = if has_many cell then expanded_cell types cell else cell
-
--- What a call answers that makes this group of a cell, where nothing refuses to expand the cell: it, why the cell is refused, or
--- that memory was wanting.
-abbrev pub AnswersWith : List BusType → Group → Group → Result Group BankFault → Type 0
-AnswersWith types cell single (Ok group) = (bank_refusal types cell ≡ None) × (group ≡ single)
-AnswersWith types cell single (Err (Refused refusal)) = bank_refusal types cell ≡ Some refusal
-AnswersWith types cell single (Err Memory) = Unit {0}
-
--- What expansion answers.
-abbrev pub Expands : List BusType → Group → Result Group BankFault → Type 0
-Expands types cell result = AnswersWith types cell (expanded types cell) result

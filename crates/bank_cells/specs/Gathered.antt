@@ -1,45 +1,22 @@
 -- The expanded group of a cell in which the pins of a bus or bundle are one pin group with all their names, where they have the
 -- same statements (Liberty Reference Manual, `pin` group: one with several names makes a pin for each).
-use Rattle.std.specs.Prelude.{ℕ, Bool, true, not, ◌&&◌, ◌||◌, List, [], ◌∷◌, map, filter, flat_map, codes}
-use Rattle.std.specs.Prelude.{Some, Result, if◌then◌else◌}
-use Rattle.std.specs.List.{list_all}
+use Rattle.std.specs.Prelude.{◌≡◌, ℕ, true, ◌&&◌, List, [], ◌∷◌, map, filter, flat_map, codes, Some, None, Result, Ok, Err}
+use Rattle.std.specs.Prelude.{if◌then◌else◌}
 use Rattle.liberty_groups.specs.declared.tree.Value.{Value}
 use Rattle.liberty_groups.specs.declared.tree.Item.{Item, out-Item}
 use Rattle.liberty_groups.specs.declared.tree.Item.TheOpen.{Item-F}
 use Rattle.liberty_groups.specs.declared.tree.Item.TheOpen as layer
 use Rattle.liberty_groups.specs.declared.tree.Item.TheVariants as made
 use Rattle.liberty_groups.specs.declared.tree.Group.{Group, roll-Group}
-use Rattle.liberty_groups.specs.Attributes.{simple_named}
 use Rattle.bus_texts.specs.declared.bus_types.BusType.{BusType}
 use Rattle.bus_texts.specs.declared.vectors.Vector.{Vector}
-use Rattle.bus_texts.specs.Vectors.{is_called, pin_vectors, cell_vectors}
+use Rattle.bus_texts.specs.Vectors.{pin_vectors, cell_vectors}
 use Rattle.bank_cells.specs.declared.expansion.BankFault.{BankFault}
-use Rattle.bank_cells.specs.Members.{is_shared}
-use Rattle.bank_cells.specs.Refusals.{is_pins, has_many}
-use Rattle.bank_cells.specs.Expanded.{pin_item, expanded_group, AnswersWith}
-use Rattle.bank_cells.specs.Fixed.{names_none, is_fixed}
-
--- A text of a pin names no bus, bundle or variable of a bank.
-abbrev pub text_stays : List Vector → Item-F Item Group → Bool
-text_stays vectors item =
-    names_none vectors (simple_named (codes "function") item)
-    && (names_none vectors (simple_named (codes "state_function") item)
-    && names_none vectors (simple_named (codes "three_state") item))
-
--- A group of a bus or bundle is not one of its inner pins, and a `timing` group becomes the same at each position.
-abbrev pub group_stays : List Vector → Item-F Item Group → Bool
-group_stays vectors (layer.Simple name value at) = true
-group_stays vectors (layer.Complex name arguments at) = true
-group_stays vectors (layer.Inner group) =
-    not (is_called (codes "pin") group) && (not (is_called (codes "timing") group) || list_all (is_fixed vectors) group.items)
-
--- A statement of a bus or bundle becomes the same for each of its members.
-abbrev pub stays : List Vector → Item → Bool
-stays vectors item = text_stays vectors (out-Item item) && group_stays vectors (out-Item item)
-
--- The members of a bus or bundle have the same statements, since all of them become the same.
-abbrev pub are_alike : List Vector → Group → Bool
-are_alike vectors group = list_all (stays vectors) group.items
+use Rattle.bank_cells.specs.declared.expansion.BankFault.TheVariants.{Refused, Memory}
+use Rattle.bank_refusals.specs.Members.{is_shared}
+use Rattle.bank_refusals.specs.Refusals.{is_pins, has_many, bank_refusal}
+use Rattle.bank_refusals.specs.Alike.{are_alike}
+use Rattle.bank_cells.specs.Expanded.{pin_item, expanded_group}
 
 -- One pin group for all members.
 abbrev pub name_value : List ℕ → Value
@@ -87,6 +64,9 @@ gathered_cell types cell =
 unfoldable pub gathered : List BusType → Group → Group
 gathered types cell = if has_many cell then gathered_cell types cell else cell
 
--- What gathering answers.
+-- What gathering answers: the gathered group, where nothing refuses to expand the cell, or why the cell is refused, or that memory
+-- was wanting.
 abbrev pub Gathers : List BusType → Group → Result Group BankFault → Type 0
-Gathers types cell result = AnswersWith types cell (gathered types cell) result
+Gathers types cell (Ok group) = (bank_refusal types cell ≡ None) × (group ≡ gathered types cell)
+Gathers types cell (Err (Refused refusal)) = bank_refusal types cell ≡ Some refusal
+Gathers types cell (Err Memory) = Unit {0}

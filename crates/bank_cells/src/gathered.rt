@@ -1,17 +1,18 @@
 //! The expanded group of a cell in which the pins of a bus or bundle are one pin group, where they have the same statements.
-ghost use Rattle.std.specs.Prelude.{◌≡◌, ◌++◌, IfOk, OnOk, Some, map, filter, flat_map};
-ghost use Rattle.bank_cells.specs.Members.{is_shared};
+ghost use Rattle.std.specs.Prelude.{◌≡◌, ◌++◌, true, IfOk, OnOk, Some, map, filter, flat_map};
+ghost use Rattle.bank_refusals.specs.Members.{is_shared};
+ghost use Rattle.bank_refusals.specs.Refusals.{is_pins as is_pins_of};
 ghost use Rattle.bank_cells.specs.Expanded.{pin_item};
 ghost use Rattle.bank_cells.specs.Gathered as spec;
 
-use crate::alike::are_alike;
 use crate::copies::with_items;
-use crate::expansion::{BankFault, add_group, add_item};
-use crate::refusals::{bank_refusal, has_many, is_pins};
+use crate::expansion::{BankFault, add_bank_states, add_single};
+use crate::pins::add_pins;
 use crate::room::with_room;
 use crate::shared::{add_shared_at, shared_items};
-use bus_texts::{BusTypes, Vector, Vectors, cell_vectors, pin_vectors};
-use liberty_groups::{Arguments, Group, Item, Value, Values, copy_group, copy_text};
+use bank_refusals::{are_alike, bank_refusal, has_many, is_pins};
+use bus_texts::{BusTypes, Vector, Vectors, cell_vectors, is_bank, pin_vectors};
+use liberty_groups::{Arguments, Group, Item, Value, Values, copy_group, copy_item, copy_text};
 use sqlite_items::Items;
 use std::alloc::{AllocError, Global};
 
@@ -67,6 +68,27 @@ fn gathered_pin(
     })
 }
 
+/// Adds the pin groups that a bus or bundle makes.
+fn add_pin_groups(
+    alloc: Global,
+    found: &mut Items<Item>,
+    types: &BusTypes,
+    vectors: &Vectors,
+    group: &Group,
+) -> Result<(), AllocError>
+    requires { is_pins_of group.now ≡ true }
+    ensures { OnOk result (found.new ≡ found.old ++ spec.gathered_group types.now vectors.now group.now) }
+{
+    let several = pin_vectors(alloc, types, group)?;
+    if are_alike(alloc, vectors, group)? {
+        let pin = gathered_pin(alloc, vectors, group, several.as_slice())?;
+        found.push(Item::Inner(pin))?;
+        Ok(())
+    } else {
+        add_pins(alloc, found, vectors, group, several.as_slice())
+    }
+}
+
 /// Adds what stands in the place of a group of a cell.
 fn add_gathered_group(
     alloc: Global,
@@ -77,13 +99,13 @@ fn add_gathered_group(
 ) -> Result<(), AllocError>
     ensures { OnOk result (found.new ≡ found.old ++ spec.gathered_group types.now vectors.now group.now) }
 {
-    if !is_pins(group) || !are_alike(alloc, vectors, group)? {
-        return add_group(alloc, found, types, vectors, group);
+    if is_pins(group) {
+        add_pin_groups(alloc, found, types, vectors, group)
+    } else if is_bank(group) {
+        add_bank_states(alloc, found, vectors, group)
+    } else {
+        add_single(alloc, found, vectors, group)
     }
-    let several = pin_vectors(alloc, types, group)?;
-    let pin = gathered_pin(alloc, vectors, group, several.as_slice())?;
-    found.push(Item::Inner(pin))?;
-    Ok(())
 }
 
 /// Adds what stands in the place of a statement of a cell.
@@ -99,7 +121,8 @@ fn add_gathered(
     match item {
         Item::Inner(group) => add_gathered_group(alloc, found, types, vectors, group),
         Item::Simple { .. } | Item::Complex { .. } => {
-            add_item(alloc, found, types, vectors, item)
+            found.push(copy_item(alloc, item)?)?;
+            Ok(())
         }
     }
 }
@@ -141,8 +164,12 @@ fn gathered(alloc: Global, types: &BusTypes, cell: &Group) -> Result<Group, Allo
     }
 }
 
-/// The group of a cell expanded to single bits as `expand` does, but for the members of a bus or bundle which have the same
-/// statements: they are the names of one pin group, which is held once however many they are. The faults are those of `expand`.
+/// The group of a cell expanded to single bits (Liberty Reference Manual, `bus`, `bundle`, `ff_bank` and `latch_bank` groups),
+/// with the types of buses that stand before it. A bus or bundle becomes a pin for each member, a bank a state group for each
+/// bit, and a text that names them is rewritten for the position of each; members of a bus or bundle which have the same
+/// statements are the names of one pin group, which is held once however many they are. A group without them stays as it is.
+/// The faults are `Refused` where the group meets a reason of `BankReason`, the first of them at its least offset, and `Memory`
+/// only where memory is wanting.
 pub fn gather(alloc: Global, cell: &Group, types: &BusTypes) -> Result<Group, BankFault>
     ensures { spec.Gathers types.now cell.now result }
 {

@@ -1,16 +1,15 @@
 //! The pins of single bits that a cell has when it is expanded.
 ghost use Rattle.std.specs.Prelude.{◌≡◌, ◌++◌, IfOk, OnOk, Some, map, flat_map};
-ghost use Rattle.bank_cells.specs.Members.{member_items};
+ghost use Rattle.bank_refusals.specs.Members.{member_items};
 ghost use Rattle.bank_cells.specs.Fixed.{shown_shared, shared_items};
 ghost use Rattle.bank_cells.specs.Expanded as spec;
 
 use crate::copies::with_items;
-use crate::faults::Place;
-use crate::members::{Member, all_items, own_items};
 use crate::rewritten::{one_value, pin_text};
 use crate::room::with_room;
 use crate::shared::{Shared, add_shared_at, shared_items};
 use crate::timings::timing_at;
+use bank_refusals::{Member, Place, all_items, own_items};
 use bus_texts::{Vector, Vectors, is_called};
 use liberty_groups::{Arguments, Group, Item, copy_bytes, copy_item, copy_text};
 use sqlite_items::Items;

@@ -1,12 +1,12 @@
 //! The texts of statements at a position.
 ghost use Rattle.std.specs.Prelude.{◌≡◌, ◌∷◌, [], IfOk, map};
-ghost use Rattle.bank_cells.specs.Faults.{pin_texts, timing_texts, ff_texts, latch_texts};
-ghost use Rattle.bank_cells.specs.Refusals.{state_texts};
+ghost use Rattle.bank_refusals.specs.Faults.{pin_texts, timing_texts, ff_texts, latch_texts};
+ghost use Rattle.bank_refusals.specs.Refusals.{state_texts};
 ghost use Rattle.bank_cells.specs.Expanded as spec;
 
-use crate::faults::Place;
 use crate::room::with_room;
-use bus_texts::{is_called, text_for};
+use bank_refusals::{Place, is_flip_flop};
+use bus_texts::text_for;
 use liberty_groups::{Group, Item, Value, Values, copy_item, copy_text, copy_values, value_of};
 use sqlite_items::Items;
 use std::alloc::{AllocError, Global};
@@ -45,50 +45,41 @@ fn values_if(
     }
 }
 
-/// Whether this is the name of a text of a pin.
-fn is_pin_text(name: &[u8]) -> bool
-    ensures { result ≡ spec.is_one_of pin_texts name.now }
+/// Whether a name is one of these.
+fn is_one_of(names: &[&[u8]], name: &[u8]) -> bool
+    ensures { result ≡ spec.is_one_of (map (λ one. one.now) names.now) name.now }
 {
-    name == b"function".as_slice()
-        || name == b"state_function".as_slice()
-        || name == b"three_state".as_slice()
+    for one in names {
+        if name == *one {
+            return true;
+        }
+    }
+    false
 }
 
-/// Whether this is the name of a text of a timing group.
-fn is_timing_text(name: &[u8]) -> bool
-    ensures { result ≡ spec.is_one_of timing_texts name.now }
+/// A statement at a place, which is a text over positions where it has one of these names.
+fn text_at(
+    alloc: Global,
+    place: Place<'_>,
+    names: &[&[u8]],
+    item: &Item,
+) -> Result<Item, AllocError>
+    ensures { IfOk result
+        (λ made. made
+        ≡ spec.text_at place.entry.vectors.now place.entry.position (map (λ name. name.now) names.now) item.now) }
 {
-    name == b"when".as_slice()
-}
-
-/// Whether this is the name of a text of a flip-flop.
-fn is_ff_text(name: &[u8]) -> bool
-    ensures { result ≡ spec.is_one_of ff_texts name.now }
-{
-    name == b"next_state".as_slice()
-        || name == b"clocked_on".as_slice()
-        || name == b"clear".as_slice()
-        || name == b"preset".as_slice()
-}
-
-/// Whether this is the name of a text of a latch.
-fn is_latch_text(name: &[u8]) -> bool
-    ensures { result ≡ spec.is_one_of latch_texts name.now }
-{
-    name == b"data_in".as_slice()
-        || name == b"enable".as_slice()
-        || name == b"clear".as_slice()
-        || name == b"preset".as_slice()
-}
-
-/// Whether this is the name of a text of a state.
-fn is_state_text(group: &Group, name: &[u8]) -> bool
-    ensures { result ≡ spec.is_one_of (state_texts group.now) name.now }
-{
-    if is_called(group, b"ff") || is_called(group, b"ff_bank") {
-        is_ff_text(name)
-    } else {
-        is_latch_text(name)
+    match item {
+        Item::Simple { name, value, at } => Ok(Item::Simple {
+            name: copy_text(alloc, name.as_slice())?,
+            value: values_if(
+                alloc,
+                place,
+                is_one_of(names, name.as_slice()),
+                value.as_slice(),
+            )?,
+            at: *at,
+        }),
+        Item::Complex { .. } | Item::Inner(_) => copy_item(alloc, item),
     }
 }
 
@@ -96,58 +87,52 @@ fn is_state_text(group: &Group, name: &[u8]) -> bool
 pub(crate) fn pin_text(alloc: Global, place: Place<'_>, item: &Item) -> Result<Item, AllocError>
     ensures { IfOk result (λ made. made ≡ spec.text_at place.entry.vectors.now place.entry.position pin_texts item.now) }
 {
-    match item {
-        Item::Simple { name, value, at } => Ok(Item::Simple {
-            name: copy_text(alloc, name.as_slice())?,
-            value: values_if(alloc, place, is_pin_text(name.as_slice()), value.as_slice())?,
-            at: *at,
-        }),
-        Item::Complex { .. } | Item::Inner(_) => copy_item(alloc, item),
-    }
+    let names: [&[u8]; 3] = [b"function", b"state_function", b"three_state"];
+    text_at(alloc, place, &names, item)
 }
 
 /// A statement of a timing group that tells no related pins, at a place.
 pub(crate) fn timing_text(alloc: Global, place: Place<'_>, item: &Item) -> Result<Item, AllocError>
     ensures { IfOk result (λ made. made ≡ spec.text_at place.entry.vectors.now place.entry.position timing_texts item.now) }
 {
-    match item {
-        Item::Simple { name, value, at } => Ok(Item::Simple {
-            name: copy_text(alloc, name.as_slice())?,
-            value: values_if(
-                alloc,
-                place,
-                is_timing_text(name.as_slice()),
-                value.as_slice(),
-            )?,
-            at: *at,
-        }),
-        Item::Complex { .. } | Item::Inner(_) => copy_item(alloc, item),
-    }
+    let names: [&[u8]; 1] = [b"when"];
+    text_at(alloc, place, &names, item)
 }
 
-/// A statement of a state, at a place.
-fn state_text(
+/// Statements at a place, of which those of these names are texts over positions.
+fn texts_at(
     alloc: Global,
     place: Place<'_>,
-    group: &Group,
-    item: &Item,
-) -> Result<Item, AllocError>
+    names: &[&[u8]],
+    items: &[Item],
+) -> Result<Items<Item>, AllocError>
     ensures { IfOk result
-        (λ made. made ≡ spec.text_at place.entry.vectors.now place.entry.position (state_texts group.now) item.now) }
+        (λ made. made
+        ≡ map (spec.text_at place.entry.vectors.now place.entry.position (map (λ name. name.now) names.now)) items.now) }
 {
-    match item {
-        Item::Simple { name, value, at } => Ok(Item::Simple {
-            name: copy_text(alloc, name.as_slice())?,
-            value: values_if(
-                alloc,
-                place,
-                is_state_text(group, name.as_slice()),
-                value.as_slice(),
-            )?,
-            at: *at,
-        }),
-        Item::Complex { .. } | Item::Inner(_) => copy_item(alloc, item),
+    let mut made = with_room(alloc, items.len())?;
+    for item in items {
+        made.push(text_at(alloc, place, names, item)?)?;
     }
+    Ok(made)
+}
+
+/// The statements of a flip-flop, at a place.
+fn ff_items(alloc: Global, place: Place<'_>, items: &[Item]) -> Result<Items<Item>, AllocError>
+    ensures { IfOk result
+        (λ made. made ≡ map (spec.text_at place.entry.vectors.now place.entry.position ff_texts) items.now) }
+{
+    let names: [&[u8]; 4] = [b"next_state", b"clocked_on", b"clear", b"preset"];
+    texts_at(alloc, place, &names, items)
+}
+
+/// The statements of a latch, at a place.
+fn latch_items(alloc: Global, place: Place<'_>, items: &[Item]) -> Result<Items<Item>, AllocError>
+    ensures { IfOk result
+        (λ made. made ≡ map (spec.text_at place.entry.vectors.now place.entry.position latch_texts) items.now) }
+{
+    let names: [&[u8]; 4] = [b"data_in", b"enable", b"clear", b"preset"];
+    texts_at(alloc, place, &names, items)
 }
 
 /// The statements of a state, at a place.
@@ -159,9 +144,10 @@ pub(crate) fn state_items(
     ensures { IfOk result
         (λ made. made ≡ map (spec.text_at place.entry.vectors.now place.entry.position (state_texts group.now)) group.now.items) }
 {
-    let mut made = with_room(alloc, group.items.len())?;
-    for item in group.items.as_slice() {
-        made.push(state_text(alloc, place, group, item)?)?;
+    let items = group.items.as_slice();
+    if is_flip_flop(group) {
+        ff_items(alloc, place, items)
+    } else {
+        latch_items(alloc, place, items)
     }
-    Ok(made)
 }

@@ -1,14 +1,11 @@
 //! The statements that each member of a bus or bundle has.
-ghost use Rattle.std.specs.Prelude.{◌≡◌, ◌++◌, IfOk, OnOk, All, Some, map, flat_map};
-ghost use Rattle.bank_cells.specs.Faults.{timing_faults_in};
+ghost use Rattle.std.specs.Prelude.{◌≡◌, ◌++◌, IfOk, OnOk, All, Some, map};
 ghost use Rattle.bank_cells.specs.Expanded.{pin_item as pin_item_of};
 ghost use Rattle.bank_cells.specs.Fixed as spec;
 
-use crate::faults::Place;
-use crate::fixed::fixed_timing;
-use crate::members::is_shared;
 use crate::pins::pin_item;
-use crate::related::add_item_faults;
+use crate::timings::fixed_timing;
+use bank_refusals::{Place, is_shared};
 use bus_texts::Vectors;
 use liberty_groups::{Group, Item, copy_group};
 use sqlite_items::Items;
@@ -37,32 +34,6 @@ pub(crate) fn shared_items<'a>(
             found.push(Shared { item, made })?;
         }
     }
-    Ok(found)
-}
-
-/// Adds references to shared statements.
-fn add_references<'a>(found: &mut Vec<&'a Item>, shared: &[Shared<'a>]) -> Result<(), AllocError>
-    ensures { OnOk result
-        (map (λ item. item.now) found.new.items ≡ map (λ item. item.now) found.old.items ++ spec.items_of shared.now) }
-{
-    for one in shared {
-        found.push(one.item)?;
-    }
-    Ok(())
-}
-
-/// References to shared statements, and behind them these.
-pub(crate) fn with_own<'a>(
-    alloc: Global,
-    shared: &[Shared<'a>],
-    own: &[&'a Item],
-) -> Result<Vec<&'a Item>, AllocError>
-    ensures { IfOk result
-        (λ found. map (λ item. item.now) found.items ≡ spec.items_of shared.now ++ map (λ item. item.now) own.now) }
-{
-    let mut found = Vec::new(alloc);
-    add_references(&mut found, shared)?;
-    found.extend_from_slice(own)?;
     Ok(found)
 }
 
@@ -98,45 +69,6 @@ pub(crate) fn add_shared_at(
 {
     for one in shared {
         found.push(shared_at(alloc, vectors, at, one)?)?;
-    }
-    Ok(())
-}
-
-/// Adds the faults of a shared statement at a position, if it is a timing group.
-fn add_faults_at(
-    alloc: Global,
-    found: &mut Vec<usize>,
-    vectors: &Vectors,
-    at: usize,
-    shared: &Shared<'_>,
-) -> Result<(), AllocError>
-    requires { spec.IsSharedOf vectors.now shared.now }
-    ensures { OnOk result (found.new.items ≡ found.old.items ++ timing_faults_in vectors.now (Some at) shared.now.item.now) }
-{
-    match &shared.made {
-        Some(_) => Ok(()),
-        None => {
-            let position = Some(at);
-            add_item_faults(alloc, found, Place { vectors, position }, shared.item)
-        }
-    }
-}
-
-/// Adds the faults of the timing groups among shared statements at a position.
-pub(crate) fn add_shared_faults(
-    alloc: Global,
-    found: &mut Vec<usize>,
-    vectors: &Vectors,
-    at: usize,
-    shared: &[Shared<'_>],
-) -> Result<(), AllocError>
-    requires { All (spec.IsSharedOf vectors.now) shared.now }
-    ensures { OnOk result
-        (found.new.items
-        ≡ found.old.items ++ flat_map (timing_faults_in vectors.now (Some at)) (spec.items_of shared.now)) }
-{
-    for one in shared {
-        add_faults_at(alloc, found, vectors, at, one)?;
     }
     Ok(())
 }

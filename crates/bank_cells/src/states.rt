@@ -3,8 +3,8 @@ ghost use Rattle.std.specs.Prelude.{◌≡◌, ◌++◌, ◌∷◌, [], IfOk, On
 ghost use Rattle.bus_texts.specs.Vectors.{shown_bank, positions as positions_of};
 ghost use Rattle.bank_cells.specs.Expanded as spec;
 
-use crate::faults::Place;
 use crate::rewritten::state_items;
+use bank_refusals::Place;
 use bus_texts::{Bank, Vectors, is_called, member_name, positions};
 use liberty_groups::{Arguments, Group, Item, Value, Values, copy_text, value_of};
 use small_bytes::SmallBytes;

@@ -1,13 +1,13 @@
 //! The timing groups of a pin at a position.
 ghost use Rattle.std.specs.Prelude.{◌≡◌, ◌++◌, IfOk, OnOk, map, flat_map};
+ghost use Rattle.bank_cells.specs.Fixed as fixed;
 ghost use Rattle.bank_cells.specs.Expanded as spec;
 
 use crate::copies::with_items;
-use crate::faults::Place;
-use crate::related::{pins_named, related_words};
 use crate::rewritten::{one_value, timing_text};
 use crate::room::with_room;
-use bus_texts::{VectorKind, Vectors, member_at, vector_named};
+use bank_refusals::{Place, are_fixed, pins_named, related_words};
+use bus_texts::{VectorKind, Vectors, is_called, member_at, vector_named};
 use liberty_groups::{Attribute, Group, Item, copy_item, copy_text, simple_attribute};
 use sqlite_items::Items;
 use std::alloc::{AllocError, Global};
@@ -155,4 +155,23 @@ pub(crate) fn timing_at(alloc: Global, place: Place<'_>, group: &Group) -> Resul
 {
     let items = timing_items(alloc, place, group.items.as_slice())?;
     with_items(alloc, group, items)
+}
+
+/// What the timing group that a statement is becomes at each position, where that is the same.
+pub(crate) fn fixed_timing(
+    alloc: Global,
+    vectors: &Vectors,
+    item: &Item,
+) -> Result<Option<Group>, AllocError>
+    ensures { IfOk result (λ made. made ≡ fixed.fixed_timing vectors.now item.now) }
+{
+    let Item::Inner(group) = item else {
+        return Ok(None);
+    };
+    if !is_called(group, b"timing") || !are_fixed(alloc, vectors, group.items.as_slice())? {
+        return Ok(None);
+    }
+    let position = Some(0);
+    let made = timing_at(alloc, Place { vectors, position }, group)?;
+    Ok(Some(made))
 }

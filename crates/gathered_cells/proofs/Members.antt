@@ -19,9 +19,11 @@ use Rattle.bank_cells.specs.Members.{is_shared}
 use Rattle.bank_cells.specs.Refusals.{is_pins, has_many, along}
 use Rattle.bank_cells.specs.Expanded.{pin_item, member_pin, member_pins, vector_pins, bank_states, single_group, expanded_group}
 use Rattle.bank_cells.specs.Expanded.{expanded_as, expanded_item, expanded_cell, expanded}
-use Rattle.bank_cells.specs.Gathered.{are_alike, name_value, members_of, gathered_pin, gathered_pins, gathered_group, gathered_as}
+use Rattle.bank_cells.specs.Alike.{are_alike}
+use Rattle.bank_cells.specs.Gathered.{name_value, members_of, gathered_pin, gathered_pins, gathered_group, gathered_as}
 use Rattle.bank_cells.specs.Gathered.{gathered_item, gathered_cell, gathered}
-use Rattle.bank_cells.proofs.AlikeLemmas.{statements_same, no_own}
+use Rattle.bank_cells.proofs.Faultless.{no_own}
+use Rattle.bank_cells.proofs.AlikeLemmas.{statements_same}
 use Rattle.gathered_cells.specs.Laws.{IsReadAs}
 use Rattle.gathered_cells.proofs.Single.{single, same_items, same_at, its_name, is_called_pin}
 use Rattle.gathered_cells.proofs.Lists.{apart, apart_in, apart_append}

@@ -1,5 +1,5 @@
 -- What is wrong in the delays of an output hangs on the direction of its pin, and on no other thing of the place where it stands.
-use Rattle.std.proofs.Common.{◌≡◌, ℕ, Bool, false, not, ◌&&◌, List, [], ◌∷◌, ◌++◌, codes, Option, Some, None, refl, sym, ap}
+use Rattle.std.proofs.Common.{◌≡◌, ℕ, Bool, false, not, ◌&&◌, List, [], ◌∷◌, ◌++◌, map, codes, Option, Some, None, refl, sym, ap}
 use Rattle.std.proofs.Common.{◌∙◌, if◌then◌else◌}
 use Rattle.std.specs.Prelude.{flat_map, slice_get, Result, Ok, Err}
 use Rattle.std.specs.Option.{option_map, option_map_or}
@@ -8,6 +8,7 @@ use Rattle.bool_functions.specs.declared.tree.Node.{Node}
 use Rattle.bool_functions.specs.declared.faults.FunctionFault.{FunctionFault}
 use Rattle.bool_functions.specs.declared.faults.FunctionFault.TheVariants as wrong
 use Rattle.bool_functions.specs.FunctionText.{reading_of}
+use Rattle.bool_functions.proofs.NameLists.{list_any-map}
 use Rattle.liberty_groups.specs.declared.tree.Group.{Group}
 use Rattle.liberty_groups.specs.Attributes.{Attribute, attribute_of, place_of}
 use Rattle.cell_machine.specs.declared.pins.Direction.{Direction}
@@ -51,43 +52,32 @@ module _ (s : Subject) (p q : ℕ) (same : direction_at s p ≡ direction_at s q
   unfolding is_used
   used group = ap (λ b. b && has_table group) (directed (stands_under (type_of group)))
 
-  -- What a group is related to is told by its place only where that is an input pin.
-  unknown_as_type : (group : Group) (t : TimingType)
-      → list_any is_unknown (related_by (subject_at s p) group t) ≡ list_any is_unknown (related_by (subject_at s q) group t)
-  unknown_as_type group types.Delay = refl
-  unknown_as_type group (types.Setup edge) = refl
-  unknown_as_type group (types.Hold edge) = refl
-  unknown_as_type group (types.Recovery edge) = refl
-  unknown_as_type group (types.Removal edge) = refl
-  unknown_as_type group types.Width = refl
-  unknown_as_type group types.Period = refl
-  unknown_as_type group types.Other = refl
+  -- Which of the pins that a group is related to are none or are driven is told without their numbers.
+  kinds_as_type : (group : Group) (t : TimingType)
+      → map {B = Bool × Bool} (λ one. (is_unknown one, is_driven one)) (related_by (subject_at s p) group t)
+      ≡ map {B = Bool × Bool} (λ one. (is_unknown one, is_driven one)) (related_by (subject_at s q) group t)
+  kinds_as_type group types.Delay = refl
+  kinds_as_type group (types.Setup edge) = refl
+  kinds_as_type group (types.Hold edge) = refl
+  kinds_as_type group (types.Recovery edge) = refl
+  kinds_as_type group (types.Removal edge) = refl
+  kinds_as_type group types.Width = refl
+  kinds_as_type group types.Period = refl
+  kinds_as_type group types.Other = refl
 
-  undriven_as_type : (group : Group) (t : TimingType)
-      → list_any (λ one. not (is_driven one)) (related_by (subject_at s p) group t)
-      ≡ list_any (λ one. not (is_driven one)) (related_by (subject_at s q) group t)
-  undriven_as_type group types.Delay = refl
-  undriven_as_type group (types.Setup edge) = refl
-  undriven_as_type group (types.Hold edge) = refl
-  undriven_as_type group (types.Recovery edge) = refl
-  undriven_as_type group (types.Removal edge) = refl
-  undriven_as_type group types.Width = refl
-  undriven_as_type group types.Period = refl
-  undriven_as_type group types.Other = refl
-
-  unknown_related : (group : Group)
-      → list_any is_unknown (related_of (subject_at s p) group) ≡ list_any is_unknown (related_of (subject_at s q) group)
+  some_kind : (test : Bool → Bool → Bool) (group : Group)
+      → list_any (λ one. test (is_unknown one) (is_driven one)) (related_of (subject_at s p) group)
+      ≡ list_any (λ one. test (is_unknown one) (is_driven one)) (related_of (subject_at s q) group)
   unfolding related_of
-  unknown_related group = unknown_as_type group (type_of group)
-
-  undriven_related : (group : Group)
-      → list_any (λ one. not (is_driven one)) (related_of (subject_at s p) group)
-      ≡ list_any (λ one. not (is_driven one)) (related_of (subject_at s q) group)
-  unfolding related_of
-  undriven_related group = undriven_as_type group (type_of group)
+  some_kind test group =
+      sym (list_any-map {Y = Bool × Bool} (λ one. (is_unknown one, is_driven one)) (λ (kind : Bool × Bool). test kind.0 kind.1)
+      (related_by (subject_at s p) group (type_of group)))
+      ∙ (ap (list_any (λ (kind : Bool × Bool). test kind.0 kind.1)) (kinds_as_type group (type_of group))
+      ∙ list_any-map {Y = Bool × Bool} (λ one. (is_unknown one, is_driven one)) (λ (kind : Bool × Bool). test kind.0 kind.1)
+      (related_by (subject_at s q) group (type_of group)))
 
   read : (group : Group) → is_read (subject_at s p) group ≡ is_read (subject_at s q) group
-  read group = λ i. used group i && undriven_related group i
+  read group = λ i. used group i && some_kind (λ unknown driven. not driven) group i
 
   condition_by : (r : Result Node FunctionFault) → condition_as (subject_at s p) r ≡ condition_as (subject_at s q) r
   condition_by (Ok f) = refl
@@ -108,7 +98,7 @@ module _ (s : Subject) (p q : ℕ) (same : direction_at s p ≡ direction_at s q
 
   unknown : (group : Group) → unknown_in (subject_at s p) group ≡ unknown_in (subject_at s q) group
   unknown group = λ i.
-      (if used group i && unknown_related group i then place_of (attribute_of group (codes "related_pin")) else [])
+      (if used group i && some_kind (λ unknown driven. unknown) group i then place_of (attribute_of group (codes "related_pin")) else [])
       ++ (if read group i && has_unknown (condition group i) then place_of (attribute_of group (codes "when")) else [])
 
   numbers : (group : Group) → bad_numbers_in (subject_at s p) group ≡ bad_numbers_in (subject_at s q) group

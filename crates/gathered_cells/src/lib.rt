@@ -2,7 +2,5 @@
 #![tactic(auto)]
 
 mod laws;
-mod read;
 
 pub use laws::gathered_cells_are_read_as_expanded;
-pub use read::read_gathered;

@@ -9,7 +9,6 @@ ghost use Rattle.library_reader.specs.Progress.{next_refusal, next_data};
 use crate::progress::Progress;
 use bank_cells::{BankFault, BankReason, gather, has_many};
 use cell_reader::{CellFault, Reason, Refusal};
-use gathered_cells::read_gathered;
 use liberty_groups::Group;
 use std::alloc::Global;
 use three_state_cells::{DrivenCell, read_driven};
@@ -38,7 +37,7 @@ fn cell_fault(fault: BankFault) -> CellFault
 }
 
 /// The next cell, which has buses, bundles or banks. Where they are not expanded it is refused for that, and else as the cell of
-/// the expanded group. `Memory` comes only where memory is wanting.
+/// the expanded group, as which the gathered one is read. `Memory` comes only where memory is wanting.
 fn read_bits(alloc: Global, progress: &Progress, group: &Group) -> Result<DrivenCell, CellFault>
     requires { progress.now.accepted + progress.now.refused + 1 < 2 ^ 64 }
     ensures cell { IfOk result (λ cell. driven_data_of cell ≡ next_data progress.now group.now) }
@@ -47,15 +46,7 @@ fn read_bits(alloc: Global, progress: &Progress, group: &Group) -> Result<Driven
 {
     let number = progress.next_number();
     match gather(alloc, group, &progress.types) {
-        Ok(gathered) => read_gathered(
-            alloc,
-            group,
-            &gathered,
-            &progress.types,
-            number,
-            progress.unit,
-            &progress.names,
-        ),
+        Ok(gathered) => read_driven(alloc, &gathered, number, progress.unit, &progress.names),
         Err(fault) => Err(cell_fault(fault)),
     }
 }

@@ -1,5 +1,5 @@
 use Rattle.std.proofs.Common.{◌≡◌, drop, ◌++◌}
-use Rattle.bank_cells.specs.Refusals.{along}
+use Rattle.bank_refusals.specs.Refusals.{along}
 use Rattle.bank_cells.specs.Expanded.{member_pins, vector_pins}
 use Rattle.bank_cells.proofs.pins.add_vector_pins.Given as goal
 

@@ -1,6 +1,6 @@
 use Rattle.std.proofs.Common.{◌++◌, Some, map, ap, ◌∙◌}
 use Rattle.std.specs.Prelude.{filter}
-use Rattle.bank_cells.specs.Members.{is_shared}
+use Rattle.bank_refusals.specs.Members.{is_shared}
 use Rattle.bank_cells.specs.Expanded.{pin_item}
 use Rattle.bank_cells.proofs.SharedLemmas.{made_items}
 use Rattle.bank_cells.proofs.pins.member_pin_items.Goals as goal

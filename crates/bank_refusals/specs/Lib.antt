@@ -1,0 +1,6 @@
+pub mod Ranges
+pub mod Members
+pub mod Faults
+pub mod Refusals
+pub mod Fixed
+pub mod Alike

@@ -1,0 +1,21 @@
+//! Why the group of a Liberty cell with buses, bundles and banks is not expanded to single bits.
+#![tactic(auto)]
+
+mod alike;
+mod faults;
+mod fixed;
+mod members;
+mod ranges;
+pub mod refusal;
+mod refusals;
+mod related;
+mod shared;
+mod widths;
+
+pub use alike::are_alike;
+pub use faults::Place;
+pub use fixed::are_fixed;
+pub use members::{Member, all_items, is_shared, own_items};
+pub use refusal::{BankReason, BankRefusal};
+pub use refusals::{bank_refusal, has_many, is_flip_flop, is_pins};
+pub use related::{pins_named, related_words};

@@ -1,5 +1,7 @@
 -- The points over some places as those over a support.
-use Rattle.std.specs.Prelude.{ℕ, ◌^◌, ◌==◌, Bool, not, List, map, position, unwrap_or, bit_and}
+use Rattle.std.specs.Prelude.{◌≡◌, ℕ, ◌+◌, ◌*◌, ◌/◌, ◌%◌, ◌^◌, ◌==◌, Bool, not, List, map, position, unwrap_or, bit_and}
+use Rattle.std.specs.List.{range_with_len}
+use Rattle.trit_cubes.specs.Filling.{number}
 use Rattle.cell_machine.specs.declared.outputs.Source.{Source}
 use Rattle.scan_cells.specs.Places.{same_source}
 
@@ -14,3 +16,12 @@ has_weight point weight = not (bit_and point weight == 0)
 -- the values at a point of the places with these weights
 abbrev pub weighed : List ℕ → ℕ → List Bool
 weighed weights point = map (has_weight point) weights
+
+-- the numbers that the first 256 multiples of a point have over the places with these weights
+abbrev pub numbers_of : List ℕ → ℕ → List ℕ
+numbers_of weights unit = map (λ k. number (weighed weights (unit * k))) (range_with_len 0 256)
+
+-- a point's number over the places with these weights is that of its low byte and that of what stands above it
+pub record IsSplit (weights : List ℕ) : Type 0 where
+  pub at : (point : ℕ)
+      → number (weighed weights (1 * (point % 256))) + number (weighed weights (256 * (point / 256))) ≡ number (weighed weights point)

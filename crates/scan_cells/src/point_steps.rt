@@ -4,10 +4,10 @@ ghost use Rattle.trit_cubes.specs.Filling.{number};
 ghost use Rattle.trit_cubes.specs.Sets.{point_of as point_with};
 ghost use Rattle.cell_machine.specs.CellData.{data_of};
 ghost use Rattle.cell_machine.specs.CellTrace.{support_at, step_at};
-ghost use Rattle.scan_cells.specs.Weights.{weight_of as weight_of_source, weighed};
+ghost use Rattle.scan_cells.specs.Weights.{weight_of as weight_of_source, weighed, IsSplit, numbers_of as numbers_of_multiples};
 
 use crate::points::{Weights, weights_of};
-use cell_machine::{Cell, Source};
+use cell_machine::{Cell, Few, Source};
 use kept_steps::KeptSteps;
 use trit_cubes::Trit;
 
@@ -24,6 +24,28 @@ fn number_at(weights: &[u32], point: u32) -> usize
     usize::from(point & *first != 0) + 2 * behind
 }
 
+/// The points of a byte.
+const BYTE: u32 = 256;
+
+/// The points of two bytes.
+const TWO_BYTES: u32 = 65_536;
+
+/// The numbers of 256 points.
+type Numbers = Few<usize, 256>;
+
+/// The numbers that the multiples of a point have over the places with these weights.
+fn numbers_of(weights: &[u32], unit: u32) -> Numbers
+    requires weights { length weights.now ≤ 10 }
+    requires unit { unit ≤ 256 }
+    ensures { result ≡ numbers_of_multiples weights.now unit }
+{
+    let mut numbers = Few::new(0);
+    for k in 0..BYTE {
+        numbers.push(number_at(weights, unit * k));
+    }
+    numbers
+}
+
 /// What a group does from both states.
 #[derive(Clone, Copy)]
 pub struct StateSteps {
@@ -38,6 +60,13 @@ pub struct StateSteps {
 pub struct PointSteps<'a> {
     kept: KeptSteps<'a>,
     weights: Weights,
+    /// The numbers of the points with 1 among the first eight places alone.
+    low: Numbers,
+    /// Those of the points with 1 among the eight places behind them alone.
+    high: Numbers,
+    ghost is_split: { IsSplit weights },
+    ghost are_low: { low ≡ numbers_of_multiples weights 1 },
+    ghost are_high: { high ≡ numbers_of_multiples weights 256 },
     ghost each: { length weights ≡ length (support_at (data_of kept.cell.now) kept.group) },
     ghost few: { length weights ≤ 8 },
 }
@@ -54,8 +83,12 @@ impl<'a> PointSteps<'a> {
         ensures weights { result.weights ≡ map (weight_of_source places.now) support.now }
     {
         let weights = weights_of(places, support);
-        let kept = KeptSteps::of(cell, group);
-        PointSteps { kept, weights }
+        PointSteps {
+            kept: KeptSteps::of(cell, group),
+            low: numbers_of(weights.as_slice(), 1),
+            high: numbers_of(weights.as_slice(), BYTE),
+            weights,
+        }
     }
 
     /// The number that a point has over the support.
@@ -63,7 +96,12 @@ impl<'a> PointSteps<'a> {
         ensures is { result ≡ number (weighed self.now.weights point) }
         ensures small { result < 2 ^ length self.now.weights }
     {
-        number_at(self.weights.as_slice(), point)
+        if point >= TWO_BYTES {
+            return number_at(self.weights.as_slice(), point);
+        }
+        let low = (point % BYTE) as usize;
+        let high = (point / BYTE) as usize;
+        self.low.as_slice()[low] + self.high.as_slice()[high]
     }
 
     /// The step at a change between the points with these numbers over the support, from this state.

@@ -166,3 +166,7 @@ step-done m inputs notifier turn places j ss first are past long rest =
     ∙ rest
     ∙ ap (λ is. stepped f Zero m.instances is first) are
     ∙ fed-step m inputs notifier turn first long
+
+-- a state that takes the value that it has leaves all states as they are
+pub still-at : (states new : List Trit) (i : ℕ) (next : Trit) → new ≡ set states i next → get_or states i Zero ≡ next → new ≡ states
+still-at states new i next is same = is ∙ ap (λ v. set states i v) (sym same) ∙ set-get_or states i Zero

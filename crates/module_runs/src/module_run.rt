@@ -1,5 +1,5 @@
 //! How a change of an input takes the run of a module on. `room` has place for the values of the nets that feed one instance.
-ghost use Rattle.std.specs.Prelude.{◌≡◌, ◌<◌, List, [], ◌∷◌, length, IsTrue, IfOk};
+ghost use Rattle.std.specs.Prelude.{◌≡◌, ◌<◌, false, List, [], ◌∷◌, length, IsTrue, IfOk};
 ghost use Rattle.trit_cubes.specs.declared.trits.Trit.{Trit};
 ghost use Rattle.module_runs.specs.Wiring.{is_wired};
 ghost use Rattle.module_runs.specs.KeptValues.{kept_values};
@@ -54,8 +54,13 @@ fn toggled(notifier: Trit) -> Trit
     }
 }
 
-/// The primitives that see a change take their next states.
-fn turn_states(run: &mut ModuleRun, tables: &ModuleTables, turn: Turn, room: &mut Items<Trit>)
+/// The primitives that see a change take their next states. It answers whether some state changed.
+fn turn_states(
+    run: &mut ModuleRun,
+    tables: &ModuleTables,
+    turn: Turn,
+    room: &mut Items<Trit>,
+) -> bool
     requires wired { IsTrue (is_wired (length room.old) tables.now.model.now) }
     requires one_each { HasEach tables.now.model.now run.old }
     ensures stepped { run.new ≡ record {
@@ -66,6 +71,7 @@ fn turn_states(run: &mut ModuleRun, tables: &ModuleTables, turn: Turn, room: &mu
           run.old.notifier;
       stamps = run.old.stamps;
     } }
+    ensures still { result ≡ false → run.new.states ≡ run.old.states }
     ensures one_each { HasEach tables.now.model.now run.new }
     ensures len { length room.new ≡ length room.old }
 {
@@ -76,7 +82,7 @@ fn turn_states(run: &mut ModuleRun, tables: &ModuleTables, turn: Turn, room: &mu
         turn,
         &mut run.states,
         room,
-    );
+    )
 }
 
 /// What states feed is found anew. Before, what is kept was so for the same inputs.
@@ -98,6 +104,26 @@ fn find_fed_by_states(
         states: run.states.as_slice(),
     };
     find_anew(&values, tables.fed_by_states(), kept, room);
+}
+
+/// What states feed is found anew where some state changed.
+fn find_fed_where_changed(
+    changed: bool,
+    run: &ModuleRun,
+    kept: &mut Items<Trit>,
+    tables: &ModuleTables,
+    room: &mut Items<Trit>,
+)
+    requires wired { IsTrue (is_wired (length room.old) tables.now.model.now) }
+    requires one_each { length kept.old ≡ length tables.now.model.now.instances }
+    requires still { changed ≡ false → kept.old ≡ kept_values tables.now.model.now run.now.inputs run.now.states }
+    ensures current { (before : List Trit) → kept.old ≡ kept_values tables.now.model.now run.now.inputs before
+        → kept.new ≡ kept_values tables.now.model.now run.now.inputs run.now.states }
+    ensures len { length room.new ≡ length room.old }
+{
+    if changed {
+        find_fed_by_states(run, kept, tables, room);
+    }
 }
 
 /// The input takes its value, what it feeds is found anew, and the primitives with a state that it feeds take their next states.
@@ -127,8 +153,8 @@ fn change_input(
         states: run.states.as_slice(),
     };
     find_anew(&values, tables.fed_by(what), kept, room);
-    turn_states(run, tables, Turn { what, from }, room);
-    find_fed_by_states(run, kept, tables, room);
+    let changed = turn_states(run, tables, Turn { what, from }, room);
+    find_fed_where_changed(changed, run, kept, tables, room);
 }
 
 /// The register of the checks changes once.

@@ -1,6 +1,7 @@
 //! The next states of a module's primitives at a change of an input or of the register of the checks. `room` has place for the
 //! values of the nets that feed one instance.
-ghost use Rattle.std.specs.Prelude.{◌≡◌, ◌≤◌, ◌<◌, length, map, take, position, IsTrue};
+ghost use Rattle.std.specs.Prelude.{◌≡◌, ◌≤◌, ◌<◌, length, map, take, position, false, IsTrue};
+ghost use Rattle.model_traces.specs.declared.turns.Turned.TheVariants as turned;
 ghost use Rattle.udp_tables.specs.Tables.{AreKept};
 ghost use Rattle.udp_tables.specs.RowKeys.{row_key};
 ghost use Rattle.module_runs.specs.Wiring.{is_table, is_joined, is_wired};
@@ -20,17 +21,30 @@ pub(crate) fn is_turned(ports: &Ports, what: Turned, net: VNet) -> bool
     ensures { result ≡ is_turned ports.now.list.now what net }
 {
     match what {
-        Turned::Input(input) => match net {
-            VNet::Port(port) => is_input_port(ports.list, port)
-                && input_number(ports, port) == input,
-            VNet::Wire(_) => false,
-            VNet::Notifier => false,
-        },
-        Turned::Notifier => match net {
-            VNet::Port(_) => false,
-            VNet::Wire(_) => false,
-            VNet::Notifier => true,
-        },
+        Turned::Input(input) => is_input(ports, input, net),
+        Turned::Notifier => is_register(ports, net),
+    }
+}
+
+/// Whether this net is the register of the checks.
+fn is_register(ports: &Ports, net: VNet) -> bool
+    ensures { result ≡ is_turned ports.now.list.now turned.Notifier net }
+{
+    match net {
+        VNet::Port(_) => false,
+        VNet::Wire(_) => false,
+        VNet::Notifier => true,
+    }
+}
+
+/// Whether this net is an input.
+fn is_input(ports: &Ports, input: usize, net: VNet) -> bool
+    ensures { result ≡ is_turned ports.now.list.now (turned.Input input) net }
+{
+    match net {
+        VNet::Port(port) => is_input_port(ports.list, port) && input_number(ports, port) == input,
+        VNet::Wire(_) => false,
+        VNet::Notifier => false,
     }
 }
 
@@ -38,7 +52,10 @@ pub(crate) fn is_turned(ports: &Ports, what: Turned, net: VNet) -> bool
 fn place_of(ports: &Ports, what: Turned, nets: &[VNet]) -> Option<usize>
     ensures { result ≡ position (is_turned ports.now.list.now what) nets.now }
 {
-    nets.iter().position(|net| is_turned(ports, what, *net))
+    match what {
+        Turned::Input(input) => nets.iter().position(|net| is_input(ports, input, *net)),
+        Turned::Notifier => nets.iter().position(|net| is_register(ports, *net)),
+    }
 }
 
 /// The value of a net that feeds a primitive with a state.
@@ -134,8 +151,15 @@ fn next_state(
     }
 }
 
+/// Whether some state changed before, or this one does.
+fn is_changed(before: bool, state: Trit, next: Trit) -> bool
+    ensures { result ≡ false → (before ≡ false) × (state ≡ next) }
+{
+    before || state != next
+}
+
 /// Takes the states of all instances over a change: those that it feeds may take others. `inputs` and `notifier` are the values
-/// after it.
+/// after it. It answers whether some state changed.
 pub(crate) fn step_states(
     tables: &ModuleTables,
     inputs: &[Trit],
@@ -143,13 +167,15 @@ pub(crate) fn step_states(
     turn: Turn,
     states: &mut Items<Trit>,
     room: &mut Items<Trit>,
-)
+) -> bool
     requires wired { IsTrue (is_wired (length room.old) tables.now.model.now) }
     requires one_each { length states.old ≡ length tables.now.model.now.instances }
     ensures stepped { states.new ≡ next_states tables.now.model.now inputs.now notifier turn states.old }
+    ensures still { result ≡ false → states.new ≡ states.old }
     ensures len { length states.new ≡ length states.old }
     ensures room { length room.new ≡ length room.old }
 {
+    let mut changed = false;
     let places = tables.fed_by(turn.what);
     for j in 0..places.len() {
         let i = places[j];
@@ -157,5 +183,7 @@ pub(crate) fn step_states(
         let state = states.as_slice()[i];
         let next = next_state(tables, inputs, notifier, turn, instance, state, room);
         states.set(i, next);
+        changed = is_changed(changed, state, next);
     }
+    changed
 }

@@ -1,6 +1,7 @@
 //! Whether the timing checks of a model report, by the times that they keep, in both languages.
-ghost use Rattle.std.specs.Prelude.{◌≡◌, ◌<◌, ◌||◌, length, nat_eq, replicate, false};
+ghost use Rattle.std.specs.Prelude.{◌≡◌, ◌<◌, ◌&&◌, length, nat_eq, replicate, false};
 ghost use Rattle.cell_machine.specs.Each.{each};
+ghost use Rattle.cell_machine.specs.Edges.{moves};
 ghost use Rattle.cell_machine.specs.Report.{happens};
 ghost use Rattle.model_traces.specs.PortNumbers.{input_event, input_number};
 ghost use Rattle.model_traces.specs.CheckTimes.{stamped, opened, reports_where};
@@ -23,41 +24,42 @@ pub struct InputChange<'a> {
     pub change: Change,
 }
 
+/// Whether a change is of this port.
+fn is_of(seen: &InputChange, port: usize) -> bool
+    ensures { result ≡ nat_eq seen.now.change.pin (input_number seen.now.ports.list.now port) }
+{
+    seen.change.pin == input_number(&seen.ports, port)
+}
+
+/// Whether a change that is of the port of an event, or is not, is this event.
+fn counts(is_of: bool, edge: Edge, seen: &InputChange) -> bool
+    ensures { result ≡ (is_of && moves edge seen.now.from seen.now.change.to) }
+{
+    is_of && moves(edge, seen.from, seen.change.to)
+}
+
 /// Whether a change is this event of a port.
 fn happens(seen: &InputChange, event: Event) -> bool
     ensures { result ≡ happens (input_event seen.now.ports.list.now event) seen.now.from seen.now.change }
 {
-    seen.change.pin == input_number(&seen.ports, event.pin)
-        && moves(event.edge, seen.from, seen.change.to)
+    counts(is_of(seen, event.pin), event.edge, seen)
 }
 
-/// Whether a change is of the pin of an event of a check.
-fn is_of_events(seen: &InputChange, check: &TimingCheck) -> bool
-    ensures { result ≡ (nat_eq seen.now.change.pin (input_number seen.now.ports.list.now check.now.first.pin)
-        || nat_eq seen.now.change.pin (input_number seen.now.ports.list.now check.now.second.pin)) }
-{
-    seen.change.pin == input_number(&seen.ports, check.first.pin)
-        || seen.change.pin == input_number(&seen.ports, check.second.pin)
-}
-
-/// The times that a check keeps after a change: a change of another pin leaves them as they are.
+/// The times that a check keeps after a change: one of another port than those of its events leaves them as they are.
 #[tactic(auto, using(crate::proofs::StampLemmas::unstamped))]
 fn stamped(seen: &InputChange, check: &TimingCheck, stamps: Times) -> Times
     ensures { result ≡ stamped seen.now.ports.list.now seen.now.from seen.now.change check.now stamps }
 {
-    if !is_of_events(seen, check) {
+    let is_first = is_of(seen, check.first.pin);
+    let is_second = is_of(seen, check.second.pin);
+    if !is_first && !is_second {
         return stamps;
     }
     let at = seen.change.at;
-    let pin = check.second.pin;
-    let edge = Edge::Rise;
-    let rises = happens(seen, Event { pin, edge });
-    let edge = Edge::Fall;
-    let falls = happens(seen, Event { pin, edge });
     Times {
-        event: renewed(happens(seen, check.first), at, stamps.event),
-        rise: renewed(rises, at, stamps.rise),
-        fall: renewed(falls, at, stamps.fall),
+        event: renewed(counts(is_first, check.first.edge, seen), at, stamps.event),
+        rise: renewed(counts(is_second, Edge::Rise, seen), at, stamps.rise),
+        fall: renewed(counts(is_second, Edge::Fall, seen), at, stamps.fall),
     }
 }
 

@@ -105,8 +105,10 @@ fn same_reports<A: TraceSim, B: TraceSim>(left: &A, right: &B) -> bool
     ensures { (g h : List ChangeOf) → A.stands left.now g → B.stands right.now h
         → result ≡ same_reports_of ((A.machine left.now).line g).reports ((B.machine right.now).line h).reports }
 {
-    for check in 0..left.checks().max(right.checks()) {
-        if !same_fact(reports(left, check), reports(right, check)) {
+    let of_left = left.checks();
+    let of_right = right.checks();
+    for check in 0..of_left.max(of_right) {
+        if !same_fact(reports(left, of_left, check), reports(right, of_right, check)) {
             return false;
         }
     }
@@ -120,12 +122,13 @@ fn same_fact(one: bool, other: bool) -> bool
     one == other
 }
 
-/// Whether there is a check with this number, and it reports.
-fn reports<S: TraceSim>(sim: &S, check: usize) -> bool
+/// Whether there is a check with this number among so many, and it reports.
+fn reports<S: TraceSim>(sim: &S, count: usize, check: usize) -> bool
+    requires { count ≡ (S.machine sim.now).checks }
     ensures { (h : List ChangeOf) → S.stands sim.now h
         → result ≡ slice_index_or ((S.machine sim.now).line h).reports check false }
 {
-    check < sim.checks() && sim.reported(check)
+    check < count && sim.reported(check)
 }
 
 /// A law: where two simulators run as many checks, no difference is found exactly where their traces are equal.

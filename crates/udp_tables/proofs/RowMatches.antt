@@ -7,7 +7,6 @@ use Rattle.std.proofs.lemmas.Bool.{cases_Bool, false≢true, and_parts, and_from
 use Rattle.std.proofs.lemmas.List.{length-set}
 use Rattle.std.proofs.lemmas.Nat.{and_le_l}
 use Rattle.trit_cubes.specs.declared.trits.Trit.{Trit}
-use Rattle.trit_cubes.specs.declared.trits.Trit.TheVariants.{Zero, One, Unknown}
 use Rattle.trit_cubes.proofs.WordLemmas.{and-blocks}
 use Rattle.udp_tables.specs.declared.table.Level.{Level}
 use Rattle.udp_tables.specs.declared.table.Level.TheVariants as level
@@ -24,6 +23,7 @@ use Rattle.udp_tables.proofs.RowWordLemmas.{asked_bits-below, value_bits-below}
 bits-tell : (l : Level) (t : Trit) → bit_and (value_bits (level_of t)) (asked_bits l) ≡ value_bits l → level_matches l t ≡ true
 bits-tell l t h = grind arith
 
+-- the same of an entry that is a level
 level-entry : (e : Entry) (old new : Trit) → is_level e ≡ true
     → bit_and (value_bits (level_of new)) (asked_bits (level_after e)) ≡ value_bits (level_after e) → entry_matches e old new ≡ true
 level-entry (entry.Level l) old new is h = bits-tell l new h
@@ -44,6 +44,7 @@ HaveBits n es ts =
     bit_and (words_of (map level_of (take n ts))).values (words_of (map level_after (take n es))).asked
     ≡ (words_of (map level_after (take n es))).values
 
+-- the first value has its bits, and the others have theirs
 split : (n : ℕ) (e : Entry) (es : List Entry) (t : Trit) (ts : List Trit) → HaveBits (suc n) (e ∷ es) (t ∷ ts)
     → (bit_and (value_bits (level_of t)) (asked_bits (level_after e)) ≡ value_bits (level_after e)) × HaveBits n es ts
 split n e es t ts h =
@@ -56,6 +57,7 @@ split n e es t ts h =
     (value_bits-below (level_of t)) (asked_bits-below (level_after e)))
     ∙ h)
 
+-- levels match values that have the bits that they ask for
 bits-decide : (n : ℕ) (es : List Entry) (os ts : List Trit) → list_all is_level es ≡ true → length es ≡ length ts
     → length os ≡ length ts → length ts ≤ n → HaveBits n es ts → columns_match entry_matches es os ts ≡ true
 bits-decide n [] [] [] all l lo short h = refl
@@ -102,6 +104,7 @@ none-moved (e ∷ es) (t ∷ ts) h =
       | inr change ↦ ap (λ b. b && columns_match entry_matches es ts ts) (unmoved e t change)
     ]
 
+-- a fact whose contrary holds does not
 pub not-holds : (b : Bool) → not b ≡ true → b ≡ false
 not-holds true h = sym h
 not-holds false h = refl

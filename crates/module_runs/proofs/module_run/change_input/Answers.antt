@@ -18,8 +18,8 @@ pub find_anew-requires-clause-one_each : goal.find_anew-requires-clause-one_each
 find_anew-requires-clause-one_each c =
     one-kept c.args.tables.now.model.now c.args.run.now.inputs c.args.run.now.states c.args.kept.now c.requires.current
 
-pub find_fed_by_states-requires-clause-one_each : goal.find_fed_by_states-requires-clause-one_each
-find_fed_by_states-requires-clause-one_each c =
+pub find_fed_where_changed-requires-clause-one_each : goal.find_fed_where_changed-requires-clause-one_each
+find_fed_where_changed-requires-clause-one_each c =
     let m = c.args.tables.now.model.now in
     let run = c.args.run.now in
     let inputs = set run.inputs c.args.change.pin c.args.change.to in
@@ -41,5 +41,18 @@ returns-clause-current c =
     c.as_slice-2.ensures c.find_anew.ensures.anew) in
     let found = input-found m (length c.args.room.now) run.inputs run.states c.args.kept.now c.find_anew.new.kept c.args.change.pin c.args.change.to
     c.fed_by.result.now c.requires.wired c.fed_by.ensures c.requires.current finds in
-    let inputs = ap (λ (r : ModuleRun). r.inputs) c.turn_states.ensures.stepped ∙ c.set.ensures in
-    c.find_fed_by_states.ensures.current run.states (found ∙ ap (λ (v : List Trit). kept_values m v run.states) (sym inputs))
+    let inputs = ap (λ (r : ModuleRun). r.inputs) c.turn_states-changed.ensures.stepped ∙ c.set.ensures in
+    c.find_fed_where_changed.ensures.current run.states (found ∙ ap (λ (v : List Trit). kept_values m v run.states) (sym inputs))
+
+pub find_fed_where_changed-requires-clause-still : goal.find_fed_where_changed-requires-clause-still
+find_fed_where_changed-requires-clause-still c = λ no.
+    let m = c.args.tables.now.model.now in
+    let run = c.args.run.now in
+    let finds = subst (λ (v : List Trit). FindsAnew (kept_value m v run.states) m.instances c.fed_by.result.now c.args.kept.now c.find_anew.new.kept)
+    (c.as_slice.ensures ∙ c.set.ensures)
+    (subst (λ (v : List Trit). FindsAnew (kept_value m c.as_slice.result.now v) m.instances c.fed_by.result.now c.args.kept.now c.find_anew.new.kept)
+    c.as_slice-2.ensures c.find_anew.ensures.anew) in
+    let found = input-found m (length c.args.room.now) run.inputs run.states c.args.kept.now c.find_anew.new.kept c.args.change.pin c.args.change.to
+    c.fed_by.result.now c.requires.wired c.fed_by.ensures c.requires.current finds in
+    let inputs = ap (λ (r : ModuleRun). r.inputs) c.turn_states-changed.ensures.stepped ∙ c.set.ensures in
+    found ∙ (λ i. kept_values m (sym inputs i) (sym (c.turn_states-changed.ensures.still no) i))

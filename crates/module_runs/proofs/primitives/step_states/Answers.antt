@@ -4,7 +4,7 @@ use Rattle.std.proofs.lemmas.Option.{slice_get-get_or}
 use Rattle.trit_cubes.specs.declared.trits.Trit.TheVariants.{Zero}
 use Rattle.model_traces.specs.Primitives.{next_state}
 use Rattle.run_parts.proofs.PlaceLemmas.{step-more}
-use Rattle.module_runs.proofs.FedLemmas.{step-done, place-inside}
+use Rattle.module_runs.proofs.FedLemmas.{step-done, place-inside, still-at}
 use Rattle.module_runs.proofs.primitives.step_states.Goals as goal
 
 pub instance_at-instance-requires : goal.instance_at-instance-requires
@@ -25,6 +25,9 @@ loop-j-preserved c =
           ∙ c.loop-j.invariant.rest;
       len = ap length c.set.ensures ∙ length-set c.loop-j.states _ c.next_state-next.result ∙ c.loop-j.invariant.len;
       room = c.next_state-next.ensures.len ∙ c.loop-j.invariant.room;
+      still = λ no.
+          let parts = (rw c.as_slice.ensures at c.is_changed-changed.ensures) no in
+          still-at c.loop-j.states _ _ c.next_state-next.result c.set.ensures parts.1 ∙ c.loop-j.invariant.still parts.0;
     }
 
 pub returns-clause-stepped : goal.returns-clause-stepped

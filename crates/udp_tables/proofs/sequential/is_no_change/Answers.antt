@@ -1,4 +1,4 @@
-use Rattle.std.proofs.Common.{◌≡◌, not, sym, ap, ◌∙◌}
+use Rattle.std.proofs.Common.{not, sym, ap, ◌∙◌}
 use Rattle.udp_tables.proofs.RowMatches.{other_change, wrong_change, not-holds}
 use Rattle.udp_tables.proofs.sequential.is_no_change.Goals as goal
 

@@ -13,7 +13,7 @@ use Rattle.specify_blocks.specs.VerilogText as spec
 use Rattle.verilog_reader.specs.declared.file.Before.{Before}
 
 abbrev pub before_of : Before → spec.Before
-before_of b = record { modules = b.modules.items; names = b.names; udps = b.udps }
+before_of b = record { modules = b.modules.items; names = b.names; udps = b.udps.items }
 
 abbrev pub modules_of : Before → List VModule
 modules_of b = b.modules.items

@@ -142,7 +142,7 @@ fn check(cursor: &mut Cursor, model: &Netlist, kind: CheckKind) -> Read<TimingCh
     check_of_kind(cursor, model, kind)
 }
 
-/// The checks of a specify block.
+/// The checks of a specify block, in a list without room for more.
 #[tactic(auto, using(grammar_reader::proofs::Repeats::turn, grammar_reader::proofs::Choices::choose_as, grammar_reader::proofs::Choices::choose_not_as), unfolding(specify_blocks::specs::VerilogBlocks::checks, specify_blocks::specs::VerilogBlocks::next_check))]
 fn checks(cursor: &mut Cursor, alloc: Global, model: &Netlist) -> Read<Items<TimingCheck>>
     ensures { Reads (read (spec.checks model.now) cursor.old) result cursor.new }
@@ -155,7 +155,7 @@ fn checks(cursor: &mut Cursor, alloc: Global, model: &Netlist) -> Read<Items<Tim
         cursor.skip();
         checks.push(check(cursor, model, kind)?)?;
     }
-    Ok(checks)
+    Ok(Items::from_slice(alloc, checks.as_slice())?)
 }
 
 /// The paths and checks of a specify block, behind its word, which the module gets.

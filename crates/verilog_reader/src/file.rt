@@ -23,7 +23,7 @@ use verilog_udp_reader::{Cursor, Verilog, declare, primitive};
 pub struct Before {
     pub modules: Vec<VModule>,
     pub names: Names,
-    pub udps: Items<Udp>,
+    pub udps: Vec<Udp>,
 }
 
 /// Whether a token begins primitives and their module.
@@ -104,8 +104,9 @@ fn one_module(
 fn next_module(cursor: &mut Cursor, alloc: Global, before: &mut Before) -> Read<()>
     ensures { ReadsAs (λ _. before_of before.new) (read (spec.next_module (before_of before.old)) cursor.old) result cursor.new }
 {
-    let udps = replace(&mut before.udps, Items::new(alloc));
-    let whole = one_module(cursor, alloc, &mut before.names, udps)?;
+    let mut udps = replace(&mut before.udps, Vec::new(alloc));
+    udps.shrink_to_fit();
+    let whole = one_module(cursor, alloc, &mut before.names, Items::from_vec(udps))?;
     before.modules.push(whole)?;
     Ok(())
 }
@@ -142,7 +143,7 @@ fn designs(cursor: &mut Cursor, alloc: Global) -> Read<Before>
     let mut before = Before {
         modules: Vec::new(alloc),
         names: Names::new(alloc),
-        udps: Items::new(alloc),
+        udps: Vec::new(alloc),
     };
     for _turn in 0..cursor.left() {
         let token = cursor.bytes();

@@ -144,7 +144,7 @@ fn path(cursor: &mut Cursor, model: &Netlist) -> Read<VPath>
     with_end(cursor, &[b")", b";"], path)
 }
 
-/// The paths of a specify block.
+/// The paths of a specify block, in a list without room for more.
 #[tactic(auto, using(grammar_reader::proofs::Repeats::turn, grammar_reader::proofs::Choices::choose_by, grammar_reader::proofs::Choices::choose_not_by), unfolding(specify_blocks::specs::VerilogBlocks::paths, specify_blocks::specs::VerilogBlocks::next_path))]
 pub fn paths(cursor: &mut Cursor, alloc: Global, model: &Netlist) -> Read<Items<VPath>>
     ensures { Reads (read (spec.paths model.now) cursor.old) result cursor.new }
@@ -156,5 +156,5 @@ pub fn paths(cursor: &mut Cursor, alloc: Global, model: &Netlist) -> Read<Items<
         }
         paths.push(path(cursor, model)?)?;
     }
-    Ok(paths)
+    Ok(Items::from_slice(alloc, paths.as_slice())?)
 }

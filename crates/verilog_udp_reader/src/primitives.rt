@@ -95,8 +95,27 @@ fn more_inputs<'a>(
     Ok(())
 }
 
-/// The inputs of a header with this output, of which these are the names, and its end.
+/// Puts the inputs of a header with this output, up to its end, into a list that has none.
 #[tactic(auto, unfolding(crate::specs::Headers::header_rest))]
+fn header_inputs<'a>(
+    cursor: &mut Cursor<'a>,
+    alloc: Global,
+    output: &[u8],
+    found: &mut HeaderInputs<'a>,
+) -> Read<()>
+    requires none { found.old.items ≡ [] }
+    requires named { found.old.names ≡ output.now ∷ [] }
+    ensures { ReadsAs (λ _. header_with output.now found.new.items) (read (header_rest output.now) cursor.old) result
+        cursor.new }
+{
+    next_input(cursor, alloc, output, found)?;
+    more_inputs(cursor, alloc, output, found)?;
+    let may = found.items.len() <= MOST_INPUTS;
+    cursor.expect_where(may, Refusal::Width, b")")?;
+    cursor.expect(b";")
+}
+
+/// The inputs of a header with this output, of which these are the names, and its end.
 fn header_rest<'a>(
     cursor: &mut Cursor<'a>,
     alloc: Global,
@@ -110,11 +129,8 @@ fn header_rest<'a>(
         items: Items::new(alloc),
         names,
     };
-    next_input(cursor, alloc, output, &mut found)?;
-    more_inputs(cursor, alloc, output, &mut found)?;
+    header_inputs(cursor, alloc, output, &mut found)?;
     let NamedItems { items: inputs, .. } = found;
-    cursor.expect_where(inputs.len() <= MOST_INPUTS, Refusal::Width, b")")?;
-    cursor.expect(b";")?;
     Ok(inputs)
 }
 

@@ -10,7 +10,9 @@ pub fn numbered_name(alloc: Global, word: &[u8], number: usize) -> Result<Items<
     ensures { IfOk result (λ name. name ≡ word.now ++ decimal number) }
 {
     let mut buffer = Buffer::new();
-    let mut name = Vec::from_slice(alloc, word)?;
-    name.extend_from_slice(buffer.format(number).as_bytes())?;
+    let digits = buffer.format(number).as_bytes();
+    let mut name = Vec::with_capacity(alloc, word.len().saturating_add(digits.len()))?;
+    name.extend_from_slice(word)?;
+    name.extend_from_slice(digits)?;
     Ok(Items::from_vec(name))
 }

@@ -1,13 +1,13 @@
 -- Entries of tables that are digits, a point and digits.
-use Rattle.std.proofs.Common.{◌≡◌, ℕ, ◌+◌, ◌-◌, ◌*◌, ◌<◌, ◌≤◌, ◌++◌, suc, Bool, true, false, List, [], ◌∷◌, Some, length, take, drop}
-use Rattle.std.proofs.Common.{Ok, Err, Option, None, ◌==◌, ◌||◌, subst, refl, sym, ◌∙◌, ap, arith, cond}
+use Rattle.std.proofs.Common.{◌≡◌, ℕ, ◌+◌, ◌-◌, ◌*◌, ◌<◌, ◌≤◌, ◌++◌, suc, Bool, true, false, List, [], ◌∷◌, Some, length}
+use Rattle.std.proofs.Common.{take, drop, Ok, Err, Option, None, ◌==◌, ◌||◌, subst, refl, sym, ◌∙◌, ap, arith, cond}
 use Rattle.std.specs.Prelude.{nat_lt, pos, ◌-ℤ◌}
 use Rattle.std.proofs.lemmas.Bool.Decides.{nat_tests}
 use Rattle.std.proofs.lemmas.List.{take-append-drop, append-nil, length-append, length-take-le}
 use Rattle.liberty_text.specs.declared.decimal.Fixed.{Fixed}
 use Rattle.liberty_text.specs.declared.decimal.NumberFault.TheVariants.{TooManyDigits, TooLarge}
 use Rattle.liberty_text.specs.declared.time.Unit.{Unit as TimeUnit}
-use Rattle.liberty_text.specs.Number.{Written, IsNumber, is_digit, digit_run, digits_value, significant, fixed_written, fixed_with}
+use Rattle.liberty_text.specs.Number.{Written, IsNumber, is_digit, digit_run, digits_value, significant, fixed_written}
 use Rattle.liberty_text.specs.Number.{fixed_found, fixed_of}
 use Rattle.liberty_text.specs.Number as n
 use Rattle.liberty_text.proofs.Spelling.{run_digits, number_complete}
@@ -52,7 +52,8 @@ word_run (b ∷ bs) = by_test (word_run bs) (is_digit b) refl
         let first : word_length is_separator (b ∷ bs) ≡ suc (word_length is_separator bs) =
         ap (λ q. cond q 0 (suc (word_length is_separator bs))) (digit_joins b e) in
         let more : suc (digit_run bs) ≡ 1 + digit_run bs = omega arith in
-        let tail : word_length is_separator (drop (digit_run bs) bs) ≡ word_length is_separator (drop (1 + digit_run bs) (b ∷ bs)) =
+        let tail : word_length is_separator (drop (digit_run bs) bs)
+        ≡ word_length is_separator (drop (1 + digit_run bs) (b ∷ bs)) =
         ap (λ k. word_length is_separator (drop k (b ∷ bs))) more in
         omega (arith, first, next, tail)
     by_test next false e = omega arith

@@ -1,5 +1,5 @@
 //! Making the checks and arcs of one timing group.
-ghost use Rattle.std.specs.Prelude.{◌≡◌, OnOk, IfOk};
+ghost use Rattle.std.specs.Prelude.{◌≡◌, [], ◌∷◌, max, OnOk, IfOk};
 ghost use Rattle.timing_arcs.specs.Conditions.{tree_of};
 ghost use Rattle.timing_arcs.specs.Making.{check, event, checks_with, arcs_with};
 ghost use Rattle.timing_arcs.specs.Adding.{with_check, with_checks, with_arcs};
@@ -14,26 +14,19 @@ use bool_functions::Function;
 use cell_machine::{Arc, Check, CheckKind, Edge, Event};
 use std::alloc::{AllocError, Global};
 
-/// A check without its condition.
+/// What a check stands between: an event, and one behind it.
 #[derive(Clone, Copy)]
-struct Timed {
-    kind: CheckKind,
+struct Span {
     first: Event,
     second: Event,
-    limit: u64,
 }
 
-impl Timed {
-    /// A check or an arc as the timing group tells it, before its condition.
-    fn new(kind: CheckKind, first: Event, second: Event, limit: u64) -> Timed
-        ensures { result ≡ record { kind = kind; first = first; second = second; limit = limit } }
+impl Span {
+    /// From one event to another.
+    fn new(first: Event, second: Event) -> Span
+        ensures { result ≡ record { first = first; second = second } }
     {
-        Timed {
-            kind,
-            first,
-            second,
-            limit,
-        }
+        Span { first, second }
     }
 }
 
@@ -59,103 +52,62 @@ impl Making<'_> {
         self.text.when.condition.own_function(alloc)
     }
 
-    /// Adds a check.
-    fn add_check(&self, alloc: Global, timed: Timed, found: &mut Found) -> Result<(), AllocError>
+    /// Adds a check of this kind.
+    fn add_check(
+        &self,
+        alloc: Global,
+        kind: CheckKind,
+        span: Span,
+        limit: u64,
+        found: &mut Found,
+    ) -> Result<(), AllocError>
         ensures { OnOk result (found.new ≡ with_check self.now.text.now.at found.old
-            (check timed.kind timed.first timed.second timed.limit (tree_of self.now.text.now.when.condition))) }
+            (check kind span.first span.second limit (tree_of self.now.text.now.when.condition))) }
     {
         if !found.has_check_room() {
             return Ok(());
         }
         let check = Check {
-            kind: timed.kind,
-            first: timed.first,
-            second: timed.second,
-            limit: timed.limit,
+            kind,
+            first: span.first,
+            second: span.second,
+            limit,
             condition: self.condition(alloc)?,
         };
         found.add_check(self.text.at, check)
     }
 
-    /// Adds the checks of a recovery time, one for each edge of the pin.
-    fn add_recovery(
+    /// Adds a check of this kind, with the greater of both limits.
+    fn add_one(
         &self,
         alloc: Global,
-        related: usize,
-        edge: Edge,
+        kind: CheckKind,
+        span: Span,
         found: &mut Found,
     ) -> Result<(), AllocError>
         ensures { OnOk result (found.new ≡ with_checks self.now.text.now.at found.old
-            (checks_with (TimingType.Recovery edge) self.now.subject.now.place related self.now.text.now.rise
-            self.now.text.now.fall (tree_of self.now.text.now.when.condition))) }
+            (check kind span.first span.second (max self.now.text.now.rise self.now.text.now.fall)
+            (tree_of self.now.text.now.when.condition) ∷ [])) }
     {
-        let own = self.subject.place;
-        let rise = Timed::new(
-            CheckKind::Recovery,
-            event(own, Edge::Rise),
-            event(related, edge),
-            self.text.rise,
-        );
-        let fall = Timed::new(
-            CheckKind::Recovery,
-            event(own, Edge::Fall),
-            event(related, edge),
-            self.text.fall,
-        );
-        self.add_check(alloc, rise, found)?;
-        self.add_check(alloc, fall, found)
+        let both = self.text.rise.max(self.text.fall);
+        self.add_check(alloc, kind, span, both, found)
     }
 
-    /// Adds the checks of a removal time, one for each edge of the pin.
-    fn add_removal(
+    /// Adds the checks of this kind for a rise and for a fall of the pin, each with its own limit.
+    fn add_two(
         &self,
         alloc: Global,
-        related: usize,
-        edge: Edge,
+        kind: CheckKind,
+        rise: Span,
+        fall: Span,
         found: &mut Found,
     ) -> Result<(), AllocError>
         ensures { OnOk result (found.new ≡ with_checks self.now.text.now.at found.old
-            (checks_with (TimingType.Removal edge) self.now.subject.now.place related self.now.text.now.rise
-            self.now.text.now.fall (tree_of self.now.text.now.when.condition))) }
+            (check kind rise.first rise.second self.now.text.now.rise (tree_of self.now.text.now.when.condition)
+            ∷ check kind fall.first fall.second self.now.text.now.fall (tree_of self.now.text.now.when.condition) ∷ [])) }
     {
-        let own = self.subject.place;
-        let rise = Timed::new(
-            CheckKind::Removal,
-            event(related, edge),
-            event(own, Edge::Rise),
-            self.text.rise,
-        );
-        let fall = Timed::new(
-            CheckKind::Removal,
-            event(related, edge),
-            event(own, Edge::Fall),
-            self.text.fall,
-        );
-        self.add_check(alloc, rise, found)?;
-        self.add_check(alloc, fall, found)
-    }
-
-    /// Adds the checks of a pulse width: of the high pulse, then of the low one.
-    fn add_widths(&self, alloc: Global, found: &mut Found) -> Result<(), AllocError>
-        ensures { OnOk result (found.new ≡ with_checks self.now.text.now.at found.old
-            (checks_with TimingType.Width self.now.subject.now.place self.now.subject.now.place self.now.text.now.rise
-            self.now.text.now.fall (tree_of self.now.text.now.when.condition))) }
-    {
-        let own = self.subject.place;
-        let rise = Timed::new(
-            CheckKind::Width,
-            event(own, Edge::Rise),
-            event(own, Edge::Fall),
-            self.text.rise,
-        );
-        let fall = Timed::new(
-            CheckKind::Width,
-            event(own, Edge::Fall),
-            event(own, Edge::Rise),
-            self.text.fall,
-        );
-        self.add_check(alloc, rise, found)?;
-        self.add_check(alloc, fall, found)
+        self.add_check(alloc, kind, rise, self.text.rise, found)?;
+        self.add_check(alloc, kind, fall, self.text.fall, found)
     }
 
     /// Adds the checks with a pin that the group is related to.
@@ -165,37 +117,37 @@ impl Making<'_> {
             self.now.text.now.fall (tree_of self.now.text.now.when.condition))) }
     {
         let own = self.subject.place;
-        let both = self.text.rise.max(self.text.fall);
+        let each = event(own, Edge::Any);
+        let rise = event(own, Edge::Rise);
+        let fall = event(own, Edge::Fall);
         match self.text.timing_type {
-            TimingType::Delay => Ok(()),
+            TimingType::Delay | TimingType::Other => Ok(()),
             TimingType::Setup(edge) => {
-                let (first, second) = (event(own, Edge::Any), event(related, edge));
-                self.add_check(
-                    alloc,
-                    Timed::new(CheckKind::Setup, first, second, both),
-                    found,
-                )
+                let span = Span::new(each, event(related, edge));
+                self.add_one(alloc, CheckKind::Setup, span, found)
             }
             TimingType::Hold(edge) => {
-                let (first, second) = (event(related, edge), event(own, Edge::Any));
-                self.add_check(
-                    alloc,
-                    Timed::new(CheckKind::Hold, first, second, both),
-                    found,
-                )
+                let span = Span::new(event(related, edge), each);
+                self.add_one(alloc, CheckKind::Hold, span, found)
             }
-            TimingType::Recovery(edge) => self.add_recovery(alloc, related, edge, found),
-            TimingType::Removal(edge) => self.add_removal(alloc, related, edge, found),
-            TimingType::Width => self.add_widths(alloc, found),
+            TimingType::Recovery(edge) => {
+                let other = event(related, edge);
+                let (rise, fall) = (Span::new(rise, other), Span::new(fall, other));
+                self.add_two(alloc, CheckKind::Recovery, rise, fall, found)
+            }
+            TimingType::Removal(edge) => {
+                let other = event(related, edge);
+                let (rise, fall) = (Span::new(other, rise), Span::new(other, fall));
+                self.add_two(alloc, CheckKind::Removal, rise, fall, found)
+            }
+            TimingType::Width => {
+                let (high, low) = (Span::new(rise, fall), Span::new(fall, rise));
+                self.add_two(alloc, CheckKind::Width, high, low, found)
+            }
             TimingType::Period => {
-                let each = event(own, Edge::Any);
-                self.add_check(
-                    alloc,
-                    Timed::new(CheckKind::Period, each, each, both),
-                    found,
-                )
+                let span = Span::new(each, each);
+                self.add_one(alloc, CheckKind::Period, span, found)
             }
-            TimingType::Other => Ok(()),
         }
     }
 

@@ -107,7 +107,7 @@ impl Sum {
         }
     }
 
-    /// Adds the entry at the front of a text, in the statement at this offset, if one is there, and answers how many bytes it has.
+    /// Adds the entry at the front of a text, in the statement at this offset, if it has a byte, and answers how many it has.
     #[tactic(auto, using(crate::proofs::PlainEntries::joined, crate::proofs::PlainEntries::passed))]
     fn add_front(&mut self, unit: Option<Unit>, at: usize, text: &[u8]) -> usize
         ensures sum { self.new ≡ with_word unit at self.old (take (word_length is_separator text.now) text.now) }

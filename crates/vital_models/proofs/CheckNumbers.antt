@@ -4,8 +4,8 @@ use Rattle.std.specs.Prelude.{option_map}
 use Rattle.bool_functions.specs.declared.tree.Node.{Node}
 use Rattle.cell_machine.specs.declared.checks.Check.{Check}
 use Rattle.cell_machine.specs.CellData.{CellData}
-use Rattle.udp_tables.specs.Conditions.{conditions_of, condition_place}
-use Rattle.udp_tables.specs.TimingChecks.{number_behind, check_behind}
+use Rattle.vital_tables.specs.udp_tables.Conditions.{conditions_of, condition_place}
+use Rattle.vital_tables.specs.udp_tables.TimingChecks.{number_behind, check_behind}
 use Rattle.vital_models.specs.Generated.{place_of, check_of}
 
 number_alone : (cell : CellData) (o : Option Node)

@@ -6,11 +6,11 @@ use Rattle.trit_cubes.specs.declared.trits.Trit.TheVariants.{One, Unknown}
 use Rattle.trit_cubes.specs.Filling.{same}
 use Rattle.trit_cubes.proofs.ListLemmas.{Among}
 use Rattle.cell_machine.specs.Machine.{Step, insert, last}
-use Rattle.udp_tables.specs.Tables.{columns_match}
-use Rattle.udp_tables.specs.Edges.{edge_cubes, edge_rows, with_last, compact_edge_rows}
-use Rattle.udp_tables.proofs.ColumnLemmas.{and-true}
-use Rattle.udp_tables.proofs.CubeLemmas.{edge-long, edge-moves}
-use Rattle.udp_tables.proofs.PairLemmas.{init-with}
+use Rattle.vital_tables.specs.udp_tables.Tables.{columns_match}
+use Rattle.vital_tables.specs.udp_tables.Edges.{edge_cubes, edge_rows, with_last, compact_edge_rows}
+use Rattle.vital_tables.proofs.udp_tables.ColumnLemmas.{and-true}
+use Rattle.vital_tables.proofs.udp_tables.CubeLemmas.{edge-long, edge-moves}
+use Rattle.vital_tables.proofs.udp_tables.PairLemmas.{init-with}
 use Rattle.cell_tables.proofs.RowForms.{FitsCubes, FitsPairs, rows-each, rows-right, rows-found, compact-each, compact-right}
 use Rattle.cell_tables.proofs.RowForms.{compact-found}
 use Rattle.vital_tables.specs.declared.table.VSymbol.TheVariants as symbol

@@ -7,7 +7,7 @@ use Rattle.vital_tables.specs.declared.table.VSymbol.TheVariants as symbol
 use Rattle.vital_tables.specs.declared.table.VNext.{VNext}
 use Rattle.vital_tables.specs.declared.table.VNext.TheVariants as next
 use Rattle.vital_tables.specs.declared.table.VStateRow.{VStateRow}
-use Rattle.udp_tables.proofs.SequentialRows.{flip_flop, cleared}
+use Rattle.vital_tables.proofs.udp_tables.SequentialRows.{flip_flop, cleared}
 use Rattle.vital_tables.specs.Rows.{state_rows, compact_rows}
 
 row : List VSymbol → Trits → VNext → VStateRow

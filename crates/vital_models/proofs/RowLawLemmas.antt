@@ -3,9 +3,9 @@ use Rattle.std.proofs.Common.{◌≡◌, ◌≢◌, ℕ, suc, ◌<◌, Bool, tru
 use Rattle.trit_cubes.specs.declared.trits.Trit.{Trit}
 use Rattle.trit_cubes.specs.declared.trits.Trit.TheVariants.{Zero, Unknown}
 use Rattle.cell_machine.specs.Machine.{Step, without, machine_step, forced}
-use Rattle.udp_tables.specs.Edges.{edge_rows, compact_edge_rows}
-use Rattle.udp_tables.proofs.ColumnLemmas.{length-without, before-change}
-use Rattle.udp_tables.proofs.CubeLemmas.{differ}
+use Rattle.vital_tables.specs.udp_tables.Edges.{edge_rows, compact_edge_rows}
+use Rattle.vital_tables.proofs.udp_tables.ColumnLemmas.{length-without, before-change}
+use Rattle.vital_tables.proofs.udp_tables.CubeLemmas.{differ}
 use Rattle.vital_tables.specs.declared.table.VStateRow.{VStateRow}
 use Rattle.vital_tables.specs.LookUps.{lookup_state}
 use Rattle.vital_tables.specs.Rows.{violated, step_rows, edge_row, keep_row}

@@ -28,13 +28,13 @@ use Rattle.cell_machine.specs.CellRules as rule
 use Rattle.cell_machine.specs.CellRules.{is_input_pin, output_pins_from, is_support, is_ascending, is_group, are_groups_from}
 use Rattle.cell_machine.specs.CellRules.{is_source, is_output_of, is_any_edge, are_opposite, is_check, is_arc}
 use Rattle.cell_machine.proofs.RuleLemmas.{check_parts}
-use Rattle.udp_tables.specs.Edges.{each_below}
+use Rattle.vital_tables.specs.udp_tables.Edges.{each_below}
 use Rattle.cell_machine.specs.CellData.{CellData}
-use Rattle.udp_tables.specs.Conditions.{conditions_of, conditions_beside, conditions_by, condition_list}
+use Rattle.vital_tables.specs.udp_tables.Conditions.{conditions_of, conditions_beside, conditions_by, condition_list}
 use Rattle.cell_machine.specs.CellTrace.{support_at, step_at}
-use Rattle.udp_tables.specs.CellPrimitives.{has_sources}
+use Rattle.vital_tables.specs.udp_tables.CellPrimitives.{has_sources}
 use Rattle.cell_tables.proofs.CellParts.{Rules, groups_hold, outputs_hold, checks_hold, arcs_hold}
-use Rattle.udp_tables.proofs.CubeLemmas.{below-among}
+use Rattle.vital_tables.proofs.udp_tables.CubeLemmas.{below-among}
 use Rattle.vital_models.specs.declared.model.OutValue.TheVariants as value
 use Rattle.vital_models.specs.declared.model.VOutput.{VOutput}
 use Rattle.vital_models.specs.declared.model.VEntity.{VEntity}
@@ -43,7 +43,7 @@ use Rattle.vital_models.specs.Generated.{has_violation, ports_at, state_of, stat
 use Rattle.vital_models.specs.Generated.{value_of_output, place_of, all_zero, gate_by, path_of, output_of, check_of, entity_of}
 use Rattle.vital_models.specs.Sound.{IsState, IsTruth, feeds, IsValue, is_condition_number, is_gate, IsPath, IsOutput, has_events}
 use Rattle.vital_models.specs.Sound.{is_enabling, IsCheck, IsSound}
-use Rattle.udp_tables.specs.Ports.{is_input_port}
+use Rattle.vital_tables.specs.udp_tables.Ports.{is_input_port}
 use Rattle.vital_models.proofs.PortFacts.{input_port, output_ports}
 use Rattle.vital_models.proofs.Widths.{truth-width, width, state-width}
 use Rattle.cell_tables.proofs.ConditionUses.{all-among, check-numbered, arc-numbered, condition-over}

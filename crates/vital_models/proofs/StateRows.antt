@@ -8,11 +8,11 @@ use Rattle.trit_cubes.specs.Filling.{same, covers}
 use Rattle.trit_cubes.proofs.ListLemmas.{Among, among-append, append-among_right}
 use Rattle.cell_machine.specs.Machine.{Step, insert, machine_step, forced}
 use Rattle.cell_machine.proofs.ForcedLemmas.{forced_is_step-lem}
-use Rattle.udp_tables.specs.Tables.{first}
-use Rattle.udp_tables.specs.Edges.{forced_rows, each_below}
-use Rattle.udp_tables.proofs.FirstLemmas.{found-any, any-found, cond-same, first-append, first-gives}
-use Rattle.udp_tables.proofs.ColumnLemmas.{length-insert}
-use Rattle.udp_tables.proofs.CubeLemmas.{known-or, among-below}
+use Rattle.vital_tables.specs.udp_tables.Tables.{first}
+use Rattle.vital_tables.specs.udp_tables.Edges.{forced_rows, each_below}
+use Rattle.vital_tables.proofs.udp_tables.FirstLemmas.{found-any, any-found, cond-same, first-append, first-gives}
+use Rattle.vital_tables.proofs.udp_tables.ColumnLemmas.{length-insert}
+use Rattle.vital_tables.proofs.udp_tables.CubeLemmas.{known-or, among-below}
 use Rattle.cell_tables.proofs.ChangeColumns.{levels-cover}
 use Rattle.cell_tables.proofs.ForcedRows.{FitsForced, forced-given, forced-found, changed-own}
 use Rattle.vital_tables.specs.declared.table.VStateRow.{VStateRow}

@@ -5,10 +5,10 @@ use Rattle.trit_cubes.specs.declared.trits.Trit.{Trit}
 use Rattle.trit_cubes.specs.declared.trits.Trit.TheVariants.{Zero, One, Unknown}
 use Rattle.trit_cubes.specs.Filling.{same, covers}
 use Rattle.cell_machine.specs.Machine.{insert, last}
-use Rattle.udp_tables.specs.Tables.{columns_match}
-use Rattle.udp_tables.specs.Edges.{moves}
-use Rattle.udp_tables.proofs.ColumnLemmas.{and-true, and-false, length-insert, at-insert}
-use Rattle.udp_tables.proofs.CubeLemmas.{admits, same-self}
+use Rattle.vital_tables.specs.udp_tables.Tables.{columns_match}
+use Rattle.vital_tables.specs.udp_tables.Edges.{moves}
+use Rattle.vital_tables.proofs.udp_tables.ColumnLemmas.{and-true, and-false, length-insert, at-insert}
+use Rattle.vital_tables.proofs.udp_tables.CubeLemmas.{admits, same-self}
 use Rattle.cell_tables.proofs.ChangeColumns.{FitsEntries, levels-cover, change-kept, change-covers}
 use Rattle.vital_tables.specs.declared.table.VSymbol.{VSymbol}
 use Rattle.vital_tables.specs.declared.table.VSymbol.TheVariants as symbol

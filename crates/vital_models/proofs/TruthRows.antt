@@ -6,9 +6,9 @@ use Rattle.trit_cubes.specs.Filling.{covers}
 use Rattle.trit_cubes.specs.Resolution.{res}
 use Rattle.trit_cubes.specs.Sets.{gives}
 use Rattle.trit_cubes.specs.Prime.{prime_list}
-use Rattle.udp_tables.specs.Tables.{first, value_rows, or_row}
-use Rattle.udp_tables.proofs.FirstLemmas.{found-any, first-gives}
-use Rattle.udp_tables.proofs.CubeLemmas.{known-or, prime-gives, prime-found, value_rows-among, among-value_rows}
+use Rattle.vital_tables.specs.udp_tables.Tables.{first, value_rows, or_row}
+use Rattle.vital_tables.proofs.udp_tables.FirstLemmas.{found-any, first-gives}
+use Rattle.vital_tables.proofs.udp_tables.CubeLemmas.{known-or, prime-gives, prime-found, value_rows-among, among-value_rows}
 use Rattle.vital_tables.specs.declared.table.TruthRow.{TruthRow}
 use Rattle.vital_tables.specs.LookUps.{truth_matches}
 use Rattle.vital_tables.specs.Rows.{truth_row}

@@ -9,12 +9,12 @@ use Rattle.trit_cubes.specs.Prime.{prime_list}
 use Rattle.trit_cubes.proofs.ListLemmas.{Among, among-append}
 use Rattle.trit_cubes.proofs.SplitLemmas.{prime_list-length}
 use Rattle.cell_machine.specs.Machine.{Step, init, forced_at}
-use Rattle.udp_tables.specs.Tables.{value_rows, or_row}
-use Rattle.udp_tables.specs.Edges.{forced_rows, edge_cubes, compact_edge_rows, each_below}
-use Rattle.udp_tables.proofs.ColumnLemmas.{length-insert}
-use Rattle.udp_tables.proofs.CubeLemmas.{edge-long, value_rows-among, below-among}
-use Rattle.udp_tables.proofs.SymbolLemmas.{length-init}
-use Rattle.udp_tables.proofs.PairLemmas.{compact-among}
+use Rattle.vital_tables.specs.udp_tables.Tables.{value_rows, or_row}
+use Rattle.vital_tables.specs.udp_tables.Edges.{forced_rows, edge_cubes, compact_edge_rows, each_below}
+use Rattle.vital_tables.proofs.udp_tables.ColumnLemmas.{length-insert}
+use Rattle.vital_tables.proofs.udp_tables.CubeLemmas.{edge-long, value_rows-among, below-among}
+use Rattle.vital_tables.proofs.udp_tables.SymbolLemmas.{length-init}
+use Rattle.vital_tables.proofs.udp_tables.PairLemmas.{compact-among}
 use Rattle.vital_tables.specs.declared.table.TruthRow.{TruthRow}
 use Rattle.vital_tables.specs.declared.table.VSymbol.{VSymbol}
 use Rattle.vital_tables.specs.declared.table.VSymbol.TheVariants as symbol

@@ -12,11 +12,11 @@ use Rattle.cell_machine.specs.declared.checks.Check.{Check}
 use Rattle.cell_machine.specs.declared.arcs.Arc.{Arc}
 use Rattle.cell_machine.specs.Values.{no_values}
 use Rattle.cell_machine.specs.Outputs.{output_at, condition_at}
-use Rattle.udp_tables.specs.Edges.{each_below}
+use Rattle.vital_tables.specs.udp_tables.Edges.{each_below}
 use Rattle.cell_machine.specs.CellData.{CellData}
-use Rattle.udp_tables.specs.Conditions.{conditions_of, condition_place, conditions_beside}
+use Rattle.vital_tables.specs.udp_tables.Conditions.{conditions_of, condition_place, conditions_beside}
 use Rattle.cell_machine.specs.CellTrace.{support_at, step_at}
-use Rattle.udp_tables.specs.CellPrimitives.{has_notifier, has_sources}
+use Rattle.vital_tables.specs.udp_tables.CellPrimitives.{has_notifier, has_sources}
 use Rattle.vital_tables.specs.declared.table.TruthTable.{TruthTable}
 use Rattle.vital_tables.specs.declared.table.VStateTable.{VStateTable}
 use Rattle.vital_models.specs.declared.model.VState.{VState}
@@ -27,8 +27,8 @@ use Rattle.vital_models.specs.declared.model.VOutput.{VOutput}
 use Rattle.vital_models.specs.declared.model.HGate.{HGate}
 use Rattle.vital_models.specs.declared.model.HGate.TheVariants as gate
 use Rattle.vital_models.specs.declared.model.HPath.{HPath}
-use Rattle.udp_tables.specs.declared.timing_checks.TimingCheck.{TimingCheck}
-use Rattle.udp_tables.specs.TimingChecks.{check_by}
+use Rattle.vital_tables.specs.udp_tables.declared.timing_checks.TimingCheck.{TimingCheck}
+use Rattle.vital_tables.specs.udp_tables.TimingChecks.{check_by}
 use Rattle.vital_models.specs.declared.model.VEntity.{VEntity}
 use Rattle.vital_tables.specs.Rows.{truth_rows, compact_rows}
 use Rattle.vital_models.specs.Ports.{port_number, ports_of}

@@ -4,7 +4,7 @@ use Rattle.std.specs.List.{list_any}
 use Rattle.std.specs.Str.{str_eq_ignore_ascii_case}
 use Rattle.bool_functions.specs.NameList.{number_of}
 use Rattle.vhdl_tokens.specs.Kept.{is_identifier, is_plain, is_numbered, is_free, lowered}
-use Rattle.udp_tables.specs.declared.models.VPort.{VPort}
+use Rattle.vital_tables.specs.udp_tables.declared.models.VPort.{VPort}
 
 -- The name of a cell is kept, where the entities before it have these names in lower case.
 unfoldable pub is_kept_entity_name : List (List ℕ) → List ℕ → Bool

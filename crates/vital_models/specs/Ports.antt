@@ -2,8 +2,8 @@
 use Rattle.std.specs.Prelude.{ℕ, List, [], ◌∷◌, ◌++◌, if◌then◌else◌}
 use Rattle.cell_machine.specs.declared.pins.Pin.{Pin}
 use Rattle.cell_machine.specs.CellRules.{is_input}
-use Rattle.udp_tables.specs.declared.models.VPort.{VPort}
-pub use Rattle.udp_tables.specs.Ports.{is_port, port_number}
+use Rattle.vital_tables.specs.udp_tables.declared.models.VPort.{VPort}
+pub use Rattle.vital_tables.specs.udp_tables.Ports.{is_port, port_number}
 use Rattle.vital_models.specs.Kept.{port_name}
 
 -- the port of a pin, after these ports of the entity with this name

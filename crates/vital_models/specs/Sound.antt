@@ -8,8 +8,8 @@ use Rattle.cell_machine.specs.declared.outputs.Source.{Source}
 use Rattle.cell_machine.specs.declared.outputs.Source.TheVariants as source
 use Rattle.cell_machine.specs.declared.checks.CheckKind.{CheckKind}
 use Rattle.cell_machine.specs.CellRules as rule
-use Rattle.udp_tables.specs.declared.models.VPort.{VPort}
-use Rattle.udp_tables.specs.Ports.{is_input_port}
+use Rattle.vital_tables.specs.udp_tables.declared.models.VPort.{VPort}
+use Rattle.vital_tables.specs.udp_tables.Ports.{is_input_port}
 use Rattle.vital_tables.specs.declared.table.TruthTable.{TruthTable}
 use Rattle.vital_tables.specs.declared.table.VStateTable.{VStateTable}
 use Rattle.vital_models.specs.declared.model.VState.{VState}
@@ -20,7 +20,7 @@ use Rattle.vital_models.specs.declared.model.VOutput.{VOutput}
 use Rattle.vital_models.specs.declared.model.HGate.{HGate}
 use Rattle.vital_models.specs.declared.model.HGate.TheVariants as gate
 use Rattle.vital_models.specs.declared.model.HPath.{HPath}
-use Rattle.udp_tables.specs.declared.timing_checks.TimingCheck.{TimingCheck}
+use Rattle.vital_tables.specs.udp_tables.declared.timing_checks.TimingCheck.{TimingCheck}
 use Rattle.vital_models.specs.declared.model.VEntity.{VEntity}
 
 -- the numbers of the output ports, in order, where the first port has the number k

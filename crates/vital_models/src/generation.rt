@@ -2,8 +2,8 @@
 ghost use Rattle.std.specs.Prelude.{◌≡◌, ◌<◌, ◌≤◌, ◌++◌, map, length, slice_get, slice_index_or, Ok, Some, IfOk, OnOk};
 ghost use Rattle.bool_functions.specs.Tree.{name_bound};
 ghost use Rattle.cell_machine.specs.CellData.{data_of};
-ghost use Rattle.udp_tables.specs.Conditions.{conditions_of};
-ghost use Rattle.udp_tables.specs.CellPrimitives.{condition_tree, has_sources};
+ghost use Rattle.vital_tables.specs.udp_tables.Conditions.{conditions_of};
+ghost use Rattle.vital_tables.specs.udp_tables.CellPrimitives.{condition_tree, has_sources};
 ghost use Rattle.vital_models.specs.Generated.{ports_at, state_of, states_of, condition_of, source_at, value_of_output};
 ghost use Rattle.vital_models.specs.Generated.{output_of, entity_of};
 
@@ -16,7 +16,7 @@ use cell_machine::{Cell, OutputPin, Pin, Source, Values};
 use cell_tables::{ModelSource, conditions};
 use sqlite_items::Items;
 use std::alloc::{AllocError, Global};
-use udp_tables::port_number;
+use vital_tables::primitives::port_number;
 
 /// The entity of a cell, with this name: a state for each group, a truth table for each condition and for each output that
 /// depends on something, a path for each arc, and the checks. What it answers is sound. `AllocError` comes only where memory is

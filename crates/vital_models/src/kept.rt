@@ -2,11 +2,11 @@
 ghost use Rattle.std.specs.Prelude.{◌≡◌};
 ghost use Rattle.std.specs.List.{list_any};
 ghost use Rattle.std.specs.Str.{str_eq_ignore_ascii_case};
-ghost use Rattle.udp_tables.specs.declared.models.VPort.{VPort};
+ghost use Rattle.vital_tables.specs.udp_tables.declared.models.VPort.{VPort};
 ghost use Rattle.vital_models.specs.Kept.{is_taken, is_kept_port_name};
 
-use udp_tables::VPort;
 use vhdl_tokens::{is_free, is_plain, is_same_name};
+use vital_tables::primitives::VPort;
 
 /// Whether a pin's name is kept for a port of the entity with this name, after these ports.
 #[tactic(auto, unfolding(crate::specs::Kept::is_kept_port_name))]

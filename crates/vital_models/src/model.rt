@@ -1,7 +1,7 @@
 //! An entity as data.
 use cell_machine::Source;
 use sqlite_items::Items;
-use udp_tables::{TimingCheck, VPort};
+use vital_tables::primitives::{TimingCheck, VPort};
 use vital_tables::{TruthTable, VStateTable};
 
 /// A VHDL entity with its architecture of one process: timing checks, state tables, truth tables and path delays. (IEEE

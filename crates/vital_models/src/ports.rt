@@ -7,8 +7,8 @@ use crate::kept::is_kept_port_name;
 use cell_machine::{Direction, Pin};
 use sqlite_items::Items;
 use std::alloc::{AllocError, Global};
-use udp_tables::{VPort, is_port};
 use vhdl_tokens::numbered_name;
+use vital_tables::primitives::{VPort, is_port};
 
 /// The ports of the entity with this name, of a cell with these pins: its input and output pins in their order, with the names
 /// that VHDL keeps, and `pin` with the port's number from 1 for the others. A name is kept where it is a letter followed by

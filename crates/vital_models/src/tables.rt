@@ -1,14 +1,14 @@
 //! The tables of a cell: of its groups, conditions and outputs.
 ghost use Rattle.std.specs.Prelude.{◌≡◌, ◌<◌, map, length, slice_get, Some, IfOk};
 ghost use Rattle.cell_machine.specs.CellData.{data_of};
-ghost use Rattle.udp_tables.specs.Conditions.{conditions_of};
-ghost use Rattle.udp_tables.specs.CellPrimitives.{condition_tree};
+ghost use Rattle.vital_tables.specs.udp_tables.Conditions.{conditions_of};
+ghost use Rattle.vital_tables.specs.udp_tables.CellPrimitives.{condition_tree};
 ghost use Rattle.vital_models.specs.Generated.{has_violation, state_table, condition_table, output_table};
 
 use cell_machine::{Cell, OutputPin};
 use cell_tables::{ModelSource, group_rows, part_rows};
 use std::alloc::{AllocError, Global};
-use udp_tables::Part;
+use vital_tables::primitives::Part;
 use vital_tables::{StateTableRows, TruthTable, TruthTableRows, VStateTable, state_rows};
 
 /// Whether state tables have a column of the violation: the cell has checks.

@@ -2,7 +2,7 @@
 ghost use Rattle.std.specs.Prelude.{◌≡◌, nat_eq, map, filter, IfOk};
 ghost use Rattle.cell_machine.specs.declared.arcs.Arc.{Arc};
 ghost use Rattle.cell_machine.specs.CellData.{data_of};
-ghost use Rattle.udp_tables.specs.Conditions.{conditions_of, conditions_beside};
+ghost use Rattle.vital_tables.specs.udp_tables.Conditions.{conditions_of, conditions_beside};
 ghost use Rattle.vital_models.specs.Generated.{place_of, all_zero, gate_by, path_of, paths_to, check_of};
 
 use crate::model::{HGate, HPath};
@@ -11,7 +11,7 @@ use cell_machine::Arc;
 use cell_tables::{ModelSource, checks_of, condition_number};
 use sqlite_items::Items;
 use std::alloc::AllocError;
-use udp_tables::{TimingCheck, port_number};
+use vital_tables::primitives::{TimingCheck, port_number};
 
 /// The paths of a cell's entity to an output pin: one for each arc that ends there.
 pub(crate) fn paths_to(from: &ModelSource, pin: usize) -> Result<Items<HPath>, AllocError>

@@ -2,7 +2,7 @@
 use Rattle.std.specs.Prelude.{ℕ, Bool, true, false, List, [], ◌∷◌, ◌++◌, map, replicate}
 use Rattle.trit_cubes.specs.declared.trits.Trit.{Trit}
 use Rattle.trit_cubes.specs.declared.trits.Trit.TheVariants as trit
-use Rattle.cell_machine.specs.Machine.{Step, last}
+use Rattle.udp_tables.specs.cell_machine.Machine.{Step, last}
 use Rattle.udp_tables.specs.Edges.{rows_by, forced_rows, edge_rows, compact_edge_rows, each_below, change_columns}
 use Rattle.vital_tables.specs.declared.table.Trits.{Trits}
 use Rattle.vital_tables.specs.declared.table.Trits.TheVariants as trits

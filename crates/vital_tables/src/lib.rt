@@ -15,3 +15,4 @@ pub use row_makers::{StateTableRows, TruthTableRows};
 pub use row_words::{TableRow, words_of};
 pub use state_tables::state_rows;
 pub use table::{Trits, TruthRow, TruthTable, VNext, VStateRow, VStateTable, VSymbol};
+pub use udp_tables as primitives;

@@ -2,6 +2,7 @@
 use Rattle.std.proofs.Common.{◌≡◌, ℕ, Bool, true, false, nat_lt, List, [], ◌∷◌, length, None, refl, sym, ap, ◌∙◌, arith, codes}
 use Rattle.std.specs.List.{AllByRecursion}
 use Rattle.std.proofs.lemmas.Bool.Decides.{nat_tests}
+use Rattle.std.proofs.lemmas.Bool.{or_parts as both_no}
 use Rattle.grammar_rules.specs.Rule.{Stops}
 use Rattle.cell_machine.specs.declared.checks.CheckKind.{CheckKind}
 use Rattle.cell_machine.specs.declared.checks.CheckKind.TheVariants as check_kind
@@ -17,7 +18,6 @@ use Rattle.grammar_reader.proofs.Fronts.{each}
 use Rattle.written_modules.proofs.TimingTokens.{check_word, path_tokens, check_tokens, block_by}
 use Rattle.grammar_reader.proofs.Derivations.{Reads, to_same, gives, in_turn, chosen, passed, through}
 use Rattle.written_modules.proofs.NameReading.{expected}
-use Rattle.written_modules.proofs.NetReading.{both_no}
 use Rattle.written_modules.proofs.InstanceReading.{IsWritten}
 use Rattle.written_modules.proofs.PathReading.{joined, path_turn}
 use Rattle.written_modules.proofs.CheckReading.{HasNumber, check_turn}

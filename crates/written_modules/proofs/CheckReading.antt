@@ -3,7 +3,7 @@ use Rattle.std.proofs.Common.{◌≡◌, ℕ, true, ◌&&◌, nat_eq, IsTrue, Li
 use Rattle.std.proofs.Common.{refl, sym, ap, ◌∙◌, subst, codes, decimal}
 use Rattle.std.specs.List.{AllByRecursion}
 use Rattle.std.specs.Option.{option_map}
-use Rattle.std.proofs.lemmas.Bool.{and_parts, eqb-true}
+use Rattle.std.proofs.lemmas.Bool.{and_parts, eqb-true, eq-eqb as equal_numbers}
 use Rattle.verilog_tokens.specs.Words.{is_verilog_word, verilog_words}
 use Rattle.grammar_rules.specs.Rule.{Fits}
 use Rattle.cell_machine.specs.declared.checks.CheckKind.{CheckKind}
@@ -33,7 +33,6 @@ use Rattle.grammar_reader.proofs.Bytes.{number_is}
 use Rattle.grammar_reader.proofs.Derivations.{Reads, to_same, gives, token, in_turn, chosen, passed, Turn, turn}
 use Rattle.written_modules.proofs.NameReading.{expected, so_named}
 use Rattle.grammar_reader.proofs.ItemPlaces.{at_place}
-use Rattle.written_modules.proofs.RowReading.{same_number as equal_numbers}
 use Rattle.written_modules.proofs.NetReading.{IsKnown, named_net, input_known, register_known}
 use Rattle.written_modules.proofs.InstanceReading.{IsWritten}
 use Rattle.written_modules.proofs.PathReading.{joined, input_name, input_read, condition_known, condition_named, wire_read}

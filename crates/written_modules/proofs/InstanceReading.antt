@@ -3,7 +3,7 @@ use Rattle.std.proofs.Common.{◌≡◌, ℕ, ◌+◌, ◌≤◌, Bool, true, fa
 use Rattle.std.proofs.Common.{◌∷◌, ◌++◌, length, Option, Some, slice_get, refl, sym, ap, ◌∙◌, arith, subst, codes, append_assoc}
 use Rattle.std.specs.List.{AllByRecursion, list_any, list_all}
 use Rattle.std.specs.Str.{bytes_eq}
-use Rattle.std.proofs.lemmas.Bool.{and_parts}
+use Rattle.std.proofs.lemmas.Bool.{and_parts, eq-eqb as same_number}
 use Rattle.std.proofs.lemmas.Bool.Decides.{nat_tests}
 use Rattle.std.proofs.lemmas.List.{append-nil}
 use Rattle.std.proofs.lemmas.List.Sums.{sum_by-append, sum_by-cons}
@@ -30,7 +30,6 @@ use Rattle.grammar_reader.proofs.Fronts.{each}
 use Rattle.written_modules.proofs.Words.{name_is, unlike_word}
 use Rattle.grammar_reader.proofs.Derivations.{Reads, gives, token, in_turn, Turn, turn, through}
 use Rattle.written_modules.proofs.NameReading.{expected, expected_where}
-use Rattle.written_modules.proofs.RowReading.{same_number}
 use Rattle.written_modules.proofs.ModuleTokens.{next_terminal, bit_text, instance_more, instance_tokens}
 use Rattle.written_modules.proofs.DeclarationReading.{AreDeclared, bare}
 use Rattle.written_modules.proofs.NetReading.{position_is, IsKnown, named_net, net_read, driven_known, state_driven, DrivesNet}

@@ -4,7 +4,7 @@ use Rattle.std.proofs.Common.{Option, Some, None, refl, sym, ap, ◌∙◌, arit
 use Rattle.std.specs.List.{AllByRecursion, list_all}
 use Rattle.std.specs.Option.{option_map_or}
 use Rattle.std.specs.Str.{bytes_eq}
-use Rattle.std.proofs.lemmas.Bool.{and_parts, and_from}
+use Rattle.std.proofs.lemmas.Bool.{and_parts, and_from, lt-ltb as below}
 use Rattle.std.proofs.lemmas.List.Elements.{recursion_from_All}
 use Rattle.std.proofs.lemmas.List.Folds.{list_all-append}
 use Rattle.verilog_tokens.specs.Words.{is_verilog_word, verilog_words}
@@ -210,9 +210,6 @@ wires_pass test k [] h = refl
 wires_pass test k (x ∷ wires) h =
     and_from (test (net.Wire k)) (list_all test (wire_nets (k + 1) wires)) (h k (omega arith))
     (wires_pass test (k + 1) wires (λ w l. h w (omega (arith, l))))
-
-below : (w n : ℕ) → w < n → nat_lt w n ≡ true
-below w n h = grind (arith, Rattle.std.proofs.lemmas.Bool.Decides.nat_tests)
 
 driven : (m : VModule) → IsWritten m → (n : VNet) → is_driven m n ≡ true → is_driven_already m n ≡ true
 driven m w n h = ap (λ (k : ℕ). nat_lt 0 k) (w.sound.driven n h)

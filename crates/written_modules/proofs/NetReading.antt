@@ -5,7 +5,7 @@ use Rattle.std.proofs.Common.{append_assoc}
 use Rattle.std.specs.List.{AllByRecursion, list_any, position, position_from}
 use Rattle.std.specs.Option.{option_map_or}
 use Rattle.std.specs.Str.{bytes_eq}
-use Rattle.std.proofs.lemmas.Bool.{and_parts, eqb-true}
+use Rattle.std.proofs.lemmas.Bool.{and_parts, eqb-true, or_parts as both_no}
 use Rattle.std.proofs.lemmas.Bool.Decides.{nat_tests}
 use Rattle.std.proofs.lemmas.List.{map-append}
 use Rattle.std.proofs.lemmas.List.Folds.{list_any-append}
@@ -79,10 +79,6 @@ pub named_net : (m : VModule) → AreDeclared m → (n : VNet) → IsKnown m n �
 named_net m h (net.Port p) (port, e) = rw e (all_at IsNamedPort m.ports p port h.ports e)
 named_net m h (net.Wire w) (x, e) = rw e (all_at IsName m.wires w x h.wires e)
 named_net m h net.Notifier (x, e) = rw e (named_register m.notifier x e h.register)
-
-pub both_no : (a b : Bool) → (a || b) ≡ false → (a ≡ false) × (b ≡ false)
-both_no true b e = absurd cc
-both_no false b e = (refl, e)
 
 -- a name behind the ports is none of theirs
 no_port : (ports : List VPort) (before : List (List ℕ)) (x : List ℕ) (after : List (List ℕ))

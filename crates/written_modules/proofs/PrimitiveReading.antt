@@ -4,6 +4,7 @@ use Rattle.std.proofs.Common.{slice_get, refl, sym, ap, ◌∙◌, arith, subst,
 use Rattle.std.specs.List.{AllByRecursion, list_all}
 use Rattle.std.proofs.lemmas.Bool.Decides.{nat_tests}
 use Rattle.std.proofs.lemmas.List.Elements.{recursion_from_All}
+use Rattle.std.proofs.lemmas.Bool.{eq-eqb as same_number}
 use Rattle.udp_tables.specs.declared.table.UdpRow.{UdpRow}
 use Rattle.udp_tables.specs.declared.table.Udp.{Udp}
 use Rattle.udp_tables.specs.Primitive.{is_level}
@@ -21,7 +22,7 @@ use Rattle.grammar_reader.proofs.Derivations.{Reads, from_same, gives, token, in
 use Rattle.grammar_reader.proofs.Derivations.{goes_on}
 use Rattle.written_modules.proofs.NameReading.{expected, expected_where, any_named, newly_named, so_named, is_new}
 use Rattle.grammar_reader.proofs.ItemPlaces.{at_place, get_at, one_longer}
-use Rattle.written_modules.proofs.RowReading.{IsRow, row_begun, same_number}
+use Rattle.written_modules.proofs.RowReading.{IsRow, row_begun}
 
 -- Headers.
 

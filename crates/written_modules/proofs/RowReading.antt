@@ -3,8 +3,7 @@ use Rattle.std.proofs.Common.{◌≡◌, ℕ, ◌≤◌, Bool, true, false, not,
 use Rattle.std.proofs.Common.{None, refl, sym, arith, subst, codes}
 use Rattle.std.specs.Prelude.{count_by}
 use Rattle.std.specs.List.{list_all}
-use Rattle.std.proofs.lemmas.Bool.{and_parts, cases_Bool}
-use Rattle.std.proofs.lemmas.Bool.Decides.{nat_tests}
+use Rattle.std.proofs.lemmas.Bool.{and_parts, cases_Bool, eq-eqb as same_number}
 use Rattle.std.proofs.lemmas.List.Sums.{sum_by-append, sum_by-cons}
 use Rattle.udp_tables.specs.declared.table.Level.{Level}
 use Rattle.udp_tables.specs.declared.table.Level.TheVariants as level
@@ -205,9 +204,6 @@ pub record BeginsRow (sequential : Bool) (n : ℕ) (row : UdpRow) (s left : List
   pub split : s ≡ start ∷ more
   pub begins : begins_entry sequential start ≡ true
   pub reads : Reads (Rattle.udp_tables.specs.VerilogPrimitives.row sequential n start) more row left
-
-pub same_number : (n m : ℕ) → n ≡ m → (n == m) ≡ true
-same_number n m h = grind (arith, nat_tests)
 
 row_behind : (sequential : Bool) (n : ℕ) (e : Entry) (entries : List Entry) (state : Level) (x : Next) (s : List (List ℕ))
     → IsRow sequential n (record { inputs = e ∷ entries; state = state; next = x })

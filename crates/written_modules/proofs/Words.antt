@@ -1,7 +1,7 @@
 -- Names and numbers are tokens where a blank or a mark follows.
-use Rattle.std.proofs.Common.{◌≡◌, ℕ, suc, ◌<◌, ◌≤◌, Bool, true, false, not, ◌&&◌, ◌||◌, ◌==◌, nat_eq, nat_le, if◌then◌else◌}
+use Rattle.std.proofs.Common.{◌≡◌, ℕ, suc, ◌<◌, ◌≤◌, Bool, true, false, not, ◌||◌, ◌==◌, nat_eq, nat_le, if◌then◌else◌}
 use Rattle.std.proofs.Common.{List, [], ◌∷◌, ◌++◌, length, inl, inr, refl, sym, ap, arith, subst, codes, decimal}
-use Rattle.std.proofs.lemmas.Bool.{and_parts, and_from, cases_Bool}
+use Rattle.std.proofs.lemmas.Bool.{and_parts, and_from, cases_Bool, and_right as and_no}
 use Rattle.std.proofs.lemmas.Bool.Decides.{nat_tests}
 use Rattle.std.proofs.lemmas.Slice.Eq.{bytes_eq-Decides}
 use Rattle.std.proofs.lemmas.Fmt.{decimal_is_IsNumeral}
@@ -121,10 +121,6 @@ name_is (b ∷ w) n = and_from (begins_name b) (not (is_verilog_word (b ∷ w)))
     (and_parts (begins_name b) (list_all is_name_byte w) n.identifier).0 n.no_word
 
 -- Numbers.
-
-and_no : (a b : Bool) → b ≡ false → (a && b) ≡ false
-and_no true b e = e
-and_no false b e = refl
 
 -- neither a digit nor a blank nor a mark stands behind digits
 no_more : (l : ℕ) (ls ds r : List ℕ) → NoEnd (λ c. nat_eq l c) → is_ascii_digit l ≡ false → list_all is_ascii_digit ds ≡ true

@@ -2,7 +2,7 @@ use Rattle.std.proofs.Common.{◌<◌, [], ◌∷◌, ◌++◌, length, ◌∙�
 use Rattle.std.proofs.lemmas.List.{length-map}
 use Rattle.bool_functions.specs.declared.tree.Node.TheVariants as node
 use Rattle.cell_machine.specs.CellData.{data_of}
-use Rattle.udp_tables.specs.Conditions.{conditions_of}
+use Rattle.vital_tables.specs.udp_tables.Conditions.{conditions_of}
 use Rattle.cell_tables.proofs.OutputLemmas.{condition-item}
 use Rattle.vital_models.specs.Generated.{condition_of}
 use Rattle.vital_models.proofs.ListLemmas.{map-map-more}

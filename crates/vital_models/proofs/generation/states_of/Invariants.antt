@@ -1,5 +1,5 @@
 use Rattle.std.proofs.Common.{◌≡◌, [], ◌∷◌}
-use Rattle.udp_tables.specs.Edges.{each_below}
+use Rattle.vital_tables.specs.udp_tables.Edges.{each_below}
 use Rattle.cell_machine.specs.CellData.{data_of}
 use Rattle.vital_models.specs.Generated.{state_of}
 use Rattle.vital_models.proofs.generation.states_of.Given as goal

@@ -3,7 +3,7 @@ use Rattle.std.specs.Option.{option_map_or}
 use Rattle.cell_machine.specs.declared.groups.StateGroup.{StateGroup}
 use Rattle.cell_machine.specs.CellData.{data_of}
 use Rattle.cell_machine.specs.CellTrace.{support_at, step_at}
-use Rattle.udp_tables.specs.Edges.{forced_rows, compact_edge_rows, each_below, decisive_rows}
+use Rattle.vital_tables.specs.udp_tables.Edges.{forced_rows, compact_edge_rows, each_below, decisive_rows}
 use Rattle.vital_tables.specs.Rows.{level_row, violation_rows, edge_row, keep_row, state_rows_around}
 use Rattle.vital_models.specs.Generated.{has_violation}
 use Rattle.vital_models.proofs.tables.state_table.Goals as goal

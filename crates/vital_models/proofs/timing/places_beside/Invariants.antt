@@ -1,6 +1,6 @@
 use Rattle.std.proofs.Common.{◌≡◌, ◌++◌, map, drop}
 use Rattle.cell_machine.specs.CellData.{data_of}
-use Rattle.udp_tables.specs.Conditions.{conditions_beside}
+use Rattle.vital_tables.specs.udp_tables.Conditions.{conditions_beside}
 use Rattle.vital_models.specs.Generated.{place_of}
 use Rattle.vital_models.proofs.timing.places_beside.Given as goal
 

@@ -1,6 +1,6 @@
 use Rattle.std.proofs.Common.{◌≡◌, ◌∙◌, ap, arith}
 use Rattle.trit_cubes.specs.declared.trits.Trit.TheVariants.{Unknown}
-use Rattle.cell_machine.specs.Machine.{last}
+use Rattle.udp_tables.specs.cell_machine.Machine.{last}
 use Rattle.udp_tables.proofs.SymbolLemmas.{get-last}
 use Rattle.vital_tables.specs.declared.table.Trits.TheVariants as trits
 use Rattle.vital_tables.specs.declared.table.VSymbol.TheVariants as symbol

@@ -108,7 +108,10 @@ fn same_reports<A: TraceSim, B: TraceSim>(left: &A, right: &B) -> bool
     let of_left = left.checks();
     let of_right = right.checks();
     for check in 0..of_left.max(of_right) {
-        if !same_fact(reports(left, of_left, check), reports(right, of_right, check)) {
+        if !same_fact(
+            reports(left, of_left, check),
+            reports(right, of_right, check),
+        ) {
             return false;
         }
     }

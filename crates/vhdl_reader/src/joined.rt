@@ -26,7 +26,7 @@ fn values_with(
 {
     let mut tables_left = reversed(alloc, tables)?;
     let mut assigned_left = reversed(alloc, assigned)?;
-    let mut values = Items::new(alloc);
+    let mut values = Items::from_vec(Vec::with_capacity(alloc, assigned_left.len())?);
     while let Some(next) = assigned_left.pop() {
         match next {
             Assigned::Constant(one) => values.push(OutValue::Constant(one))?,

@@ -95,7 +95,7 @@ impl Whole for VOutput {
 pub fn reversed<T: Drop>(alloc: Global, mut items: Items<T>) -> Result<Items<T>, AllocError>
     ensures { IfOk result (λ turned. turned ≡ reverse items) }
 {
-    let mut turned = Items::new(alloc);
+    let mut turned = Items::from_vec(Vec::with_capacity(alloc, items.len())?);
     while let Some(item) = items.pop() {
         turned.push(item)?;
     }
@@ -113,7 +113,7 @@ pub fn joined<W: Whole>(
 {
     let mut firsts_left = reversed(alloc, firsts)?;
     let mut seconds_left = reversed(alloc, seconds)?;
-    let mut wholes = Items::new(alloc);
+    let mut wholes = Items::from_vec(Vec::with_capacity(alloc, firsts_left.len())?);
     while let Some(first) = firsts_left.pop() {
         let Some(second) = seconds_left.pop() else {
             break;

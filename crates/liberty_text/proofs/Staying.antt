@@ -1,9 +1,7 @@
--- Bytes that are passed at once: no token ends with them.
-use Rattle.std.proofs.Common.{◌≡◌, ℕ, zero, suc, ◌+◌, ◌-◌, ◌<◌, ◌≤◌, ◌||◌, Bool, true, false, not, List, [], ◌∷◌, Some, None, length, drop}
+-- Bytes that leave what stands open as it is: no token ends with them.
+use Rattle.std.proofs.Common.{◌≡◌, ℕ, zero, suc, ◌+◌, ◌<◌, ◌≤◌, Bool, true, false, not, List, [], ◌∷◌, Some, None, length, drop}
 use Rattle.std.proofs.Common.{get_or, ◌==◌, ◌&&◌, refl, sym, ◌∙◌, ap, subst, arith, cond}
-use Rattle.std.proofs.lemmas.Bool.Decides.{nat_tests}
-use Rattle.std.proofs.lemmas.List.{get_or-drop, length-drop}
-use Rattle.std.proofs.Math.Seq.{drop-cons}
+use Rattle.std.proofs.lemmas.List.{get_or-drop}
 use Rattle.liberty_text.specs.declared.class.Class.{Class}
 use Rattle.liberty_text.specs.declared.class.Class.TheVariants.{LineEnd, Blank, Mark, Quote, Backslash, WordByte, Bad}
 use Rattle.liberty_text.specs.declared.token.TokenKind.TheVariants.{Text}
@@ -11,8 +9,7 @@ use Rattle.liberty_text.specs.declared.scanner.Mode.{Mode}
 use Rattle.liberty_text.specs.declared.scanner.Mode.TheVariants.{Between, InWord, InText, InComment, InContinuation, Stopped}
 use Rattle.liberty_text.specs.Scanner.{class_of, step, opened_by, in_word_by, in_text, token}
 use Rattle.liberty_text.specs.Tokens.{is_word_class}
-use Rattle.liberty_text.specs.Idle.{is_blank_class, is_blank, is_plain_in_word, is_plain_in_text, front_run, run_inside}
-use Rattle.liberty_text.specs.Idle.{is_white_space, ends_line, run_continued, mode_continued, idle_run, idle_mode}
+use Rattle.liberty_text.specs.Idle.{is_blank_class, is_blank, is_plain_in_word, is_plain_in_text, front_run, idle_run}
 use Rattle.liberty_text.proofs.Runs.{NoneEnded, none_turn}
 
 both_true : (p q : Bool) → (p && q) ≡ true → (p ≡ true) × (q ≡ true)
@@ -63,8 +60,9 @@ text_stays begun line at b e f =
     ∙ ap (λ q. (InText begun line q, [])) f
 
 -- a byte of a run leaves open what stands open
-stays : (now : Mode) (bytes : List ℕ) (i at : ℕ) → i < run_inside now bytes → step now at (get_or bytes i 0) ≡ (now, [])
-stays (Between line) bytes i at h = absurd (omega (arith, h))
+stays : (now : Mode) (bytes : List ℕ) (i at : ℕ) → i < idle_run now bytes → step now at (get_or bytes i 0) ≡ (now, [])
+stays (Between line) bytes i at h =
+    blank_stays line at (get_or bytes i 0) (class_of (get_or bytes i 0)) (passes is_blank bytes i h)
 stays (InWord begun line None) bytes i at h =
     let b = get_or bytes i 0 in
     let both = both_true (is_word_class (class_of b)) (not (b == 47)) (passes is_plain_in_word bytes i h) in
@@ -92,105 +90,10 @@ turns mode at bytes n now (suc k) none h each =
     let same : n + k + 1 ≡ n + suc k = omega arith in
     subst (λ m. NoneEnded mode at bytes m now) same next.1
 
--- behind a run in a word or a text
-inside_turn : (mode : Mode) (at : ℕ) (bytes : List ℕ) (n : ℕ) (now : Mode) (k : ℕ) → NoneEnded mode at bytes n now
-    → n + k ≤ length bytes →
-    k ≡ run_inside now (drop n bytes) → NoneEnded mode at bytes (n + k) now
-inside_turn mode at bytes n now k none h e = turns mode at bytes n now k none h (λ i less.
-    ap (step now (at + (n + i))) (sym (get_or-drop n bytes i 0))
-    ∙ stays now (drop n bytes) i (at + (n + i)) (omega (arith, less, e)))
-
--- a byte behind so many
-record IsNext (bytes rest : List ℕ) (n b : ℕ) : Type 0 where
-  pub inside : n < length bytes
-  pub byte_is : get_or bytes n 0 ≡ b
-  pub rest_is : rest ≡ drop (n + 1) bytes
-
-next_of : (bytes rest : List ℕ) (n b : ℕ) → b ∷ rest ≡ drop n bytes → IsNext bytes rest n b
-next_of bytes rest n b e =
-    let size : suc (length rest) ≡ length bytes - n = ap length e ∙ length-drop n bytes in
-    let inside : n < length bytes = omega (arith, size) in
-    let both : b ∷ rest ≡ get_or bytes n 0 ∷ drop (suc n) bytes = e ∙ drop-cons bytes n 0 inside in
-    let more : suc n ≡ n + 1 = omega arith in
-    record {
-      inside = inside;
-      byte_is = sym (ap (λ l. get_or l 0 0) both);
-      rest_is = ap (drop 1) both ∙ ap (λ m. drop m bytes) more;
-    }
-
--- one more byte with which no token ends
-byte_turn : (mode : Mode) (at : ℕ) (bytes rest : List ℕ) (n b : ℕ) (now next : Mode) → IsNext bytes rest n b
-    → NoneEnded mode at bytes n now → step now (at + n) b ≡ (next, []) → NoneEnded mode at bytes (n + 1) next
-byte_turn mode at bytes rest n b now next k none e =
-    let s : step now (at + n) (get_or bytes n 0) ≡ (next, []) = ap (step now (at + n)) k.byte_is ∙ e in
-    (none_turn mode at bytes n now next [] [] [] k.inside none refl (sym (ap (λ p. p.0) s)) (sym (ap (λ p. p.1) s)) refl).1
-
--- behind white space
-white_space_turn : (mode : Mode) (at : ℕ) (bytes rest : List ℕ) (n : ℕ) (line : Bool) → rest ≡ drop n bytes
-    → NoneEnded mode at bytes n (Between line)
-    → NoneEnded mode at bytes (n + front_run is_white_space rest) (Between (ends_line line rest))
-white_space_turn mode at bytes [] n line e none =
-    let same : n ≡ n + 0 = omega arith in
-    subst (λ m. NoneEnded mode at bytes m (Between line)) same none
-white_space_turn mode at bytes (b ∷ rest) n line e none =
-    by_line (white_space_turn mode at bytes rest) (next_of bytes rest n b e) (b == 10) (is_blank b) refl refl
-  where
-    longer : n + 1 + front_run is_white_space rest ≡ n + (1 + front_run is_white_space rest)
-    longer = omega arith
-
-    by_line : ((n : ℕ) (line : Bool) → rest ≡ drop n bytes → NoneEnded mode at bytes n (Between line)
-        → NoneEnded mode at bytes (n + front_run is_white_space rest) (Between (ends_line line rest)))
-        → IsNext bytes rest n b → (p q : Bool) → (b == 10) ≡ p → is_blank b ≡ q
-        → NoneEnded mode at bytes (n + cond (p || q) (1 + front_run is_white_space rest) 0)
-        (Between (cond p (ends_line true rest) (cond q (ends_line line rest) line)))
-    by_line later k true q f g =
-        let same : b ≡ 10 = grind (arith, nat_tests, f) in
-        let s : step (Between line) (at + n) b ≡ (Between true, []) = ap (step (Between line) (at + n)) same in
-        let next = byte_turn mode at bytes rest n b (Between line) (Between true) k none s in
-        subst (λ m. NoneEnded mode at bytes m (Between (ends_line true rest))) longer (later (n + 1) true k.rest_is next)
-    by_line later k false true f g =
-        let s = blank_stays line (at + n) b (class_of b) g in
-        let next = byte_turn mode at bytes rest n b (Between line) (Between line) k none s in
-        subst (λ m. NoneEnded mode at bytes m (Between (ends_line line rest))) longer (later (n + 1) line k.rest_is next)
-    by_line later k false false f g =
-        let same : n ≡ n + 0 = omega arith in
-        subst (λ m. NoneEnded mode at bytes m (Between line)) same none
-
--- behind a backslash
-continuation_turn : (mode : Mode) (at : ℕ) (bytes rest : List ℕ) (n begun : ℕ) (line : Bool) → rest ≡ drop n bytes
-    → NoneEnded mode at bytes n (InContinuation begun line)
-    → NoneEnded mode at bytes (n + run_continued rest) (mode_continued begun line rest)
-continuation_turn mode at bytes [] n begun line e none =
-    let same : n ≡ n + 0 = omega arith in
-    subst (λ m. NoneEnded mode at bytes m (InContinuation begun line)) same none
-continuation_turn mode at bytes (b ∷ rest) n begun line e none = by_line (next_of bytes rest n b e) (b == 10) refl
-  where
-    by_line : IsNext bytes rest n b → (p : Bool) → (b == 10) ≡ p
-        → NoneEnded mode at bytes (n + cond p (1 + front_run is_white_space rest) 0)
-        (cond p (Between (ends_line line rest)) (InContinuation begun line))
-    by_line k true f =
-        let same : b ≡ 10 = grind (arith, nat_tests, f) in
-        let s : step (InContinuation begun line) (at + n) b ≡ (Between line, []) =
-        ap (step (InContinuation begun line) (at + n)) same in
-        let next = byte_turn mode at bytes rest n b (InContinuation begun line) (Between line) k none s in
-        let longer : n + 1 + front_run is_white_space rest ≡ n + (1 + front_run is_white_space rest) = omega arith in
-        subst (λ m. NoneEnded mode at bytes m (Between (ends_line line rest))) longer
-        (white_space_turn mode at bytes rest (n + 1) line k.rest_is next)
-    by_line k false f =
-        let same : n ≡ n + 0 = omega arith in
-        subst (λ m. NoneEnded mode at bytes m (InContinuation begun line)) same none
-
--- behind bytes that are passed at once
+-- behind a run
 pub idle_turn : (mode : Mode) (at : ℕ) (bytes : List ℕ) (n : ℕ) (now : Mode) (k : ℕ) → NoneEnded mode at bytes n now
     → n + k ≤ length bytes →
-    k ≡ idle_run now (drop n bytes) → NoneEnded mode at bytes (n + k) (idle_mode now (drop n bytes))
-idle_turn mode at bytes n (Between line) k none h e =
-    subst (λ m. NoneEnded mode at bytes (n + m) (Between (ends_line line (drop n bytes)))) (sym e)
-    (white_space_turn mode at bytes (drop n bytes) n line refl none)
-idle_turn mode at bytes n (InContinuation begun line) k none h e =
-    subst (λ m. NoneEnded mode at bytes (n + m) (mode_continued begun line (drop n bytes))) (sym e)
-    (continuation_turn mode at bytes (drop n bytes) n begun line refl none)
-idle_turn mode at bytes n (InWord begun line slash) k none h e = inside_turn mode at bytes n (InWord begun line slash) k none h e
-idle_turn mode at bytes n (InText begun line escaped) k none h e = inside_turn mode at bytes n (InText begun line escaped) k none h e
-idle_turn mode at bytes n (InComment begun line star) k none h e = inside_turn mode at bytes n (InComment begun line star) k none h e
-idle_turn mode at bytes n (Stopped begun) k none h e = inside_turn mode at bytes n (Stopped begun) k none h e
+    k ≡ idle_run now (drop n bytes) → NoneEnded mode at bytes (n + k) now
+idle_turn mode at bytes n now k none h e = turns mode at bytes n now k none h (λ i less.
+    ap (step now (at + (n + i))) (sym (get_or-drop n bytes i 0))
+    ∙ stays now (drop n bytes) i (at + (n + i)) (omega (arith, less, e)))

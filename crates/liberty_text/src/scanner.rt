@@ -8,7 +8,7 @@ ghost use Rattle.liberty_text.specs.declared.scanner.Mode.TheVariants.{Between};
 
 use crate::bytes_after::{after_comment_byte, after_continuation_byte, slash_at};
 use crate::class::{Class, class_of};
-use crate::idle::pass_idle;
+use crate::idle::idle_run;
 use crate::kept::{Kept, KeptScan};
 use crate::token::{Stop, TokenKind};
 use std::alloc::{AllocError, Global};
@@ -254,7 +254,7 @@ impl Scanner {
         let mut done = 0;
         while done < bytes.len() {
             let (_, left) = bytes.split_at(done);
-            done += pass_idle(&mut self.mode, left);
+            done += idle_run(self.mode, left);
             if done < bytes.len() {
                 self.step(at + done, bytes[done])?;
                 done += 1;

@@ -1,10 +1,8 @@
 //! The text of a cell's module, behind its primitives.
 ghost use Rattle.std.specs.Prelude.{◌≡◌, IsTrue};
-ghost use Rattle.std.specs.List.{flat_map};
 ghost use Rattle.text_io.specs.declared.slots.OutSlot.TheVariants.{VerilogText};
 ghost use Rattle.text_io.specs.declared.slots.Slot.TheVariants.{Output};
 ghost use Rattle.text_io.specs.Desk.{is_bound, HasCause, WritesText};
-ghost use Rattle.verilog_writer.specs.Primitive.{primitive_text};
 ghost use Rattle.verilog_writer.specs.Timing.{has_block};
 ghost use Rattle.verilog_writer.specs.Model.{prelude_text, module_only_text, module_text};
 
@@ -13,7 +11,7 @@ use crate::declarations::{PortLines, Ports, Register};
 use crate::instances::InstanceLines;
 use crate::names::NameLines;
 use crate::paths::PathLines;
-use crate::primitive::write_udp;
+use crate::primitive::Primitives;
 use specify_blocks::VModule;
 use text_io::{
     Bytes, Desk, Each, Failed, Line, OutSlot, Part, Put, When, parts, write_part, write_whole,
@@ -38,29 +36,21 @@ pub fn write_model<D: Desk>(desk: &mut D, model: &VModule) -> Result<(), Failed>
     ensures text { WritesText (D.state desk.old) (D.state desk.new) VerilogText (module_text model.now) result }
     ensures cause { HasCause (D.faults desk.old) (D.faults desk.new) result }
 {
-    write_primitives(desk, model)?;
-    write_module(desk, model)
+    write_part(desk, OutSlot::VerilogText, &Model(model))
 }
 
-/// The primitives, in order.
-fn write_primitives<D: Desk>(desk: &mut D, model: &VModule) -> Result<(), Failed>
-    requires { IsTrue (is_bound (D.state desk.old) (Output VerilogText)) }
-    ensures text { WritesText (D.state desk.old) (D.state desk.new) VerilogText (flat_map primitive_text model.now.udps) result }
-    ensures cause { HasCause (D.faults desk.old) (D.faults desk.new) result }
-{
-    for udp in model.udps.as_slice() {
-        write_udp(desk, OutSlot::VerilogText, udp)?;
+/// A model: its primitives, and then its module.
+#[derive(Drop)]
+struct Model<'a>(&'a VModule);
+
+impl Part for Model<'_> {
+    ghost text = { λ m. module_text m.0.now };
+
+    #[tactic(auto, unfolding(crate::specs::Model::module_text))]
+    fn put<D: Desk>(&self, line: &mut Line, desk: &mut D, slot: OutSlot) -> Put {
+        let primitives = Each(Primitives, self.0.udps.as_slice());
+        parts!(primitives, Module(self.0)).put(line, desk, slot)
     }
-    Ok(())
-}
-
-/// The module alone.
-fn write_module<D: Desk>(desk: &mut D, model: &VModule) -> Result<(), Failed>
-    requires { IsTrue (is_bound (D.state desk.old) (Output VerilogText)) }
-    ensures text { WritesText (D.state desk.old) (D.state desk.new) VerilogText (module_only_text model.now) result }
-    ensures cause { HasCause (D.faults desk.old) (D.faults desk.new) result }
-{
-    write_part(desk, OutSlot::VerilogText, &Module(model))
 }
 
 /// Whether the module has a specify block.

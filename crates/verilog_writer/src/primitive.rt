@@ -6,7 +6,7 @@ ghost use Rattle.verilog_writer.specs.Primitive.{primitive_text, output_text};
 
 use crate::names::{ListedNames, NameLines};
 use crate::table::Rows;
-use text_io::{Bytes, Desk, Each, Failed, Line, OutSlot, Part, Put, parts, write_part};
+use text_io::{Bytes, Desk, Each, Failed, ItemText, Line, OutSlot, Part, Put, parts, write_part};
 use udp_tables::Udp;
 
 /// Appends the text of a primitive to a slot that is bound. After `Failed`, which comes only where a write failed, a
@@ -59,5 +59,17 @@ impl Part for Primitive<'_> {
         let end = Bytes(b"  endtable\nendprimitive\n");
         let table = parts!(Bytes(b"  table\n"), rows, end);
         parts!(header, OutputPort(self.0), declared, table).put(line, desk, slot)
+    }
+}
+
+/// Primitives, one behind the other.
+#[derive(Drop)]
+pub(crate) struct Primitives;
+
+impl ItemText<Udp> for Primitives {
+    ghost text = { λ _ udp. primitive_text udp };
+
+    fn put<D: Desk>(&self, udp: &Udp, line: &mut Line, desk: &mut D, slot: OutSlot) -> Put {
+        Primitive(udp).put(line, desk, slot)
     }
 }

@@ -2,6 +2,7 @@ pub mod Verilog
 pub mod Vital
 pub use Rattle.driver_models.specs as driver_models
 pub use Rattle.driver_sections.specs as driver_sections
+pub use Rattle.driver_texts.specs as driver_texts
 pub use Rattle.section_outlines.specs as section_outlines
 pub use Rattle.sectioned_texts.specs as sectioned_texts
 pub use Rattle.specify_blocks.specs as specify_blocks

@@ -7,7 +7,8 @@ use Rattle.specify_blocks.specs.declared.model.VModule.{VModule}
 use Rattle.specify_blocks.specs.VerilogText.{verilog_text}
 use Rattle.specify_blocks.specs.WellFormed.{outer_names}
 use Rattle.section_outlines.specs.VerilogMarks.{verilog_marks}
-use Rattle.verilog_drivers.specs.DriverSections.{section_text}
+use Rattle.driver_texts.specs.Sections.{section_text}
+use Rattle.verilog_drivers.specs.DriverSections.{verilog_section_grammar}
 use Rattle.sectioned_texts.specs.DrivenModels.{SectionLanguage}
 
 abbrev pub verilog_sections : SectionLanguage VModule
@@ -18,5 +19,5 @@ verilog_sections = record {
   text = verilog_text;
   names = outer_names;
   core = λ (m : VModule). record { name = m.name; ports = m.ports };
-  section = section_text;
+  section = section_text verilog_section_grammar;
 }

@@ -6,7 +6,8 @@ use Rattle.vhdl_tokens.specs.Spelling.{is_same}
 use Rattle.vital_models.specs.declared.model.VEntity.{VEntity}
 use Rattle.vhdl_grammar.specs.VhdlText.{vhdl_text}
 use Rattle.section_outlines.specs.VhdlMarks.{vhdl_marks}
-use Rattle.vhdl_drivers.specs.DriverSections.{section_text}
+use Rattle.driver_texts.specs.Sections.{section_text}
+use Rattle.vhdl_drivers.specs.DriverSections.{vhdl_section_grammar}
 use Rattle.sectioned_texts.specs.DrivenModels.{SectionLanguage}
 
 abbrev pub vital_sections : SectionLanguage VEntity
@@ -17,5 +18,5 @@ vital_sections = record {
   text = vhdl_text;
   names = λ (e : VEntity). e.name ∷ [];
   core = λ (e : VEntity). record { name = e.name; ports = e.ports };
-  section = section_text;
+  section = section_text vhdl_section_grammar;
 }

@@ -4,13 +4,14 @@ ghost use Rattle.specify_blocks.specs.WellFormed.{outer_names};
 
 use driver_models::{Core, Cores, DriverModel, KnownNames};
 use driver_sections::{Ending, Marks, all_ends, find_sections};
+use driver_texts::read_driver;
 use lexer::Span;
 use sectioned_texts::SectionLanguage;
 use specify_blocks::VModule;
 use sqlite_items::Items;
 use std::alloc::{AllocError, Global};
 use udp_tables::ModelFault;
-use verilog_drivers::{VerilogDrivers, read_driver};
+use verilog_drivers::VerilogDrivers;
 use verilog_reader::read_models;
 use verilog_tokens::InTable;
 

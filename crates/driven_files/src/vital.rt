@@ -2,12 +2,13 @@
 
 use driver_models::{Core, Cores, DriverModel, KnownNames};
 use driver_sections::{Ending, Marks, all_ends, find_sections};
+use driver_texts::read_driver;
 use lexer::Span;
 use sectioned_texts::SectionLanguage;
 use sqlite_items::Items;
 use std::alloc::{AllocError, Global};
 use udp_tables::ModelFault;
-use vhdl_drivers::{VitalDrivers, read_driver};
+use vhdl_drivers::VitalDrivers;
 use vhdl_reader::read_entities;
 use vhdl_tokens::LastToken;
 use vital_models::VEntity;

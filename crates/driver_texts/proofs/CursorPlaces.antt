@@ -12,7 +12,7 @@ use Rattle.grammar_reader.specs.declared.refusal.Refusal.{Refusal}
 use Rattle.grammar_reader.specs.declared.refusal.Stop.{Stop}
 use Rattle.grammar_reader.specs.declared.refusal.Stop.TheVariants.{Memory, Refused}
 use Rattle.grammar_reader.specs.Words.{Grammar}
-use Rattle.grammar_reader.specs.Reading.{ReadsAs}
+use Rattle.grammar_reader.specs.Reading.{Reads}
 
 pub inside_drop : (text : List ℕ) (k : ℕ) (spans : List Span) → LieInside text spans → LieInside text (drop k spans)
 inside_drop text zero spans h = h
@@ -65,15 +65,15 @@ left_by : (text : List ℕ) (spans : List Span) (k : ℕ) (left : List (List ℕ
 left_by text spans k left h = left_in_text text spans left (whole_suffix (spelled text spans) left k h)
 
 -- What was read before the last tokens of a text, by a cursor of another language set to where the reading stopped.
-pub placed : {A B : Type 0} (value : B → A) (p : Grammar A) (text : List ℕ) (spans : List Span) (k : ℕ) (r : Result B Stop)
+pub placed : {A : Type 0} (p : Grammar A) (text : List ℕ) (spans : List Span) (k : ℕ) (r : Result A Stop)
     (after : List (List ℕ))
-    → ReadsAs value (read p (drop k (spelled text spans))) r after
-    → ReadsAs value (read p (drop k (spelled text spans))) r (drop (length spans - length after) (spelled text spans))
-placed value p text spans k (Ok b) after e =
-    e ∙ ap (λ q. Ok (value b, q)) (sym
+    → Reads (read p (drop k (spelled text spans))) r after
+    → Reads (read p (drop k (spelled text spans))) r (drop (length spans - length after) (spelled text spans))
+placed p text spans k (Ok a) after e =
+    e ∙ ap (λ q. Ok (a, q)) (sym
     (left_by text spans k after (subst (Suffix (drop k (spelled text spans))) (ap rest_of e)
     (suffix p (drop k (spelled text spans))))))
-placed value p text spans k (Err (Refused f)) after e =
+placed p text spans k (Err (Refused f)) after e =
     e ∙ ap (λ q. Err (f, q)) (sym (left_by text spans k after
     (subst (Suffix (drop k (spelled text spans))) (ap rest_of e) (suffix p (drop k (spelled text spans))))))
-placed value p text spans k (Err Memory) after e = tt
+placed p text spans k (Err Memory) after e = tt

@@ -1,5 +1,8 @@
 pub mod CursorPlaces
+pub mod DriverParts
 mod NamesByPlaces
 mod NumberedPorts
+mod SectionReads
+pub mod SectionTexts
 pub mod SoundCores
 pub mod StandingCores

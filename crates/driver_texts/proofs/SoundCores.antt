@@ -35,6 +35,16 @@ pub behind : {A B : Type 0} {p : Grammar A} {g : A → Grammar B} {Q : B → Typ
     → Promises AnyToken (r.Then p g) Q
 behind {p = p} more = in_turn (keeps AnyToken p) (λ a _. more a)
 
+-- what two promises say
+pub both : {A : Type 0} {p : Grammar A} {Q R S : A → Type 0} → Promises AnyToken p Q → Promises AnyToken p R
+    → ((a : A) → Q a → R a → S a) → Promises AnyToken p S
+both g h f = record {
+  kept = λ s a left all t.
+      let k = g.kept s a left all t in
+      let l = h.kept s a left all t in
+      (f a k.0 l.0, k.1);
+}
+
 -- a name stands for a value that is found of it
 pub known_values : {A : Type 0} (is_name : List ℕ → Bool) (find : List ℕ → Option A)
     → Promises AnyToken (known is_name find) (IsFound find)

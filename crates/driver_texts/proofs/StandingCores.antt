@@ -13,7 +13,8 @@ use Rattle.driver_models.specs.declared.wires.Wires.{Wires}
 use Rattle.driver_models.specs.Cores.{Core, core_ports, fits, core_name}
 use Rattle.driver_models.specs.Wires.{numbered, no_wires, next_wire, declared_wire, declared_wires}
 use Rattle.driver_models.specs.Terminals.{port_terminals, more_enables, core_terminals}
-use Rattle.driver_texts.proofs.SoundCores.{AnyToken, behind, known_values}
+use Rattle.driver_models.specs.Models.{output_count}
+use Rattle.driver_texts.proofs.SoundCores.{AnyToken, behind, both, known_values, AreDrives, terminals}
 
 module _ (is_name : List ℕ → Bool) (is_same : List ℕ → List ℕ → Bool) where
   -- a name that is declared is none of those before it
@@ -87,9 +88,16 @@ module _ (is_name : List ℕ → Bool) (is_same : List ℕ → List ℕ → Bool
           no_name b (x, e) = cc
 
       -- as many outputs are driven as there are wires
-      pub all_driven : (ports : List VPort) → 1 ≤ count
+      all_driven : (ports : List VPort) → 1 ≤ count
           → Promises AnyToken (core_terminals is_name is_same value enable count ports) (λ drives. length drives ≡ count)
       unfolding core_terminals
       all_driven ports h =
           behind (λ found. in_turn (ready_enables (nat_eq (length found.drives) count) 1 count h) (λ a ready.
           behind (λ b. gives (eqb-true (length found.drives) count ready))))
+
+      -- the driven outputs of a core: places of outputs, ascending, as many as there are wires
+      pub core_drives : (ports : List VPort) → 1 ≤ count
+          → Promises AnyToken (core_terminals is_name is_same value enable count ports)
+          (λ drives. AreDrives (output_count ports) drives × (length drives ≡ count))
+      core_drives ports h =
+          both (terminals is_name is_same value enable count ports) (all_driven ports h) (λ drives good as_many. (good, as_many))

@@ -2,3 +2,4 @@ pub mod NumberedPorts
 pub mod PortNames
 pub mod NumberedNames
 pub mod CoreTerminals
+pub mod Sections

@@ -9,11 +9,15 @@ mod driven_outputs;
 mod numbered_names;
 mod numbered_ports;
 mod port_names;
+mod section_parts;
+mod sections;
 
 pub use core_terminals::CoreTerminals;
 pub use counts::{input_count, output_count};
 pub use cursors::cursor_before;
 pub use driven_outputs::driven_names;
-pub use numbered_names::{ListedNames, NumberedNames};
+pub use numbered_names::{ListedNames, NumberedNames, WireNames};
 pub use numbered_ports::{EachPort, PortText};
 pub use port_names::{input_name, output_name};
+pub use section_parts::{CoreCall, SectionFront, driver_of, fresh_name};
+pub use sections::{DriverSections, SectionRead, read_driver};

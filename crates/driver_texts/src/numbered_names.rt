@@ -50,3 +50,36 @@ impl Part for ListedNames<'_> {
         parts!(others, Bytes(self.word), Decimal(self.count as u128)).put(line, desk, slot)
     }
 }
+
+/// The names of so many wires to inputs of buffers, then those of as many to enables: words and the numbers from 1 on, each
+/// between these bytes.
+#[derive(Drop)]
+pub struct WireNames<'a> {
+    pub before: &'a [u8],
+    pub value: &'a [u8],
+    pub enable: &'a [u8],
+    pub count: usize,
+    pub behind: &'a [u8],
+}
+
+impl Part for WireNames<'_> {
+    ghost text = { λ w.
+        flat_map (λ name. w.before.now ++ (name ++ w.behind.now)) (all_numbered w.value.now w.count)
+        ++ flat_map (λ name. w.before.now ++ (name ++ w.behind.now)) (all_numbered w.enable.now w.count) };
+
+    fn put<D: Desk>(&self, line: &mut Line, desk: &mut D, slot: OutSlot) -> Put {
+        let values = NumberedNames {
+            before: self.before,
+            word: self.value,
+            count: self.count,
+            behind: self.behind,
+        };
+        let enables = NumberedNames {
+            before: self.before,
+            word: self.enable,
+            count: self.count,
+            behind: self.behind,
+        };
+        parts!(values, enables).put(line, desk, slot)
+    }
+}

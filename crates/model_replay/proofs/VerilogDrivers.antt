@@ -7,7 +7,6 @@ use Rattle.std.proofs.lemmas.Map.Keys.{IsDistinct-push}
 use Rattle.grammar_rules.proofs.Promises.{Promises, gives, in_turn, many, choice}
 use Rattle.udp_tables.specs.declared.models.VPort.{VPort}
 use Rattle.driven_files.specs.verilog_tokens.Tokens.{is_name}
-use Rattle.specify_blocks.specs.VerilogText.{text_tokens}
 use Rattle.specify_blocks.specs.VerilogModules.{port_name, port_names, plain_port, next_port, more_ports, some_ports, Inputs}
 use Rattle.specify_blocks.specs.VerilogModules.{input_at, declared_input, declared_inputs}
 use Rattle.specify_blocks.specs.WellFormed.{AreApart}
@@ -15,11 +14,13 @@ use Rattle.specify_blocks.proofs.ReadNames.{bytes_equivalence}
 use Rattle.specify_blocks.proofs.ReadHeaders.{HasNames, input_named}
 use Rattle.file_models.specs.driver_models.declared.model.DriverModel.{DriverModel}
 use Rattle.file_models.specs.driver_models.Cores.{Core}
-use Rattle.file_models.proofs.driver_texts.SoundCores.{AnyToken, all_tokens, behind, known_values}
+use Rattle.driven_files.specs.driver_texts.Sections.{section, section_text}
+use Rattle.file_models.proofs.driver_texts.SectionTexts.{text_keeps}
+use Rattle.file_models.proofs.driver_texts.SoundCores.{AnyToken, behind, known_values}
 use Rattle.file_models.proofs.driver_texts.StandingCores.{new_names}
 use Rattle.driven_files.specs.verilog_drivers.DriverSections.{driver_header, driver_ports, section_front, core_call, section_body}
-use Rattle.driven_files.specs.verilog_drivers.DriverSections.{section_rest, section, section_text}
-use Rattle.driven_files.proofs.verilog_drivers.SoundDrivers.{section_answer}
+use Rattle.driven_files.specs.verilog_drivers.DriverSections.{section_rest, verilog_section_grammar}
+use Rattle.driven_files.proofs.verilog_drivers.StandingDrivers.{section_ends}
 use Rattle.model_replay.proofs.NamedDrivers.{IsNamed, declared_names, core_names}
 
 -- Headers.
@@ -93,7 +94,8 @@ bodies : (cores : List Core) (ports : List VPort)
 unfolding section_body
 bodies cores ports = behind (λ driven. in_turn (calls cores ports driven) (λ call is. behind (λ a. behind (λ paths. gives is))))
 
-named_sections : (names : List (List ℕ)) (cores : List Core) → Promises AnyToken (section names cores) (IsNamed is_name bytes_eq)
+named_sections : (names : List (List ℕ)) (cores : List Core)
+    → Promises AnyToken (section verilog_section_grammar names cores) (IsNamed is_name bytes_eq)
 unfolding section section_rest
 named_sections names cores =
     in_turn (fronts names) (λ front h. in_turn (bodies cores front.ports)
@@ -101,9 +103,8 @@ named_sections names cores =
 
 -- the driver of a section has ports of different names
 pub text_is_named : (names : List (List ℕ)) (cores : List Core) (bytes : List ℕ) (driver : DriverModel)
-    → section_text names cores bytes ≡ Ok driver
+    → section_text verilog_section_grammar names cores bytes ≡ Ok driver
     → IsNamed is_name bytes_eq driver
-unfolding section_text
-text_is_named names cores bytes driver e =
-    ((named_sections names cores).kept (text_tokens bytes) driver [] (all_tokens (text_tokens bytes))
-    (((section_answer names cores bytes).value driver).1 e).takes).0
+text_is_named names cores bytes =
+    text_keeps verilog_section_grammar section_ends names cores bytes (IsNamed is_name bytes_eq)
+    (named_sections names cores)

@@ -12,16 +12,17 @@ use Rattle.grammar_reader.proofs.Passing.{fits_if, fits_unless}
 use Rattle.udp_tables.specs.declared.models.VPort.{VPort}
 use Rattle.driven_files.specs.vhdl_tokens.Tokens.{is_name}
 use Rattle.driven_files.specs.vhdl_tokens.Spelling.{is_same}
-use Rattle.vhdl_grammar.specs.VhdlText.{text_tokens}
 use Rattle.vhdl_grammar.specs.VhdlDeclarations.{name_of_port, port_names, has_underscore, port_by, next_port, port_list}
 use Rattle.vhdl_grammar.specs.WellFormed.{AreApart}
 use Rattle.model_replay.proofs.SameNames.{push_apart}
 use Rattle.file_models.specs.driver_models.declared.model.DriverModel.{DriverModel}
 use Rattle.file_models.specs.driver_models.Cores.{Core}
-use Rattle.file_models.proofs.driver_texts.SoundCores.{AnyToken, all_tokens, behind}
+use Rattle.driven_files.specs.driver_texts.Sections.{section, section_text}
+use Rattle.file_models.proofs.driver_texts.SectionTexts.{text_keeps}
+use Rattle.file_models.proofs.driver_texts.SoundCores.{AnyToken, behind}
 use Rattle.driven_files.specs.vhdl_drivers.DriverSections.{driver_name, driver_ports, section_front, core_call, section_core}
-use Rattle.driven_files.specs.vhdl_drivers.DriverSections.{section_process, section_rest, section, section_text}
-use Rattle.driven_files.proofs.vhdl_drivers.SoundDrivers.{section_answer}
+use Rattle.driven_files.specs.vhdl_drivers.DriverSections.{section_process, section_rest, vhdl_section_grammar}
+use Rattle.driven_files.proofs.vhdl_drivers.StandingDrivers.{section_ends}
 use Rattle.model_replay.proofs.NamedDrivers.{IsNamed, declared_names, core_names}
 
 -- Ports.
@@ -91,7 +92,7 @@ cores_named cores ports =
     (λ core is. behind (λ drives. gives is))))
 
 named_sections : (names : List (List ℕ)) (cores : List Core)
-    → Promises AnyToken (section names cores) (IsNamed is_name str_eq_ignore_ascii_case)
+    → Promises AnyToken (section vhdl_section_grammar names cores) (IsNamed is_name str_eq_ignore_ascii_case)
 unfolding section section_rest section_process
 named_sections names cores =
     in_turn (fronts names) (λ front h. in_turn (cores_named cores front.ports) (λ call is.
@@ -99,9 +100,8 @@ named_sections names cores =
 
 -- the driver of a section has ports of different names
 pub text_is_named : (names : List (List ℕ)) (cores : List Core) (bytes : List ℕ) (driver : DriverModel)
-    → section_text names cores bytes ≡ Ok driver
+    → section_text vhdl_section_grammar names cores bytes ≡ Ok driver
     → IsNamed is_name str_eq_ignore_ascii_case driver
-unfolding section_text
-text_is_named names cores bytes driver e =
-    ((named_sections names cores).kept (text_tokens bytes) driver [] (all_tokens (text_tokens bytes))
-    (((section_answer names cores bytes).value driver).1 e).takes).0
+text_is_named names cores bytes =
+    text_keeps vhdl_section_grammar section_ends names cores bytes (IsNamed is_name str_eq_ignore_ascii_case)
+    (named_sections names cores)

@@ -1,4 +1,2 @@
-mod SectionReads
-pub mod SoundDrivers
 pub mod StandingDrivers
 mod TextExamples

@@ -1,29 +1,28 @@
 -- The grammar of a section of Verilog text that holds a driver: a module of a cell with an instance of its core and a buffer at
 -- each driven output. (IEEE 1364-2005, 7.4, three-state gates, 12.1 and 12.3, modules, their instances and ports, 14.2, paths,
 -- and 19.1, `celldefine. The form of the module, and the names of its wires and of the core's instance, are this project's.)
-use Rattle.std.specs.Prelude.{ℕ, ◌+◌, ◌==◌, List, [], ◌∷◌, ◌++◌, length, slice_get, Some, Result, codes}
+use Rattle.std.specs.Prelude.{ℕ, ◌+◌, ◌==◌, List, [], ◌∷◌, ◌++◌, length, slice_get, Some, codes}
 use Rattle.std.specs.Str.{bytes_eq}
 use Rattle.grammar_rules.specs.Rule.{Fits}
 use Rattle.grammar_rules.specs.Rule as r
 use Rattle.grammar_reader.specs.declared.refusal.Refusal.TheVariants.{Syntax}
 use Rattle.grammar_reader.specs.Words.{Grammar, ◌>>=◌, go_on_where, name_by}
-use Rattle.grammar_reader.specs.Texts.{Texts, text}
 use Rattle.verilog_tokens.specs.Tokens.{is_name, lexis}
-use Rattle.udp_tables.specs.declared.models.ModelFault.{ModelFault}
-use Rattle.udp_tables.specs.ModelFaults.{model_faults}
 use Rattle.udp_tables.specs.declared.models.VPort.{VPort}
 use Rattle.udp_tables.specs.VerilogRules.{expect, begins, known, new_name, this_name}
 use Rattle.specify_blocks.specs.VerilogModules.{some_ports, declared_inputs, declared_outputs}
 use Rattle.specify_blocks.specs.VerilogBlocks.{a_number}
 use Rattle.driven_traces.specs.declared.delays.DrivePath.{DrivePath}
 use Rattle.driver_models.specs.declared.model.DriverModel.{DriverModel}
-use Rattle.driver_models.specs.Models.{input_count, output_count}
 use Rattle.driver_models.specs.Wires.{numbered}
 use Rattle.driver_models.specs.Wires as wires
 use Rattle.driver_models.specs.Terminals as terminals
 use Rattle.driver_models.specs.Cores.{Core, core_name}
 use Rattle.driver_models.specs.PathEnds.{input_number, drive_number}
 use Rattle.driver_texts.specs.NumberedPorts.{numbered_ports, driven_names}
+use Rattle.driver_texts.specs.Sections.{SectionGrammar, driver_of}
+use Rattle.driver_texts.specs.declared.section_parts.CoreCall.{CoreCall}
+use Rattle.driver_texts.specs.declared.section_parts.SectionFront.{SectionFront}
 use Rattle.verilog_drivers.specs.DriverText.{data_word, enable_word}
 
 -- a name stands next, and is not taken
@@ -52,12 +51,8 @@ driver_ports = do
 unfoldable pub driver_wires : Grammar ℕ
 driver_wires = wires.declared_wires is_name bytes_eq data_word enable_word (codes "wire") (codes ";" ∷ [])
 
--- The instance of the core, for a driver with these ports and so many wires to buffers' inputs. (12.1.2)
-pub record CoreCall : Type 0 where
-  pub core : List ℕ
-  pub drives : List ℕ
-
--- NAME "lib_u" "(" terminals ")" ";"
+-- NAME "lib_u" "(" terminals ")" ";": the instance of the core, for a driver with these ports and so many wires to buffers'
+-- inputs (12.1.2)
 unfoldable pub core_call : List Core → List VPort → ℕ → Grammar CoreCall
 core_call cores ports driven = do
   core ← known (core_name bytes_eq cores ports driven)
@@ -127,13 +122,8 @@ drive_block ports drives = do
 unfoldable pub drive_paths : List VPort → List ℕ → Grammar (List DrivePath)
 drive_paths ports drives = r.Choice (begins (codes "specify")) (λ _. drive_block ports drives) (r.Gives [])
 
--- What a section begins with: the name of the driver, and its ports.
-pub record Front : Type 0 where
-  pub name : List ℕ
-  pub ports : List VPort
-
 -- "`celldefine" "module" NAME and the ports, where these names are taken (12.1, 19.1)
-unfoldable pub section_front : List (List ℕ) → Grammar Front
+unfoldable pub section_front : List (List ℕ) → Grammar SectionFront
 section_front names = do
   _ ← expect (codes "`celldefine")
   _ ← expect (codes "module")
@@ -145,20 +135,6 @@ section_front names = do
 pub record Body : Type 0 where
   pub call : CoreCall
   pub paths : List DrivePath
-
--- the driver with this front and this body
-abbrev pub driver_of : Front → Body → DriverModel
-driver_of front body = record {
-  name = front.name;
-  core = body.call.core;
-  ports = front.ports;
-  driver = record {
-    inputs = input_count front.ports;
-    outputs = output_count front.ports;
-    drives = body.call.drives;
-    paths = body.paths;
-  };
-}
 
 -- The declarations of wires, the core, the buffers and the paths, behind these ports, where the models that may be cores are
 -- these.
@@ -178,22 +154,12 @@ section_end = do
   r.Last (λ _. Syntax) tt
 
 -- what stands behind the front of a section
-unfoldable pub section_rest : List Core → Front → Grammar DriverModel
+unfoldable pub section_rest : List Core → SectionFront → Grammar DriverModel
 section_rest cores front = do
   body ← section_body cores front.ports
   _ ← section_end
-  r.Gives (driver_of front body)
+  r.Gives (driver_of front body.call body.paths)
 
--- a section, where these names are taken and the models that may be cores are these
-unfoldable pub section : List (List ℕ) → List Core → Grammar DriverModel
-section names cores = do
-  front ← section_front names
-  section_rest cores front
-
--- the tokens of Verilog, the grammar of sections and their faults
-abbrev pub section_language : List (List ℕ) → List Core → Texts DriverModel ModelFault
-section_language names cores = record { lexis = lexis; file = section names cores; faults = model_faults }
-
--- the driver that the bytes of a section stand for, or the fault
-unfoldable pub section_text : List (List ℕ) → List Core → List ℕ → Result DriverModel ModelFault
-section_text names cores bytes = text (section_language names cores) bytes
+-- the sections of Verilog texts that hold drivers
+abbrev pub verilog_section_grammar : SectionGrammar
+verilog_section_grammar = record { lexis = lexis; front = section_front; rest = section_rest }

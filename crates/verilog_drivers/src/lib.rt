@@ -8,11 +8,9 @@ mod drive_paths;
 mod language;
 mod paths;
 mod ports;
-mod read;
 mod read_buffers;
 mod section;
 mod writer;
 
 pub use language::VerilogDrivers;
-pub use read::read_driver;
 pub use writer::write_driver;

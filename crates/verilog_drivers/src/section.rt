@@ -1,52 +1,33 @@
 //! A section, by recursive descent. (IEEE 1364-2005, 12.1 and 19.1.)
 
-ghost use Rattle.std.specs.Prelude.{◌≡◌, IfOk};
-ghost use Rattle.udp_tables.specs.VerilogRules.{new_name};
-ghost use Rattle.lexer.specs.Spans.{LieInside, spelled};
 ghost use Rattle.grammar_reader.specs.Reading.{read, Reads, ReadsAs};
 ghost use Rattle.verilog_drivers.specs.DriverSections as spec;
-ghost use Rattle.verilog_drivers.specs.Sections.{front_of, body_of};
+ghost use Rattle.verilog_drivers.specs.Sections.{body_of};
 
-use crate::core_call::{CoreCall, core_call, driver_wires};
+use crate::core_call::{core_call, driver_wires};
 use crate::drive_paths::drive_paths;
 use crate::language::{Cursor, VerilogDrivers};
 use crate::ports::driver_ports;
 use crate::read_buffers::buffers;
-use driven_traces::{DrivePath, Driver};
+use driven_traces::DrivePath;
 use driver_models::{Cores, DriverModel, KnownNames};
-use driver_texts::{driven_names, input_count, output_count};
+use driver_texts::{
+    CoreCall, DriverSections, SectionFront, SectionRead, cursor_before, driven_names, driver_of,
+    fresh_name,
+};
 use grammar_reader::{Read, Refusal, Stop};
+use lexer::{KeptSpan, Scan};
 use sqlite_items::Items;
-use std::alloc::Global;
+use std::alloc::{AllocError, Global};
 use udp_tables::VPort;
-
-/// What a section begins with: the name of the driver, and its ports.
-#[derive(Drop)]
-pub(crate) struct SectionFront {
-    pub(crate) name: Items<u8>,
-    pub(crate) ports: Items<VPort>,
-}
+use verilog_tokens::scan;
+use verilog_udp_reader::Verilog;
 
 /// What stands behind the ports: the core, and the paths.
 #[derive(Drop)]
 pub(crate) struct SectionBody {
     pub(crate) call: CoreCall,
     pub(crate) paths: Items<DrivePath>,
-}
-
-/// The name of the driver, which is none of these.
-fn driver_name(
-    cursor: &mut verilog_udp_reader::Cursor,
-    alloc: Global,
-    names: &KnownNames<VerilogDrivers>,
-) -> Read<Items<u8>>
-    ensures { Reads (read (new_name names.now) cursor.old) result cursor.new }
-{
-    if !cursor.is_next_name() {
-        return Err(Stop::Refused(Refusal::Syntax));
-    }
-    let taken = names.has(cursor.bytes())?;
-    cursor.fresh_name(alloc, taken)
 }
 
 /// What a section begins with, where these names are taken.
@@ -56,11 +37,11 @@ pub(crate) fn section_front(
     alloc: Global,
     names: &KnownNames<VerilogDrivers>,
 ) -> Read<SectionFront>
-    ensures { ReadsAs front_of (read (spec.section_front names.now) cursor.old) result cursor.new }
+    ensures { Reads (read (spec.section_front names.now) cursor.old) result cursor.new }
 {
     cursor.expect(b"`celldefine")?;
     cursor.expect(b"module")?;
-    let name = driver_name(cursor, alloc, names)?;
+    let name = fresh_name(cursor, alloc, names)?;
     let ports = driver_ports(cursor, alloc)?;
     Ok(SectionFront { name, ports })
 }
@@ -81,29 +62,6 @@ fn section_body(
     buffers(cursor, alloc, outputs.as_slice())?;
     let paths = drive_paths(cursor, alloc, ports, call.drives.as_slice())?;
     Ok(SectionBody { call, paths })
-}
-
-/// The driver with this front and this body.
-fn driver_of(front: SectionFront, body: SectionBody) -> DriverModel
-    ensures { result ≡ spec.driver_of (front_of front) (body_of body) }
-{
-    let SectionFront { name, ports } = front;
-    let SectionBody { call, paths } = body;
-    let CoreCall { core, drives } = call;
-    let inputs = input_count(ports.as_slice());
-    let outputs = output_count(ports.as_slice());
-    let driver = Driver {
-        inputs,
-        outputs,
-        drives,
-        paths,
-    };
-    DriverModel {
-        name,
-        core,
-        ports,
-        driver,
-    }
 }
 
 /// The end of a section, with nothing behind it.
@@ -127,9 +85,44 @@ pub(crate) fn section_rest(
     cores: &Cores<'_, VerilogDrivers>,
     front: SectionFront,
 ) -> Read<DriverModel>
-    ensures { Reads (read (spec.section_rest cores.now (front_of front)) cursor.old) result cursor.new }
+    ensures { Reads (read (spec.section_rest cores.now front) cursor.old) result cursor.new }
 {
     let body = section_body(cursor, alloc, cores, front.ports.as_slice())?;
     section_end(cursor)?;
-    Ok(driver_of(front, body))
+    Ok(driver_of(front, body.call, body.paths))
+}
+
+impl DriverSections for VerilogDrivers {
+    ghost use Rattle.verilog_drivers.specs.DriverSections.{verilog_section_grammar};
+
+    type Front = Verilog;
+
+    type Rest = VerilogDrivers;
+
+    ghost grammar = { verilog_section_grammar };
+
+    fn scan(alloc: Global, text: &[u8]) -> Result<Scan, AllocError> {
+        scan(alloc, text)
+    }
+
+    fn front(
+        cursor: &mut verilog_udp_reader::Cursor,
+        alloc: Global,
+        names: &KnownNames<VerilogDrivers>,
+    ) -> Read<SectionFront> {
+        section_front(cursor, alloc, names)
+    }
+
+    fn rest<'a>(
+        alloc: Global,
+        text: &'a [u8],
+        tokens: &'a [KeptSpan],
+        left: usize,
+        cores: &Cores<'_, VerilogDrivers>,
+        front: SectionFront,
+    ) -> SectionRead<'a, VerilogDrivers> {
+        let mut left = cursor_before::<VerilogDrivers>(text, tokens, left);
+        let driver = section_rest(&mut left, alloc, cores, front);
+        SectionRead { driver, left }
+    }
 }

@@ -9,7 +9,7 @@ ghost use Rattle.verilog_drivers.specs.DriverText.{driver_text};
 use crate::buffers::Buffers;
 use crate::paths::DrivePathLines;
 use driver_models::DriverModel;
-use driver_texts::{CoreTerminals, EachPort, NumberedNames};
+use driver_texts::{CoreTerminals, EachPort, WireNames};
 use text_io::{Bytes, Desk, Each, Failed, Line, OutSlot, Part, Put, When, parts, write_part};
 use verilog_writer::{PortLines, Ports};
 
@@ -35,20 +35,15 @@ impl Part for Declarations<'_> {
     fn put<D: Desk>(&self, line: &mut Line, desk: &mut D, slot: OutSlot) -> Put {
         let ports = self.0.ports.as_slice();
         let count = self.0.driver.drives.len();
-        let data = NumberedNames {
+        let wires = WireNames {
             before: b"  wire ",
-            word: b"lib_d",
-            count,
-            behind: b";\n",
-        };
-        let enables = NumberedNames {
-            before: b"  wire ",
-            word: b"lib_e",
+            value: b"lib_d",
+            enable: b"lib_e",
             count,
             behind: b";\n",
         };
         let (inputs, outputs) = (Each(PortLines(true), ports), Each(PortLines(false), ports));
-        parts!(inputs, outputs, data, enables).put(line, desk, slot)
+        parts!(inputs, outputs, wires).put(line, desk, slot)
     }
 }
 

@@ -3,25 +3,21 @@
 -- VitalBUFIF1 and VitalPathDelay01. The form of the section, and the names of its signals, variables and of the core's
 -- instance, are this project's.)
 use Rattle.std.specs.Prelude.{ℕ, zero, suc, ◌+◌, ◌==◌, ◌&&◌, nat_lt, Bool, true, false, List, [], ◌∷◌, ◌++◌, length, slice_get}
-use Rattle.std.specs.Prelude.{Option, Some, None, Result, codes, if◌then◌else◌}
+use Rattle.std.specs.Prelude.{Option, Some, None, codes, if◌then◌else◌}
 use Rattle.std.specs.Option.{option_map_or}
 use Rattle.grammar_rules.specs.Rule.{Verdict, Fits, Misfit}
 use Rattle.grammar_rules.specs.Rule as r
 use Rattle.grammar_reader.specs.declared.refusal.Refusal.{Refusal}
 use Rattle.grammar_reader.specs.declared.refusal.Refusal.TheVariants.{Syntax, Undefined}
 use Rattle.grammar_reader.specs.Words.{Grammar, ◌>>=◌, go_on_where}
-use Rattle.grammar_reader.specs.Texts.{Texts, text}
 use Rattle.vhdl_tokens.specs.Tokens.{is_name, lexis}
 use Rattle.vhdl_tokens.specs.Spelling.{is_same, is_quoted}
-use Rattle.udp_tables.specs.declared.models.ModelFault.{ModelFault}
-use Rattle.udp_tables.specs.ModelFaults.{model_faults}
 use Rattle.udp_tables.specs.declared.models.VPort.{VPort}
 use Rattle.vhdl_grammar.specs.VhdlRules.{expect, expect_all, begins, known, new_name, this_name, this_number}
 use Rattle.vhdl_grammar.specs.VhdlDeclarations.{packages, port_list, input_names, listed_names, last_true, is_last_false}
 use Rattle.vhdl_grammar.specs.VhdlOutputs.{delays}
 use Rattle.driven_traces.specs.declared.delays.DrivePath.{DrivePath}
 use Rattle.driver_models.specs.declared.model.DriverModel.{DriverModel}
-use Rattle.driver_models.specs.Models.{input_count, output_count}
 use Rattle.driver_models.specs.Wires.{numbered}
 use Rattle.driver_models.specs.Wires as wires
 use Rattle.driver_models.specs.Terminals.{all_numbered}
@@ -29,16 +25,14 @@ use Rattle.driver_models.specs.Terminals as terminals
 use Rattle.driver_models.specs.Cores.{Core, core_name}
 use Rattle.driver_models.specs.PathEnds.{input_number}
 use Rattle.driver_texts.specs.NumberedPorts.{numbered_ports, driven_names}
+use Rattle.driver_texts.specs.Sections.{SectionGrammar, driver_of}
+use Rattle.driver_texts.specs.declared.section_parts.CoreCall.{CoreCall}
+use Rattle.driver_texts.specs.declared.section_parts.SectionFront.{SectionFront}
 use Rattle.vhdl_drivers.specs.DriverText.{data_word, enable_word}
 
 -- the name of a word and a number
 abbrev pub numbered_name : List ℕ → ℕ → Grammar (Unit {0})
 numbered_name word number = this_name (Some (numbered word number))
-
--- What a section begins with: the name of the driver, and its ports.
-pub record Front : Type 0 where
-  pub name : List ℕ
-  pub ports : List VPort
 
 -- "use" "work" "." "all" ";" and the packages of an entity (10.4)
 unfoldable pub driver_packages : Grammar (Unit {0})
@@ -81,7 +75,7 @@ driver_ports = do
   port_list []
 
 -- The packages, "entity" NAME "is", the ports and the header of the architecture, where these names are taken.
-unfoldable pub section_front : List (List ℕ) → Grammar Front
+unfoldable pub section_front : List (List ℕ) → Grammar SectionFront
 section_front names = do
   _ ← driver_packages
   _ ← expect (codes "entity")
@@ -95,11 +89,6 @@ section_front names = do
 unfoldable pub driver_signals : Grammar ℕ
 driver_signals =
     wires.declared_wires is_name is_same data_word enable_word (codes "signal") (codes ":" ∷ codes "std_ulogic" ∷ codes ";" ∷ [])
-
--- The instance of the core, for a driver with these ports and so many signals to buffers' inputs. (9.6)
-pub record CoreCall : Type 0 where
-  pub core : List ℕ
-  pub drives : List ℕ
 
 -- "begin" NAME ":" "entity" "work" ".": what stands before the name of the core
 unfoldable pub core_start : Grammar (Unit {0})
@@ -122,7 +111,7 @@ port_map ports driven = do
   _ ← expect (codes ";")
   r.Gives drives
 
--- the instance of the core
+-- the instance of the core, for a driver with these ports and so many signals to buffers' inputs (9.6)
 unfoldable pub core_call : List Core → List VPort → ℕ → Grammar CoreCall
 core_call cores ports driven = do
   _ ← core_start
@@ -300,38 +289,19 @@ section_end = do
   _ ← expect_all (codes "process" ∷ codes ";" ∷ codes "end" ∷ codes "driven" ∷ codes ";" ∷ [])
   r.Last (λ _. Syntax) tt
 
--- the driver with this front, this core and these paths
-abbrev pub driver_of : Front → CoreCall → List DrivePath → DriverModel
-driver_of front call paths = record {
-  name = front.name;
-  core = call.core;
-  ports = front.ports;
-  driver = record { inputs = input_count front.ports; outputs = output_count front.ports; drives = call.drives; paths = paths };
-}
-
 -- what stands behind the core
-unfoldable pub section_process : Front → CoreCall → Grammar DriverModel
+unfoldable pub section_process : SectionFront → CoreCall → Grammar DriverModel
 section_process front call = do
   paths ← process front.ports call.drives
   _ ← section_end
   r.Gives (driver_of front call paths)
 
 -- what stands behind the front of a section
-unfoldable pub section_rest : List Core → Front → Grammar DriverModel
+unfoldable pub section_rest : List Core → SectionFront → Grammar DriverModel
 section_rest cores front = do
   call ← section_core cores front.ports
   section_process front call
 
--- a section, where these names are taken and the models that may be cores are these
-unfoldable pub section : List (List ℕ) → List Core → Grammar DriverModel
-section names cores = do
-  front ← section_front names
-  section_rest cores front
-
--- the tokens of VHDL, the grammar of sections and their faults
-abbrev pub section_language : List (List ℕ) → List Core → Texts DriverModel ModelFault
-section_language names cores = record { lexis = lexis; file = section names cores; faults = model_faults }
-
--- the driver that the bytes of a section stand for, or the fault
-unfoldable pub section_text : List (List ℕ) → List Core → List ℕ → Result DriverModel ModelFault
-section_text names cores bytes = text (section_language names cores) bytes
+-- the sections of VHDL texts that hold drivers
+abbrev pub vhdl_section_grammar : SectionGrammar
+vhdl_section_grammar = record { lexis = lexis; front = section_front; rest = section_rest }

@@ -1,5 +1,4 @@
 pub mod DriverText
 pub mod DriverSection
 pub mod DriverSections
-pub mod Sections
 pub mod WellFormed

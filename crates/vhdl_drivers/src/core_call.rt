@@ -1,22 +1,15 @@
 //! The signals of a driver and the instance of its core, by recursive descent. (IEEE 1076-1993, 4.3.1.2 and 9.6.)
 
-ghost use Rattle.grammar_reader.specs.Reading.{read, Reads, ReadsAs};
+ghost use Rattle.grammar_reader.specs.Reading.{read, Reads};
 ghost use Rattle.vhdl_drivers.specs.DriverSections as spec;
-ghost use Rattle.vhdl_drivers.specs.Sections.{call_of};
 
 use crate::language::{Cursor, VitalDrivers};
 use driver_models::{Cores, core_name, core_terminals, declared_wires};
+use driver_texts::CoreCall;
 use grammar_reader::{Read, with_end};
 use sqlite_items::Items;
 use std::alloc::Global;
 use udp_tables::VPort;
-
-/// The instance of a core: its name, and the places among the outputs that are driven.
-#[derive(Drop)]
-pub(crate) struct CoreCall {
-    pub(crate) core: Items<u8>,
-    pub(crate) drives: Items<usize>,
-}
 
 /// The signals of a driver: how many lead to inputs of buffers.
 #[tactic(auto, unfolding(crate::specs::DriverSections::driver_signals))]
@@ -65,7 +58,7 @@ fn core_call(
     ports: &[VPort],
     driven: usize,
 ) -> Read<CoreCall>
-    ensures { ReadsAs call_of (read (spec.core_call cores.now ports.now driven) cursor.old) result cursor.new }
+    ensures { Reads (read (spec.core_call cores.now ports.now driven) cursor.old) result cursor.new }
 {
     core_start(cursor)?;
     let core = core_name(cursor, alloc, cores, ports, driven)?;
@@ -81,7 +74,7 @@ pub(crate) fn section_core(
     cores: &Cores<'_, VitalDrivers>,
     ports: &[VPort],
 ) -> Read<CoreCall>
-    ensures { ReadsAs call_of (read (spec.section_core cores.now ports.now) cursor.old) result cursor.new }
+    ensures { Reads (read (spec.section_core cores.now ports.now) cursor.old) result cursor.new }
 {
     let driven = driver_signals(cursor, alloc)?;
     core_call(cursor, alloc, cores, ports, driven)

@@ -1,25 +1,17 @@
 //! What a section begins with, by recursive descent: the name of a driver and its ports. (IEEE 1076-1993, 1.1, 1.2 and 10.4.)
 
-ghost use Rattle.grammar_reader.specs.Reading.{read, Reads, ReadsAs};
-ghost use Rattle.vhdl_grammar.specs.VhdlRules.{new_name};
+ghost use Rattle.grammar_reader.specs.Reading.{read, Reads};
 ghost use Rattle.vhdl_drivers.specs.DriverSections as spec;
-ghost use Rattle.vhdl_drivers.specs.Sections.{front_of};
 
 use crate::language::VitalDrivers;
 use driver_models::KnownNames;
+use driver_texts::{SectionFront, fresh_name};
 use grammar_reader::{Read, Refusal, Stop};
 use sqlite_items::Items;
 use std::alloc::Global;
 use udp_tables::VPort;
 use vhdl_declarations_reader::{packages, port_list};
 use vhdl_scope::{Cursor, expect_all};
-
-/// What a section begins with: the name of the driver, and its ports.
-#[derive(Drop)]
-pub(crate) struct SectionFront {
-    pub(crate) name: Items<u8>,
-    pub(crate) ports: Items<VPort>,
-}
 
 /// The packages that a driver uses.
 #[tactic(auto, unfolding(crate::specs::DriverSections::driver_packages))]
@@ -38,21 +30,6 @@ fn not_driven(cursor: &Cursor) -> Read<()>
         return Err(Stop::Refused(Refusal::Syntax));
     }
     Ok(())
-}
-
-/// A name that is none of these.
-fn fresh_name(
-    cursor: &mut Cursor,
-    alloc: Global,
-    names: &KnownNames<VitalDrivers>,
-) -> Read<Items<u8>>
-    ensures { Reads (read (new_name names.now) cursor.old) result cursor.new }
-{
-    if !cursor.is_next_name() {
-        return Err(Stop::Refused(Refusal::Syntax));
-    }
-    let taken = names.has(cursor.bytes())?;
-    cursor.fresh_name(alloc, taken)
 }
 
 /// The name of the driver, which is none of these.
@@ -106,7 +83,7 @@ pub(crate) fn section_front(
     alloc: Global,
     names: &KnownNames<VitalDrivers>,
 ) -> Read<SectionFront>
-    ensures { ReadsAs front_of (read (spec.section_front names.now) cursor.old) result cursor.new }
+    ensures { Reads (read (spec.section_front names.now) cursor.old) result cursor.new }
 {
     driver_packages(cursor)?;
     cursor.expect(b"entity")?;

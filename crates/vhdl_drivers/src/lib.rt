@@ -17,5 +17,4 @@ mod variables;
 mod writer;
 
 pub use language::VitalDrivers;
-pub use read::read_driver;
 pub use writer::write_driver;

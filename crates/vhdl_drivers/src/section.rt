@@ -1,19 +1,15 @@
 //! A section behind its core, by recursive descent. (IEEE 1076-1993, 9.2.)
 
-ghost use Rattle.std.specs.Prelude.{◌≡◌};
 ghost use Rattle.grammar_reader.specs.Reading.{read, Reads, Token};
 ghost use Rattle.grammar_reader.specs.declared.refusal.Refusal.TheVariants.{Syntax};
 ghost use Rattle.vhdl_drivers.specs.DriverSections as spec;
-ghost use Rattle.vhdl_drivers.specs.Sections.{front_of, call_of};
 
 use crate::buffers::{buffers, process_start};
-use crate::core_call::CoreCall;
 use crate::driven_lines::Outputs;
-use crate::front::SectionFront;
 use crate::variables::driven_variables;
-use driven_traces::{DrivePath, Driver};
+use driven_traces::DrivePath;
 use driver_models::DriverModel;
-use driver_texts::{driven_names, input_count, output_count};
+use driver_texts::{CoreCall, SectionFront, driven_names, driver_of};
 use grammar_reader::{Read, Refusal, Stop};
 use sqlite_items::Items;
 use std::alloc::Global;
@@ -81,28 +77,6 @@ fn section_end(cursor: &mut Cursor) -> Read<()>
     Ok(())
 }
 
-/// The driver with this front, this core and these paths.
-fn driver_of(front: SectionFront, call: CoreCall, paths: Items<DrivePath>) -> DriverModel
-    ensures { result ≡ spec.driver_of (front_of front) (call_of call) paths }
-{
-    let SectionFront { name, ports } = front;
-    let CoreCall { core, drives } = call;
-    let inputs = input_count(ports.as_slice());
-    let outputs = output_count(ports.as_slice());
-    let driver = Driver {
-        inputs,
-        outputs,
-        drives,
-        paths,
-    };
-    DriverModel {
-        name,
-        core,
-        ports,
-        driver,
-    }
-}
-
 /// The rest of a section behind its core.
 #[tactic(auto, unfolding(crate::specs::DriverSections::section_process))]
 pub(crate) fn section_process(
@@ -111,7 +85,7 @@ pub(crate) fn section_process(
     front: SectionFront,
     call: CoreCall,
 ) -> Read<DriverModel>
-    ensures { Reads (read (spec.section_process (front_of front) (call_of call)) cursor.old) result cursor.new }
+    ensures { Reads (read (spec.section_process front call) cursor.old) result cursor.new }
 {
     let paths = process(
         cursor,

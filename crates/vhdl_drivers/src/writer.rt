@@ -9,7 +9,7 @@ ghost use Rattle.vhdl_drivers.specs.DriverText.{driver_text};
 use crate::inputs::NextInputs;
 use crate::lines::{Buffers, DrivenLines, DrivenVariables};
 use driver_models::DriverModel;
-use driver_texts::{CoreTerminals, ListedNames, NumberedNames};
+use driver_texts::{CoreTerminals, ListedNames, NumberedNames, WireNames};
 use text_io::{Bytes, Desk, Failed, Line, OutSlot, Part, Put, parts, write_part};
 use vhdl_writer::{Each, PortList};
 
@@ -61,19 +61,14 @@ impl Part for Signals {
 
     #[tactic(auto, unfolding(crate::specs::DriverText::signals_text, crate::specs::DriverText::signal_text))]
     fn put<D: Desk>(&self, line: &mut Line, desk: &mut D, slot: OutSlot) -> Put {
-        let data = NumberedNames {
+        let names = WireNames {
             before: b"  signal ",
-            word: b"d_",
+            value: b"d_",
+            enable: b"e_",
             count: self.0,
             behind: b" : std_ulogic;\n",
         };
-        let enables = NumberedNames {
-            before: b"  signal ",
-            word: b"e_",
-            count: self.0,
-            behind: b" : std_ulogic;\n",
-        };
-        parts!(data, enables).put(line, desk, slot)
+        names.put(line, desk, slot)
     }
 }
 

@@ -31,13 +31,13 @@ pub record Pieces {M : Type 0} (w : WrittenLanguage M) (r : WellFormedness M) : 
   pub tokens : M → Front
   pub front : Outlines w w.front front_tokens []
   pub model : (m : M) → IsPart m → Outlines w (w.model_text m) (tokens m) []
-  pub driver : (d : DriverModel) → IsNamed d → Outlines w (w.driver_text d) (λ s. s) (w.driver_section d ∷ [])
+  pub driver : (d : DriverModel) → IsNamed d → Outlines w (w.drivers.driver_text d) (λ s. s) (w.drivers.driver_section d ∷ [])
   pub parts : (ms : List M) → r.AreWellFormed ms → AllByRecursion IsPart ms
   pub named : (d : DriverModel) → r.CanBeDeclared d → IsNamed d
   pub declared : (names : List (List ℕ)) (cores : List Core) (d : DriverModel) → r.IsWellFormedDriver names cores d
       → r.CanBeDeclared d
   pub section_read : (names : List (List ℕ)) (cores : List Core) (d : DriverModel) → r.IsWellFormedDriver names cores d
-      → w.language.section names cores (w.driver_section d) ≡ Ok d
+      → w.language.section names cores (w.drivers.driver_section d) ≡ Ok d
   pub models_read : (bytes : List ℕ) (ms : List M) → r.AreWellFormed ms
       → spelled (scan_of w.language.vocabulary.lexis bytes) ≡ (front_tokens (each tokens ms []), false)
       → ReadsBack w.language.text w.IsText bytes ms
@@ -52,10 +52,10 @@ module _ {M : Type 0} (w : WrittenLanguage M) (r : WellFormedness M) (p : Pieces
 
   -- the sections of a model and its driver
   abbrev sections_in : WrittenModel M → List (List ℕ)
-  sections_in x = map w.driver_section (driver_in x.driver)
+  sections_in x = map w.drivers.driver_section (driver_in x.driver)
 
   behind_it : (driver : Option DriverModel) → AllByRecursion p.IsNamed (driver_in driver)
-      → Outlines w (text_behind w driver) (λ s. s) (map w.driver_section (driver_in driver))
+      → Outlines w (text_behind w driver) (λ s. s) (map w.drivers.driver_section (driver_in driver))
   behind_it None h = nothing
   behind_it (Some d) h = p.driver d h.0
 
@@ -78,11 +78,11 @@ module _ {M : Type 0} (w : WrittenLanguage M) (r : WellFormedness M) (p : Pieces
   same_tokens [] = refl
   same_tokens (x ∷ xs) = ap (p.tokens x.model) (same_tokens xs)
 
-  same_sections : (xs : List (WrittenModel M)) → flat_map sections_in xs ≡ map w.driver_section (drivers_of xs)
+  same_sections : (xs : List (WrittenModel M)) → flat_map sections_in xs ≡ map w.drivers.driver_section (drivers_of xs)
   same_sections [] = refl
   same_sections (x ∷ xs) =
       ap (λ (found : List (List ℕ)). sections_in x ++ found) (same_sections xs)
-      ∙ sym (map-append w.driver_section (driver_in x.driver) (drivers_of xs))
+      ∙ sym (map-append w.drivers.driver_section (driver_in x.driver) (drivers_of xs))
 
   are_whole : (xs : List (WrittenModel M)) → AllByRecursion p.IsPart (models_of xs) → AllByRecursion p.IsNamed (drivers_of xs)
       → AllByRecursion IsWhole xs
@@ -135,7 +135,7 @@ module _ {M : Type 0} (w : WrittenLanguage M) (r : WellFormedness M) (p : Pieces
       (p.declared (taken_names w.language ms done) (map w.language.core ms) d h.0, all_declared ms (done ++ d ∷ []) drivers h.1)
 
   all_read : (ms : List M) (done drivers : List DriverModel) → AreWellFormedDrivers w r ms done drivers
-      → AreRead w.language ms w.driver_section done drivers
+      → AreRead w.language ms w.drivers.driver_section done drivers
   all_read ms done [] h = tt
   all_read ms done (d ∷ drivers) h =
       (p.section_read (taken_names w.language ms done) (map w.language.core ms) d h.0, all_read ms (done ++ d ∷ []) drivers h.1)
@@ -144,5 +144,6 @@ module _ {M : Type 0} (w : WrittenLanguage M) (r : WellFormedness M) (p : Pieces
   pub read_back : WrittenModelsReadBack w r
   read_back xs h k =
       let apart = kept_apart xs h (all_declared (models_of xs) [] (drivers_of xs) k) in
-      text_read w.language (models_of xs) w.driver_section (written_text w xs) (drivers_of xs) apart.models.answer apart.sections
+      text_read w.language (models_of xs) w.drivers.driver_section (written_text w xs) (drivers_of xs) apart.models.answer
+      apart.sections
       (all_read (models_of xs) [] (drivers_of xs) k)

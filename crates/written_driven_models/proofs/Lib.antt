@@ -4,6 +4,7 @@ pub mod DriverPorts
 pub mod WireReading
 pub mod TerminalReading
 pub mod PathEndReading
+pub mod WholeSections
 pub mod VerilogTokens
 pub mod VerilogPorts
 pub mod VerilogReading

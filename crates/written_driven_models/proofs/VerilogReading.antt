@@ -15,7 +15,6 @@ use Rattle.written_modules.specs.specify_blocks.VerilogModules.{port_names}
 use Rattle.written_modules.specs.specify_blocks.WellFormed.{IsName, AreApart}
 use Rattle.driven_traces.specs.declared.delays.DrivePath.{DrivePath}
 use Rattle.driven_files.specs.driver_models.declared.model.DriverModel.{DriverModel}
-use Rattle.driven_files.specs.driver_models.Models.{output_count}
 use Rattle.driven_files.specs.driver_models.PathEnds.{input_number, drive_number}
 use Rattle.driven_files.specs.driver_models.Cores.{Core, core_name}
 use Rattle.driven_files.specs.driver_models.Terminals.{all_numbered}
@@ -26,9 +25,9 @@ use Rattle.driven_files.specs.verilog_drivers.DriverText.{data_word, enable_word
 use Rattle.driven_files.specs.verilog_drivers.DriverSections.{driver_header, driver_ports, driver_wires, core_call, buffer_inputs}
 use Rattle.driven_files.specs.verilog_drivers.DriverSections.{buffer}
 use Rattle.driven_files.specs.verilog_drivers.DriverSections.{buffers, drive_path, next_drive_path, drive_block, drive_paths}
-use Rattle.driven_files.specs.verilog_drivers.DriverSections.{Front}
-use Rattle.driven_files.specs.verilog_drivers.DriverSections.{section_front, Body, driver_of, section_body, section_end}
-use Rattle.driven_files.specs.verilog_drivers.DriverSections.{section_rest, section}
+use Rattle.driven_files.specs.verilog_drivers.DriverSections.{section_front, section_body, section_end}
+use Rattle.driven_files.specs.verilog_drivers.DriverSections.{section_rest, verilog_section_grammar}
+use Rattle.driver_texts.specs.Sections.{section}
 use Rattle.driven_files.specs.verilog_drivers.WellFormed.{IsWellFormedDriver}
 use Rattle.written_modules.proofs.grammar_reader.Fronts.{each}
 use Rattle.written_modules.proofs.grammar_reader.Derivations.{Reads, to_same, gives, in_turn, chosen, passed, no_turn}
@@ -48,6 +47,7 @@ use Rattle.written_driven_models.proofs.DriverPorts.{drives_below, numbered as i
 use Rattle.written_driven_models.proofs.WireReading.{wires_read}
 use Rattle.written_driven_models.proofs.TerminalReading.{IsTerminal, terminals_read}
 use Rattle.written_driven_models.proofs.TerminalReading as terminals
+use Rattle.written_driven_models.proofs.WholeSections.{front_of, call_of, it_is}
 use Rattle.written_driven_models.proofs.VerilogTokens.{header_tokens, core_tokens, buffer_tokens, path_tokens, paths_by}
 use Rattle.written_driven_models.proofs.VerilogTokens.{paths_tokens}
 use Rattle.written_driven_models.proofs.VerilogTokens.{inner_tokens, data_name, enable_name}
@@ -244,24 +244,18 @@ module _ (names : List (List ℕ)) (cores : List Core) (m : DriverModel) (h : Is
   abbrev count : ℕ
   count = length m.driver.drives
 
-  abbrev front : Front
-  front = record { name = m.name; ports = m.ports }
-
-  abbrev body : Body
-  body = record { call = record { core = m.core; drives = m.driver.drives }; paths = m.driver.paths }
-
   alone : AreAlone m.ports
   alone = record { named = ports_named names cores m h; apart = subst AreApart (sym (append-nil (port_names m.ports))) h.apart }
 
   front_read : (s : List (List ℕ)) → EndsPorts s →
       Reads (section_front names) (codes "`celldefine" ∷ header_tokens m
-      (each input_tokens m.ports (each output_tokens m.ports s))) front s
+      (each input_tokens m.ports (each output_tokens m.ports s))) (front_of m) s
   unfolding section_front
   front_read s e =
       in_turn expected (in_turn expected (in_turn (newly_named names h.name h.new)
       (in_turn (all_ports_read m.ports s alone (some_ports m.ports m.driver.drives h.some (drives_below m h.sound)) e) gives)))
 
-  core_read : (s : List (List ℕ)) → Reads (core_call cores m.ports count) (core_tokens m s) body.call s
+  core_read : (s : List (List ℕ)) → Reads (core_call cores m.ports count) (core_tokens m s) (call_of m) s
   unfolding core_call
   core_read s =
       in_turn (known_as (core_name bytes_eq cores m.ports count) h.core (rw h.fits refl))
@@ -286,48 +280,22 @@ module _ (names : List (List ℕ)) (cores : List Core) (m : DriverModel) (h : Is
     output = wires_other (codes "output") count (core_tokens m s) refl (unlike_word m.core (codes "output") refl h.core);
   }
 
-  body_read : (s : List (List ℕ)) → Stops (begins (codes "bufif1")) s → Stops (begins (codes "specify")) s →
-      Reads (section_body cores m.ports)
-      (wires_declared count (core_tokens m (each buffer_tokens (ports_of m) (paths_tokens m s)))) body s
-  unfolding section_body
-  body_read s none no_block =
-      let paths : List (List ℕ) = paths_tokens m s in
-      let behind_wires : List (List ℕ) = core_tokens m (each buffer_tokens (ports_of m) paths) in
-      in_turn (wires count behind_wires h.some
-      (stops (codes "wire") behind_wires (no_wire (each buffer_tokens (ports_of m) paths))))
-      (in_turn (core_read (each buffer_tokens (ports_of m) paths))
-      (in_turn (buffers_read (length (outputs m.ports)) m.driver.drives m.ports (ports_of m) paths (its_numbers m h.sound)
-      (ports_named names cores m h)
-      (no_buffer (nat_lt 0 (length m.driver.paths)) s none))
-      (in_turn (paths_read m s (paths_found names cores m h) no_block) gives)))
-
-  it_is : driver_of front body ≡ m
-  it_is =
-      ap (λ (k : ℕ). record {
-        name = m.name;
-        core = m.core;
-        ports = m.ports;
-        driver =
-            record { inputs = k; outputs = output_count m.ports; drives = m.driver.drives; paths = m.driver.paths };
-      })
-      (sym h.sound.inputs)
-      ∙ ap (λ (k : ℕ). record {
-        name = m.name;
-        core = m.core;
-        ports = m.ports;
-        driver =
-            record { inputs = m.driver.inputs; outputs = k; drives = m.driver.drives; paths = m.driver.paths };
-      })
-      (sym h.sound.outputs)
-
   end_read : Reads section_end (codes "endmodule" ∷ codes "`endcelldefine" ∷ []) tt []
   unfolding section_end
   end_read = in_turn expected (in_turn expected (record { taken = (refl, refl, refl) }))
 
-  pub section_read : Reads (section names cores) (codes "`celldefine" ∷ inner_tokens m (codes "`endcelldefine" ∷ [])) m []
-  unfolding section section_rest
+  pub section_read : Reads (section verilog_section_grammar names cores)
+      (codes "`celldefine" ∷ inner_tokens m (codes "`endcelldefine" ∷ [])) m []
+  unfolding section section_rest section_body
   section_read =
       let end : List (List ℕ) = codes "endmodule" ∷ codes "`endcelldefine" ∷ [] in
-      let wired : List (List ℕ) = wires_declared count (core_tokens m (each buffer_tokens (ports_of m) (paths_tokens m end))) in
-      in_turn (front_read wired (no_port (each buffer_tokens (ports_of m) (paths_tokens m end))))
-      (in_turn (body_read end refl refl) (in_turn end_read (to_same it_is gives)))
+      let instances : List (List ℕ) = each buffer_tokens (ports_of m) (paths_tokens m end) in
+      let behind_wires : List (List ℕ) = core_tokens m instances in
+      in_turn (front_read (wires_declared count behind_wires) (no_port instances))
+      (in_turn
+      (in_turn (wires count behind_wires h.some (stops (codes "wire") behind_wires (no_wire instances)))
+      (in_turn (core_read instances)
+      (in_turn (buffers_read (length (outputs m.ports)) m.driver.drives m.ports (ports_of m) (paths_tokens m end)
+      (its_numbers m h.sound) (ports_named names cores m h) (no_buffer (nat_lt 0 (length m.driver.paths)) end refl))
+      (in_turn (paths_read m end (paths_found names cores m h) refl) gives))))
+      (in_turn end_read (to_same (it_is m h.sound) gives)))

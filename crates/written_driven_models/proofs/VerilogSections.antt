@@ -3,19 +3,18 @@ use Rattle.std.proofs.Common.{◌≡◌, ℕ, false, List, [], ◌∷◌, ◌++�
 use Rattle.written_modules.specs.lexer.Tokens.{scan}
 use Rattle.written_modules.specs.lexer.Separators.{spelled}
 use Rattle.written_modules.specs.verilog_tokens.Tokens.{lexis}
-use Rattle.written_modules.specs.grammar_reader.Texts.{IsText}
 use Rattle.driven_files.specs.driver_models.declared.model.DriverModel.{DriverModel}
 use Rattle.driven_files.specs.driver_models.Cores.{Core}
 use Rattle.driven_files.specs.verilog_drivers.DriverText.{driver_before, driver_section, driver_text}
-use Rattle.driven_files.specs.verilog_drivers.DriverSections.{section_language, section_text}
 use Rattle.driven_files.specs.verilog_drivers.WellFormed.{IsWellFormedDriver}
-use Rattle.driven_files.proofs.verilog_drivers.SoundDrivers.{section_answer}
+use Rattle.driven_files.proofs.verilog_drivers.StandingDrivers.{section_ends}
 use Rattle.written_modules.proofs.grammar_reader.Fronts.{Front, Anything, in_front}
 use Rattle.written_modules.proofs.grammar_reader.Passages.{Barred}
 use Rattle.written_modules.proofs.grammar_reader.Spelling.{SpellsBy, literal, behind, barred_less, found_is}
-use Rattle.written_modules.proofs.grammar_reader.TextsReadBack.{is_text, reads_back}
-use Rattle.written_driven_models.specs.WrittenDrivers.{IsSectionOf, WrittenDriversReadBack}
-use Rattle.written_driven_models.specs.VerilogDrivers.{verilog_drivers}
+use Rattle.written_driven_models.specs.WrittenDrivers.{IsSectionOf}
+use Rattle.written_driven_models.specs.Laws.{WrittenDriversReadBack}
+use Rattle.written_driven_models.specs.Verilog.{verilog_drivers, written_verilog, well_formed_verilog}
+use Rattle.written_driven_models.proofs.WholeSections.{is_section}
 use Rattle.written_driven_models.proofs.VerilogTokens.{IsNamedDriver, inner_text, inner_tokens, inner_spelled, before_is}
 use Rattle.written_driven_models.proofs.VerilogPorts.{driver_named}
 use Rattle.written_driven_models.proofs.VerilogReading.{section_read}
@@ -47,21 +46,18 @@ section_spelled m end h e =
     (before_is m end ∙ sym (append_assoc (codes "`celldefine\n") (inner_text m) end))
     ∙ found_is (front_spelled m h) end tt ∙ ap (in_front (section_tokens m)) e
 
-module _ (names : List (List ℕ)) (cores : List Core) (m : DriverModel) (h : IsWellFormedDriver names cores m) where
-  is_section : (end : List ℕ) → spelled (scan lexis false 0 0 end) ≡ (codes "`endcelldefine" ∷ [], false)
-      → IsSectionOf verilog_drivers names cores (driver_before (codes "endmodule\n" ++ end) m) m
-  unfolding section_text
-  is_section end e =
-      let bytes : List ℕ = driver_before (codes "endmodule\n" ++ end) m in
-      reads_back (section_text names cores) (IsText (section_language names cores)) bytes m
-      (section_answer names cores bytes).value
-      (is_text (section_language names cores) bytes m (section_tokens m (codes "`endcelldefine" ∷ []))
-      (section_spelled m end (driver_named names cores m h) e) (section_read names cores m h))
+read_section : (names : List (List ℕ)) (cores : List Core) (m : DriverModel) (h : IsWellFormedDriver names cores m) (end : List ℕ)
+    → spelled (scan lexis false 0 0 end) ≡ (codes "`endcelldefine" ∷ [], false)
+    → IsSectionOf verilog_drivers names cores (driver_before (codes "endmodule\n" ++ end) m) m
+read_section names cores m h end e =
+    is_section verilog_drivers section_ends names cores m (driver_before (codes "endmodule\n" ++ end) m)
+    (section_tokens m (codes "`endcelldefine" ∷ [])) (section_spelled m end (driver_named names cores m h) e)
+    (section_read names cores m h)
 
 -- what is well formed reads back
-pub read_back : WrittenDriversReadBack verilog_drivers
+pub read_back : WrittenDriversReadBack written_verilog well_formed_verilog
 unfolding driver_section driver_text
 read_back names cores m h = record {
-  section = is_section names cores m h (codes "`endcelldefine") refl;
-  text = is_section names cores m h (codes "`endcelldefine\n") refl;
+  section = read_section names cores m h (codes "`endcelldefine") refl;
+  text = read_section names cores m h (codes "`endcelldefine\n") refl;
 }

@@ -13,9 +13,9 @@ use Rattle.driven_files.specs.driver_models.Terminals.{core_terminals}
 use Rattle.driver_texts.specs.NumberedPorts.{NumberedPort, ports_of}
 use Rattle.driver_texts.specs.PortNames.{outputs}
 use Rattle.driven_files.specs.vhdl_drivers.DriverText.{data_word, enable_word, driven_count}
-use Rattle.driven_files.specs.vhdl_drivers.DriverSections.{Front, driver_packages, not_driven, driver_name, this_driver}
+use Rattle.driven_files.specs.vhdl_drivers.DriverSections.{driver_packages, not_driven, driver_name, this_driver}
 use Rattle.driven_files.specs.vhdl_drivers.DriverSections.{header_end}
-use Rattle.driven_files.specs.vhdl_drivers.DriverSections.{driver_ports, section_front, driver_signals, CoreCall, core_start}
+use Rattle.driven_files.specs.vhdl_drivers.DriverSections.{driver_ports, section_front, driver_signals, core_start}
 use Rattle.driven_files.specs.vhdl_drivers.DriverSections.{port_map}
 use Rattle.driven_files.specs.vhdl_drivers.DriverSections.{core_call, section_core}
 use Rattle.driven_files.specs.vhdl_drivers.WellFormed.{IsWrittenDriver, IsWellFormedDriver}
@@ -24,6 +24,7 @@ use Rattle.written_modules.proofs.grammar_reader.Derivations.{Reads, gives, toke
 use Rattle.written_entities.proofs.Names.{entity_named}
 use Rattle.written_entities.proofs.NameReading.{expected, four_expected, six_expected, newly_named, known_as, so_named}
 use Rattle.written_entities.proofs.HeaderReading.{packages_read, ports_front, AreDeclared, port_list_read}
+use Rattle.written_driven_models.proofs.WholeSections.{front_of, call_of}
 use Rattle.written_driven_models.proofs.NumberedDrives.{Numbered}
 use Rattle.written_driven_models.proofs.DriverPorts as sound
 use Rattle.written_driven_models.proofs.WireReading.{wires_read}
@@ -93,13 +94,7 @@ start_read s = in_turn expected (in_turn (token (rw instance_is_name refl))
     (in_turn expected (in_turn expected (in_turn expected expected))))
 
 module _ (names : List (List ℕ)) (cores : List Core) (m : DriverModel) (h : IsWellFormedDriver names cores m) where
-  abbrev pub front : Front
-  front = record { name = m.name; ports = m.ports }
-
-  abbrev pub call : CoreCall
-  call = record { core = m.core; drives = m.driver.drives }
-
-  pub front_read : (s : List (List ℕ)) → Reads (section_front names) (driver_header_front m s) front s
+  pub front_read : (s : List (List ℕ)) → Reads (section_front names) (driver_header_front m s) (front_of m) s
   unfolding section_front driver_name
   front_read s =
       let header_end : List (List ℕ) =
@@ -121,7 +116,7 @@ module _ (names : List (List ℕ)) (cores : List Core) (m : DriverModel) (h : Is
       (in_turn expected (in_turn expected gives)))))
 
   pub core_read : (s : List (List ℕ))
-      → Reads (section_core cores m.ports) (signals_front (driven_count m) (core_front m s)) call s
+      → Reads (section_core cores m.ports) (signals_front (driven_count m) (core_front m s)) (call_of m) s
   unfolding section_core core_call
   core_read s =
       in_turn (signals_read (driven_count m) (core_front m s) h.written.some refl)

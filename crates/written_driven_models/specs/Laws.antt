@@ -8,6 +8,7 @@ use Rattle.driven_files.specs.driver_models.Cores.{Core}
 use Rattle.driven_files.specs.driver_sections.Sections as sections
 use Rattle.driven_files.specs.sectioned_texts.DrivenModels.{taken_names, rest_of, driven_models}
 use Rattle.written_modules.specs.grammar_reader.ReadBack.{ReadsBack}
+use Rattle.written_driven_models.specs.WrittenDrivers.{DriverReadsBack}
 use Rattle.written_driven_models.specs.Texts.{WrittenLanguage, WrittenModel, models_of, drivers_of, written_text, models_text}
 
 -- the sections of a text
@@ -21,7 +22,7 @@ section_texts w text = map (sections.text_of text) (sections_of w text)
 -- The sections of a text are those of these drivers, and around them it is the text of these models, and of no others.
 pub record HoldsApart {M : Type 0} (w : WrittenLanguage M) (text : List ℕ) (ms : List M) (drivers : List DriverModel) :
     Type 0 where
-  pub sections : section_texts w text ≡ map w.driver_section drivers
+  pub sections : section_texts w text ≡ map w.drivers.driver_section drivers
   pub models : ReadsBack w.language.text w.IsText (rest_of w.language text) ms
 
 -- Which models of a language are well formed together, which drivers a section can declare, and which where some names are taken
@@ -32,6 +33,12 @@ pub record WellFormedness (M : Type 0) : Type 1 where
   pub IsWellFormedDriver : List (List ℕ) → List Core → DriverModel → Type 0
 
 module _ {M : Type 0} (w : WrittenLanguage M) (r : WellFormedness M) where
+  -- a driver that is well formed reads back from what is written of it
+  abbrev pub WrittenDriversReadBack : Type 0
+  WrittenDriversReadBack =
+      (names : List (List ℕ)) (cores : List Core) (d : DriverModel) → r.IsWellFormedDriver names cores d
+      → DriverReadsBack w.drivers names cores d
+
   -- the text of well formed models and drivers keeps them apart
   abbrev pub WrittenDriversKeepApart : Type 0
   WrittenDriversKeepApart =

@@ -1,6 +1,4 @@
 pub mod WrittenDrivers
-pub mod VerilogDrivers
-pub mod VitalDrivers
 pub mod Texts
 pub mod Laws
 pub mod Verilog

@@ -4,15 +4,15 @@ use Rattle.std.specs.Prelude.{ℕ, List, [], ◌∷◌, ◌++◌, map, Option, S
 use Rattle.std.specs.List.{flat_map}
 use Rattle.driven_files.specs.driver_models.declared.model.DriverModel.{DriverModel}
 use Rattle.driven_files.specs.sectioned_texts.DrivenModels.{SectionLanguage}
+use Rattle.written_driven_models.specs.WrittenDrivers.{WrittenSections}
 
--- How a language is written: the language, what stands before the models, a model's text, a driver's as a section and with its
--- last line end, and whether bytes without sections are the text of models.
+-- How a language is written: the language, what stands before the models, a model's text, how drivers are written, and whether
+-- bytes without sections are the text of models.
 pub record WrittenLanguage (M : Type 0) : Type 1 where
   pub language : SectionLanguage M
   pub front : List ℕ
   pub model_text : M → List ℕ
-  pub driver_section : DriverModel → List ℕ
-  pub driver_text : DriverModel → List ℕ
+  pub drivers : WrittenSections
   pub IsText : List ℕ → List M → Type 0
 
 -- a model, and the driver over it, where there is one
@@ -37,7 +37,7 @@ module _ {M : Type 0} (w : WrittenLanguage M) where
   -- a driver's text, where there is one
   abbrev pub text_behind : Option DriverModel → List ℕ
   text_behind None = []
-  text_behind (Some driver) = w.driver_text driver
+  text_behind (Some driver) = w.drivers.driver_text driver
 
   -- a model, and its driver behind it
   unfoldable pub written_model_text : WrittenModel M → List ℕ

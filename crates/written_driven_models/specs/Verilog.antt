@@ -8,8 +8,10 @@ use Rattle.written_modules.specs.verilog_writer.Model.{prelude_text, module_text
 use Rattle.driven_files.specs.driver_models.declared.model.DriverModel.{DriverModel}
 use Rattle.driven_files.specs.driver_models.Cores.{Core}
 use Rattle.driven_files.specs.verilog_drivers.DriverText.{driver_section, driver_text}
+use Rattle.driven_files.specs.verilog_drivers.DriverSections.{verilog_section_grammar}
 use Rattle.driven_files.specs.verilog_drivers.WellFormed.{IsWellFormedDriver}
 use Rattle.driven_files.specs.Verilog.{verilog_sections}
+use Rattle.written_driven_models.specs.WrittenDrivers.{WrittenSections}
 use Rattle.written_driven_models.specs.Texts.{WrittenLanguage}
 use Rattle.written_driven_models.specs.Laws.{WellFormedness}
 
@@ -17,13 +19,16 @@ use Rattle.written_driven_models.specs.Laws.{WellFormedness}
 abbrev pub CanBeDeclared : DriverModel → Type 0
 CanBeDeclared driver = (names : List (List ℕ)) × ((cores : List Core) × IsWellFormedDriver names cores driver)
 
+-- drivers as they are written
+abbrev pub verilog_drivers : WrittenSections
+verilog_drivers = record { grammar = verilog_section_grammar; driver_section = driver_section; driver_text = driver_text }
+
 abbrev pub written_verilog : WrittenLanguage VModule
 written_verilog = record {
   language = verilog_sections;
   front = prelude_text;
   model_text = module_text;
-  driver_section = driver_section;
-  driver_text = driver_text;
+  drivers = verilog_drivers;
   IsText = IsVerilogText;
 }
 
@@ -31,6 +36,5 @@ abbrev pub well_formed_verilog : WellFormedness VModule
 well_formed_verilog = record {
   AreWellFormed = AreWellFormed;
   CanBeDeclared = CanBeDeclared;
-  IsWellFormedDriver =
-      IsWellFormedDriver;
+  IsWellFormedDriver = IsWellFormedDriver;
 }

@@ -7,18 +7,23 @@ use Rattle.driven_files.specs.vhdl_grammar.WellFormed.{AreWellFormed}
 use Rattle.written_entities.specs.vhdl_writer.Entity.{entity_text}
 use Rattle.driven_files.specs.vhdl_drivers.DriverSection.{driver_section}
 use Rattle.driven_files.specs.vhdl_drivers.DriverText.{driver_text}
+use Rattle.driven_files.specs.vhdl_drivers.DriverSections.{vhdl_section_grammar}
 use Rattle.driven_files.specs.vhdl_drivers.WellFormed.{IsWrittenDriver, IsWellFormedDriver}
 use Rattle.driven_files.specs.Vital.{vital_sections}
+use Rattle.written_driven_models.specs.WrittenDrivers.{WrittenSections}
 use Rattle.written_driven_models.specs.Texts.{WrittenLanguage}
 use Rattle.written_driven_models.specs.Laws.{WellFormedness}
+
+-- drivers as they are written
+abbrev pub vital_drivers : WrittenSections
+vital_drivers = record { grammar = vhdl_section_grammar; driver_section = driver_section; driver_text = driver_text }
 
 abbrev pub written_vital : WrittenLanguage VEntity
 written_vital = record {
   language = vital_sections;
   front = [];
   model_text = entity_text;
-  driver_section = driver_section;
-  driver_text = driver_text;
+  drivers = vital_drivers;
   IsText = IsVhdlText;
 }
 
@@ -26,6 +31,5 @@ abbrev pub well_formed_vital : WellFormedness VEntity
 well_formed_vital = record {
   AreWellFormed = AreWellFormed;
   CanBeDeclared = IsWrittenDriver;
-  IsWellFormedDriver =
-      IsWellFormedDriver;
+  IsWellFormedDriver = IsWellFormedDriver;
 }

@@ -3,9 +3,7 @@
 //! nothing.
 #![tactic(auto)]
 
-ghost use Rattle.written_driven_models.specs.WrittenDrivers.{WrittenDriversReadBack};
-ghost use Rattle.written_driven_models.specs.VerilogDrivers.{verilog_drivers};
-ghost use Rattle.written_driven_models.specs.VitalDrivers.{vital_drivers};
+ghost use Rattle.written_driven_models.specs.Laws.{WrittenDriversReadBack};
 ghost use Rattle.written_driven_models.specs.Laws.{WrittenDriversKeepApart, WrittenModelsHaveNoSections, WrittenModelsReadBack};
 ghost use Rattle.written_driven_models.specs.ApartDrivers.{DriversApartAreWellFormed};
 ghost use Rattle.written_driven_models.specs.Verilog.{written_verilog, well_formed_verilog};
@@ -14,12 +12,12 @@ ghost use Rattle.written_driven_models.specs.Vital.{written_vital, well_formed_v
 /// A law: the Verilog text that is written of a well formed driver, and also without its last line end, is a section of this
 /// driver, and of no other. (IEEE 1364-2005, 7.4, 12.1 and 19.1.)
 pub fn verilog_drivers_read_back()
-    ensures { WrittenDriversReadBack verilog_drivers }
+    ensures { WrittenDriversReadBack written_verilog well_formed_verilog }
 {}
 
 /// The same law of VHDL text. (IEEE 1076-1993, 1.1, 1.2 and 9.6; IEEE 1076.4-2000, `VitalBUFIF1`.)
 pub fn vital_drivers_read_back()
-    ensures { WrittenDriversReadBack vital_drivers }
+    ensures { WrittenDriversReadBack written_vital well_formed_vital }
 {}
 
 /// A law: the sections of the text that is written of well formed modules and drivers are the texts of the drivers, each without

@@ -4,6 +4,7 @@ use Rattle.std.proofs.Common.{sym, ap, ◌∙◌, subst, arith, IsTrue, Option, 
 use Rattle.std.specs.Prelude.{flat_map, filter}
 use Rattle.std.proofs.lemmas.Bool.{and_parts}
 use Rattle.std.proofs.lemmas.List.{map-append, length-map}
+use Rattle.std.proofs.lemmas.List.Folds.{flat_map-map as flat_map_map}
 use Rattle.trit_cubes.proofs.ListLemmas.{Among}
 use Rattle.bool_functions.specs.declared.tree.Node.{Node}
 use Rattle.cell_machine.specs.declared.pins.Pin.{Pin}
@@ -22,7 +23,7 @@ use Rattle.specify_blocks.proofs.cell_tables.ConditionUses.{all-among}
 use Rattle.vhdl_grammar.specs.WellFormed.{conditions_of_check, conditions_of_gate, conditions_of_path, conditions_of_output}
 use Rattle.vhdl_grammar.specs.WellFormed.{looked_up, looks_up_in_order}
 use Rattle.specify_blocks.proofs.cell_tables.CellParts.{Rules, arcs_hold}
-use Rattle.generated_entities.proofs.ListLemmas.{flat_flat, flat_map_map}
+use Rattle.generated_entities.proofs.ListLemmas.{flat_flat}
 use Rattle.generated_entities.proofs.LookedUp.{in_order}
 use Rattle.generated_entities.proofs.ArcOrder.{ends_at, by_ends, arcs_by_ends}
 

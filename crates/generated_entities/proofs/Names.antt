@@ -6,7 +6,7 @@ use Rattle.std.specs.Char.{is_ascii_alphabetic, is_ascii_alphanumeric, is_ascii_
 use Rattle.std.specs.Char.{to_ascii_lowercase}
 use Rattle.std.specs.List.{list_all}
 use Rattle.std.specs.Str.{str_eq_ignore_ascii_case}
-use Rattle.std.proofs.lemmas.Bool.{and_parts, and_from, not-true, true≢false, cases_Bool, leb-true, eq-eqb}
+use Rattle.std.proofs.lemmas.Bool.{and_parts, and_from, not-true, true≢false, cases_Bool, leb-true, eq-eqb, or_right as or_true}
 use Rattle.std.proofs.lemmas.Fmt.{decimal_injective}
 use Rattle.std.proofs.lemmas.List.{append_cancel_left, map-append}
 use Rattle.std.proofs.lemmas.Slice.Eq.{bytes_eq-Decides}
@@ -93,10 +93,6 @@ alphanumeric_in_name b h = ap (λ t. t || b == 95) h
 
 plain_in_name : (bs : List ℕ) → IsTrue (list_all is_ascii_alphanumeric bs) → IsTrue (list_all is_name_byte bs)
 plain_in_name bs h = all_weaker is_ascii_alphanumeric is_name_byte alphanumeric_in_name bs h
-
-or_true : (x y : Bool) → y ≡ true → (x || y) ≡ true
-or_true true y e = refl
-or_true false y e = e
 
 going_in_name : (under : Bool) (bs : List ℕ) → IsTrue (goes_on under bs) → IsTrue (list_all is_name_byte bs)
 going_in_name under [] h = refl

@@ -1,9 +1,9 @@
 -- The names of the ports of a generated entity.
-use Rattle.std.proofs.Common.{◌≡◌, ℕ, ◌+◌, ◌^◌, ◌<◌, ◌≤◌, Bool, true, false, not, ◌&&◌, ◌||◌, ◌⊎◌, inl, inr, IsTrue, List, []}
+use Rattle.std.proofs.Common.{◌≡◌, ℕ, ◌+◌, ◌^◌, ◌<◌, ◌≤◌, Bool, true, false, not, ◌&&◌, ◌⊎◌, inl, inr, IsTrue, List, []}
 use Rattle.std.proofs.Common.{◌∷◌, ◌++◌, length, refl, sym, subst, arith, codes, decimal, length-append, if◌then◌else◌}
 use Rattle.std.specs.List.{IsDistinct, list_any}
 use Rattle.std.specs.Str.{str_eq_ignore_ascii_case}
-use Rattle.std.proofs.lemmas.Bool.{and_parts, not-true}
+use Rattle.std.proofs.lemmas.Bool.{and_parts, not-true, or_parts}
 use Rattle.std.proofs.lemmas.List.{map-append}
 use Rattle.trit_cubes.proofs.ListLemmas.{Among, among-append, among-map}
 use Rattle.cell_machine.specs.declared.pins.Pin.{Pin}
@@ -33,10 +33,6 @@ record IsNext (entity : List ℕ) (ports : List VPort) (y : List ℕ) : Type 0 w
   named : IsPortName y
   new : (x : List ℕ) → Among x (entity ∷ port_names ports) → str_eq_ignore_ascii_case x y ≡ false
   earlier : IsEarlier (length ports + 1) y
-
-or_parts : (a b : Bool) → (a || b) ≡ false → (a ≡ false) × (b ≡ false)
-or_parts false b h = (refl, h)
-or_parts true b h = absurd cc
 
 kept_next : (entity : List ℕ) (ports : List VPort) (name : List ℕ) → IsTrue (is_kept_port_name entity ports name)
     → IsNext entity ports name

@@ -5,7 +5,7 @@ use Rattle.std.specs.Char.{is_ascii_digit, is_ascii_alphabetic, is_ascii_upperca
 use Rattle.std.specs.List.{list_any, list_all}
 use Rattle.std.specs.Str.{bytes_eq}
 use Rattle.std.specs.Str.Parse.{AllDigits}
-use Rattle.std.proofs.lemmas.Bool.{and_parts, and_from, le-leb}
+use Rattle.std.proofs.lemmas.Bool.{and_parts, and_from, le-leb, or_from as neither}
 use Rattle.std.proofs.lemmas.Fmt.{decimal_is_IsNumeral, decimal_injective}
 use Rattle.std.proofs.lemmas.List.{append_cancel_left}
 use Rattle.std.proofs.lemmas.List.Folds.{list_any-append, list_all-append}
@@ -139,11 +139,6 @@ pub numbers_apart : (word : List ℕ) (m n : ℕ) → m < 2 ^ 64 → n < 2 ^ 64 
 numbers_apart word m n h k apart =
     unlike (word ++ decimal m) (word ++ decimal n)
     (λ e. apart (decimal_injective m n h k (append_cancel_left word (decimal m) (decimal n) e)))
-
-neither : (a b : Bool) → a ≡ false → b ≡ false → (a || b) ≡ false
-neither false false h k = refl
-neither true b h k = absurd cc
-neither false true h k = absurd cc
 
 absent : (word : List ℕ) (n m : ℕ) → n < m → m < 2 ^ 64 → list_any (bytes_eq (word ++ decimal m)) (numbered word n) ≡ false
 absent word zero m h k = refl

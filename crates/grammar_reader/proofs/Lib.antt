@@ -3,6 +3,7 @@ pub mod Choices
 pub mod Values
 pub mod TextAnswers
 pub mod Passing
+pub mod WordPromises
 pub mod Places
 pub mod Tests
 pub mod TextLaws

@@ -5,7 +5,7 @@ use Rattle.std.proofs.Common.{◌∙◌, arith, codes}
 use Rattle.std.specs.Str.{bytes_eq}
 use Rattle.std.specs.Option.{option_map_or}
 use Rattle.std.specs.List.{list_all, list_any}
-use Rattle.std.proofs.lemmas.Bool.{and_parts, and_from, cases_Bool, eqb-true}
+use Rattle.std.proofs.lemmas.Bool.{and_parts, and_from, cases_Bool, eqb-true, or_parts as neither}
 use Rattle.std.proofs.lemmas.Bool.Decides.{nat_tests}
 use Rattle.std.proofs.lemmas.List.Folds.{list_all-append, list_any-append}
 use Rattle.std.proofs.lemmas.List.Quantifiers.{position-Some}
@@ -75,10 +75,6 @@ same_net-is (net.Wire v) net.Notifier e = absurd cc
 same_net-is net.Notifier (net.Port p) e = absurd cc
 same_net-is net.Notifier (net.Wire w) e = absurd cc
 same_net-is net.Notifier net.Notifier e = refl
-
-neither : (a b : Bool) → (a || b) ≡ false → (a ≡ false) × (b ≡ false)
-neither true b e = absurd cc
-neither false b e = (refl, e)
 
 push_apart : (ns : List VNet) (n : VNet) → IsTrue (are_apart ns) → list_any (same_net n) ns ≡ false
     → IsTrue (are_apart (ns ++ n ∷ []))

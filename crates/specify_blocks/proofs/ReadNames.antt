@@ -1,12 +1,11 @@
 -- The tokens and the names that are read.
 use Rattle.std.proofs.Common.{◌≡◌, ℕ, Bool, true, false, not, ◌||◌, ◌==◌, if◌then◌else◌, IsTrue, List, [], ◌∷◌, ◌++◌, Option}
-use Rattle.std.proofs.Common.{refl, sym, ap, subst, arith}
+use Rattle.std.proofs.Common.{refl, ap, subst, arith}
 use Rattle.std.specs.Prelude.{All}
 use Rattle.std.specs.Str.{bytes_eq}
 use Rattle.std.specs.Cmp.{IsEquivalence}
 use Rattle.std.specs.List.{IsDistinct}
 use Rattle.std.proofs.lemmas.Bool.{and_parts}
-use Rattle.std.proofs.lemmas.Bool.Decides.{same_from_decides}
 use Rattle.std.proofs.lemmas.Slice.Eq.{bytes_eq-Decides}
 use Rattle.std.proofs.lemmas.List.Elements.{All-push}
 use Rattle.std.proofs.lemmas.Map.Keys.{IsDistinct-push}
@@ -14,13 +13,14 @@ use Rattle.verilog_tokens.specs.Kept.{is_identifier}
 use Rattle.verilog_tokens.specs.Words.{is_verilog_word}
 use Rattle.std.specs.Char.{is_ascii_alphabetic}
 use Rattle.grammar_rules.specs.Rule.{Verdict, Fits, Foul}
-use Rattle.grammar_rules.specs.Rule as r
-use Rattle.grammar_rules.proofs.Promises.{Promises, token, gives, in_turn, keeps}
+use Rattle.grammar_rules.proofs.Promises.{Promises, token}
 use Rattle.verilog_tokens.specs.Tokens.{is_name}
 use Rattle.grammar_reader.specs.declared.refusal.Refusal.{Refusal}
 use Rattle.grammar_reader.specs.declared.refusal.Refusal.TheVariants.{Syntax, Undefined, Twice}
+use Rattle.grammar_reader.proofs.ItemPlaces.{same_bytes as bytes_refl, bytes_symm}
+pub use Rattle.grammar_reader.proofs.WordPromises.{values, goes_on, behind, surely}
 pub use Rattle.grammar_reader.proofs.Passing.{fits_if, fits_unless, fits_where, some_if, fits_allowed, IsFound}
-use Rattle.grammar_reader.specs.Words.{Grammar, go_on_where, allowed_by, valued, fresh}
+use Rattle.grammar_reader.specs.Words.{allowed_by, fresh}
 use Rattle.udp_tables.specs.VerilogRules.{expect_where, any_name, is_among, new_name, known}
 use Rattle.specify_blocks.specs.WellFormed.{IsName, AreApart}
 
@@ -43,14 +43,6 @@ fits_same x a e = cc
 
 bytes_congr : (x y z : List ℕ) → bytes_eq x y ≡ true → bytes_eq x z ≡ bytes_eq y z
 bytes_congr x y z e = ap (λ t. bytes_eq t z) ((bytes_eq-Decides x y).0 e)
-
-bytes_symm : (x y : List ℕ) → bytes_eq x y ≡ bytes_eq y x
-bytes_symm x y =
-    same_from_decides (bytes_eq x y) (bytes_eq y x) (bytes_eq-Decides x y)
-    (λ e. sym ((bytes_eq-Decides y x).0 e), λ e. (bytes_eq-Decides y x).1 (sym e))
-
-bytes_refl : (x : List ℕ) → bytes_eq x x ≡ true
-bytes_refl x = (bytes_eq-Decides x x).1 refl
 
 pub bytes_equivalence : IsEquivalence bytes_eq
 bytes_equivalence = record { refl = bytes_refl; symm = bytes_symm; congr = bytes_congr }
@@ -96,23 +88,7 @@ known_values find = token (λ x a p e.
     let n = fits_if (is_name x) (allowed_by Undefined (find x)) Syntax a e in
     (x, fits_allowed Undefined (find x) a n.1))
 
-pub values : {A : Type 0} (find : List ℕ → Option A) → Promises IsSpelled (valued find) (IsFound find)
-values find = token (λ x a p e. (x, fits_allowed Syntax (find x) a e))
-
 pub where_holds : (b : Bool) (k : Refusal) (text : List ℕ) → Promises IsSpelled (expect_where b k text) (λ _. b ≡ true)
 where_holds b k text = token (λ x a p e.
     let n = fits_if (bytes_eq x text) (if b then Fits tt else Foul k tt) Syntax a e in
     (fits_where b k tt a n.1).0)
-
-pub goes_on : (b : Bool) → Promises IsSpelled (go_on_where b) (λ _. b ≡ true)
-goes_on true = gives refl
-goes_on false = token (λ x a p e. absurd cc)
-
--- behind a part of which nothing is said
-pub behind : {A B : Type 0} {p : Grammar A} {g : A → Grammar B} {Q : B → Type 0} → ((a : A) → Promises IsSpelled (g a) Q)
-    → Promises IsSpelled (r.Then p g) Q
-behind {p = p} more = in_turn (keeps IsSpelled p) (λ a _. more a)
-
--- what each value has
-pub surely : {A : Type 0} {p : Grammar A} {Q : A → Type 0} → ((a : A) → Q a) → Promises IsSpelled p Q
-surely {p = p} q = record { kept = λ s a left all t. (q a, ((keeps IsSpelled p).kept s a left all t).1) }

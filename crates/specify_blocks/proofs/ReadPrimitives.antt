@@ -5,8 +5,7 @@ use Rattle.std.proofs.Common.{◌∙◌, arith, codes, length-append}
 use Rattle.std.specs.Prelude.{All, count_by}
 use Rattle.std.specs.Option.{option_map}
 use Rattle.std.specs.List.{list_all}
-use Rattle.std.proofs.lemmas.Bool.{and_parts, and_from, cases_Bool, eqb-true}
-use Rattle.std.proofs.lemmas.Bool.Decides.{nat_tests}
+use Rattle.std.proofs.lemmas.Bool.{and_parts, and_from, cases_Bool, eqb-true, leb-true as at_most, or_parts as neither}
 use Rattle.std.proofs.lemmas.List.Folds.{list_all-append}
 use Rattle.std.proofs.lemmas.List.Sums.{sum_by-append, sum_by-cons}
 use Rattle.std.proofs.lemmas.List.Elements.{All-push}
@@ -57,9 +56,6 @@ record IsHeader (h : Header) : Type 0 where
   inputs : AreInputs h.output h.inputs
   most : length h.inputs ≤ 10
 
-at_most : (n m : ℕ) → nat_le n m ≡ true → n ≤ m
-at_most n m e = grind (arith, nat_tests)
-
 headers : Promises IsSpelled header IsHeader
 unfolding header
 headers =
@@ -91,10 +87,6 @@ states h =
 abbrev AreEntries : Bool → List Entry → Type 0
 AreEntries true entries = count_by (λ e. not (is_level e)) entries ≤ 1
 AreEntries false entries = IsTrue (list_all is_level entries)
-
-neither : (a b : Bool) → (a || b) ≡ false → (a ≡ false) × (b ≡ false)
-neither true b e = absurd cc
-neither false b e = (refl, e)
 
 changes-cons : (e : Entry) (entries : List Entry)
     → count_by (λ e. not (is_level e)) (e ∷ entries) ≡ cond (not (is_level e)) 1 0 + count_by (λ e. not (is_level e)) entries

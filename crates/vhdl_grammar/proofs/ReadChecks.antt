@@ -45,7 +45,7 @@ referred_inputs : (scope : Scope) → Promises IsSpelled (referred scope) (IsInp
 unfolding referred
 referred_inputs scope = behind (λ a. in_turn (input_ports scope.ports) (λ p h. behind (λ b. gives h)))
 
-times : Promises IsSpelled a_time IsNumber
+pub times : Promises IsSpelled a_time IsNumber
 unfolding a_time
 times = in_turn numbers (λ n h. behind (λ a. gives h))
 

@@ -4,7 +4,7 @@ use Rattle.std.proofs.Common.{◌∷◌, ◌++◌, length, refl, sym, subst, ◌
 use Rattle.std.specs.Prelude.{All}
 use Rattle.std.specs.Char.{is_ascii_alphabetic, is_ascii_alphanumeric}
 use Rattle.std.specs.List.{IsDistinct, list_any, list_all}
-use Rattle.std.proofs.lemmas.Bool.{and_parts, and_from, eqb-true, eqb-false}
+use Rattle.std.proofs.lemmas.Bool.{and_parts, and_from, eqb-true, eqb-false, or_parts as neither}
 use Rattle.std.proofs.lemmas.Bool.Decides.{nat_tests}
 use Rattle.std.proofs.lemmas.List.{map_push}
 use Rattle.std.proofs.lemmas.List.Elements.{All-nil, All-push}
@@ -25,7 +25,7 @@ use Rattle.vhdl_grammar.specs.VhdlDeclarations.{state_variables, output_variable
 use Rattle.vhdl_grammar.specs.VhdlDeclarations.{are_declared, variables, scope_of}
 use Rattle.vhdl_grammar.specs.WellFormed.{IsEntityName, IsPortName, AreApart, IsNumber}
 use Rattle.vhdl_grammar.proofs.ReadNames.{IsSpelled, a_name, fits_if, fits_unless, push_apart, these_numbers, goes_on, behind}
-use Rattle.vhdl_grammar.proofs.ReadTables.{neither, AreTables, all_tables}
+use Rattle.vhdl_grammar.proofs.ReadTables.{AreTables, all_tables}
 
 -- Ports.
 

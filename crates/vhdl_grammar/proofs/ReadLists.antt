@@ -8,6 +8,8 @@ use Rattle.std.proofs.lemmas.Bool.{and_from, eqb-true}
 use Rattle.std.proofs.lemmas.Bool.Decides.{nat_tests}
 use Rattle.std.proofs.lemmas.List.Folds.{list_all-append}
 use Rattle.std.proofs.lemmas.Map.Keys.{IsDistinct-push}
+use Rattle.std.proofs.lemmas.Option.{slice_get_within as within}
+use Rattle.std.proofs.lemmas.Cmp.{nat_eq_equiv as nat_equivalence}
 use Rattle.grammar_rules.specs.Rule.{Fits}
 use Rattle.grammar_rules.proofs.Promises.{Promises, token, gives, in_turn, weaker}
 use Rattle.grammar_reader.specs.declared.refusal.Refusal.TheVariants.{Syntax, Width, Twice}
@@ -22,7 +24,7 @@ use Rattle.vhdl_grammar.specs.VhdlTables.{truth_width}
 use Rattle.vhdl_grammar.specs.VhdlNames.{kept, port_of, input_of, an_input, listed_by, input_by, listed_input, Uses, condition_of}
 use Rattle.vhdl_grammar.specs.VhdlNames.{condition_width, first_list, list_by, condition}
 use Rattle.vhdl_grammar.specs.WellFormed.{looks_up_in_order}
-use Rattle.vhdl_grammar.proofs.ReadNames.{IsSpelled, fits_if, fits_unless, nat_equivalence, known_values, where_holds, behind}
+use Rattle.vhdl_grammar.proofs.ReadNames.{IsSpelled, fits_if, fits_unless, known_values, where_holds, behind}
 use Rattle.vhdl_grammar.proofs.ReadTables.{all_elements}
 
 -- Names of inputs.
@@ -129,11 +131,6 @@ pub record AreLookedUp (scope : Scope) (is : List ℕ) (uses : Uses) : Type 0 wh
 
 pub none_looked_up : (scope : Scope) → AreLookedUp scope [] []
 none_looked_up scope = record { lists = tt; order = λ rest. refl }
-
-within : {X : Type 0} (xs : List X) (i : ℕ) (x : X) → slice_get xs i ≡ Some x → i < length xs
-within [] i x e = absurd cc
-within (y ∷ ys) zero x e = omega arith
-within (y ∷ ys) (suc i) x e = let rest = within ys i x e in omega (arith, rest)
 
 beyond : {X : Type 0} (xs : List X) (i : ℕ) → slice_get xs i ≡ None → length xs ≤ i
 beyond [] i e = omega arith

@@ -1,21 +1,21 @@
 -- The tokens and the names that are read.
 use Rattle.std.proofs.Common.{◌≡◌, ℕ, Bool, true, false, not, ◌||◌, ◌==◌, nat_eq, if◌then◌else◌, IsTrue, List, [], ◌∷◌, ◌++◌}
-use Rattle.std.proofs.Common.{Option, Some, None, refl, sym, ap, subst, ◌∙◌, arith}
+use Rattle.std.proofs.Common.{Option, Some, None, refl, sym, ap, subst, ◌∙◌}
 use Rattle.std.specs.Char.{is_ascii_alphabetic}
 use Rattle.std.specs.Str.{bytes_eq, str_eq_ignore_ascii_case, str_to_ascii_lowercase}
 use Rattle.std.specs.Cmp.{IsEquivalence}
 use Rattle.std.specs.Option.{option_map_or}
 use Rattle.std.specs.List.{list_any}
-use Rattle.std.proofs.lemmas.Bool.{and_parts, eq-eqb, eqb-true, true≢false}
-use Rattle.std.proofs.lemmas.Bool.Decides.{nat_tests, same_from_decides}
+use Rattle.std.proofs.lemmas.Bool.{and_parts, eqb-true, true≢false}
 use Rattle.std.proofs.lemmas.Slice.Eq.{bytes_eq-Decides}
 use Rattle.std.proofs.lemmas.Map.Keys.{IsDistinct-push}
 use Rattle.grammar_rules.specs.Rule.{Fits, Foul}
-use Rattle.grammar_rules.specs.Rule as r
-use Rattle.grammar_rules.proofs.Promises.{Promises, token, gives, in_turn, keeps, weaker}
+use Rattle.grammar_rules.proofs.Promises.{Promises, token, weaker}
 use Rattle.grammar_reader.specs.declared.refusal.Refusal.{Refusal}
 use Rattle.grammar_reader.specs.declared.refusal.Refusal.TheVariants.{Syntax, Undefined}
-use Rattle.grammar_reader.specs.Words.{Grammar, go_on_where, allowed_by, valued}
+use Rattle.grammar_reader.specs.Words.{allowed_by}
+use Rattle.grammar_reader.proofs.ItemPlaces.{bytes_symm}
+pub use Rattle.grammar_reader.proofs.WordPromises.{values, goes_on, behind, surely}
 pub use Rattle.grammar_reader.proofs.Passing.{fits_if, fits_unless, fits_where, some_if, fits_allowed, IsFound}
 use Rattle.vhdl_tokens.specs.Words.{is_vhdl_word}
 use Rattle.vhdl_tokens.specs.Tokens.{is_name}
@@ -39,24 +39,11 @@ same_congr : (x y z : List ℕ) → str_eq_ignore_ascii_case x y ≡ true → st
 same_congr x y z e =
     ap (λ t. bytes_eq t (str_to_ascii_lowercase z)) ((bytes_eq-Decides (str_to_ascii_lowercase x) (str_to_ascii_lowercase y)).0 e)
 
-bytes_symm : (x y : List ℕ) → bytes_eq x y ≡ bytes_eq y x
-bytes_symm x y =
-    same_from_decides (bytes_eq x y) (bytes_eq y x) (bytes_eq-Decides x y)
-    (λ e. sym ((bytes_eq-Decides y x).0 e), λ e. (bytes_eq-Decides y x).1 (sym e))
-
 pub same_equivalence : IsEquivalence str_eq_ignore_ascii_case
 same_equivalence = record {
   refl = λ x. (bytes_eq-Decides (str_to_ascii_lowercase x) (str_to_ascii_lowercase x)).1 refl;
   symm = λ x y. bytes_symm (str_to_ascii_lowercase x) (str_to_ascii_lowercase y);
   congr = same_congr;
-}
-
-pub nat_equivalence : IsEquivalence nat_eq
-nat_equivalence = record {
-  refl = λ x. eq-eqb x x refl;
-  symm = λ x y. grind (arith, nat_tests);
-  congr =
-      λ x y z e. ap (λ t. nat_eq t z) (eqb-true x y e);
 }
 
 -- a name is no character literal
@@ -89,26 +76,10 @@ known_values find = token (λ x a p e.
     let n = fits_if (is_name x) (allowed_by Undefined (find x)) Syntax a e in
     (x, fits_allowed Undefined (find x) a n.1))
 
-pub values : {A : Type 0} (find : List ℕ → Option A) → Promises IsSpelled (valued find) (IsFound find)
-values find = token (λ x a p e. (x, fits_allowed Syntax (find x) a e))
-
 pub where_holds : (b : Bool) (k : Refusal) (text : List ℕ) → Promises IsSpelled (expect_where b k text) (λ _. b ≡ true)
 where_holds b k text = token (λ x a p e.
     let n = fits_if (is_same x text) (if b then Fits tt else Foul k tt) Syntax a e in
     (fits_where b k tt a n.1).0)
-
-pub goes_on : (b : Bool) → Promises IsSpelled (go_on_where b) (λ _. b ≡ true)
-goes_on true = gives refl
-goes_on false = token (λ x a p e. absurd cc)
-
--- behind a part of which nothing is said
-pub behind : {A B : Type 0} {p : Grammar A} {g : A → Grammar B} {Q : B → Type 0} → ((a : A) → Promises IsSpelled (g a) Q)
-    → Promises IsSpelled (r.Then p g) Q
-behind {p = p} more = in_turn (keeps IsSpelled p) (λ a _. more a)
-
--- what each value has
-pub surely : {A : Type 0} {p : Grammar A} {Q : A → Type 0} → ((a : A) → Q a) → Promises IsSpelled p Q
-surely {p = p} q = record { kept = λ s a left all t. (q a, ((keeps IsSpelled p).kept s a left all t).1) }
 
 -- Numbers.
 

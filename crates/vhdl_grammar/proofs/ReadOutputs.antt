@@ -5,7 +5,7 @@ use Rattle.std.proofs.Common.{length-append}
 use Rattle.std.specs.Prelude.{All, flat_map}
 use Rattle.std.specs.List.{list_all}
 use Rattle.std.specs.Option.{option_map_or}
-use Rattle.std.proofs.lemmas.Bool.{and_from, eqb-true}
+use Rattle.std.proofs.lemmas.Bool.{and_from, eqb-true, ltb-true as less}
 use Rattle.std.proofs.lemmas.Bool.Decides.{nat_tests}
 use Rattle.std.proofs.lemmas.List.{append-nil}
 use Rattle.std.proofs.lemmas.List.Elements.{All-nil, All-push}
@@ -22,7 +22,6 @@ use Rattle.udp_tables.specs.Ports.{is_input_port}
 use Rattle.vhdl_grammar.specs.declared.scope.Assigned.{Assigned}
 use Rattle.vhdl_grammar.specs.declared.scope.Assigned.TheVariants as assigned
 use Rattle.vhdl_grammar.specs.declared.scope.Scope.{Scope}
-use Rattle.vhdl_grammar.specs.VhdlRules.{a_time}
 use Rattle.vhdl_grammar.specs.VhdlTables.{truth_width}
 use Rattle.vhdl_grammar.specs.VhdlDeclarations.{output_count}
 use Rattle.vhdl_grammar.specs.VhdlNames.{Uses}
@@ -31,7 +30,8 @@ use Rattle.vhdl_grammar.specs.VhdlOutputs.{all_zero, not_zero, equals_zero, gate
 use Rattle.vhdl_grammar.specs.VhdlOutputs.{next_path, paths, Lines, path_call, assigned_value, assignment, call_or_assignment}
 use Rattle.vhdl_grammar.specs.VhdlOutputs.{line_by, output_lines}
 use Rattle.vhdl_grammar.specs.WellFormed.{IsNumber, names_condition, IsWrittenPath, conditions_of_gate, conditions_of_path}
-use Rattle.vhdl_grammar.proofs.ReadNames.{IsSpelled, numbers, these_numbers, goes_on, behind}
+use Rattle.vhdl_grammar.proofs.ReadNames.{IsSpelled, these_numbers, goes_on, behind}
+use Rattle.vhdl_grammar.proofs.ReadChecks.{times}
 use Rattle.vhdl_grammar.proofs.ReadLists.{input_ports, AreLookedUp, IsNextLookUp, conditions}
 use Rattle.vhdl_grammar.proofs.ReadColumns.{IsSourceList, source_lists, named_where}
 
@@ -78,9 +78,6 @@ push_lookup scope (table ∷ tables) (assigned.Lookup others ∷ values) sources
 -- a value behind those of other outputs
 abbrev IsNextValue : Scope → List Assigned → Assigned → Type 0
 IsNextValue scope values value = AreValues scope scope.tables.outputs (values ++ value ∷ [])
-
-less : (n m : ℕ) → nat_lt n m ≡ true → n < m
-less n m h = grind (arith, nat_tests)
 
 looked_up : (scope : Scope) (values : List Assigned) → AreValues scope scope.tables.outputs values
     → Promises IsSpelled (lookup scope (lookups values)) (IsNextValue scope values)
@@ -189,10 +186,6 @@ gates scope is uses h =
     })))
 
 -- Paths.
-
-times : Promises IsSpelled a_time IsNumber
-unfolding a_time
-times = in_turn numbers (λ n h. behind (λ a. gives h))
 
 record AreDelays (times : ℕ × ℕ) : Type 0 where
   rise : IsNumber times.0

@@ -1,5 +1,4 @@
 //! The tests, and what they share.
-mod cubes;
 mod driven_outputs;
 mod pin_timings;
 mod port_names;

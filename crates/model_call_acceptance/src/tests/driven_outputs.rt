@@ -1,83 +1,52 @@
 //! A three-state output of a small core.
 
-use super::stimuli::one;
-use cell_machine::{CellSim, Shown, Sizes};
+use super::stimuli::{Still, ports_of, prints};
+use cell_machine::Shown;
 use driven_traces::{DrivenSim, Driver};
 use sqlite_items::Items;
 use std::alloc::Global;
-use std::test::Fail;
-use stimulus::trace_line;
+use stimulus::{Ports, Standing};
 use trit_cubes::Trit;
 
-/// A core that shows the same after every change: an output that became 1 and its enable, which is 0; its check reports.
-#[derive(Drop)]
-struct Disabled;
-
-impl CellSim for Disabled {
-    ghost use Rattle.std.specs.Prelude.{⊤, ◌∷◌, [], Some, None, true, refl};
-    ghost use Rattle.trit_cubes.specs.declared.trits.Trit.TheVariants.{Zero, One};
-
-    ghost machine = { λ _. record {
-      inputs = 1;
-      outputs = 2;
-      checks = 1;
-      line =
-          λ _. record { values = One ∷ Zero ∷ []; delays = Some 7 ∷ None ∷ []; reports = true ∷ [] };
-    } };
-
-    ghost stands = { λ _ _. ⊤ };
-
-    ghost sized = { λ _. record { values = λ _. refl; delays = λ _. refl; reports = λ _. refl } };
-
-    fn sizes(&self) -> Sizes {
-        Sizes {
-            inputs: 1,
-            outputs: 2,
-            checks: 1,
-        }
-    }
-
-    fn step(&mut self, _at: u64, _pin: usize, _to: Trit) {}
-
-    fn shown(&self, place: usize) -> Shown {
-        if place == 0 {
-            Shown {
-                value: Trit::One,
-                delay: Some(7),
-            }
-        } else {
-            Shown {
-                value: Trit::Zero,
-                delay: None,
-            }
-        }
-    }
-
-    fn reported(&self, _check: usize) -> bool {
-        true
-    }
-}
-
-/// Whether the line of that core behind its driver is printed so.
-fn shows(alloc: Global, wanted: &[u8]) -> Result<bool, Fail> {
-    let inputs = one(alloc, b"A")?;
-    let outputs = one(alloc, b"Y")?;
-    if inputs.len() != 1 || outputs.len() != 1 {
-        return Err("other ports".into());
+/// Whether the line of a core with an output that became 1 and an enable that is 0, whose second check reports, is printed so
+/// behind its driver.
+fn shows(alloc: Global, ports: &Ports, wanted: &[u8]) -> Option<bool> {
+    if ports.inputs.len() != 1 || ports.outputs.len() != 1 {
+        return None;
     }
     let driver = Driver {
         inputs: 1,
         outputs: 1,
-        drives: Items::from_slice(alloc, &[0])?,
+        drives: Items::from_slice(alloc, &[0]).ok()?,
         paths: Items::new(alloc),
     };
-    let sim = DrivenSim::over(alloc, Disabled, &driver)?;
-    let shown = trace_line(alloc, b'L', None, &inputs, &outputs, &sim)?;
-    Ok(shown.as_slice() == wanted)
+    let core = Still {
+        first: Shown {
+            value: Trit::One,
+            delay: Some(7),
+        },
+        second: Shown {
+            value: Trit::Zero,
+            delay: None,
+        },
+    };
+    let sim = DrivenSim::over(alloc, core, &driver).ok()?;
+    Some(prints(alloc, b'L', None, ports, &sim, wanted))
+}
+
+/// The input of the core.
+const INPUTS: [&[u8]; 1] = [b"A"];
+
+/// The output of its driver.
+const OUTPUTS: [&[u8]; 1] = [b"Y"];
+
+/// Whether that output floats.
+fn floats(alloc: Global) -> Option<bool> {
+    let ports = ports_of(alloc, Standing::Ready, &INPUTS, &OUTPUTS).ok()?;
+    shows(alloc, &ports, b"L start : Y=z !2\n")
 }
 
 #[test]
-fn disabled_output_floats(rt: HostRuntime) -> Result<(), Fail> {
-    assert!(rt; shows(rt.alloc(), b"L start : Y=z !1\n")?);
-    Ok(())
+fn disabled_output_floats(rt: HostRuntime) {
+    assert!(rt; floats(rt.alloc()) == Some(true));
 }

@@ -1,9 +1,9 @@
 //! Timing as it stands in libraries. The expected numbers are worked out by hand from the texts.
+use super::port_names::pins;
 use bool_functions::Names;
-use cell_machine::{Check, CheckKind, Direction, Edge, Pin};
+use cell_machine::{Check, CheckKind, Direction, Edge};
 use liberty_groups::{Group, Item, read_library};
 use liberty_text::Unit;
-use sqlite_items::Items;
 use std::alloc::{AllocError, Global};
 use std::test::Fail;
 use table_tests::{Row, all_hold};
@@ -12,33 +12,28 @@ use timing_arcs::{PinTiming, Room, Subject, read_timing};
 /// The number of the pin D, behind CK and SE.
 const DATA: usize = 2;
 
-/// Adds a pin, and its name.
-fn add_pin(
-    alloc: Global,
-    names: &mut Names,
-    pins: &mut Items<Pin>,
-    name: &[u8],
-    direction: Direction,
-) -> Result<(), AllocError> {
-    names.add(name)?;
-    pins.push(Pin {
-        name: Items::from_slice(alloc, name)?,
-        direction,
-    })?;
-    Ok(())
+/// The pins.
+const PINS: [(&str, Direction); 4] = [
+    ("CK", Direction::Input),
+    ("SE", Direction::Input),
+    ("D", Direction::Input),
+    ("Q", Direction::Output),
+];
+
+/// Their names.
+fn names(alloc: Global) -> Result<Names, AllocError> {
+    let mut names = Names::new(alloc);
+    for (name, _) in PINS {
+        names.add(name.as_bytes())?;
+    }
+    Ok(names)
 }
 
 /// The inputs CK, SE and D and the output Q, where the pin of this number is read, in nanoseconds.
 fn subject(alloc: Global, place: usize) -> Result<Subject, AllocError> {
-    let mut names = Names::new(alloc);
-    let mut pins = Items::new(alloc);
-    add_pin(alloc, &mut names, &mut pins, b"CK", Direction::Input)?;
-    add_pin(alloc, &mut names, &mut pins, b"SE", Direction::Input)?;
-    add_pin(alloc, &mut names, &mut pins, b"D", Direction::Input)?;
-    add_pin(alloc, &mut names, &mut pins, b"Q", Direction::Output)?;
     Ok(Subject {
-        names,
-        pins,
+        names: names(alloc)?,
+        pins: pins(alloc, &PINS)?,
         place,
         unit: Some(Unit::Ns1),
     })
@@ -52,11 +47,8 @@ fn pin_group(cell: &Group) -> Option<&Group> {
     }
 }
 
-/// The timing of the pin of a library, which is the one of this number.
-fn read(alloc: Global, text: &[u8], place: usize) -> Option<PinTiming> {
-    let reading = read_library(alloc, text, true).ok()?;
-    let pin = pin_group(reading.cells.get(0)?)?;
-    let subject = subject(alloc, place).ok()?;
+/// The timing of a pin, which is this one.
+fn timing_under(alloc: Global, pin: &Group, subject: &Subject) -> Option<PinTiming> {
     if subject.place >= subject.pins.len() {
         return None;
     }
@@ -65,7 +57,24 @@ fn read(alloc: Global, text: &[u8], place: usize) -> Option<PinTiming> {
         arcs: 4,
         left_out: true,
     };
-    read_timing(alloc, pin, &subject, room).ok()?.ok()
+    read_timing(alloc, pin, subject, room).ok()?.ok()
+}
+
+/// The timing of a pin, which is the one of this number.
+fn timing_of_pin(alloc: Global, pin: &Group, place: usize) -> Option<PinTiming> {
+    let subject = subject(alloc, place).ok()?;
+    timing_under(alloc, pin, &subject)
+}
+
+/// The timing of the pin of the first of these cells, which is the one of this number.
+fn timing_of(alloc: Global, cells: &[Group], place: usize) -> Option<PinTiming> {
+    timing_of_pin(alloc, pin_group(cells.get(0)?)?, place)
+}
+
+/// The timing of the pin of a library, which is the one of this number.
+fn read(alloc: Global, text: &[u8], place: usize) -> Option<PinTiming> {
+    let reading = read_library(alloc, text, true).ok()?;
+    timing_of(alloc, &reading.cells, place)
 }
 
 /// A check under D, or of both ends of a pulse: its kind, the edge of the pin, the edge of the related pin, the limit.

@@ -7,7 +7,7 @@ use std::test::Fail;
 use vital_models::vital_ports;
 
 /// Pins by their names and directions.
-fn pins(alloc: Global, listed: &[(&str, Direction)]) -> Result<Items<Pin>, AllocError> {
+pub fn pins(alloc: Global, listed: &[(&str, Direction)]) -> Result<Items<Pin>, AllocError> {
     let mut found = Items::new(alloc);
     for (name, direction) in listed {
         found.push(Pin {

@@ -1,38 +1,45 @@
 //! Stimuli over small cells, and the line of a simulator.
-ghost use Rattle.std.specs.Prelude.{◌<◌, IfSome};
+ghost use Rattle.std.specs.Prelude.{◌≡◌, ◌<◌, length, IfSome};
 
 use bool_functions::Names;
 use cell_machine::{CellSim, Change, Shown, Sizes};
 use std::alloc::{AllocError, Global};
 use std::test::Fail;
 use stimulus::{
-    Catalog, Cause, PortCatalog, Ports, Section, Standing, StimulusFault, read_stimulus, trace_line,
+    Catalog, Cause, PortCatalog, Ports, Section, Standing, StimulusFault, TraceSim, read_stimulus,
+    trace_line,
 };
 use table_tests::{Row, all_hold};
 use trit_cubes::Trit;
 
-/// A list of one name.
-pub fn one(alloc: Global, name: &[u8]) -> Result<Names, AllocError> {
+/// A list of these names.
+fn names_of(alloc: Global, listed: &[&[u8]]) -> Result<Names, AllocError> {
     let mut names = Names::new(alloc);
-    names.add(name)?;
+    for name in listed {
+        names.add(name)?;
+    }
     Ok(names)
 }
 
-/// A list of two names.
-fn two(alloc: Global, first: &[u8], second: &[u8]) -> Result<Names, AllocError> {
-    let mut names = Names::new(alloc);
-    names.add(first)?;
-    names.add(second)?;
-    Ok(names)
-}
-
-fn ports(alloc: Global, standing: Standing) -> Result<Ports, AllocError> {
+/// Ports with these names.
+pub fn ports_of(
+    alloc: Global,
+    standing: Standing,
+    inputs: &[&[u8]],
+    outputs: &[&[u8]],
+) -> Result<Ports, AllocError> {
     Ok(Ports {
         standing,
-        inputs: two(alloc, b"D", b"CK")?,
-        outputs: one(alloc, b"Q")?,
+        inputs: names_of(alloc, inputs)?,
+        outputs: names_of(alloc, outputs)?,
     })
 }
+
+/// The inputs of a flip-flop.
+const INPUTS: [&[u8]; 2] = [b"D", b"CK"];
+
+/// Its outputs.
+const OUTPUTS: [&[u8]; 1] = [b"Q"];
 
 /// The names and the standings of a flip-flop and of cells that are refused; one is added twice.
 const CELLS: [(&[u8], Standing); 4] = [
@@ -46,7 +53,7 @@ const CELLS: [(&[u8], Standing); 4] = [
 fn catalog(alloc: Global) -> Option<PortCatalog> {
     let mut catalog = PortCatalog::new(alloc);
     for (name, standing) in CELLS {
-        let ports = ports(alloc, standing).ok()?;
+        let ports = ports_of(alloc, standing, &INPUTS, &OUTPUTS).ok()?;
         catalog.add(name, ports).ok()?;
     }
     Some(catalog)
@@ -122,20 +129,28 @@ fn first_bad_lines(rt: HostRuntime) -> Result<(), Fail> {
     all_hold(rt.alloc(), &BAD_LINES)
 }
 
-/// A simulator that shows the same after every change: one output that is 0 and one that became unknown 120 ps after the
-/// change, and of two checks the second reports.
-struct Still;
+/// A simulator whose two outputs show the same after every change, and of whose two checks the second reports.
+#[derive(Drop)]
+pub struct Still {
+    /// The first output.
+    pub first: Shown,
+    /// The second one.
+    pub second: Shown,
+}
 
 impl CellSim for Still {
-    ghost use Rattle.std.specs.Prelude.{⊤, ◌∷◌, [], Some, None, true, false, refl};
-    ghost use Rattle.trit_cubes.specs.declared.trits.Trit.TheVariants.{Zero, Unknown};
+    ghost use Rattle.std.specs.Prelude.{⊤, ◌∷◌, [], true, false, refl};
 
-    ghost machine = { λ _. record {
+    ghost machine = { λ sim. record {
       inputs = 1;
       outputs = 2;
       checks = 2;
       line =
-          λ _. record { values = Zero ∷ Unknown ∷ []; delays = None ∷ Some 120 ∷ []; reports = false ∷ true ∷ [] };
+          λ _. record {
+            values = sim.first.value ∷ sim.second.value ∷ [];
+            delays = sim.first.delay ∷ sim.second.delay ∷ [];
+            reports = false ∷ true ∷ [];
+          };
     } };
 
     ghost stands = { λ _ _. ⊤ };
@@ -153,17 +168,7 @@ impl CellSim for Still {
     fn step(&mut self, _at: u64, _pin: usize, _to: Trit) {}
 
     fn shown(&self, place: usize) -> Shown {
-        if place == 0 {
-            Shown {
-                value: Trit::Zero,
-                delay: None,
-            }
-        } else {
-            Shown {
-                value: Trit::Unknown,
-                delay: Some(120),
-            }
-        }
+        if place == 0 { self.first } else { self.second }
     }
 
     fn reported(&self, check: usize) -> bool {
@@ -171,35 +176,74 @@ impl CellSim for Still {
     }
 }
 
-/// Whether the line of that simulator is printed so.
-fn shows(alloc: Global, tag: u8, change: Option<&Change>, wanted: &[u8]) -> Result<bool, Fail>
-    requires { IfSome change (λ change. change.now.pin < 1) }
+/// Whether the line of a simulator behind a change is printed so.
+pub fn prints<S: TraceSim>(
+    alloc: Global,
+    tag: u8,
+    change: Option<&Change>,
+    ports: &Ports,
+    sim: &S,
+    wanted: &[u8],
+) -> bool
+    requires inputs { length ports.now.inputs ≡ (S.machine sim.now).inputs }
+    requires outputs { length ports.now.outputs ≡ (S.machine sim.now).outputs }
+    requires pin { IfSome change (λ change. change.now.pin < (S.machine sim.now).inputs) }
 {
-    let inputs = one(alloc, b"CK")?;
-    let outputs = two(alloc, b"Q", b"QN")?;
-    if inputs.len() != 1 || outputs.len() != 2 {
-        return Err("other ports".into());
+    match trace_line(alloc, tag, change, &ports.inputs, &ports.outputs, sim) {
+        Ok(line) => line.as_slice() == wanted,
+        Err(_) => false,
     }
-    let shown = trace_line(alloc, tag, change, &inputs, &outputs, &Still)?;
-    Ok(shown.as_slice() == wanted)
 }
 
-#[test]
-fn lines_are_shown(rt: HostRuntime) -> Result<(), Fail> {
-    let alloc = rt.alloc();
+/// Whether the line of a simulator is printed so whose first output is 0, and whose second one became unknown 120 ps after the
+/// change.
+fn shows(alloc: Global, ports: &Ports, tag: u8, change: Option<&Change>, wanted: &[u8]) -> bool
+    requires { IfSome change (λ change. change.now.pin < 1) }
+{
+    let sim = Still {
+        first: Shown {
+            value: Trit::Zero,
+            delay: None,
+        },
+        second: Shown {
+            value: Trit::Unknown,
+            delay: Some(120),
+        },
+    };
+    ports.inputs.len() == 1
+        && ports.outputs.len() == 2
+        && prints(alloc, tag, change, ports, &sim, wanted)
+}
+
+/// Whether it is printed at a change and at the start.
+fn shows_both(alloc: Global, ports: &Ports) -> bool {
     let change = Change {
         at: 150,
         pin: 0,
         to: Trit::Unknown,
     };
-    assert!(rt;
-        shows(
-            alloc,
-            b'V',
-            Some(&change),
-            b"V 150 CK x : Q=0 QN=x@120 !2\n"
-        )?
-    );
-    assert!(rt; shows(alloc, b'L', None, b"L start : Q=0 QN=x@120 !2\n")?);
-    Ok(())
+    shows(
+        alloc,
+        ports,
+        b'V',
+        Some(&change),
+        b"V 150 CK x : Q=0 QN=x@120 !2\n",
+    ) && shows(alloc, ports, b'L', None, b"L start : Q=0 QN=x@120 !2\n")
+}
+
+/// The input of that simulator.
+const CLOCK: [&[u8]; 1] = [b"CK"];
+
+/// Its outputs.
+const BOTH: [&[u8]; 2] = [b"Q", b"QN"];
+
+/// Whether it is printed so with their names.
+fn shows_names(alloc: Global) -> Option<bool> {
+    let ports = ports_of(alloc, Standing::Ready, &CLOCK, &BOTH).ok()?;
+    Some(shows_both(alloc, &ports))
+}
+
+#[test]
+fn lines_are_shown(rt: HostRuntime) {
+    assert!(rt; shows_names(rt.alloc()) == Some(true));
 }

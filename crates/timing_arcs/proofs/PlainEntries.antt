@@ -171,25 +171,26 @@ unfolding time_of
 time_in_is None text number e = refl
 time_in_is (Some unit) text number e = sym (ap (time_as unit) e)
 
--- an entry joins the sum, if it has a byte
+-- an entry joins the sum
 
 pub joined : (unit : Option TimeUnit) (at : ℕ) (sum after : Sum) (text : List ℕ) (size : ℕ) (time : Option ℕ)
-    → size ≡ word_length is_separator text → size ≤ length text → ¬ (size ≡ 0)
+    → size ≡ word_length is_separator text → size ≤ length text → (word_length is_separator text == 0) ≡ false
     → time ≡ time_of unit (take (word_length is_separator text) text) → after ≡ with_time at sum time
     → after ≡ with_word unit at sum (take (word_length is_separator text) text)
 joined unit at sum after text size time e within some t a =
     let word = take (word_length is_separator text) text in
     let long : length word ≡ word_length is_separator text =
     length-take-le (word_length is_separator text) text (omega (arith, e, within)) in
-    let has : (length word == 0) ≡ false = grind (arith, nat_tests, long, e, some) in
+    let has : (length word == 0) ≡ false = ap (λ n. n == 0) long ∙ some in
     a ∙ ap (with_time at sum) t ∙ sym (ap (λ q. cond q sum (with_entry unit at sum word)) has)
 
-pub passed : (unit : Option TimeUnit) (at : ℕ) (sum : Sum) (text : List ℕ) (size : ℕ)
-    → size ≡ word_length is_separator text → size ≤ length text → size ≡ 0
+-- no entry leaves it as it is
+
+pub none_there : (text : List ℕ) → (word_length is_separator text == 0) ≡ true → 0 ≡ word_length is_separator text
+none_there text none = grind (arith, nat_tests, none)
+
+pub passed : (unit : Option TimeUnit) (at : ℕ) (sum : Sum) (text : List ℕ) → (word_length is_separator text == 0) ≡ true
     → sum ≡ with_word unit at sum (take (word_length is_separator text) text)
-passed unit at sum text size e within none =
-    let word = take (word_length is_separator text) text in
-    let long : length word ≡ word_length is_separator text =
-    length-take-le (word_length is_separator text) text (omega (arith, e, within)) in
-    let has : (length word == 0) ≡ true = grind (arith, nat_tests, long, e, none) in
-    sym (ap (λ q. cond q sum (with_entry unit at sum word)) has)
+passed unit at sum text none =
+    let empty : take 0 text ≡ take (word_length is_separator text) text = ap (λ n. take n text) (none_there text none) in
+    ap (with_word unit at sum) empty

@@ -1,13 +1,13 @@
 //! Entries of tables that are digits, a point and digits, as nearly all are.
-ghost use Rattle.std.specs.Prelude.{◌≡◌, ◌∷◌, ◌==◌, ◌≤◌, ◌<◌, ◌^◌, length, take, IfSome, Ok, pos, ◌-ℤ◌};
+ghost use Rattle.std.specs.Prelude.{◌≡◌, ◌∷◌, ◌≤◌, ◌<◌, ◌^◌, length, take, IfSome, Ok, pos, ◌-ℤ◌};
 ghost use Rattle.liberty_text.specs.Number.{digit_run, fixed_of};
 ghost use Rattle.timing_arcs.specs.Tables.{is_separator as separates};
 ghost use Rattle.timing_arcs.specs.Words.{word_length, front_number};
 
-use crate::words::is_separator;
+use crate::words::is_end;
 use liberty_text::Fixed;
 
-/// A number behind which a digit more is no machine number for sure.
+/// The least number behind which no further digit is read.
 const LARGE: u64 = 100_000_000_000_000_000;
 
 /// The most digits of a plain entry.
@@ -61,16 +61,6 @@ fn behind_point(text: &[u8]) -> Option<&[u8]>
     match text {
         [b'.', behind @ ..] => Some(behind),
         _ => None,
-    }
-}
-
-/// Whether an entry ends where this text begins.
-fn is_end(text: &[u8]) -> bool
-    ensures { result ≡ (word_length separates text.now == 0) }
-{
-    match text {
-        [first, ..] => is_separator(*first),
-        [] => true,
     }
 }
 

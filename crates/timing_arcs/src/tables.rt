@@ -12,7 +12,7 @@ ghost use Rattle.timing_arcs.specs.Words.{with_word, word_length};
 
 use crate::offsets::lesser;
 use crate::plain_entries::plain_entry;
-use crate::words::{behind_first, entry_length};
+use crate::words::{behind_first, entry_length, is_end};
 use liberty_groups::{Group, Item, Value, inner_group};
 use liberty_text::{Fixed, Unit, fixed, picoseconds};
 
@@ -108,16 +108,17 @@ impl Sum {
     }
 
     /// Adds the entry at the front of a text, in the statement at this offset, if it has a byte, and answers how many it has.
-    #[tactic(auto, using(crate::proofs::PlainEntries::joined, crate::proofs::PlainEntries::passed))]
+    #[tactic(auto, using(crate::proofs::PlainEntries::joined, crate::proofs::PlainEntries::passed, crate::proofs::PlainEntries::none_there))]
     fn add_front(&mut self, unit: Option<Unit>, at: usize, text: &[u8]) -> usize
         ensures sum { self.new ≡ with_word unit at self.old (take (word_length is_separator text.now) text.now) }
         ensures length { result ≡ word_length is_separator text.now }
         ensures within { result ≤ length text.now }
     {
-        let front = front_entry(unit, text);
-        if front.length != 0 {
-            self.add_time(at, front.time);
+        if is_end(text) {
+            return 0;
         }
+        let front = front_entry(unit, text);
+        self.add_time(at, front.time);
         front.length
     }
 

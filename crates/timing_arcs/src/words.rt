@@ -15,7 +15,7 @@ fn is_space(byte: u8) -> bool
 }
 
 /// Whether a byte separates the entries of a table: a comma, a space, a tab, a carriage return or a line feed.
-pub(crate) fn is_separator(byte: u8) -> bool
+fn is_separator(byte: u8) -> bool
     ensures { result ≡ is_separator byte }
 {
     byte == b',' || byte == b' ' || byte == b'\t' || byte == b'\r' || byte == b'\n'
@@ -41,6 +41,16 @@ pub(crate) fn entry_length(text: &[u8]) -> usize
         }
     }
     text.len()
+}
+
+/// Whether no entry stands at the front of a text: it ends there, or begins with a separator.
+pub(crate) fn is_end(text: &[u8]) -> bool
+    ensures { result ≡ (word_length is_separator text.now == 0) }
+{
+    match text {
+        [first, ..] => is_separator(*first),
+        [] => true,
+    }
 }
 
 /// A text without its first byte, if there is one.

@@ -4,7 +4,7 @@ use Rattle.std.proofs.Common.{Option, None, Some, is_some, Result, Ok, Err, if�
 use Rattle.std.proofs.Common.{inr, unwrap_or, eqb-true, append_assoc, length-append}
 use Rattle.std.specs.Prelude.{flat_map, find, not, nat_eq}
 use Rattle.std.specs.List.{list_any, list_all, AllByRecursion}
-use Rattle.std.proofs.lemmas.Bool.{cases_Bool, and_parts, or_parts}
+use Rattle.std.proofs.lemmas.Bool.{cases_Bool, and_parts, or_parts, not-true as not_true}
 use Rattle.std.proofs.lemmas.List.{map-append}
 use Rattle.std.proofs.lemmas.List.Folds.{list_any-append}
 use Rattle.std.specs.Char.{is_ascii_digit}
@@ -66,10 +66,6 @@ name_by cell b s digit word =
     renamed_symbol cell.numbers
     (if digit then digit_of b s else (if word then symbol.Name (unwrap_or (number_of cell.names (b ∷ s)) (length cell.names))
     else mark_of b))
-
-not_true : (digit : Bool) → not digit ≡ true → digit ≡ false
-not_true true h = absurd cc
-not_true false h = refl
 
 member_symbol : (cell : CellNames) (member : List ℕ) → is_identifier member ≡ true
     → renamed_symbol cell.numbers (symbol_of cell.names member) ≡ symbol.Name (number_in_cell cell member)

@@ -1,1 +1,2 @@
 pub mod Cells
+pub use Rattle.library_report.specs as library_report

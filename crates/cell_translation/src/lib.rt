@@ -6,3 +6,4 @@ mod models;
 mod test_lines;
 
 pub use cells::write_accepted;
+pub use library_report as report;

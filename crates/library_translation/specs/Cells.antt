@@ -3,8 +3,8 @@ use Rattle.std.specs.Prelude.{List, Option, Some, None}
 use Rattle.liberty_groups.specs.declared.tree.Group.{Group}
 use Rattle.cell_reader.specs.declared.refusal.Refusal.{Refusal}
 use Rattle.cell_attributes.specs.Groups.{cell_name}
-use Rattle.library_report.specs.CellLines.{refused_line}
-use Rattle.library_report.specs.LeftOutLines.{left_out_file_line}
+use Rattle.cell_translation.specs.library_report.CellLines.{refused_line}
+use Rattle.cell_translation.specs.library_report.LeftOutLines.{left_out_file_line}
 use Rattle.library_reader.specs.declared.progress.Progress.{Progress}
 use Rattle.cell_cursor.specs.declared.item.LibraryItem.{LibraryItem}
 use Rattle.run_outcome.specs.Written.{Written, in_report}

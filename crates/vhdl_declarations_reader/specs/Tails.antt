@@ -4,6 +4,7 @@ use Rattle.grammar_rules.specs.Rule as r
 use Rattle.udp_tables.specs.declared.models.VPort.{VPort}
 use Rattle.grammar_reader.specs.Words.{Grammar, ◌>>=◌}
 use Rattle.vhdl_grammar.specs.declared.scope.Scope.{Scope}
+use Rattle.vhdl_grammar.specs.declared.scope.Tables.{Tables}
 use Rattle.vhdl_grammar.specs.VhdlRules.{expect, expect_all, this_name}
 use Rattle.vhdl_grammar.specs.VhdlTables.{constants}
 use Rattle.vhdl_grammar.specs.VhdlDeclarations.{architecture_header, input_names, sensitivity, variables}
@@ -22,13 +23,18 @@ header_end entity ports = do
   _ ← expect (codes ";")
   r.Gives ports
 
--- the declarations behind the header of an entity
-unfoldable pub behind_header : List ℕ → List VPort → Grammar Scope
-behind_header entity ports = do
-  _ ← architecture_header entity
-  tables ← constants
+-- the declarations behind the tables of an entity
+unfoldable pub behind_tables : List ℕ → List VPort → Tables → Grammar Scope
+behind_tables entity ports tables = do
   _ ← expect_all (codes "begin" ∷ codes "process" ∷ [])
   _ ← sensitivity (input_names ports)
   v ← variables ports tables
   _ ← expect (codes "begin")
   r.Gives (record { name = entity; ports = ports; tables = tables; variables = v })
+
+-- the declarations behind the header of an entity
+unfoldable pub behind_header : List ℕ → List VPort → Grammar Scope
+behind_header entity ports = do
+  _ ← architecture_header entity
+  tables ← constants
+  behind_tables entity ports tables

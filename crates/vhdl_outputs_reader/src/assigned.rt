@@ -40,7 +40,7 @@ fn lookups_with(lookups: usize, value: &Assigned) -> usize
 }
 
 impl Values {
-    ghost use Rattle.std.specs.Prelude.{◌≡◌, [], ◌∷◌, ◌++◌, ◌<◌, ◌^◌, length, IfOk, IfErr};
+    ghost use Rattle.std.specs.Prelude.{◌≡◌, [], ◌∷◌, ◌++◌, ◌<◌, ◌^◌, length, IfErr, OnOk};
     ghost use Rattle.vhdl_grammar.specs.VhdlOutputs.{lookups};
 
     /// No values. Takes no memory.
@@ -68,17 +68,17 @@ impl Values {
         self.count
     }
 
-    /// These values, and one more behind them.
+    /// Puts one more value behind these.
     #[tactic(auto, using(crate::proofs::ValueCounts::lookups_few))]
-    pub fn with(self, value: Assigned) -> Read<Values>
-        ensures added { IfOk result (λ more. more ≡ self ++ value ∷ []) }
+    pub fn add(&mut self, value: Assigned) -> Read<()>
+        ensures added { OnOk result (self.new ≡ self.old ++ value ∷ []) }
         ensures memory { IfErr result (λ stop. stop ≡ Stop.Memory) }
     {
-        let Values { mut values, count } = self;
-        let _bound = values.as_slice().len();
-        let count = lookups_with(count, &value);
-        values.push(value)?;
-        Ok(Values { values, count })
+        let _bound = self.values.as_slice().len();
+        let count = lookups_with(self.count, &value);
+        self.values.push(value)?;
+        self.count = count;
+        Ok(())
     }
 
     /// The list of these values, alone.

@@ -1,7 +1,7 @@
 //! The assignments of the variables of outputs. (IEEE 1076.4-2000, VitalTruthTable; IEEE 1076-1993, 8.5.)
 
-ghost use Rattle.std.specs.Prelude.{◌≡◌, ◌+◌, nat_lt, nat_eq, length, IfOk, codes};
-ghost use Rattle.grammar_reader.specs.Reading.{read, Reads, Many, Choice};
+ghost use Rattle.std.specs.Prelude.{◌≡◌, ◌+◌, [], nat_lt, nat_eq, length, IfOk, codes};
+ghost use Rattle.grammar_reader.specs.Reading.{read, Reads, ReadsAs, Many, Choice};
 ghost use Rattle.grammar_reader.specs.Words.{valued};
 ghost use Rattle.vhdl_tokens.specs.Spelling.{is_same};
 ghost use Rattle.vhdl_grammar.specs.VhdlRules as rules;
@@ -89,15 +89,15 @@ fn a_value(cursor: &mut Cursor, scope: &Declarations, values: &Values) -> Read<A
     next_lookup(cursor, scope, values)
 }
 
-/// One more value, behind the name of its variable.
+/// Puts one more value behind these, behind the name of its variable.
 #[tactic(auto, unfolding(vhdl_grammar::specs::VhdlOutputs::next_value))]
-fn next_value(cursor: &mut Cursor, scope: &Declarations, values: Values) -> Read<Values>
-    ensures { Reads (read (spec.next_value scope.now values) cursor.old) result cursor.new }
+fn next_value(cursor: &mut Cursor, scope: &Declarations, values: &mut Values) -> Read<()>
+    ensures { ReadsAs (λ _. values.new) (read (spec.next_value scope.now values.old) cursor.old) result cursor.new }
 {
     cursor.expect(b":=")?;
-    let value = a_value(cursor, scope, &values)?;
+    let value = a_value(cursor, scope, values)?;
     cursor.expect(b";")?;
-    values.with(value)
+    values.add(value)
 }
 
 /// Whether an output is left behind these values.
@@ -115,26 +115,27 @@ fn is_value_name(alloc: Global, token: &[u8], values: &Values) -> Result<bool, A
     is_numbered(alloc, token, b"z_", number)
 }
 
-/// The values behind these.
+/// Puts the values that follow behind these.
 #[tactic(auto, using(grammar_reader::proofs::Repeats::turn, crate::proofs::NextValue::no_value, crate::proofs::NextValue::no_name, crate::proofs::NextValue::other_value, crate::proofs::NextValue::this_value))]
-fn more_values(cursor: &mut Cursor, scope: &Declarations, mut values: Values) -> Read<Values>
-    ensures { Reads (read (Many (spec.begins_value scope.now) (λ found _. spec.next_value scope.now found) values) cursor.old)
-        result cursor.new }
+fn more_values(cursor: &mut Cursor, scope: &Declarations, values: &mut Values) -> Read<()>
+    ensures { ReadsAs (λ _. values.new)
+        (read (Many (spec.begins_value scope.now) (λ found _. spec.next_value scope.now found) values.old) cursor.old) result
+        cursor.new }
 {
     for _turn in 0..cursor.left() {
-        if !awaits_value(scope, &values) {
+        if !awaits_value(scope, values) {
             break;
         }
         if !is_name(cursor.bytes()) {
             break;
         }
-        if !is_value_name(scope.alloc(), cursor.bytes(), &values)? {
+        if !is_value_name(scope.alloc(), cursor.bytes(), values)? {
             return Err(Stop::Refused(Refusal::Undefined));
         }
         cursor.skip();
-        values = next_value(cursor, scope, values)?;
+        next_value(cursor, scope, values)?;
     }
-    Ok(values)
+    Ok(())
 }
 
 /// Whether these are the values of all outputs.
@@ -161,13 +162,22 @@ fn go_on_unnamed(cursor: &Cursor, holds: bool) -> Read<()>
     Err(Stop::Refused(cursor.no_name()))
 }
 
-/// The values of all outputs.
+/// Puts the values of all outputs into a list that has none.
 #[tactic(auto, unfolding(vhdl_grammar::specs::VhdlOutputs::values_of))]
+fn all_values(cursor: &mut Cursor, scope: &Declarations, values: &mut Values) -> Read<()>
+    requires { values.old ≡ [] }
+    ensures { ReadsAs (λ _. values.new) (read (spec.values_of scope.now) cursor.old) result cursor.new }
+{
+    more_values(cursor, scope, values)?;
+    cursor.go_on_where(are_all_values(scope, values))?;
+    go_on_unnamed(cursor, are_all_looked_up(scope, values))
+}
+
+/// The values of all outputs.
 pub fn values_of(cursor: &mut Cursor, scope: &Declarations) -> Read<Items<Assigned>>
     ensures { Reads (read (spec.values_of scope.now) cursor.old) result cursor.new }
 {
-    let values = more_values(cursor, scope, Values::new(scope.alloc()))?;
-    cursor.go_on_where(are_all_values(scope, &values))?;
-    go_on_unnamed(cursor, are_all_looked_up(scope, &values))?;
+    let mut values = Values::new(scope.alloc());
+    all_values(cursor, scope, &mut values)?;
     Ok(values.into_items())
 }

@@ -20,26 +20,6 @@ use cell_tables::forced_at;
 use row_selection::NextStates;
 use trit_cubes::{Trit, resolve};
 
-/// Adds more values at the end.
-fn add_bits(all: &mut Few<bool, 8>, more: &[bool])
-    requires { length all.old + length more.now ≤ 8 }
-    ensures { all.new ≡ all.old ++ more.now }
-{
-    for bit in more {
-        all.push(*bit);
-    }
-}
-
-/// Adds more values at the end.
-pub(crate) fn add_trits(all: &mut Few<Trit, 10>, more: &[Trit])
-    requires { length all.old + length more.now ≤ 10 }
-    ensures { all.new ≡ all.old ++ more.now }
-{
-    for value in more {
-        all.push(*value);
-    }
-}
-
 /// The other values with one at this place.
 fn inserted(place: usize, bit: bool, others: &[bool]) -> Few<bool, 8>
     requires place { place ≤ length others.now }
@@ -48,9 +28,9 @@ fn inserted(place: usize, bit: bool, others: &[bool]) -> Few<bool, 8>
 {
     let (front, back) = others.split_at(place);
     let mut all = Few::new(false);
-    add_bits(&mut all, front);
+    all.append(front);
     all.push(bit);
-    add_bits(&mut all, back);
+    all.append(back);
     all
 }
 
@@ -153,8 +133,8 @@ fn change_places(change: PinChange<'_>, state: Trit) -> Few<Trit, 10>
     let mut places = Few::new(Trit::Unknown);
     places.push(change.old);
     places.push(change.values[change.place]);
-    add_trits(&mut places, &change.values[..change.place]);
-    add_trits(&mut places, &change.values[change.place + 1..]);
+    places.append(&change.values[..change.place]);
+    places.append(&change.values[change.place + 1..]);
     places.push(state);
     places
 }

@@ -14,9 +14,7 @@ ghost use Rattle.table_audit.specs.Tables.{first_difference};
 ghost use Rattle.table_audit.specs.LookUps.{AreSteps, AreForces, LooksUp, IgnoresNote};
 ghost use Rattle.table_audit.specs.Lists.{trit_before};
 
-use crate::cell_values::{
-    PinChange, add_trits, edge_values, forced_by, forces, step_value, step_values,
-};
+use crate::cell_values::{PinChange, edge_values, forced_by, forces, step_value, step_values};
 use crate::lists::{cube_of, list_count, list_numbered, trit_numbered};
 use crate::net_rows::NetRows;
 use crate::terminals::{group_nets, has_notifier, pin_net, sequential_instance};
@@ -32,7 +30,7 @@ fn noted(checks: bool, note: Trit, values: &[Trit]) -> Few<Trit, 10>
     ensures { result ≡ noted checks note values.now }
 {
     let mut all = Few::new(Trit::Unknown);
-    add_trits(&mut all, values);
+    all.append(values);
     if checks {
         all.push(note);
     }

@@ -14,10 +14,10 @@ returns c =
     let same : value ≡ slice_index_or values p trit.Unknown = get_or_default values p trit.Zero trit.Unknown c.requires.place in
     c.push-3.ensures
     ∙ ap (λ xs. xs ++ s ∷ [])
-    (c.add_trits-2.ensures
-    ∙ ap (λ xs. c.add_trits.new.all ++ xs) (take_all (length values - (p + 1)) (drop (p + 1) values) (omega (arith, length-drop (p + 1) values)))
+    (c.append-2.ensures
+    ∙ ap (λ xs. c.append.new.self ++ xs) (take_all (length values - (p + 1)) (drop (p + 1) values) (omega (arith, length-drop (p + 1) values)))
     ∙ ap (λ xs. xs ++ drop (p + 1) values)
-    (c.add_trits.ensures
+    (c.append.ensures
     ∙ ap (λ xs. xs ++ take p values)
     (c.push-2.ensures ∙ ap (λ xs. xs ++ value ∷ []) (c.push.ensures ∙ ap (λ xs. xs ++ c.args.change.old ∷ []) c.new-places.ensures))))
     ∙ (λ i. c.args.change.old ∷ same i ∷ without-parts p values c.requires.place i ++ s ∷ [])

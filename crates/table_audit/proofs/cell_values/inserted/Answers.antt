@@ -4,6 +4,6 @@ use Rattle.table_audit.proofs.cell_values.inserted.Goals as goal
 
 pub returns : goal.returns
 returns c =
-    rw (c.add_bits-2.ensures, c.push.ensures, c.add_bits.ensures, c.new-all.ensures, c.split_at.ensures.front, c.split_at.ensures.back)
+    rw (c.append-2.ensures, c.push.ensures, c.append.ensures, c.new-all.ensures, c.split_at.ensures.front, c.split_at.ensures.back)
     (append_assoc (take c.args.place c.args.others.now) (c.args.bit ∷ []) (drop c.args.place c.args.others.now)
     ∙ insert-parts c.args.place c.args.bit c.args.others.now c.requires.place)

@@ -1,5 +1,5 @@
 -- The statements of a bus or bundle that become the same for each member.
-use Rattle.std.proofs.Common.{◌≡◌, ℕ, Bool, true, false, not, ◌&&◌, ◌||◌, List, [], ◌∷◌, ◌++◌, map, filter, Some, None, if◌then◌else◌}
+use Rattle.std.proofs.Common.{◌≡◌, ℕ, Bool, true, false, not, ◌&&◌, ◌||◌, List, [], ◌∷◌, map, filter, Some, None, if◌then◌else◌}
 use Rattle.std.proofs.Common.{refl, sym, ap, ◌∙◌, codes}
 use Rattle.std.specs.Prelude.{bytes_eq}
 use Rattle.std.specs.List.{list_all}
@@ -10,7 +10,7 @@ use Rattle.liberty_groups.specs.declared.tree.Item.TheOpen.{Item-F}
 use Rattle.liberty_groups.specs.declared.tree.Item.TheOpen as layer
 use Rattle.liberty_groups.specs.declared.tree.Item.TheVariants as made
 use Rattle.liberty_groups.specs.declared.tree.Group.{Group}
-use Rattle.liberty_groups.specs.Attributes.{simple_named, text_of}
+use Rattle.liberty_groups.specs.Attributes.{text_of}
 use Rattle.bus_texts.specs.declared.vectors.Vector.{Vector}
 use Rattle.bus_texts.specs.Vectors.{is_called}
 use Rattle.bank_refusals.specs.Members.{is_shared}

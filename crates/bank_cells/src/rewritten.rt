@@ -1,5 +1,5 @@
 //! The texts of statements at a position.
-ghost use Rattle.std.specs.Prelude.{◌≡◌, ◌∷◌, [], IfOk, map};
+ghost use Rattle.std.specs.Prelude.{◌≡◌, IfOk, map};
 ghost use Rattle.bank_refusals.specs.Faults.{pin_texts, timing_texts, ff_texts, latch_texts};
 ghost use Rattle.bank_refusals.specs.Refusals.{state_texts};
 ghost use Rattle.bank_cells.specs.Expanded as spec;

@@ -1,5 +1,5 @@
 //! The states of single bits that a bank becomes.
-ghost use Rattle.std.specs.Prelude.{◌≡◌, ◌++◌, ◌∷◌, [], IfOk, OnOk, map};
+ghost use Rattle.std.specs.Prelude.{◌≡◌, ◌++◌, IfOk, OnOk, map};
 ghost use Rattle.bus_texts.specs.Vectors.{shown_bank, positions as positions_of};
 ghost use Rattle.bank_cells.specs.Expanded as spec;
 

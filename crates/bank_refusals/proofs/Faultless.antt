@@ -1,5 +1,5 @@
 -- Texts that name no bus, bundle or variable have no faults, and nor have the members of a bus or bundle that are alike.
-use Rattle.std.proofs.Common.{◌≡◌, ℕ, ◌+◌, Bool, true, false, not, ◌&&◌, ◌||◌, List, [], ◌∷◌, ◌++◌, map, filter, Option, Some}
+use Rattle.std.proofs.Common.{◌≡◌, ℕ, ◌+◌, Bool, true, false, not, ◌&&◌, ◌||◌, List, [], ◌∷◌, ◌++◌, filter, Option, Some}
 use Rattle.std.proofs.Common.{None, if◌then◌else◌, refl, sym, ap, ◌∙◌, codes, append-nil, append_assoc}
 use Rattle.std.specs.Prelude.{flat_map, is_some, Result, Ok, Err, OnOk}
 use Rattle.std.specs.List.{list_any, list_all, filter_map}

@@ -1,6 +1,6 @@
 //! The bits that are named where there are none, in all pins and states of a cell.
 ghost use Rattle.std.specs.Prelude.{◌≡◌, ◌++◌, IfOk, OnOk, map, filter, flat_map};
-ghost use Rattle.bus_texts.specs.Vectors.{shown_bank, positions as positions_of};
+ghost use Rattle.bus_texts.specs.Vectors.{positions as positions_of};
 ghost use Rattle.bank_refusals.specs.Faults.{pin_faults, text_faults};
 ghost use Rattle.bank_refusals.specs.Members.{is_shared};
 ghost use Rattle.bank_refusals.specs.Fixed.{varies};

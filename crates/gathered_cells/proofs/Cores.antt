@@ -1,7 +1,7 @@
 -- The core of a cell whose pin groups are taken apart: it is the core of the cell, with its pin groups taken apart.
 use Rattle.std.proofs.Common.{◌≡◌, Bool, true, false, ◌&&◌, List, [], ◌∷◌, ◌++◌, map, filter, codes, Option, Some, None, refl}
 use Rattle.std.proofs.Common.{if◌then◌else◌, length, not, ◌==◌, sym, ap, ◌∙◌}
-use Rattle.std.specs.Prelude.{flat_map, bytes_eq, is_some}
+use Rattle.std.specs.Prelude.{flat_map, bytes_eq}
 use Rattle.std.specs.Option.{option_map}
 use Rattle.std.specs.List.{cons_option}
 use Rattle.std.proofs.lemmas.List.{map-append}
@@ -13,9 +13,7 @@ use Rattle.liberty_groups.specs.declared.tree.Item.TheVariants as item
 use Rattle.liberty_groups.specs.declared.tree.Item.TheViews.{outs-Inner, out-roll-Group}
 use Rattle.liberty_groups.specs.declared.tree.Group.{Group, roll-Group}
 use Rattle.cell_attributes.specs.Groups.{is_called, is_pin, inner_of, inner_groups}
-use Rattle.cell_attributes.specs.Pins.{direction_of}
-use Rattle.cell_attributes.specs.Scans.{is_output_group}
-use Rattle.core_groups.specs.Outputs.{three_state_of, is_three_state, three_state_outputs}
+use Rattle.core_groups.specs.Outputs.{is_three_state, three_state_outputs}
 use Rattle.core_groups.specs.CoreGroups.{stays_in_core, core_pin, core_statement_as, core_statement, enable_pins, core_group}
 use Rattle.gathered_cells.proofs.Single.{single, same_floating}
 use Rattle.gathered_cells.proofs.Lists.{apart, apart_by, apart_in, apart_append, some_name}
@@ -73,10 +71,6 @@ singles_in_core : (group : Group) → is_pin group ≡ true → (values : List V
     → map in_core (map (single group) values) ≡ map (single (in_core group)) values
 singles_in_core group is [] = refl
 singles_in_core group is (value ∷ values) = λ i. single_in_core group value is i ∷ singles_in_core group is values i
-
-no_three_state : (group : Group) → is_pin group ≡ false → is_three_state group ≡ false
-unfolding is_three_state
-no_three_state group e = ap (λ b. b && (is_output_group (direction_of group) && is_some (three_state_of group))) e
 
 apart_as_core : (group : Group) → apart (in_core group) ≡ map in_core (apart group)
 apart_as_core group = by (is_called (codes "pin") group) group.arguments refl refl

@@ -1,17 +1,13 @@
 -- Points, and the words of their places.
-use Rattle.std.proofs.Common.{◌≡◌, ◌≢◌, ℕ, zero, suc, ◌+◌, ◌*◌, ◌-◌, ◌/◌, ◌%◌, ◌<◌, ◌≤◌, Bool, true, false, not, nat_eq, List, []}
-use Rattle.std.proofs.Common.{◌∷◌, ◌++◌, length, take, drop, get_or, slice_index_or, slice_get, Some, refl, sym, ap, subst, ◌∙◌}
+use Rattle.std.proofs.Common.{◌≡◌, ◌≢◌, ℕ, zero, suc, ◌+◌, ◌-◌, ◌/◌, ◌%◌, ◌<◌, ◌≤◌, Bool, not, nat_eq, List, []}
+use Rattle.std.proofs.Common.{◌∷◌, ◌++◌, length, take, drop, get_or, slice_get, Some, refl, sym, ap, subst, ◌∙◌}
 use Rattle.std.proofs.Common.{arith, append_assoc}
-use Rattle.std.specs.Int.{bit_at}
-use Rattle.std.proofs.lemmas.Nat.Bits.{bit_at-suc, bit_at_lowest}
 use Rattle.std.proofs.lemmas.List.{take_more}
 use Rattle.std.proofs.lemmas.Option.{none-some, same_Some}
 use Rattle.trit_cubes.specs.declared.trits.Trit.{Trit}
-use Rattle.trit_cubes.specs.Filling.{bit, number}
 use Rattle.trit_cubes.specs.Sets.{point_of}
 use Rattle.trit_cubes.specs.Resolution.{agreed}
 use Rattle.cell_machine.specs.Machine.{around}
-use Rattle.statetables.specs.Lanes.{lane}
 use Rattle.step_tables.specs.Turned.{turned}
 
 -- one more place of a point
@@ -59,26 +55,6 @@ pub turned_past : (p : ℕ) (point : List Bool) → length point ≤ p → turne
 turned_past p [] h = refl
 turned_past zero (b ∷ point) h = absurd (omega (arith, h))
 turned_past (suc p) (b ∷ point) h = ap (λ q. b ∷ q) (turned_past p point (omega (arith, h)))
-
-bit-is : (b : Bool) → nat_eq (bit b) 1 ≡ b
-bit-is true = refl
-bit-is false = refl
-
-bit-lt : (b : Bool) → bit b < 2
-bit-lt true = omega arith
-bit-lt false = omega arith
-
--- a bit of a point's number is its place
-pub lane-number : (point : List Bool) (k : ℕ) → k < length point → lane k (number point) ≡ slice_index_or point k false
-unfolding lane
-lane-number [] k h = absurd (omega (arith, h))
-lane-number (b ∷ point) zero h =
-    let low : (bit b + 2 * number point) % 2 ≡ bit b = omega (arith, bit-lt b) in
-    ap (λ x. nat_eq x 1) (bit_at_lowest (bit b + 2 * number point) ∙ low) ∙ bit-is b
-lane-number (b ∷ point) (suc k) h =
-    let high : (bit b + 2 * number point) / 2 ≡ number point = omega (arith, bit-lt b) in
-    ap (λ x. nat_eq x 1) (bit_at-suc (bit b + 2 * number point) k ∙ ap (λ n. bit_at n k) high)
-    ∙ lane-number point k (omega (arith, h))
 
 -- the common value around a point, from this place on
 pub around_turn :

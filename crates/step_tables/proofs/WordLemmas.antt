@@ -1,15 +1,14 @@
 -- Words of places and of names.
-use Rattle.std.proofs.Common.{◌≡◌, ◌≢◌, ℕ, zero, suc, ◌+◌, ◌*◌, ◌-◌, ◌/◌, ◌%◌, ◌^◌, ◌<◌, ◌≤◌, Bool, true, false, not, cond, nat_eq}
+use Rattle.std.proofs.Common.{◌≡◌, ◌≢◌, ℕ, zero, suc, ◌+◌, ◌*◌, ◌-◌, ◌/◌, ◌%◌, ◌^◌, ◌<◌, ◌≤◌, Bool, true, false, not, nat_eq}
 use Rattle.std.proofs.Common.{List, [], ◌∷◌, ◌++◌, length, map, take, drop, get_or, refl, sym, ap, ◌∙◌, arith}
-use Rattle.std.proofs.Common.{inl, inr, subst}
+use Rattle.std.proofs.Common.{subst}
 use Rattle.std.specs.Prelude.{bit_xor, slice_set}
 use Rattle.std.specs.List.{range_with_len}
 use Rattle.std.specs.Int.{bit_at}
-use Rattle.std.proofs.lemmas.Bool.{agree_below, agree_below_at, cases_eq, eq-eqb, ne_eqb}
-use Rattle.std.proofs.lemmas.List.{get_or-set_same, get_or-set_other, take_more, map-append, get_or_past, get_or-replicate, length-set}
+use Rattle.std.proofs.lemmas.Bool.{agree_below, agree_below_at}
+use Rattle.std.proofs.lemmas.List.{get_or_past, get_or-replicate, length-set}
 use Rattle.std.proofs.lemmas.Nat.Bits.{bit_at-suc, bit_at_lowest, bit_at_cat_low, bit_at_cat_high, bit_at_xor, bit_at_ones, bit_at-lt}
 use Rattle.std.proofs.lemmas.Nat.Bits.{bit_at-pow_same, bit_at-pow_other}
-use Rattle.statetables.specs.declared.lanes.InputWords.{InputWords}
 use Rattle.trit_cubes.specs.Sets.{point_of}
 use Rattle.statetables.specs.Lanes.{lane}
 use Rattle.statetables.proofs.LaneLemmas.{lane_none}
@@ -122,30 +121,6 @@ turned_point n p before after l is =
     ∙ other_bit (bit_at after p) (bit_at-lt after p))
     (λ i ne. ap (λ x. nat_eq x 1) (bit_at_xor after (2 ^ p) i ∙ ap (λ x. (bit_at after i + x) % 2) (bit_at-pow_other p i ne))
     ∙ same_bit (bit_at after i) (bit_at-lt after i)))
-
--- one more name
-pub name_turn :
-    (k name first word found : ℕ) (values : List Bool) → name < length values → lane k found ≡ get_or values name false
-    → lane k (cond (nat_eq first name) word found) ≡ get_or (slice_set values first (lane k word)) name false
-name_turn k name first word found values inside so_far =
-    elim (cases_eq first name) [
-      | inl e ↦
-          ap (λ b. lane k (cond b word found)) (eq-eqb first name e)
-          ∙ sym (ap (λ x. get_or (slice_set values first (lane k word)) x false) (sym e)
-          ∙ get_or-set_same values first (lane k word) false (omega (arith, e, inside)))
-      | inr ne ↦
-          ap (λ b. lane k (cond b word found)) (ne_eqb first name ne) ∙ so_far
-          ∙ sym (get_or-set_other values first name (lane k word) false (λ e. ne (sym e)))
-    ]
-
--- one more column
-pub columns_turn :
-    (f : InputWords → Bool) (g : ℕ → Bool) (names : List ℕ) (i name : ℕ) (words next : List InputWords) (w : InputWords)
-    → i < length names → name ≡ get_or names i name → next ≡ words ++ w ∷ [] → f w ≡ g name
-    → map f words ≡ map g (take i names) → map f next ≡ map g (take (i + 1) names)
-columns_turn f g names i name words next w within is more here so_far =
-    ap (map f) more ∙ map-append f words (w ∷ []) ∙ (λ j. so_far j ++ here j ∷ [])
-    ∙ sym (ap (map g) (take_more names i name within ∙ ap (λ x. take i names ++ x ∷ []) (sym is)) ∙ map-append g (take i names) (name ∷ []))
 
 length-written : (values : List Bool) (names : List ℕ) (point : List Bool) → length (written values names point) ≡ length values
 length-written values [] point = refl

@@ -109,17 +109,6 @@ pub wrote_item_as : {X : Type 0} (f : X → List ℕ) (xs : List X) (i : ℕ) (x
 wrote_item_as f xs i x s now next slot h e before item =
     wrote_more s now next slot (flat_map f (take i xs)) (f x) before item ∙ ap (wrote s slot) (flat_map-take_more f xs i x h e)
 
--- a fault within an item's text
-pub part_of_item_as : {X S T : Type 0} (f : X → List ℕ) (xs : List X) (i : ℕ) (x : X) (s now new : DeskState) (slot : OutSlot)
-    (y : Failed) (r : Result T Failed)
-    → i < length xs → x ≡ get_or xs i x → now ≡ wrote s slot (flat_map f (take i xs))
-    → WritesText {T = S} now new slot (f x) (Err y) → IsErr r
-    → WritesText s new slot (flat_map f xs) r
-part_of_item_as f xs i x s now new slot y r h e before item failed =
-    rw (flat_map-split f xs i x h e)
-    (goes_on s now new slot (flat_map f (take i xs)) (f x ++ flat_map f (drop (i + 1) xs)) r before
-    (stops now new slot (f x) (flat_map f (drop (i + 1) xs)) y r item failed))
-
 -- a loop that has written every item's text
 pub wrote_items : {X : Type 0} (f : X → List ℕ) (xs : List X) (i : ℕ) (s now : DeskState) (slot : OutSlot)
     → length xs ≤ i → now ≡ wrote s slot (flat_map f (take i xs)) → now ≡ wrote s slot (flat_map f xs)

@@ -60,7 +60,7 @@ impl CellReading for Driven {
 fn names_of(alloc: Global, cells: &[Group]) -> Result<Names, AllocError> {
     let mut names = Names::new(alloc);
     for cell in cells {
-        if let Some(name) = cell.arguments.get(0) {
+        if let Some(name) = cell.arguments.as_slice().first() {
             names.add(name.bytes.as_slice())?;
         }
     }

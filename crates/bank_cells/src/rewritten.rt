@@ -11,7 +11,7 @@ use liberty_groups::{Group, Item, Value, Values, copy_item, copy_text, copy_valu
 use sqlite_items::Items;
 use std::alloc::{AllocError, Global};
 
-/// One value.
+/// The list of one value, of these bytes. An `Err` comes only where memory is wanting.
 pub(crate) fn one_value(alloc: Global, bytes: Items<u8>, quoted: bool) -> Result<Values, AllocError>
     ensures { IfOk result (λ values. values ≡ spec.one_value bytes quoted) }
 {

@@ -8,7 +8,7 @@ use cell_machine::Change;
 use std::alloc::AllocError;
 use stimulus::{TraceSim, first_difference};
 
-/// Two simulators.
+/// Two simulators, whose traces are compared.
 #[derive(Drop)]
 pub(crate) struct Both<A: Drop, B: Drop> {
     pub left: A,

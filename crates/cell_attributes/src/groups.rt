@@ -68,7 +68,8 @@ pub fn inner_groups(alloc: Global, cell: &Group) -> Result<Vec<&Group>, AllocErr
     Ok(groups)
 }
 
-/// Those of some groups that pass this test, in order.
+/// Those of some groups that pass this test, in order. It is no function, since of a test that is handed over contracts know only
+/// what its calls may give, and two loops are shorter than the proof that this is one filter.
 macro_rules! groups_that {
     ($alloc:expr, $groups:expr, $passes:ident) => {{
         let mut found = Vec::new($alloc);

@@ -42,7 +42,7 @@ fn second_both(group: &Group) -> Both
 /// Two functions that may not be written.
 type WrittenPair = (Option<Function>, Option<Function>);
 
-/// Two functions.
+/// Two functions, neither of which may be left out.
 type NeededPair = (Function, Function);
 
 /// What the texts of a cell are made functions with.

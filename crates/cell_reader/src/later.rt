@@ -17,7 +17,8 @@ use cell_refusals::{Reason, Refusal, least_among, least_among_held, refused_or};
 use cell_timings::{WrongTiming, made_offsets};
 use std::alloc::{AllocError, Global};
 
-/// Where the texts of a cell, or the timing of its pins, are wrong in these ways.
+/// Where the texts of a cell, or the timing of its pins, are wrong in these ways. It is no function, since its contract would
+/// have to tell which way of texts and which of timing go together.
 macro_rules! least_wrong {
     ($parts:expr, $text:expr, $timing:expr) => {{
         let states = least_among(&$text, $parts.said.readings.as_slice());

@@ -85,7 +85,7 @@ impl Scan<Group> for LeftOutStates {
     }
 }
 
-/// Where the attribute of this name has a value of these, which it may not have.
+/// Where the attribute of this name has a value of these, which it may not have. It is no function, since a pattern is no value.
 macro_rules! bad_both {
     ($group:expr, $name:literal, $bad:pat) => {
         match last_attribute($group, $name) {

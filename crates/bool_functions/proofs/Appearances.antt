@@ -5,6 +5,7 @@ use Rattle.std.proofs.Common.{length, drop, slice_index_or, add-one, drop-cons, 
 use Rattle.std.specs.List.{list_any, AllByRecursion, IsDistinct}
 use Rattle.std.proofs.lemmas.List.Folds.{list_any-append}
 use Rattle.std.proofs.lemmas.Slice.Eq.{bytes_eq-Decides}
+use Rattle.std.proofs.lemmas.Bool.{or_right as either}
 use Rattle.bool_functions.specs.declared.tokens.Span.{Span}
 use Rattle.bool_functions.specs.NameList.{number_of, Adds, AreDistinct}
 use Rattle.bool_functions.specs.Token.{is_name, bytes_at, words_of, words, spans}
@@ -213,10 +214,6 @@ found_at w x ws false e k h = contains_later x ws w (k h)
 contains_found : (w : List ℕ) (ws : List (List ℕ)) → list_any (bytes_eq w) ws ≡ true → Contains ws w
 contains_found w [] h = absurd cc
 contains_found w (x ∷ ws) h = found_at w x ws (bytes_eq w x) refl (contains_found w ws) h
-
-either : (a b : Bool) → b ≡ true → (a || b) ≡ true
-either true b h = refl
-either false b h = h
 
 found_contained : (w : List ℕ) (ws : List (List ℕ)) → Contains ws w → list_any (bytes_eq w) ws ≡ true
 found_contained w [] h = absurd (contains_none w h)

@@ -1,7 +1,7 @@
 -- The test of two trees for equality.
-use Rattle.std.proofs.Common.{◌≡◌, ℕ, Bool, true, false, ◌&&◌, ◌==◌, ◌↔◌, refl, sym, ap, ◌∙◌, subst, arith}
+use Rattle.std.proofs.Common.{◌≡◌, ℕ, Bool, true, false, ◌==◌, ◌↔◌, refl, sym, ap, ◌∙◌, subst, arith}
 use Rattle.std.specs.Prelude.{IsTrue}
-use Rattle.std.proofs.lemmas.Bool.{cases_Bool, and_parts, eqb-true}
+use Rattle.std.proofs.lemmas.Bool.{cases_Bool, and_parts, eqb-true, and_from as both_true, false_from_ne_true as false_where}
 use Rattle.std.proofs.lemmas.Bool.Decides.{nat_tests}
 use Rattle.bool_functions.specs.declared.tree.Node.{Node, out-Node, roll-Node}
 use Rattle.bool_functions.specs.declared.tree.Node.TheVariants as node
@@ -100,10 +100,6 @@ same_tree-equal = every_tree Equals record {
 top_of : (g : Node) (k : Node-F Node) → roll-Node k ≡ g → out-Node g ≡ k
 top_of g k e = ap out-Node (sym e) ∙ out-roll-Node k
 
-both_true : (a b : Bool) → a ≡ true → b ≡ true → (a && b) ≡ true
-both_true true b e h = h
-both_true false b e h = e
-
 same-number : (i : ℕ) → (i == i) ≡ true
 same-number i = grind (arith, nat_tests)
 
@@ -131,10 +127,6 @@ same_tree-refl = every_tree Passes record {
       ∙ ap (same_step (Node-F.Or (same_tree f) (same_tree g))) (top_of (node.Or f g) (Node-F.Or f g) (rolls-Or f g))
       ∙ both_true _ _ is also;
 }
-
-false_where : (c : Bool) → (c ≡ true → ⊥) → c ≡ false
-false_where true never = absurd (never refl)
-false_where false never = refl
 
 -- what tells whether two trees are equal is this test
 pub told_same : (b : Bool) (f g : Node) → IsTrue b ↔ (f ≡ g) → b ≡ same_tree f g

@@ -5,20 +5,16 @@ use Rattle.std.proofs.Common.{refl, sym, ap, ◌∙◌, arith, append-nil, eqb-t
 use Rattle.std.specs.List.{range_with_len, list_any}
 use Rattle.std.proofs.lemmas.Bool.{cases_Bool}
 use Rattle.std.proofs.lemmas.Bool.Decides.{nat_tests}
-use Rattle.std.proofs.lemmas.List.{length-map, map-append}
+use Rattle.std.proofs.lemmas.List.{length-map, map-append, take-map}
 use Rattle.std.proofs.Math.Pow.{pow_mono}
 use Rattle.std.proofs.lemmas.Nat.{and_block, or_block, xor_block}
+use Rattle.std.proofs.lemmas.List.FromFn.{length-range_with_len as range_length}
 use Rattle.bool_functions.specs.declared.tree.Node.{Node}
 use Rattle.bool_functions.specs.Tree.{value_step, value_by, xor}
 use Rattle.bool_functions.specs.Point.{bit, number, entry_of}
 use Rattle.bool_functions.specs.Block.{ones, word_step, word_by, word_at, word_of, name_word, named, bits_of}
 use Rattle.bool_functions.proofs.Tables.{bit_below, number_below, half, low_bit}
 use Rattle.bool_functions.proofs.Trees.{every_tree, fold-Zero, fold-One, fold-Name, fold-Not, fold-Xor, fold-And, fold-Or}
-
--- points in a row
-pub range_length : (a n : ℕ) → length (range_with_len a n) ≡ n
-range_length a zero = refl
-range_length a (suc n) = ap suc (range_length (a + 1) n)
 
 range-append : (a n m : ℕ) → range_with_len a n ++ range_with_len (a + n) m ≡ range_with_len a (n + m)
 range-append a zero m = let e : a + 0 ≡ a = omega arith in let f : 0 + m ≡ m = omega arith in rw (e, f) refl
@@ -31,11 +27,6 @@ range-take : (a n m : ℕ) → m ≤ n → take m (range_with_len a n) ≡ range
 range-take a n zero h = refl
 range-take a zero (suc m) h = absurd (omega arith)
 range-take a (suc n) (suc m) h = ap (λ ks. a ∷ ks) (range-take (a + 1) n m (omega arith))
-
-take-map : {A B : Type 0} (f : A → B) (n : ℕ) (xs : List A) → take n (map f xs) ≡ map f (take n xs)
-take-map f zero xs = refl
-take-map f (suc n) [] = refl
-take-map f (suc n) (x ∷ xs) = ap (λ ys. f x ∷ ys) (take-map f n xs)
 
 range-get : {A : Type 0} (f : ℕ → A) (a n k : ℕ) → k < n → slice_get (map f (range_with_len a n)) k ≡ Some (f (a + k))
 range-get f a zero k h = absurd (omega arith)

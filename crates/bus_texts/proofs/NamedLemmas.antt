@@ -1,5 +1,5 @@
 -- The vector of a name stands at the place that is kept for the name.
-use Rattle.std.proofs.Common.{◌≡◌, ℕ, zero, suc, ◌≤◌, Bool, true, false, cond, ◌==◌, nat_lt, List, [], ◌∷◌, length, Option, None}
+use Rattle.std.proofs.Common.{◌≡◌, ℕ, ◌≤◌, Bool, true, false, cond, ◌==◌, nat_lt, List, length, Option, None}
 use Rattle.std.proofs.Common.{Some, if◌then◌else◌, refl, sym, ap, ◌∙◌, arith, slice_get}
 use Rattle.std.specs.Prelude.{find, bytes_eq}
 use Rattle.std.specs.List.{position, position_or_len}
@@ -7,16 +7,12 @@ use Rattle.std.specs.Option.{option_and_then}
 use Rattle.std.proofs.lemmas.Bool.Decides.{nat_tests}
 use Rattle.std.proofs.lemmas.List.Folds.{find_at}
 use Rattle.std.proofs.lemmas.Slice.Eq.{bytes_eq-Decides}
+use Rattle.std.proofs.lemmas.Option.{slice_get_past as get_past}
 use Rattle.first_names.specs.declared.places.FirstNames.{FirstNames}
 use Rattle.first_names.specs.Places.{place_by, FindsFirst}
 use Rattle.bus_texts.specs.declared.vectors.Vector.{Vector}
 use Rattle.bus_texts.specs.NamedVectors.{vector_name}
 use Rattle.bus_texts.specs.Vectors.{has_name, vector_named}
-
-get_past : {X : Type 0} (xs : List X) (n : ℕ) → length xs ≤ n → slice_get xs n ≡ None
-get_past [] n h = refl
-get_past (x ∷ xs) zero h = absurd (omega (arith, h))
-get_past (x ∷ xs) (suc n) h = get_past xs n (omega (arith, h))
 
 found_at : {X : Type 0} (p : X → Bool) (xs : List X) → find p xs ≡ option_and_then (slice_get xs) (position p xs)
 found_at p xs = find_at p xs ∙ by (nat_lt (position_or_len p xs) (length xs)) refl

@@ -8,6 +8,7 @@ use Rattle.std.specs.Char.{is_ascii_digit}
 use Rattle.std.proofs.lemmas.Bool.{cases_Bool, and_parts, or_right, ltb-true}
 use Rattle.std.proofs.lemmas.List.{length-drop, length-take-le, get_or-drop}
 use Rattle.std.proofs.lemmas.List.Folds.{list_any-append}
+use Rattle.std.proofs.Math.Bool.{and-false as and_right}
 use Rattle.bool_functions.specs.declared.tokens.Span.{Span}
 use Rattle.bool_functions.specs.declared.symbol.Symbol.{Symbol}
 use Rattle.bool_functions.specs.declared.symbol.Symbol.TheVariants as symbol
@@ -25,7 +26,7 @@ use Rattle.bus_texts.specs.Texts.{Replacement, Stays, Becomes, Missing, replacem
 use Rattle.bus_texts.specs.Vectors.{vector_named}
 use Rattle.bus_texts.specs.Laws.{runs_into_name, runs_together}
 use Rattle.bus_texts.proofs.PartLemmas.{first_some, parts_step, digits_first}
-use Rattle.bus_texts.proofs.RewrittenTexts.{Named, named_by, first_behind, spelled_quiet, begins_taken, begins_same, and_right}
+use Rattle.bus_texts.proofs.RewrittenTexts.{Named, named_by, first_behind, spelled_quiet, begins_taken, begins_same}
 
 -- symbols of which one is nothing of the grammar are no text
 abbrev pub is_stray : Symbol → Bool

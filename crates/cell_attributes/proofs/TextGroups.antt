@@ -3,7 +3,7 @@ use Rattle.std.proofs.Common.{◌≡◌, ℕ, ◌+◌, Bool, true, false, not, �
 use Rattle.std.proofs.Common.{IsTrue, Option, Some, None, nat_lt, nat_le, slice_index}
 use Rattle.std.specs.Prelude.{codes, is_none, unwrap_or, if◌then◌else◌}
 use Rattle.std.specs.List.{list_all}
-use Rattle.std.proofs.lemmas.Bool.{and_from, or_parts}
+use Rattle.std.proofs.lemmas.Bool.{and_from, or_parts, not-false as not_not}
 use Rattle.liberty_groups.specs.declared.tree.Group.{Group}
 use Rattle.bool_functions.specs.declared.tree.Node.{Node as Tree}
 use Rattle.bool_functions.specs.Tree.{names_of}
@@ -69,10 +69,6 @@ neither_or_both None None = refl
 neither_or_both None (Some g) = refl
 neither_or_both (Some f) None = refl
 neither_or_both (Some f) (Some g) = refl
-
-not_not : (b : Bool) → not b ≡ false → b ≡ true
-not_not true h = refl
-not_not false h = absurd cc
 
 three :
     (a b c x y z : List ℕ) → a ≡ x → b ≡ y → c ≡ z → a ++ (b ++ c) ≡ x ++ (y ++ z)

@@ -3,6 +3,7 @@ use Rattle.std.proofs.Common.{◌≡◌, ◌≢◌, ℕ, ◌+◌, ◌≤◌, ◌
 use Rattle.std.proofs.Common.{length, Option, Some, None, is_some, Ok, Err, refl, sym, ap, subst, ◌∙◌, arith, length-append}
 use Rattle.std.proofs.lemmas.Bool.Decides.{nat_tests}
 use Rattle.std.proofs.lemmas.List.{append_assoc}
+use Rattle.std.proofs.Math.Bool.{and-false as and_false}
 use Rattle.grammar_rules.specs.Reading.{read}
 use Rattle.grammar_rules.proofs.Steps.{rest_of}
 use Rattle.grammar_rules.proofs.Fronts.{UsesUp}
@@ -58,10 +59,6 @@ ends_so b w =
     ∙ ap (λ (h : Halt). end_of b w h (scan_of b).1) (halt_listed (length b) (is_last (tokens_of b)) (items_outcome b))
 
 -- a refused token
-
-and_false : (x : Bool) → (x && false) ≡ false
-and_false true = refl
-and_false false = refl
 
 below : (a e len : ℕ) → nat_lt a e ≡ true → e ≤ len → (a == len) ≡ false
 below a e len h i = grind (arith, nat_tests, h, i)

@@ -1,7 +1,9 @@
 -- Over which braces the statements of a library walk.
-use Rattle.std.proofs.Common.{◌≡◌, ℕ, zero, suc, ◌+◌, ◌==◌, ◌&&◌, ◌||◌, Bool, true, false, cond, List, [], ◌∷◌, ◌++◌, Option}
-use Rattle.std.proofs.Common.{Some, None, Ok, Err, ◌⊎◌, inl, inr, refl, sym, ap, subst, ◌∙◌, arith}
+use Rattle.std.proofs.Common.{◌≡◌, ℕ, zero, suc, ◌+◌, ◌==◌, ◌&&◌, Bool, true, false, cond, List, [], ◌∷◌, ◌++◌, Option}
+use Rattle.std.proofs.Common.{Some, None, Ok, Err, inl, inr, refl, sym, ap, subst, ◌∙◌, arith}
 use Rattle.std.proofs.lemmas.Bool.Decides.{nat_tests}
+use Rattle.std.proofs.lemmas.Bool.{or_cases as either_true}
+use Rattle.std.specs.Cmp.{first_so as left_true}
 use Rattle.grammar_rules.specs.Rule.{Rule, Verdict, Fits, Foul, Misfit}
 use Rattle.grammar_rules.specs.Rule as r
 use Rattle.grammar_rules.specs.Reading.{Outcome, and_then, read}
@@ -47,14 +49,6 @@ some_if : {A K : Type 0} (b : Bool) (v a : A) → ◌≡◌ {A = Option (Verdict
     → b ≡ true
 some_if true v a e = refl
 some_if false v a e = absurd cc
-
-either_true : (x y : Bool) → (x || y) ≡ true → (x ≡ true) ⊎ (y ≡ true)
-either_true true y e = inl refl
-either_true false y e = inr e
-
-left_true : (x y : Bool) → (x && y) ≡ true → x ≡ true
-left_true true y e = refl
-left_true false y e = absurd cc
 
 open_plain : (k : TokenKind) → is_mark mark.Open k ≡ true → IsPlain k
 open_plain (kind.Brace b) e = brace_plain b 40 e refl refl

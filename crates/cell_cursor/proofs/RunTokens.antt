@@ -2,6 +2,7 @@
 use Rattle.std.proofs.Common.{◌≡◌, ℕ, suc, ◌+◌, ◌-◌, ◌<◌, ◌≤◌, ◌==◌, ◌&&◌, ◌||◌, not, Bool, true, false, List, [], ◌∷◌, ◌++◌}
 use Rattle.std.proofs.Common.{take, length, Option, Some, None, cond, ◌⊎◌, inl, inr, refl, sym, ap, subst, ◌∙◌, arith}
 use Rattle.std.proofs.lemmas.List.{append_assoc, append-nil, length-take-le, take-take}
+use Rattle.std.proofs.Math.Bool.{or-false as or_false}
 use Rattle.liberty_text.specs.declared.token.TokenKind.{TokenKind}
 use Rattle.liberty_text.specs.declared.token.TokenKind.TheVariants.{Word, Text}
 use Rattle.liberty_text.specs.declared.token.Token.{Token}
@@ -17,7 +18,7 @@ use Rattle.cell_cursor.specs.Braces.{kinds_of}
 use Rattle.liberty_text.specs.Runs.{mode_behind, tokens_ended}
 use Rattle.cell_cursor.specs.Scanned.{ends_by, last_kind}
 use Rattle.cell_cursor.proofs.Marks.{step_closes}
-use Rattle.cell_cursor.proofs.Depths.{or_false, depth_append, shows_append, kinds_append, plain_depth, word_plain, word_last}
+use Rattle.cell_cursor.proofs.Depths.{depth_append, shows_append, kinds_append, plain_depth, word_plain, word_last}
 
 -- no token, or one, with a Word before it or not
 abbrev pub EndWith : Option TokenKind → List TokenKind → Type 0

@@ -2,13 +2,14 @@
 use Rattle.std.proofs.Common.{◌≡◌, ℕ, zero, suc, ◌||◌, Bool, false, List, [], ◌∷◌, ◌++◌, length, Option, Some, None, Ok, Err}
 use Rattle.std.proofs.Common.{refl, sym, ap, ◌∙◌}
 use Rattle.std.proofs.lemmas.List.{append_assoc}
+use Rattle.std.proofs.Math.Bool.{or-false as or_false}
 use Rattle.grammar_rules.specs.Rule.{Rule, Verdict, Fits, Foul, Misfit}
 use Rattle.grammar_rules.specs.Rule as r
 use Rattle.grammar_rules.specs.Reading.{Outcome, and_then, judge, judge_first, repeat, read}
 use Rattle.liberty_text.specs.declared.token.TokenKind.{TokenKind}
 use Rattle.liberty_groups.specs.Lexeme.{Lexeme}
 use Rattle.cell_cursor.specs.Braces.{depth_behind, depth_after, shows, lexeme_kinds}
-use Rattle.cell_cursor.proofs.Depths.{or_false, depth_append, shows_append}
+use Rattle.cell_cursor.proofs.Depths.{depth_append, shows_append}
 
 -- a kind of brace, where so many groups are open
 abbrev pub Brace : Type 0

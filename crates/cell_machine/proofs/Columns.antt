@@ -1,15 +1,12 @@
 -- The columns of a table's row.
-use Rattle.std.proofs.Common.{◌≡◌, ◌≢◌, ℕ, Bool, true, false, ◌&&◌, List, [], ◌∷◌, length, refl, ap, ◌∙◌, suc}
+use Rattle.std.proofs.Common.{◌≡◌, ◌≢◌, ℕ, Bool, false, ◌&&◌, List, [], ◌∷◌, length, refl, ap, ◌∙◌, suc}
 use Rattle.statetables.specs.declared.symbols.InSymbol.{InSymbol}
 use Rattle.statetables.specs.Symbols.{matches_in}
 use Rattle.std.proofs.Common.{slice_index_or}
 use Rattle.std.proofs.lemmas.List.{length-map}
+use Rattle.std.proofs.Math.Bool.{and-false as and_false}
 use Rattle.statetables.specs.Step.{inputs_match}
 use Rattle.cell_machine.specs.Values.{picked}
-
-and_false : (b : Bool) → (b && false) ≡ false
-and_false true = refl
-and_false false = refl
 
 -- columns of another number do not match
 pub inputs_match-unequal :

@@ -84,9 +84,3 @@ pub part-at :
     {X Y Z : Type 0} (f : X → Y) (part : Y → Z) (xs : List X) (ys : List Y) (i : ℕ) (d : Y) (e : Z)
     → ys ≡ map f xs → i < length xs → part (get_or ys i d) ≡ get_or (map (λ x. part (f x)) xs) i e
 part-at f part xs ys i d e are h = ap (λ zs. part (get_or zs i d)) are ∙ get_or-part f part xs i d e h
-
--- the entry that a list has at a place
-pub entry-is : {X : Type 0} (xs : List X) (i : ℕ) (x d : X) → slice_get xs i ≡ Some x → get_or xs i d ≡ x
-entry-is [] i x d e = absurd cc
-entry-is (y ∷ xs) zero x d e = cc
-entry-is (y ∷ xs) (suc i) x d e = entry-is xs i x d e

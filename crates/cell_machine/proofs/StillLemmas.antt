@@ -2,6 +2,8 @@
 use Rattle.std.proofs.Common.{◌≡◌, ℕ, zero, suc, Bool, true, false, not, ◌&&◌, List, [], ◌∷◌, length, map, get_or, set, refl, sym}
 use Rattle.std.proofs.Common.{ap, ◌∙◌, subst, Some, None, nat_eq, if◌then◌else◌}
 use Rattle.std.proofs.lemmas.List.{set-get_or}
+use Rattle.std.proofs.Math.Bool.{and-false as and_false}
+use Rattle.std.proofs.lemmas.Bool.{not-false}
 use Rattle.trit_cubes.specs.declared.trits.Trit.{Trit}
 use Rattle.trit_cubes.specs.declared.trits.Trit.TheVariants.{Zero, One, Unknown}
 use Rattle.trit_cubes.specs.Filling.{same}
@@ -37,10 +39,6 @@ same-self Zero = refl
 same-self One = refl
 same-self Unknown = refl
 
-not-false : (b : Bool) → not b ≡ false → b ≡ true
-not-false true h = refl
-not-false false h = absurd cc
-
 pub same-equal : (a b : Trit) → not (same a b) ≡ false → b ≡ a
 same-equal a b h = sym (same-is a b (not-false (same a b) h))
 
@@ -52,10 +50,6 @@ moves-self edge.Rise Unknown = refl
 moves-self edge.Fall Zero = refl
 moves-self edge.Fall One = refl
 moves-self edge.Fall Unknown = refl
-
-and_false : (b : Bool) → (b && false) ≡ false
-and_false true = refl
-and_false false = refl
 
 -- no event of any kind
 pub no-event : (e : Event) (v : List Trit) (c : Change) → c.to ≡ value_before v c → is_event_of e v c ≡ false

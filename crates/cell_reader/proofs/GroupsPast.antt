@@ -1,15 +1,10 @@
 -- The first of some groups that passes a limit.
-use Rattle.std.proofs.Common.{◌≡◌, ℕ, zero, suc, ◌<◌, List, [], ◌∷◌, length, map, get_or, refl, sym, ◌∙◌, ap, arith, Some}
+use Rattle.std.proofs.Common.{◌≡◌, ℕ, ◌<◌, List, length, map, get_or, refl, sym, ◌∙◌, ap, Some}
 use Rattle.std.specs.Prelude.{slice_get, option_map}
-use Rattle.std.proofs.lemmas.Option.{slice_get-map}
+use Rattle.std.proofs.lemmas.Option.{slice_get-map, slice_get-get_or as is_there}
 use Rattle.cell_machine.specs.Delay.{least}
 use Rattle.liberty_groups.specs.declared.tree.Group.{Group}
 use Rattle.cell_attributes.specs.Limits.{first_past, place_of_group}
-
-is_there : {A : Type 0} (xs : List A) (i : ℕ) (d : A) → i < length xs → slice_get xs i ≡ Some (get_or xs i d)
-is_there [] i d within = absurd (omega arith)
-is_there (x ∷ xs) zero d within = refl
-is_there (x ∷ xs) (suc i) d within = is_there xs i d (omega arith)
 
 -- the first group that passes a limit
 pub group_past :

@@ -3,7 +3,7 @@ use Rattle.std.proofs.Common.{◌≡◌, ℕ, ◌+◌, ◌<◌, Bool, true, fals
 use Rattle.std.proofs.Common.{refl, sym, ◌∙◌, ap, subst, IsTrue, Option, Some, None}
 use Rattle.std.specs.Prelude.{bytes_eq}
 use Rattle.std.specs.List.{list_any}
-use Rattle.std.proofs.lemmas.Bool.{and_parts}
+use Rattle.std.proofs.lemmas.Bool.{and_parts, or_from as or_false}
 use Rattle.std.proofs.lemmas.List.Folds.{list_any-append}
 use Rattle.std.proofs.lemmas.List.{map-append, take_more, drop_more, take-append-drop}
 use Rattle.bool_functions.specs.NameList.{number_of, Adds}
@@ -17,9 +17,6 @@ last_of_or : (a b c : Bool) → IsTrue (not (a || (b || c))) → b ≡ false
 last_of_or true b c h = absurd cc
 last_of_or false true c h = absurd cc
 last_of_or false false c h = refl
-
-or_false : (a b : Bool) → a ≡ false → b ≡ false → (a || b) ≡ false
-or_false a b h k = rw h k
 
 -- a name of a list in which none stands twice is not before its place
 not_before :

@@ -1,13 +1,12 @@
 -- The number of a driven output, found in the list of them, which ascends.
-use Rattle.std.proofs.Common.{◌≡◌, ℕ, zero, suc, ◌<◌, ◌≤◌, false, cond, inl, inr, List, [], ◌∷◌, length, get_or, sym, ap, ◌∙◌}
+use Rattle.std.proofs.Common.{◌≡◌, ℕ, zero, suc, ◌<◌, ◌≤◌, cond, inl, inr, List, [], ◌∷◌, length, get_or, sym, ap, ◌∙◌}
 use Rattle.std.proofs.Common.{Some, None, Ok, Err, arith}
 use Rattle.std.specs.Prelude.{nat_eq, nat_lt, position}
 use Rattle.std.specs.List.{position_or_len}
 use Rattle.std.specs.Ordering.{nat_cmp}
 use Rattle.std.specs.List.Sorted.{IsBinarySearchResult}
 use Rattle.std.proofs.Math.Nat.{eq-or-lt_of_le}
-use Rattle.std.proofs.lemmas.Bool.{cases_lt, lt-ltb, le-ltb, eq-eqb}
-use Rattle.std.proofs.lemmas.Bool.Decides.{eqb_tells}
+use Rattle.std.proofs.lemmas.Bool.{cases_lt, lt-ltb, le-ltb, eq-eqb, ne_eqb as differ}
 use Rattle.std.proofs.lemmas.List.Sorted.{searched}
 use Rattle.std.proofs.lemmas.List.Sums.{position_or_len_is}
 use Rattle.cell_machine.specs.Supports.{AllAbove, Ascending}
@@ -28,12 +27,6 @@ not_falling : (xs : List ℕ) → Ascending xs → (i j : ℕ) → i ≤ j → j
 not_falling xs up i j l h = elim (eq-or-lt_of_le l) [
   | inl e ↦ let same : get_or xs i 0 ≡ get_or xs j 0 = ap (λ k. get_or xs k 0) e in omega (arith, same)
   | inr below ↦ let less = rising xs i j up below h in omega (arith, less)
-]
-
-differ : (a b : ℕ) → (a ≡ b → ⊥) → nat_eq a b ≡ false
-differ a b never = elim (eqb_tells a b) [
-  | inl p ↦ absurd (never p.1)
-  | inr p ↦ p.0
 ]
 
 -- it stands at this place

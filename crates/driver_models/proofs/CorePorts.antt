@@ -3,7 +3,7 @@ use Rattle.std.proofs.Common.{◌≡◌, ◌↔◌, ℕ, Bool, true, false, not,
 use Rattle.std.proofs.Common.{eqb-true}
 use Rattle.std.specs.List.{list_all}
 use Rattle.std.specs.Bool.{beq}
-use Rattle.std.proofs.lemmas.Bool.{and_from, and_parts, eq-eqb}
+use Rattle.std.proofs.lemmas.Bool.{and_from, and_parts, eq-eqb, not-true as output_alone}
 use Rattle.std.proofs.lemmas.List.{length-map, length-replicate}
 use Rattle.udp_tables.specs.declared.models.VPort.{VPort}
 use Rattle.driver_models.specs.Models.{directions, are_core_ports, AreCorePorts}
@@ -11,10 +11,6 @@ use Rattle.driver_models.specs.Laws.{CorePortsAreDecided}
 
 abbrev is_output : VPort → Bool
 is_output port = not port.input
-
-output_alone : (b : Bool) → not b ≡ true → b ≡ false
-output_alone true e = absurd cc
-output_alone false e = refl
 
 -- ports that are all outputs
 outputs_alone : (core : List VPort) → list_all is_output core ≡ true → directions core ≡ replicate (length core) false

@@ -4,7 +4,7 @@ use Rattle.std.proofs.Common.{◌∙◌, append_assoc, append-nil, arith, IsTrue
 use Rattle.std.specs.Prelude.{nat_eq}
 use Rattle.std.specs.Bool.{beq}
 use Rattle.std.specs.List.{list_all}
-use Rattle.std.proofs.lemmas.Bool.{and_parts, and_from, eq-eqb}
+use Rattle.std.proofs.lemmas.Bool.{and_parts, and_from, eq-eqb, not_from_false as not_of}
 use Rattle.std.proofs.lemmas.List.{map-append, length-map, length-replicate}
 use Rattle.cell_machine.specs.declared.pins.Direction.{Direction}
 use Rattle.cell_machine.specs.declared.pins.Direction.TheVariants.{Input, Output, Internal}
@@ -167,9 +167,6 @@ head_of (b ∷ bs) = b
 abbrev tail_of : (bs : List Bool) → List Bool
 tail_of [] = []
 tail_of (b ∷ bs) = bs
-
-not_of : (b : Bool) → b ≡ false → not b ≡ true
-not_of b e = ap not e
 
 all_outputs : (driven : ℕ) (core : List VPort) → directions core ≡ replicate driven false
     → list_all (λ (port : VPort). not port.input) core ≡ true

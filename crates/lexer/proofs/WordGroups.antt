@@ -7,6 +7,7 @@ use Rattle.std.proofs.lemmas.Bool.Decides.{nat_tests}
 use Rattle.std.proofs.lemmas.List.Folds.{list_any-append}
 use Rattle.std.specs.List.{list_all, list_any}
 use Rattle.std.specs.Str.{bytes_eq}
+use Rattle.std.proofs.Math.Bool.{or-false as or_false}
 use Rattle.lexer.specs.WordGroups.{begins, begin_from, joined}
 
 -- words that begin with another letter
@@ -19,10 +20,6 @@ none_of letter first rest n ((b ∷ bs) ∷ words) e =
     let p = and_parts (nat_eq b letter) (list_all (begins letter) words) e in
     let other : nat_eq first b ≡ false = ap (nat_eq first) (eqb-true b letter p.0) ∙ n in
     rw other (none_of letter first rest n words p.1)
-
-or_false : (b : Bool) → (b || false) ≡ b
-or_false true = refl
-or_false false = refl
 
 -- the groups of a table, each with its words
 module _ {G W : Type 0} (words : G → List W) (bytes : W → List ℕ) where

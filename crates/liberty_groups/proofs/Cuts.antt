@@ -1,11 +1,12 @@
 -- Some library text begins with the bytes exactly where the code says that it may go on.
 use Rattle.std.proofs.Common.{◌≡◌, ℕ, ◌+◌, ◌==◌, ◌||◌, ◌&&◌, Bool, true, false, nat_eq, List, [], ◌∷◌, ◌++◌, length, drop}
-use Rattle.std.proofs.Common.{slice_range, Option, Some, None, ◌⊎◌, inl, inr, refl, sym, ap, subst, ◌∙◌, arith, length-append}
+use Rattle.std.proofs.Common.{slice_range, Option, Some, None, inl, inr, refl, sym, ap, subst, ◌∙◌, arith, length-append}
 use Rattle.std.proofs.Common.{append_assoc}
 use Rattle.std.specs.Prelude.{option_and_then, is_some, codes}
 use Rattle.std.specs.Str.{bytes_eq}
 use Rattle.std.specs.List.{starts_with, list_any}
 use Rattle.std.proofs.lemmas.List.{append-nil}
+use Rattle.std.proofs.lemmas.Bool.{or_cases as or_splits, and_parts as and_splits}
 use Rattle.liberty_text.specs.declared.token.Token.{Token}
 use Rattle.liberty_text.specs.declared.token.TokenKind.TheVariants.{Word, Text}
 use Rattle.liberty_text.specs.declared.token.Stop.{Stop}
@@ -152,14 +153,6 @@ word_slice text q u r a n e f g =
     ap (λ (t : List ℕ). slice_range t a n) (e ∙ sym (append_assoc q u r))
     ∙ slice_more (q ++ u) r a n (omega arith) (omega arith)
     ∙ slice_end q u a n f g
-
-or_splits : (x y : Bool) → (x || y) ≡ true → (x ≡ true) ⊎ (y ≡ true)
-or_splits true y e = inl refl
-or_splits false y e = inr e
-
-pub and_splits : (x y : Bool) → (x && y) ≡ true → (x ≡ true) × (y ≡ true)
-and_splits true y e = (refl, e)
-and_splits false y e = absurd cc
 
 no_more : (r s : List ℕ) → [] ≡ r ++ s → r ≡ []
 no_more [] s e = refl

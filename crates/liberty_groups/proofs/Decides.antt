@@ -1,11 +1,12 @@
 -- Bytes with which some library text begins may go on, as the code finds it.
-use Rattle.std.proofs.Common.{◌≡◌, ℕ, zero, suc, ◌+◌, ◌-◌, ◌==◌, ◌||◌, ◌&&◌, Bool, true, false, nat_lt, cond, List, [], ◌∷◌, ◌++◌}
+use Rattle.std.proofs.Common.{◌≡◌, ℕ, zero, suc, ◌+◌, ◌-◌, ◌==◌, ◌&&◌, Bool, true, false, nat_lt, cond, List, [], ◌∷◌, ◌++◌}
 use Rattle.std.proofs.Common.{length, take, slice_range, Option, Some, None, Ok, Err, inl, inr, refl, sym, ap, subst, ◌∙◌, arith}
 use Rattle.std.proofs.Common.{length-append, append_assoc}
 use Rattle.std.specs.Prelude.{option_and_then, is_some, codes}
 use Rattle.std.specs.Str.{bytes_eq}
 use Rattle.std.proofs.lemmas.List.{append-nil}
 use Rattle.std.proofs.lemmas.Bool.Decides.{nat_tests}
+use Rattle.std.proofs.lemmas.Bool.{or_left as first_or, or_right as second_or}
 use Rattle.liberty_text.specs.declared.token.Token.{Token}
 use Rattle.liberty_text.specs.declared.token.TokenKind.TheVariants.{Word, Text}
 use Rattle.liberty_text.specs.declared.token.Stop.{Stop}
@@ -259,13 +260,6 @@ first_stands p r x s e = by_step (step p x.token (is_library_name x)) refl e
         → (q : Standing) × (step p x.token (is_library_name x) ≡ Some q)
     by_step None i h = absurd cc
     by_step (Some q) i h = (q, i)
-
-first_or : (x y : Bool) → x ≡ true → (x || y) ≡ true
-first_or x y e = rw e refl
-
-second_or : (x y : Bool) → y ≡ true → (x || y) ≡ true
-second_or true y e = refl
-second_or false y e = e
 
 -- a word with which the name of a library begins, where that name stands
 name_becomes : (bytes : List ℕ) (E : List Token) (a n b e : ℕ) (l f : Bool) (p q : Standing) (r : List ℕ)

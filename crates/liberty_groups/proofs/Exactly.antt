@@ -3,6 +3,7 @@ use Rattle.std.proofs.Common.{◌≡◌, ℕ, ◌==◌, ◌&&◌, Bool, true, fa
 use Rattle.std.proofs.Common.{Ok, Err, inl, inr, refl, sym, ap, subst, ◌∙◌, arith, cond}
 use Rattle.std.specs.Prelude.{unwrap_or}
 use Rattle.std.proofs.lemmas.Bool.Decides.{nat_tests}
+use Rattle.std.proofs.lemmas.Bool.{and_parts as and_splits}
 use Rattle.liberty_text.specs.declared.token.Token.{Token}
 use Rattle.liberty_text.specs.declared.token.TokenKind.{TokenKind}
 use Rattle.liberty_text.specs.declared.token.TokenKind.TheVariants.{Word, Text, Brace, Colon, Semicolon, Comma}
@@ -32,7 +33,7 @@ use Rattle.liberty_groups.specs.declared.outline.Standing.TheVariants.{Start}
 use Rattle.liberty_groups.specs.Outline.{stands}
 use Rattle.liberty_groups.proofs.Pieces.{head_same, tail_same}
 use Rattle.liberty_groups.proofs.Completions.{whole, used_stands}
-use Rattle.liberty_groups.proofs.Cuts.{and_splits, front_goes_on, word_goes_on}
+use Rattle.liberty_groups.proofs.Cuts.{front_goes_on, word_goes_on}
 use Rattle.liberty_groups.proofs.Decides.{decides, front_halts, front_of_text}
 
 -- the last of the tokens with their bytes

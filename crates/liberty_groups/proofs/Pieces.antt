@@ -1,7 +1,9 @@
 -- The pieces of a text when other bytes come behind them, and their fronts.
-use Rattle.std.proofs.Common.{◌≡◌, ℕ, ◌==◌, ◌||◌, ◌&&◌, not, Bool, true, false, List, [], ◌∷◌, ◌++◌, ◌⊎◌, inl, inr, refl, sym, ap}
+use Rattle.std.proofs.Common.{◌≡◌, ℕ, ◌==◌, ◌||◌, not, Bool, true, false, List, [], ◌∷◌, ◌++◌, ◌⊎◌, inl, inr, refl, sym, ap}
 use Rattle.std.proofs.Common.{subst, ◌∙◌, arith}
 use Rattle.std.proofs.lemmas.Bool.Decides.{nat_tests}
+use Rattle.std.proofs.lemmas.Bool.{and_right as and_false}
+use Rattle.std.specs.Cmp.{first_so as and_true}
 use Rattle.liberty_text.specs.Scanner.{class_of}
 use Rattle.liberty_text.specs.Tokens.{is_word_class, opens_comment, ends_word, WordBytes, TextBytes, CommentBytes, AreBlanks}
 use Rattle.liberty_text.specs.Tokens as lex
@@ -10,10 +12,6 @@ pub not_or : (x y : Bool) → (not x || y) ≡ false → (x ≡ true) × (y ≡ 
 not_or true true e = absurd cc
 not_or true false e = (refl, refl)
 not_or false y e = absurd cc
-
-and_false : (x y : Bool) → y ≡ false → (x && y) ≡ false
-and_false true y e = e
-and_false false y e = refl
 
 pub class_word : (b : ℕ) (bs : List ℕ) → ends_word (b ∷ bs) ≡ false → is_word_class (class_of b) ≡ true
 class_word b bs e = (not_or (is_word_class (class_of b)) (opens_comment (b ∷ bs)) e).0
@@ -118,10 +116,6 @@ word_slash (lex.word_byte {b = b} {w = w} {rest = rest} h more) = lex.word_byte 
 or_true : (x y : Bool) → (not x || y) ≡ true → x ≡ true → y ≡ true
 or_true true y h e = h
 or_true false y h e = absurd cc
-
-and_true : (x y : Bool) → (x && y) ≡ true → x ≡ true
-and_true true y h = refl
-and_true false y h = absurd cc
 
 -- Bytes that end a word do so whatever comes behind the front of them, unless the front is the slash of
 -- a comment.

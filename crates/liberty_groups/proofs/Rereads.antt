@@ -4,6 +4,7 @@ use Rattle.std.proofs.Common.{sym, ap, ◌∙◌, arith, append_assoc, length-ap
 use Rattle.std.proofs.lemmas.List.{append-nil}
 use Rattle.std.proofs.lemmas.Bool.Decides.{nat_tests}
 use Rattle.std.specs.List.{list_all}
+use Rattle.std.proofs.lemmas.Bool.{and_parts as and_splits}
 use Rattle.liberty_text.specs.declared.token.TokenKind.TheVariants.{Text, Brace, Colon, Semicolon, Comma}
 use Rattle.liberty_text.specs.Scanner.{token}
 use Rattle.liberty_text.specs.TextValue.{quoted, value_of}
@@ -28,7 +29,7 @@ use Rattle.liberty_groups.specs.Grammar.{◌>>=◌, between_quotes, part_of, par
 use Rattle.liberty_groups.specs.Grammar.{no_value, value, simple, some_statements, statements, group_of, complex_or_group}
 use Rattle.liberty_groups.specs.Grammar.{bracketed, body, statement, goes_on}
 use Rattle.liberty_groups.specs.Writing.{value_text, is_quotable, as_quoted}
-use Rattle.liberty_groups.proofs.Cuts.{word_slice, and_splits}
+use Rattle.liberty_groups.proofs.Cuts.{word_slice}
 use Rattle.liberty_groups.proofs.Spelling.{mark_at, text_at, values_at, quotable}
 
 inner_quotes : (v : Value) → between_quotes (value_text v) ≡ quoted v.bytes

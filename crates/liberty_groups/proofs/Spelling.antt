@@ -3,6 +3,7 @@ use Rattle.std.proofs.Common.{◌≡◌, ℕ, ◌+◌, ◌==◌, Bool, true, fal
 use Rattle.std.proofs.Common.{arith, length-append, append_assoc}
 use Rattle.std.proofs.lemmas.List.{append-nil}
 use Rattle.std.specs.List.{list_any, list_all}
+use Rattle.std.proofs.lemmas.Bool.{and_parts as and_splits, not-true as not_true}
 use Rattle.liberty_text.specs.declared.token.Token.{Token}
 use Rattle.liberty_text.specs.declared.token.TokenKind.{TokenKind}
 use Rattle.liberty_text.specs.declared.token.TokenKind.TheVariants.{Word, Text, Comma}
@@ -17,7 +18,7 @@ use Rattle.liberty_groups.specs.Lexeme.{Lexeme, lexemes_of}
 use Rattle.liberty_groups.specs.Writing.{value_text, values_text, is_word_text, is_name, is_quotable}
 use Rattle.liberty_groups.proofs.Lexemes.{lexemes-append}
 use Rattle.liberty_groups.proofs.Pieces.{word_any}
-use Rattle.liberty_groups.proofs.Cuts.{word_slice, and_splits}
+use Rattle.liberty_groups.proofs.Cuts.{word_slice}
 
 -- Bytes u behind bytes pre, with or without a line end before them, are these tokens, and leave this flag
 -- for the token behind.
@@ -82,10 +83,6 @@ spells_line l = record {
   spells =
       λ pre rest n V s e d. ([], lex.line_end refl (subst (λ (i : ℕ). Lexes i true rest V s) (one_more n 10) d), refl);
 }
-
-pub not_true : (x : Bool) → not x ≡ true → x ≡ false
-not_true true e = absurd cc
-not_true false e = refl
 
 word_bytes : (bs : List ℕ) → is_word_text bs ≡ true → WordBytes bs []
 word_bytes [] e = lex.word_ends refl

@@ -3,6 +3,7 @@ use Rattle.std.proofs.Common.{◌≡◌, ℕ, zero, suc, ◌+◌, ◌-◌, ◌==
 use Rattle.std.proofs.Common.{Some, None, Ok, refl, sym, ap, subst, ◌∙◌, arith, append_assoc}
 use Rattle.std.proofs.lemmas.List.{append-nil}
 use Rattle.std.specs.List.{list_all}
+use Rattle.std.proofs.lemmas.Bool.{and_parts as and_splits}
 use Rattle.liberty_text.specs.declared.token.Token.{Token}
 use Rattle.liberty_text.specs.declared.token.TokenKind.TheVariants.{Word, Brace, Colon, Semicolon}
 use Rattle.liberty_text.specs.declared.token.Stop.TheVariants as stops
@@ -26,7 +27,6 @@ use Rattle.liberty_groups.specs.Writing.{values_text, simple_text, complex_text,
 use Rattle.liberty_groups.specs.Writing.{group_text, is_name, is_quotable, writable_item, writable_group, is_writable}
 use Rattle.liberty_groups.specs.Writing.{item_is_writable, as_quoted, plain_item_step, plain_group_step, plain_item, plain_group}
 use Rattle.liberty_groups.specs.Writing.{ReadsBack, WritableParts}
-use Rattle.liberty_groups.proofs.Cuts.{and_splits}
 use Rattle.liberty_groups.proofs.Texts.{group_text_is}
 use Rattle.liberty_groups.proofs.Spelling.{Spells, spells_then, lexeme, mark_at, values_at, spells_mark, spells_blank}
 use Rattle.liberty_groups.proofs.Spelling.{spells_line, spells_name, spells_values}

@@ -4,6 +4,8 @@ use Rattle.std.proofs.Common.{◌||◌, ◌&&◌, refl, sym, ◌∙◌, ap, subs
 use Rattle.std.proofs.lemmas.Bool.Decides.{nat_tests}
 use Rattle.std.specs.List.{list_any}
 use Rattle.std.proofs.lemmas.List.{append-nil}
+use Rattle.std.proofs.lemmas.Bool.{and_parts as both}
+use Rattle.std.proofs.Math.Bool.{or_assoc}
 use Rattle.liberty_text.specs.declared.token.TokenKind.TheVariants.{Word, Text}
 use Rattle.liberty_text.specs.declared.token.Token.{Token}
 use Rattle.liberty_text.specs.declared.token.Stop.{Stop}
@@ -17,7 +19,7 @@ use Rattle.liberty_text.specs.Scanner.{after_tokens, run}
 use Rattle.liberty_text.specs.Tokens.{is_word_class, opens_comment, ends_word, WordBytes, TextBytes, CommentBytes, AreBlanks}
 use Rattle.liberty_text.specs.Tokens.{IsNoBlank, Lexes, Reads}
 use Rattle.liberty_text.specs.Tokens as lex
-use Rattle.liberty_text.proofs.Sound.{or_assoc, both, reads}
+use Rattle.liberty_text.proofs.Sound.{reads}
 use Rattle.liberty_text.specs.TokenLaws.{HaveOneReading}
 
 -- the rest of a reading behind what a step gives

@@ -4,6 +4,7 @@ use Rattle.std.proofs.Common.{arith, append_assoc}
 use Rattle.std.specs.List.{list_any}
 use Rattle.std.proofs.lemmas.Bool.Decides.{nat_tests}
 use Rattle.std.proofs.lemmas.List.{length-append}
+use Rattle.std.proofs.Math.Bool.{or-false as or_false, or_assoc}
 use Rattle.liberty_text.specs.declared.token.TokenKind.{TokenKind}
 use Rattle.liberty_text.specs.declared.token.TokenKind.TheVariants.{Word, Text, Brace, Colon, Semicolon, Comma}
 use Rattle.liberty_text.specs.declared.token.Token.{Token}
@@ -15,7 +16,7 @@ use Rattle.liberty_text.specs.Tokens.{AreBlanks, CommentBytes, TextBytes, WordBy
 use Rattle.liberty_text.specs.Tokens as lex
 use Rattle.liberty_text.specs.Cover.{Separates, Spells, StopsHere, CoversLast, CoversFirst, Covers, IsCovered}
 use Rattle.liberty_text.specs.Cover as cover
-use Rattle.liberty_text.proofs.Sound.{or_assoc, reads}
+use Rattle.liberty_text.proofs.Sound.{reads}
 
 pub or_true : (a : Bool) → true ≡ (a || true)
 or_true true = refl
@@ -35,11 +36,6 @@ separates_append {second = second} {cs = cs} (cover.comment_between {bs = bs} li
     subst (λ l. Separates l (bs ++ cs)) (sym (or_assoc (list_any (λ b. b == 10) body) line second))
     (cover.comment_between (line || second) body (rest ++ cs) all
     (ap (λ l. l ++ cs) split ∙ ap (λ l. 47 ∷ 42 ∷ l) (append_assoc body (47 ∷ rest) cs)) (separates_append d s))
-
--- one more separator
-pub or_false : (a : Bool) → (a || false) ≡ a
-or_false true = refl
-or_false false = refl
 
 pub keeps_line : {line : Bool} {gap more : List ℕ} → Separates line gap → Separates false more → Separates line (gap ++ more)
 keeps_line {line = line} {gap = gap} {more = more} d s =

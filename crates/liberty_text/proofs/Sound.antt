@@ -3,6 +3,8 @@ use Rattle.std.proofs.Common.{◌≡◌, ◌⊎◌, ℕ, ◌+◌, ◌++◌, Bool
 use Rattle.std.proofs.Common.{refl, sym, ◌∙◌, ap, subst, inl, inr, arith, cond, ◌<◌}
 use Rattle.std.proofs.lemmas.Bool.Decides.{nat_tests}
 use Rattle.std.specs.List.{list_any}
+use Rattle.std.proofs.lemmas.Bool.{and_parts as both, not-true as is_false}
+use Rattle.std.proofs.Math.Bool.{or_assoc}
 use Rattle.liberty_text.specs.declared.token.TokenKind.TheVariants.{Word, Text}
 use Rattle.liberty_text.specs.declared.token.Token.{Token}
 use Rattle.liberty_text.specs.declared.token.Stop.{Stop}
@@ -16,10 +18,6 @@ use Rattle.liberty_text.specs.Scanner.{after_token, run, scan_of}
 use Rattle.liberty_text.specs.Tokens.{is_word_class, opens_comment, ends_word, WordBytes, TextBytes, CommentBytes, AreBlanks}
 use Rattle.liberty_text.specs.Tokens.{IsNoBlank, Lexes, Reads}
 use Rattle.liberty_text.specs.Tokens as lex
-
-pub or_assoc : (a b c : Bool) → ((a || b) || c) ≡ (a || (b || c))
-or_assoc true b c = refl
-or_assoc false b c = refl
 
 -- a text that is open at an offset closes behind these bytes, or does not close
 pub record TextCloses (begun : ℕ) (line escaped : Bool) (at : ℕ) (bs : List ℕ) (ts : List Token) (stop : Stop) : Type 0 where
@@ -151,16 +149,6 @@ comment_moves {at = at} {b = b} {line = line} {ts = ts} {stop = stop} e (inl k) 
           (subst (λ l. Lexes (at + 1 + length k.body + 1) l k.rest ts stop) joined k.goes_on);
     })
 comment_moves e (inr k) = inr (record { last = k.last; within = lex.comment_byte e k.within; tokens = k.tokens; stops = k.stops })
-
--- two tests that both hold
-pub both : (a b : Bool) → (a && b) ≡ true → (a ≡ true) × (b ≡ true)
-both true true e = (refl, refl)
-both true false e = absurd cc
-both false b e = absurd cc
-
-pub is_false : (a : Bool) → not a ≡ true → a ≡ false
-is_false true e = absurd cc
-is_false false e = refl
 
 -- a text closes at this byte
 pub text_closes : {begun at b : ℕ} {line escaped : Bool} {bs : List ℕ} {ts : List Token} {stop : Stop} →

@@ -5,10 +5,10 @@ use Rattle.std.specs.Prelude.{nat_lt}
 use Rattle.std.proofs.lemmas.Bool.Decides.{nat_tests}
 use Rattle.std.proofs.lemmas.List.{take-append-drop, append-nil}
 use Rattle.std.proofs.Math.Seq.{take-length, take-append_seam, drop-append_seam}
+use Rattle.std.proofs.lemmas.Bool.{and_parts as both}
 use Rattle.liberty_text.specs.Number.{Written, is_digit, AreDigits, IsSign, IsPoint, IsExponent, IsNumber, digit_run, sign_of}
 use Rattle.liberty_text.specs.Number.{fraction_of, is_run, exponent_of, written_with, written_behind, written_of}
 use Rattle.liberty_text.specs.Number as n
-use Rattle.liberty_text.proofs.Sound.{both}
 
 -- the sign that a text begins with
 pub record HasSign (text : List ℕ) : Type 0 where

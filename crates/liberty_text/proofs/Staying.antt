@@ -2,6 +2,7 @@
 use Rattle.std.proofs.Common.{◌≡◌, ℕ, zero, suc, ◌+◌, ◌<◌, ◌≤◌, Bool, true, false, not, List, [], ◌∷◌, Some, None, length, drop}
 use Rattle.std.proofs.Common.{get_or, ◌==◌, ◌&&◌, refl, sym, ◌∙◌, ap, subst, arith, cond}
 use Rattle.std.proofs.lemmas.List.{get_or-drop}
+use Rattle.std.proofs.lemmas.Bool.{and_parts as both_true, not-true as not_true}
 use Rattle.liberty_text.specs.declared.class.Class.{Class}
 use Rattle.liberty_text.specs.declared.class.Class.TheVariants.{LineEnd, Blank, Mark, Quote, Backslash, WordByte, Bad}
 use Rattle.liberty_text.specs.declared.token.TokenKind.TheVariants.{Text}
@@ -11,15 +12,6 @@ use Rattle.liberty_text.specs.Scanner.{class_of, step, opened_by, in_word_by, in
 use Rattle.liberty_text.specs.Tokens.{is_word_class}
 use Rattle.liberty_text.specs.Idle.{is_blank_class, is_blank, is_plain_in_word, is_plain_in_text, front_run, idle_run}
 use Rattle.liberty_text.proofs.Runs.{NoneEnded, none_turn}
-
-both_true : (p q : Bool) → (p && q) ≡ true → (p ≡ true) × (q ≡ true)
-both_true true true e = (refl, refl)
-both_true true false e = absurd cc
-both_true false q e = absurd cc
-
-not_true : (p : Bool) → not p ≡ true → p ≡ false
-not_true true e = absurd cc
-not_true false e = refl
 
 -- a byte of the run passes the test
 passes : (test : ℕ → Bool) (bytes : List ℕ) (i : ℕ) → i < front_run test bytes → test (get_or bytes i 0) ≡ true

@@ -1,9 +1,10 @@
 -- The value of a text, byte by byte.
-use Rattle.std.proofs.Common.{◌≡◌, ℕ, ◌+◌, ◌<◌, ◌++◌, zero, suc, Bool, true, false, ◌==◌, ◌&&◌, cond, List, [], ◌∷◌, length, drop}
+use Rattle.std.proofs.Common.{◌≡◌, ℕ, ◌+◌, ◌<◌, ◌++◌, zero, suc, Bool, true, false, ◌==◌, cond, List, [], ◌∷◌, length, drop}
 use Rattle.std.proofs.Common.{get_or, refl, sym, ◌∙◌, ap, arith, add-one, append_assoc}
 use Rattle.std.proofs.Math.Seq.{drop-cons}
 use Rattle.std.proofs.lemmas.List.{drop-drop}
 use Rattle.std.specs.List.{list_all}
+use Rattle.std.proofs.lemmas.Bool.{and_parts as both_true}
 use Rattle.liberty_text.specs.Idle.{stands_for_itself}
 use Rattle.liberty_text.specs.TextValue.{piece, value_behind, value_of, behind_backslash, blank_line, begins_with_quote}
 
@@ -54,11 +55,6 @@ itself_first b bs e = by_tests (b == 10) (b == 92) refl refl
         ap (λ q. cond q (32 ∷ [], 0) (cond (b == 92) (behind_backslash (blank_line bs) (begins_with_quote bs)) (b ∷ [], 0))) f
         ∙ ap (λ q. cond q (behind_backslash (blank_line bs) (begins_with_quote bs)) (b ∷ [], 0)) g in
         ap (λ p. p.0 ++ value_behind p.1 bs) plain
-
-both_true : (p q : Bool) → (p && q) ≡ true → (p ≡ true) × (q ≡ true)
-both_true true true e = (refl, refl)
-both_true true false e = absurd cc
-both_true false q e = absurd cc
 
 -- bytes that stand for themselves
 pub value_of_plain : (bytes : List ℕ) → list_all stands_for_itself bytes ≡ true → value_of bytes ≡ bytes

@@ -1,11 +1,12 @@
 -- When the line of a cell says that a module is the same, and when all lines do.
-use Rattle.std.proofs.Common.{◌≡◌, ℕ, Bool, true, false, ◌||◌, List, [], ◌∷◌, ◌++◌, length, nat_lt, codes, decimal, Option, Some}
+use Rattle.std.proofs.Common.{◌≡◌, ℕ, Bool, true, false, List, [], ◌∷◌, ◌++◌, length, nat_lt, codes, decimal, Option, Some}
 use Rattle.std.proofs.Common.{None, Result, Ok, Err, if◌then◌else◌, refl, sym, ap, ◌∙◌}
 use Rattle.std.specs.Prelude.{All}
 use Rattle.std.specs.Option.{option_map}
 use Rattle.std.proofs.lemmas.List.{append_cancel_left}
 use Rattle.std.proofs.lemmas.List.Elements.{All-nil, All-cons}
 use Rattle.std.proofs.lemmas.List.Folds.{list_any_none}
+use Rattle.std.proofs.lemmas.Bool.{or_parts as neither}
 use Rattle.cell_machine.specs.CellData.{CellData}
 use Rattle.three_state_cells.specs.DrivenCells.{may_float}
 use Rattle.library_reader.specs.declared.ending.NotWhole.{NotWhole}
@@ -139,10 +140,6 @@ no_other : SameIsMatching → (models : List (FileModel VModule)) (cell : CellEn
 no_other law models (Accepted cell entity) h =
     none_other (may_float cell) (verdict_in models cell.core) (λ plain. same_for law models cell.core (h plain))
 no_other law models (Refused name refusal) h = refl
-
-neither : (a b : Bool) → (a || b) ≡ false → (a ≡ false) × (b ≡ false)
-neither true b e = absurd cc
-neither false b e = (refl, e)
 
 match_entries : SameIsMatching → (models : List (FileModel VModule)) (cells : List CellEntry) → any_differs models cells ≡ false
     → All (HasMatchOrIsLeftOut models) cells

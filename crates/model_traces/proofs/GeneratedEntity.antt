@@ -7,7 +7,7 @@ use Rattle.std.specs.List.{list_all}
 use Rattle.std.specs.Option.{option_map_or}
 use Rattle.std.proofs.lemmas.Bool.{and_parts, and_from, eq-eqb}
 use Rattle.std.proofs.lemmas.List.{length-map, get_or-set_same}
-use Rattle.std.proofs.lemmas.Option.{slice_get-map}
+use Rattle.std.proofs.lemmas.Option.{slice_get-map, slice_get_within as get-within}
 use Rattle.trit_cubes.specs.declared.trits.Trit.{Trit}
 use Rattle.trit_cubes.specs.declared.trits.Trit.TheVariants.{Zero, Unknown}
 use Rattle.trit_cubes.specs.Resolution.{res}
@@ -56,7 +56,7 @@ use Rattle.model_traces.specs.ProcessValues.{truth_value, condition_value, is_en
 use Rattle.model_traces.specs.GatedPaths.{gate_holds, path_at, begins_at}
 use Rattle.model_traces.specs.ProcessRun.{columns}
 use Rattle.model_traces.specs.EntityFits.{FitsGroup, FitGroups, FitsCheck, FitsOutput, EntityFits}
-use Rattle.model_traces.proofs.PlaceLemmas.{position-from, placed, get-map, get-within, apart}
+use Rattle.model_traces.proofs.PlaceLemmas.{position-from, placed, get-map, apart}
 use Rattle.model_traces.proofs.FitLemmas.{fit-made, measures-made}
 use Rattle.model_traces.proofs.PinNumbers.{number-tied, count-tied, still-values, changed-values}
 use Rattle.model_traces.proofs.CellSteps.{IsNamed, named, support-is, step-is, IsSupport, supported, place-is, check-place}

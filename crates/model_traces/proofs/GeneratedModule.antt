@@ -7,7 +7,7 @@ use Rattle.std.specs.List.{list_all, list_any, position_from}
 use Rattle.std.specs.Option.{option_map_or}
 use Rattle.std.proofs.lemmas.Bool.{and_parts, or_parts, ltb-true}
 use Rattle.std.proofs.lemmas.List.{length-map, set-append_left, get_or-set_same}
-use Rattle.std.proofs.lemmas.Option.{get_or_from_slice_get}
+use Rattle.std.proofs.lemmas.Option.{get_or_from_slice_get, slice_get_within as get-within}
 use Rattle.trit_cubes.specs.declared.trits.Trit.{Trit}
 use Rattle.trit_cubes.specs.declared.trits.Trit.TheVariants.{Zero, One, Unknown}
 use Rattle.trit_cubes.specs.Resolution.{res}
@@ -68,7 +68,7 @@ use Rattle.model_traces.specs.PathDelays.{is_off, is_quiet, is_active, path_at, 
 use Rattle.model_traces.specs.ModuleRun.{turn_of, toggled}
 use Rattle.model_traces.specs.SequentialStates.{states_among}
 use Rattle.model_traces.specs.ModuleFits.{FitsGroup, FitGroups, FitsCheck, FitsOutput, FitOutputs, ModuleFits}
-use Rattle.model_traces.proofs.PlaceLemmas.{position-from, place-of-made, place-behind, placed, get-map, get-within, set-last}
+use Rattle.model_traces.proofs.PlaceLemmas.{position-from, place-of-made, place-behind, placed, get-map, set-last}
 use Rattle.model_traces.proofs.PlaceLemmas.{apart}
 use Rattle.model_traces.proofs.FitLemmas.{fit-made, measures-made}
 use Rattle.model_traces.proofs.PinNumbers.{number-tied, count-tied, module-sides, outputs-by-sides, is_port_pin, input-pin-port}

@@ -6,6 +6,7 @@ use Rattle.std.specs.Option.{option_map_or}
 use Rattle.std.proofs.lemmas.Bool.{eq-eqb, lt-ltb}
 use Rattle.std.proofs.lemmas.List.Elements.{filter-append}
 use Rattle.std.proofs.lemmas.List.{append-nil}
+use Rattle.std.proofs.lemmas.Option.{slice_get_within as get-within}
 use Rattle.trit_cubes.specs.declared.trits.Trit.{Trit}
 use Rattle.trit_cubes.specs.declared.trits.Trit.TheVariants.{Unknown}
 use Rattle.bool_functions.specs.declared.tree.Node.{Node}
@@ -35,7 +36,7 @@ use Rattle.specify_blocks.proofs.PortLemmas.{output_port}
 use Rattle.specify_blocks.proofs.InstanceLemmas.{output_net}
 use Rattle.model_traces.specs.NetValues.{driver}
 use Rattle.model_traces.specs.SequentialStates.{picked, states_among}
-use Rattle.model_traces.proofs.PlaceLemmas.{position-from, only-place, get-within, filter-all, filter-none}
+use Rattle.model_traces.proofs.PlaceLemmas.{position-from, only-place, filter-all, filter-none}
 
 length-each : {X Y : Type 0} (make : ℕ → X → Y) (k : ℕ) (xs : List X) → length (each_from make k xs) ≡ length xs
 length-each make k [] = refl

@@ -1,5 +1,5 @@
 -- What is counted of the cells of a library, one cell after another.
-use Rattle.std.proofs.Common.{◌≡◌, ℕ, ◌+◌, List, [], ◌∷◌, ◌++◌, Some, None, Result, Ok, Err, OnOk, sym, ap, ◌∙◌, arith}
+use Rattle.std.proofs.Common.{◌≡◌, ℕ, ◌+◌, List, [], ◌∷◌, ◌++◌, Some, None, Ok, sym, ap, ◌∙◌, arith}
 use Rattle.text_io.specs.Desk.{DeskState}
 use Rattle.text_io.specs.declared.slots.InSlot.TheVariants.{Library}
 use Rattle.liberty_groups.specs.declared.tree.Group.{Group}
@@ -78,11 +78,6 @@ next_counted p group (next.Accepted cell entity) before more after cells h so_fa
     accepted_counted p group cell entity before more after cells h so_far here sum
 next_counted p group (next.Refused refusal) before more after cells h so_far here sum =
     refused_counted p group refusal after cells h (sum ∙ ap (plus before) here ∙ plus-none before ∙ so_far)
-
--- What is known where a call ended well.
-pub on_ok : {T E P Q : Type 0} (r : Result T E) → (P → Q) → OnOk r P → OnOk r Q
-on_ok (Ok x) f h = f h
-on_ok (Err e) f h = h
 
 -- The library.
 

@@ -6,6 +6,7 @@ use Rattle.std.specs.Int.{bit_at}
 use Rattle.std.proofs.lemmas.Nat.Bits.{bit_at_and, bit_at_or, bit_at_xor, bit_at_ones, bit_at-zero, bit_at-lt}
 use Rattle.std.proofs.lemmas.List.{length-map, drop_more}
 use Rattle.std.specs.Option.{option_and_then}
+pub use Rattle.std.proofs.Math.Bool.{and_assoc, and-false as and_false}
 use Rattle.statetables.specs.declared.symbols.InSymbol.{InSymbol}
 use Rattle.statetables.specs.declared.lanes.InputWords.{InputWords}
 use Rattle.statetables.specs.declared.lanes.StepWords.{StepWords}
@@ -62,14 +63,6 @@ lane_none k = ap (λ x. nat_eq x 1) (bit_at-zero k)
 pub lane_all : (k : ℕ) → k < 64 → lane k 18446744073709551615 ≡ true
 unfolding lane
 lane_all k h = ap (λ x. nat_eq x 1) (bit_at_ones 64 k h)
-
-pub and_false : (p : Bool) → (p && false) ≡ false
-and_false true = refl
-and_false false = refl
-
-pub and_assoc : (p a b : Bool) → ((p && a) && b) ≡ (p && (a && b))
-and_assoc true a b = refl
-and_assoc false a b = refl
 
 -- no point is left: none matches
 pub none_left : (k points : ℕ) (p m : Bool) → lane k points ≡ (p && m) → points ≡ 0 → (rest : Bool)

@@ -5,7 +5,7 @@ use Rattle.std.proofs.Math.ListN.{drop_of_length-le}
 use Rattle.std.proofs.lemmas.List.Splits.{slice_split_first, slice_split-cons_yes}
 use Rattle.std.proofs.lemmas.List.Quantifiers.{position-Some}
 use Rattle.std.specs.List.{slice_split, onto_first, position_or_len}
-use Rattle.std.proofs.lemmas.Bool.{ltb-true}
+use Rattle.std.proofs.lemmas.Bool.{ltb-true, not-true as not_true}
 use Rattle.std.proofs.lemmas.Bool.Decides.{nat_tests}
 use Rattle.stimulus.specs.Text.{is_blank, is_line_feed, is_word, without_return, ended, lines_of, words_of}
 
@@ -127,10 +127,6 @@ record Begins (text : List ℕ) (start : ℕ) : Type 0 where
   is : drop start text ≡ x ∷ xs
   solid : is_blank x ≡ false
   words : words_of text ≡ words_of (x ∷ xs)
-
-not_true : (b : Bool) → not b ≡ true → b ≡ false
-not_true true e = absurd cc
-not_true false e = refl
 
 begins : (text : List ℕ) (start : ℕ) → position (λ b. not (is_blank b)) text ≡ Some start → Begins text start
 begins text start e =

@@ -1,6 +1,6 @@
 -- The lines of a run, put one behind another as the simulator takes the changes.
 use Rattle.std.proofs.Common.{◌≡◌, ℕ, ◌+◌, Bool, true, false, if◌then◌else◌, ◌<◌, ◌≤◌, List, [], ◌∷◌, ◌++◌, get_or, take, drop}
-use Rattle.std.proofs.Common.{length, All, Option, Some, None, Result, Ok, Err, IsErr, OnOk, flat_map, refl, sym, ◌∙◌, ap, subst}
+use Rattle.std.proofs.Common.{length, All, Option, Some, None, Result, Ok, Err, IsErr, flat_map, refl, sym, ◌∙◌, ap, subst}
 use Rattle.std.proofs.Common.{append_assoc}
 use Rattle.std.proofs.lemmas.List.{append-nil, drop_more, drop_all}
 use Rattle.std.proofs.lemmas.List.Elements.{All-get_or}
@@ -132,11 +132,6 @@ full_stops s t l m a n k y (Err z) e p f = record { whole = tt; part = subst (St
 pub three_behind : (l m n o a b c : List ℕ) → m ≡ l ++ a → n ≡ m ++ b → o ≡ n ++ c → o ≡ l ++ (a ++ (b ++ c))
 three_behind l m n o a b c e f g =
     g ∙ (ap (λ w. w ++ c) f ∙ (ap (λ w. (w ++ b) ++ c) e ∙ (append_assoc (l ++ a) b c ∙ append_assoc l a (b ++ c))))
-
--- what follows where all went well
-pub ok_gives : {T E P Q : Type 0} (r : Result T E) → (P → Q) → OnOk r P → OnOk r Q
-ok_gives (Ok x) f p = f p
-ok_gives (Err y) f p = tt
 
 -- The text of one simulator.
 

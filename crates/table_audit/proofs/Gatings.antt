@@ -1,5 +1,5 @@
 -- The conditions of checks and paths, and what the shape of a module gives for their wires.
-use Rattle.std.proofs.Common.{◌≡◌, ℕ, zero, suc, ◌<◌, ◌≤◌, Bool, List, ◌∷◌, [], not, ◌&&◌, length, Option, None, Some, slice_get}
+use Rattle.std.proofs.Common.{◌≡◌, ℕ, zero, suc, ◌<◌, Bool, List, ◌∷◌, [], not, ◌&&◌, length, Option, None, Some, slice_get}
 use Rattle.std.proofs.Common.{slice_index_or, nat_lt, nat_le, IsTrue, refl, sym, ap, ◌∙◌, arith, leb-true}
 use Rattle.std.specs.List.{list_all}
 use Rattle.std.proofs.lemmas.Bool.{and_parts}
@@ -56,11 +56,6 @@ pub get-there : {X : Type 0} (xs : List X) (i : ℕ) (x : X) → i < length xs �
 get-there [] i x l e = absurd (omega (arith, l))
 get-there (y ∷ ys) zero x l e = ap Some (sym e)
 get-there (y ∷ ys) (suc i) x l e = get-there ys i x (omega (arith, l)) e
-
-pub get-past : {X : Type 0} (xs : List X) (i : ℕ) → length xs ≤ i → slice_get xs i ≡ None
-get-past [] i l = refl
-get-past (x ∷ xs) zero l = absurd (omega (arith, l))
-get-past (x ∷ xs) (suc i) l = get-past xs i (omega (arith, l))
 
 -- where a list of the module ends no condition is compared
 no-wire : (o : Option Node) → gating o None ≡ None

@@ -1,6 +1,6 @@
 -- Where a search of a list that is put together finds nothing.
 use Rattle.std.proofs.Common.{◌≡◌, ℕ, zero, suc, ◌+◌, ◌<◌, ◌≤◌, Bool, true, false, cond, List, [], ◌∷◌, ◌++◌, map, find, flat_map}
-use Rattle.std.proofs.Common.{length, Option, None, Some, refl, sym, ◌∙◌, ap, subst, arith, ◌⊎◌, inl, inr, slice_get}
+use Rattle.std.proofs.Common.{Option, None, Some, refl, sym, ◌∙◌, ap, subst, arith, ◌⊎◌, inl, inr}
 use Rattle.std.specs.List.{range_with_len}
 use Rattle.std.specs.Option.{option_or}
 use Rattle.std.proofs.lemmas.Bool.{cases_lt}
@@ -88,9 +88,3 @@ pub in-trits-from-x : (t : Trit) → Among t (Unknown ∷ Zero ∷ One ∷ [])
 in-trits-from-x Zero = inr (inl refl)
 in-trits-from-x One = inr (inr (inl refl))
 in-trits-from-x Unknown = inl refl
-
--- the number of an entry
-pub get-below : {X : Type 0} (xs : List X) (i : ℕ) (x : X) → slice_get xs i ≡ Some x → i < length xs
-get-below [] i x e = absurd cc
-get-below (y ∷ ys) zero x e = omega arith
-get-below (y ∷ ys) (suc i) x e = omega (arith, get-below ys i x e)

@@ -1,8 +1,9 @@
 -- No question on the shape fails exactly where the module has the cell's shape.
-use Rattle.std.proofs.Common.{◌≡◌, ℕ, zero, suc, ◌<◌, Bool, true, false, not, List, [], ◌∷◌, find, length, Option, None, Some}
+use Rattle.std.proofs.Common.{◌≡◌, ℕ, zero, suc, ◌<◌, Bool, true, false, List, [], ◌∷◌, find, length, Option, None, Some}
 use Rattle.std.proofs.Common.{slice_get, nat_eq, refl, sym, ◌∙◌, ap, subst, arith, eqb-true, eq-eqb, inl, inr}
 use Rattle.std.specs.List.{list_any, range_with_len}
-use Rattle.std.proofs.lemmas.Bool.{true≢false, and_parts, and_from}
+use Rattle.std.proofs.lemmas.Bool.{true≢false, and_parts, and_from, not_from_true as from-holds, not-false as holds-from}
+use Rattle.std.proofs.lemmas.Option.{slice_get_within as get-below}
 use Rattle.trit_cubes.proofs.ListLemmas.{Among}
 use Rattle.bool_functions.specs.declared.tree.Node.{Node}
 use Rattle.cell_machine.specs.declared.pins.Pin.{Pin}
@@ -28,14 +29,6 @@ use Rattle.table_audit.specs.Shape.{path_gating, feeds_condition, feeds_gating, 
 use Rattle.table_audit.specs.Shape.{asked, asked_once, tests_of, all_parts, shape_tests, is_amiss, first_amiss}
 use Rattle.table_audit.specs.Matches.{SameCheck, SamePath, HasShape}
 use Rattle.table_audit.proofs.Searches.{cons-none, none-cons, flat-none, none-flat, map-none, none-map, in-range, range-in}
-use Rattle.table_audit.proofs.Searches.{get-below}
-
-holds-from : (b : Bool) → not b ≡ false → b ≡ true
-holds-from true h = refl
-holds-from false h = absurd (true≢false h)
-
-from-holds : (b : Bool) → b ≡ true → not b ≡ false
-from-holds b h = ap not h
 
 -- the questions on the parts of one kind
 asked-none :

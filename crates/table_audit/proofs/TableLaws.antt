@@ -3,7 +3,7 @@ use Rattle.std.proofs.Common.{◌≡◌, ◌≢◌, ℕ, zero, suc, ◌+◌, ◌
 use Rattle.std.proofs.Common.{length, Option, None, Some, slice_index_or, slice_get, if◌then◌else◌, refl, sym, ◌∙◌, ap, subst}
 use Rattle.std.proofs.Common.{arith, inl, inr}
 use Rattle.std.specs.List.{range_with_len}
-use Rattle.std.proofs.lemmas.Bool.{true≢false}
+use Rattle.std.proofs.lemmas.Bool.{true≢false, not-false as like-by}
 use Rattle.trit_cubes.specs.declared.trits.Trit.{Trit}
 use Rattle.trit_cubes.specs.declared.trits.Trit.TheVariants.{Zero, One, Unknown}
 use Rattle.trit_cubes.specs.Filling.{same}
@@ -69,10 +69,6 @@ pub same-self : (a : Trit) → same a a ≡ true
 same-self Zero = refl
 same-self One = refl
 same-self Unknown = refl
-
-like-by : (b : Bool) → not b ≡ false → b ≡ true
-like-by true h = refl
-like-by false h = absurd (true≢false h)
 
 alike : (cell model : Trit) → not (same cell model) ≡ false → model ≡ cell
 alike cell model h = sym (same-are cell model (like-by (same cell model) h))

@@ -3,7 +3,7 @@ use Rattle.std.proofs.Common.{◌≡◌, ℕ, zero, suc, ◌+◌, ◌<◌, ◌�
 use Rattle.std.proofs.Common.{length, nat_eq, nat_le, nat_lt, refl, sym, ap, ◌∙◌, subst, arith}
 use Rattle.std.specs.Prelude.{Option, Some, None, Result, Ok, codes, filter, flat_map, unwrap_or, slice_get, if◌then◌else◌}
 use Rattle.std.specs.List.{list_all, list_any}
-use Rattle.std.proofs.lemmas.Bool.{cases_Bool, and_parts}
+use Rattle.std.proofs.lemmas.Bool.{cases_Bool, and_parts, lt-ltb as below-test, and_from as both}
 use Rattle.std.proofs.lemmas.Bool.Decides.{nat_tests}
 use Rattle.std.proofs.lemmas.List.{length-map, length-append}
 use Rattle.std.proofs.Math.Logic.{inl, inr}
@@ -38,7 +38,7 @@ use Rattle.timing_arcs.specs.Timing.{numbers_at, limit_attribute, pulse_high, pu
 use Rattle.timing_arcs.specs.Timing.{attribute_checks, attribute_check_at, at_each, placed_arcs_in, placed_arcs, left_out_at}
 use Rattle.timing_arcs.specs.Timing.{left_out_from, checks_of, check_at_of, timing_of, unless_at, reading_answer}
 use Rattle.timing_arcs.specs.Laws.{ChecksAreSound, ArcsAreSound, ArcsEndHere, ArcsAreApart, IsPlaced, TimingsArePlaced}
-use Rattle.timing_arcs.proofs.AllLemmas.{both, all-append, all-filter, all-flat_map, all-map, all-weaker}
+use Rattle.timing_arcs.proofs.AllLemmas.{all-append, all-filter, all-flat_map, all-map, all-weaker}
 use Rattle.timing_arcs.proofs.MergingLemmas.{path-equal}
 use Rattle.timing_arcs.proofs.SoundLemmas.{time_of-within, group-checks, group-arcs, check-kept, has-same}
 
@@ -410,9 +410,6 @@ checks-lengths subject pin =
 arcs-lengths : (made : List Placed) → length (merged_at made) ≡ length (merged made)
 arcs-lengths made = length-map (firsts made) (λ (p : Placed). p.at)
     ∙ sym (length-map (firsts made) (λ (p : Placed). merged_into made p.arc))
-
-below-test : (n m : ℕ) → n < m → nat_lt n m ≡ true
-below-test n m h = grind (arith, nat_tests)
 
 place-below : (subject : Subject) (place top : ℕ) (o : Option Group) → place < top
     → list_all (λ n. nat_lt n top) (left_out_at subject place o) ≡ true

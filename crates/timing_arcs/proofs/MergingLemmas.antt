@@ -3,7 +3,7 @@ use Rattle.std.proofs.Common.{◌≡◌, ℕ, Bool, true, false, ◌&&◌, ◌||
 use Rattle.std.proofs.Common.{append-nil}
 use Rattle.std.specs.Prelude.{Option, Some, None, max, filter, if◌then◌else◌}
 use Rattle.std.specs.List.{list_any}
-use Rattle.std.proofs.lemmas.Bool.{and_parts, eqb-true, cases_Bool}
+use Rattle.std.proofs.lemmas.Bool.{and_parts, eqb-true, cases_Bool, or_right as or-true, or_left as true-or}
 use Rattle.std.proofs.lemmas.Bool.Decides.{nat_tests}
 use Rattle.std.proofs.lemmas.List.{map-append}
 use Rattle.std.proofs.lemmas.List.Elements.{filter-append}
@@ -106,14 +106,6 @@ firsts_after-append earlier (p ∷ made) q =
           ∙ ap (λ b. firsts_after (p.arc ∷ earlier) made ++ if_new b q)
           (any-move q.arc p.arc earlier (map arc_of (firsts_after (p.arc ∷ earlier) made)))))
     ]
-
-true-or : (a b : Bool) → a ≡ true → (a || b) ≡ true
-true-or true b h = refl
-true-or false b h = absurd cc
-
-or-true : (a b : Bool) → b ≡ true → (a || b) ≡ true
-or-true true b h = refl
-or-true false b h = h
 
 false-or : (a b : Bool) → a ≡ false → (a || b) ≡ true → b ≡ true
 false-or true b h e = absurd cc

@@ -5,7 +5,7 @@ use Rattle.std.specs.Prelude.{Option, Some, None, Result, Ok, Err, max, codes, b
 use Rattle.std.specs.Prelude.{◌⊎◌, if◌then◌else◌}
 use Rattle.std.specs.Option.{option_map, option_map_or}
 use Rattle.std.specs.List.{list_all, list_any, filter_map, cons_option}
-use Rattle.std.proofs.lemmas.Bool.{cases_Bool, and_parts}
+use Rattle.std.proofs.lemmas.Bool.{cases_Bool, and_parts, and_from as both}
 use Rattle.std.proofs.lemmas.Bool.Decides.{nat_tests}
 use Rattle.std.proofs.Math.Logic.{inl, inr}
 use Rattle.bool_functions.specs.declared.tree.Node.{Node}
@@ -46,7 +46,7 @@ use Rattle.timing_arcs.specs.Tables.{Values, values_named, greatest, times_of, l
 use Rattle.timing_arcs.specs.Making.{event, check, has_limit, checks_with, arcs_with, is_made, rise_of, fall_of, checks_from}
 use Rattle.timing_arcs.specs.Making.{arcs_from, checks_in, arcs_in}
 use Rattle.timing_arcs.specs.Timing.{own_in, wide_in}
-use Rattle.timing_arcs.proofs.AllLemmas.{both, implied, all-filter, all-find, all-weaker, all-both, all-flat_map, has-here}
+use Rattle.timing_arcs.proofs.AllLemmas.{implied, all-filter, all-find, all-weaker, all-both, all-flat_map, has-here}
 use Rattle.timing_arcs.proofs.AllLemmas.{has-later, all-has, all-apart}
 use Rattle.timing_arcs.proofs.SumLemmas.{greatest-append}
 

@@ -7,6 +7,8 @@ use Rattle.std.proofs.lemmas.Grind.{flat_map-append}
 use Rattle.std.proofs.lemmas.List.Elements.{filter_map-append}
 use Rattle.std.proofs.lemmas.List.Folds.{list_any-append}
 use Rattle.std.proofs.lemmas.Bool.Decides.{nat_tests}
+use Rattle.std.proofs.lemmas.Bool.{or_right as has_one}
+use Rattle.std.proofs.Math.Bool.{or_assoc as or-assoc, or-false}
 use Rattle.liberty_groups.specs.declared.tree.Value.{Value}
 use Rattle.liberty_groups.specs.declared.tree.Item.{Item, out-Item}
 use Rattle.liberty_groups.specs.declared.tree.Item.TheOpen.{Item-F}
@@ -26,14 +28,6 @@ use Rattle.timing_arcs.specs.Sums.{with_optional, with_tables}
 pub greatest-append : (xs ys : List ℕ) → greatest (xs ++ ys) ≡ max (greatest xs) (greatest ys)
 greatest-append [] ys = omega arith
 greatest-append (x ∷ xs) ys = let e : greatest (xs ++ ys) ≡ max (greatest xs) (greatest ys) = greatest-append xs ys in omega arith
-
-or-false : (b : Bool) → (b || false) ≡ b
-or-false true = refl
-or-false false = refl
-
-or-assoc : (a b c : Bool) → ((a || b) || c) ≡ (a || (b || c))
-or-assoc true b c = refl
-or-assoc false b c = refl
 
 same_sum : (a b : Sum) → a.has_entry ≡ b.has_entry → a.greatest ≡ b.greatest → a.bad_at ≡ b.bad_at → a ≡ b
 same_sum a b h g t = λ i. record { has_entry = h i; greatest = g i; bad_at = t i }
@@ -115,10 +109,6 @@ plus-texts unit at sum xs ys =
 
 plus-no_texts : (unit : Option TimeUnit) (at : ℕ) (sum : Sum) → plus unit sum (values at []) ≡ sum
 plus-no_texts unit at sum = plus-nil unit sum
-
-has_one : (a b : Bool) → b ≡ true → (a || b) ≡ true
-has_one true b h = refl
-has_one false b h = h
 
 entry-time : (unit : Option TimeUnit) (at : ℕ) (sum : Sum) (text : List ℕ) (time : Option ℕ) → time_of unit text ≡ time
     → with_time at sum time ≡ plus unit sum (values at (text ∷ []))

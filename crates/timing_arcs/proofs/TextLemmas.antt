@@ -4,6 +4,7 @@ use Rattle.std.proofs.Common.{◌∙◌}
 use Rattle.std.specs.Prelude.{Option, Some, None, Result, Ok, Err, codes, fold, nat_lt, if◌then◌else◌}
 use Rattle.std.specs.Option.{option_map, option_map_or}
 use Rattle.std.specs.List.{list_any, filter_map}
+use Rattle.std.proofs.Math.Bool.{or_self_left as or-same}
 use Rattle.bool_functions.specs.declared.tree.Node.{Node}
 use Rattle.bool_functions.specs.declared.faults.FunctionFault.{FunctionFault}
 use Rattle.bool_functions.specs.declared.faults.FunctionFault.TheVariants as function_fault
@@ -208,10 +209,6 @@ any-or f g (x ∷ xs) = ap (λ b. (f x || g x) || b) (any-or f g xs) ∙ regroup
 one_more : (pin : ℕ) (inputs named : List ℕ)
     → list_any (has (pin ∷ inputs)) named ≡ (names_pin named pin || list_any (has inputs) named)
 one_more pin inputs named = any-or (λ n. pin == n) (has inputs) named
-
-or-same : (b c : Bool) → (b || (b || c)) ≡ (b || c)
-or-same true c = refl
-or-same false c = refl
 
 none_named : (named : List ℕ) → list_any (has []) named ≡ false
 none_named [] = refl

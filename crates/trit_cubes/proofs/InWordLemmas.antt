@@ -10,6 +10,7 @@ use Rattle.std.proofs.lemmas.List.{append_assoc, append-nil, map-append}
 use Rattle.std.proofs.lemmas.List.Elements.{filter-append}
 use Rattle.std.proofs.lemmas.List.Folds.{list_any-append}
 use Rattle.std.proofs.lemmas.Nat.{and_mod, and_shr, and_le_l}
+use Rattle.std.proofs.Math.Bool.{or-false as or_false}
 use Rattle.trit_cubes.specs.declared.trits.Trit.{Trit}
 use Rattle.trit_cubes.specs.declared.trits.Trit.TheVariants.{Zero, One, Unknown}
 use Rattle.trit_cubes.specs.Sets.{common}
@@ -51,10 +52,6 @@ in_one-part n gs t c =
     any_same (λ g. is_inside (in_word (suc n) g) (t ∷ c)) (λ g. is_inside (in_word n (word_part n t g)) c) gs
     (λ g. inside-part n g t c)
     ∙ sym (any-map (λ g. is_inside (in_word n g) c) (word_part n t) gs)
-
-or_false : (b : Bool) → (b || false) ≡ b
-or_false true = refl
-or_false false = refl
 
 in_one-more : (n : ℕ) (gs : List ℕ) (b : ℕ) (c : List Trit)
     → in_one n (gs ++ b ∷ []) c ≡ (in_one n gs c || is_inside (in_word n b) c)

@@ -9,6 +9,7 @@ use Rattle.trit_cubes.specs.declared.trits.Trit.TheVariants.{Zero, One, Unknown}
 use Rattle.trit_cubes.specs.Filling.{IsFilling}
 use Rattle.trit_cubes.specs.Resolution.{agreed, res}
 use Rattle.trit_cubes.specs.Prime.{IsInside, IsPrime, is_inside, freed, is_prime}
+use Rattle.trit_cubes.proofs.SplitLemmas.{zero≢unknown, one≢unknown}
 
 -- a test that passes is true at each filling
 pub is_inside-fillings : (set : List Bool → Bool) (ts : List Trit) → is_inside set ts ≡ true → IsInside set ts
@@ -52,12 +53,6 @@ all_freed-at p (One ∷ ts) h (suc i) l fixed =
     all_freed-at (λ c. p (One ∷ c)) ts
     (sym (list_all-map p (λ c. One ∷ c) (freed ts))
     ∙ (and_parts (p (Unknown ∷ ts)) (list_all p (map (λ c. One ∷ c) (freed ts))) h).1) i (omega arith) fixed
-
-zero≢unknown : Zero ≢ Unknown
-zero≢unknown e = cc
-
-one≢unknown : One ≢ Unknown
-one≢unknown e = cc
 
 pub at-all_freed : (p : List Trit → Bool) (ts : List Trit)
     → ((i : ℕ) → i < length ts → slice_index_or ts i Unknown ≢ Unknown → p (slice_set ts i Unknown) ≡ true)

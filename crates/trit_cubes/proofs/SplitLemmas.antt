@@ -2,9 +2,10 @@
 use Rattle.std.proofs.Common.{◌≡◌, ◌≢◌, ℕ, zero, suc, Bool, true, false, cond, not, ◌&&◌, ◌||◌, List, [], ◌∷◌, ◌++◌, map, length}
 use Rattle.std.proofs.Common.{refl, sym, ◌∙◌, ap, inl, inr, arith}
 use Rattle.std.specs.List.{filter, list_all}
-use Rattle.std.proofs.lemmas.Bool.{cases_Bool, true≢false, and_parts, and_from, or_right}
+use Rattle.std.proofs.lemmas.Bool.{cases_Bool, true≢false, and_parts, and_from, or_right, not-false as true_from_not}
 use Rattle.std.proofs.lemmas.List.Elements.{filter-append}
 use Rattle.std.proofs.lemmas.List.Folds.{list_all-map, list_any-append}
+use Rattle.std.proofs.Math.Bool.{or-false as or_false}
 use Rattle.trit_cubes.specs.declared.trits.Trit.{Trit}
 use Rattle.trit_cubes.specs.declared.trits.Trit.TheVariants.{Zero, One, Unknown}
 use Rattle.trit_cubes.specs.Filling.{is_unknown, same, covers}
@@ -13,6 +14,7 @@ use Rattle.trit_cubes.specs.Sets.{common, gives}
 use Rattle.trit_cubes.specs.Prime.{is_inside, freed, is_prime, cubes_of, prime_list, any_covers, uncovered, merged}
 use Rattle.trit_cubes.proofs.ListLemmas.{Among, among-map, among-append, among-filter, filter-map, filter-and, filter_same}
 use Rattle.trit_cubes.proofs.ListLemmas.{any_same, any-map, any_never, any-filter, all_same}
+use Rattle.trit_cubes.proofs.WordLemmas.{and_swap}
 
 -- the points whose first place has this value, without that place
 abbrev pub half : (List Bool → Bool) → Bool → List Bool → Bool
@@ -21,12 +23,6 @@ half set b p = set (b ∷ p)
 -- the points that are in both halves
 abbrev pub both : (List Bool → Bool) → List Bool → Bool
 both set = common (half set false) (half set true)
-
-and_swap : (p q r s : Bool) → ((p && q) && (r && s)) ≡ ((p && r) && (q && s))
-and_swap true true r s = refl
-and_swap true false true s = refl
-and_swap true false false s = refl
-and_swap false q r s = refl
 
 and_last : (p q r : Bool) → (p && (not q && r)) ≡ ((p && r) && not q)
 and_last false q r = refl
@@ -148,14 +144,6 @@ any_covers-other v t cs ts h =
     ∙ any_same (λ c. covers (v ∷ c) (t ∷ ts)) (λ _. false) cs (λ c. ap (λ b. b && covers c ts) h)
     ∙ any_never cs
 
-or_false : (b : Bool) → (b || false) ≡ b
-or_false true = refl
-or_false false = refl
-
-true_from_not : (b : Bool) → not b ≡ false → b ≡ true
-true_from_not true k = refl
-true_from_not false k = absurd (true≢false k)
-
 not_covering : (set : List Bool → Bool) (c ts : List Trit) → is_inside set ts ≡ false → is_inside set c ≡ true
     → covers c ts ≡ false
 not_covering set c ts h k =
@@ -191,10 +179,10 @@ any_covers-split : (zs bs cs : List (List Trit)) (ts : List Trit)
 any_covers-split zs bs cs ts =
     list_any-append (λ c. covers c ts) (zs ++ bs) cs ∙ ap (λ b. b || any_covers cs ts) (list_any-append (λ c. covers c ts) zs bs)
 
-zero≢unknown : Zero ≢ Unknown
+pub zero≢unknown : Zero ≢ Unknown
 zero≢unknown e = cc
 
-one≢unknown : One ≢ Unknown
+pub one≢unknown : One ≢ Unknown
 one≢unknown e = cc
 
 -- whether a prime covers a list, by the first place of the prime

@@ -13,7 +13,7 @@ use Rattle.trit_cubes.specs.Filling.{is_unknown, same, trit_of}
 use Rattle.trit_cubes.specs.Resolution.{res}
 use Rattle.trit_cubes.specs.Prime.{is_inside, is_prime, freed, cubes_of}
 use Rattle.trit_cubes.proofs.ListLemmas.{contains-among}
-use Rattle.trit_cubes.proofs.SplitLemmas.{cubes_of-length, is_inside-gives}
+use Rattle.trit_cubes.proofs.SplitLemmas.{cubes_of-length, is_inside-gives, one≢unknown}
 use Rattle.trit_cubes.proofs.InsideLemmas.{all_freed-at, at-all_freed}
 
 pub cubes-short : (n : ℕ) (cubes : List (List Trit)) → cubes ≡ cubes_of n → n < 10 → All (λ c. length c < 10) cubes
@@ -26,9 +26,6 @@ pub is_inside-resolved : (set : List Bool → Bool) (ts : List Trit) → same On
 is_inside-resolved set ts =
     sym (is_inside-gives One (λ p. trit_of (set p)) ts one≢unknown) ∙ ap (λ f. is_inside f ts) (fun_ext (λ p. same_one (set p)))
   where
-    one≢unknown : One ≢ Unknown
-    one≢unknown e = cc
-
     same_one : (b : Bool) → same One (trit_of b) ≡ b
     same_one true = refl
     same_one false = refl

@@ -85,7 +85,7 @@ nat_eq-double b d m n p q =
       | inr e ↦ ne_eqb (b + 2 * m) (d + 2 * n) (λ g. e (omega arith)) ∙ sym (and_left (nat_eq b d) (nat_eq m n) (ne_eqb b d e))
     ]
 
-and_swap : (p q r s : Bool) → ((p && q) && (r && s)) ≡ ((p && r) && (q && s))
+pub and_swap : (p q r s : Bool) → ((p && q) && (r && s)) ≡ ((p && r) && (q && s))
 and_swap true true r s = refl
 and_swap true false true s = refl
 and_swap true false false s = refl

@@ -8,6 +8,7 @@ use Rattle.std.proofs.Math.Dec.{eqb-zero-suc, eqb-suc-zero, eqb-suc-suc}
 use Rattle.std.proofs.Math.Dec.{eqb-zero-suc, eqb-suc-zero, eqb-suc-suc}
 use Rattle.std.proofs.lemmas.List.{take_more}
 use Rattle.std.proofs.lemmas.List.Folds.{list_any-append}
+use Rattle.std.proofs.Math.Bool.{and-false as and_false}
 use Rattle.udp_tables.specs.declared.table.Udp.{Udp}
 use Rattle.specify_blocks.specs.declared.model.VNet.{VNet}
 use Rattle.specify_blocks.specs.declared.model.VNet.TheVariants as net
@@ -73,10 +74,6 @@ tell_same : (test : ℕ → Instance → Bool) (marks : List Bool) (instances : 
 tell_same test marks instances i none tell =
     tell_more test marks marks instances i
     (λ n. some_or_false (slice_get marks n) ∙ ap (λ t. option_map (λ b. b || t) (slice_get marks n)) (sym (none n))) tell
-
-and_false : (b : Bool) → (b && false) ≡ false
-and_false true = refl
-and_false false = refl
 
 -- the nets behind one instance more
 pub driven_more : (found : DrivenNets) (udps : List Udp) (instances : List Instance) (i : Instance)

@@ -2,6 +2,7 @@
 use Rattle.std.proofs.Common.{◌≡◌, ℕ, ◌+◌, ◌-◌, ◌<◌, ◌==◌, Bool, true, false, ◌&&◌, ◌||◌, List, [], ◌∷◌, ◌++◌, Option, Some, Ok}
 use Rattle.std.proofs.Common.{refl, sym, ap, ◌∙◌, eqb-true}
 use Rattle.std.specs.Option.{is_some}
+use Rattle.std.proofs.Math.Bool.{and-false as and_false}
 use Rattle.udp_tables.specs.declared.table.Level.{Level}
 use Rattle.udp_tables.specs.declared.table.Entry.{Entry}
 use Rattle.udp_tables.specs.declared.table.Entry.TheVariants as entry
@@ -11,10 +12,6 @@ use Rattle.udp_tables.specs.VerilogPrimitives.{level_by, symbol, begins_change, 
 use Rattle.grammar_reader.specs.Next.{next_bytes, rest}
 use Rattle.grammar_reader.proofs.Repeats.{turn}
 use Rattle.verilog_udp_reader.proofs.Entries.{one_entry}
-
-and_false : (b : Bool) → (b && false) ≡ false
-and_false true = refl
-and_false false = refl
 
 -- a byte is this one, which begins no change, or it is not
 or_else : (b k : ℕ) → begins_change (k ∷ []) ≡ false → ((b == k) ≡ false → begins_change (b ∷ []) ≡ false)

@@ -1,15 +1,8 @@
 -- Tokens that are compared with words.
-use Rattle.std.proofs.Common.{◌≡◌, ℕ, ◌==◌, ◌&&◌, Bool, true, false, List, [], ◌∷◌, length, refl, ap}
+use Rattle.std.proofs.Common.{◌≡◌, ℕ, ◌==◌, Bool, true, false, List, [], ◌∷◌, length, refl, ap}
 use Rattle.std.specs.Str.{bytes_eq}
 use Rattle.std.proofs.lemmas.Slice.Eq.{bytes_eq-Decides}
-
-and_true : (b : Bool) → (b && true) ≡ b
-and_true true = refl
-and_true false = refl
-
-and_false : (b : Bool) → (b && false) ≡ false
-and_false true = refl
-and_false false = refl
+use Rattle.std.proofs.Math.Bool.{and-false as and_false, and-true as and_true}
 
 -- one byte alone is another where they are equal
 pub same_byte : (x y : ℕ) → bytes_eq (x ∷ []) (y ∷ []) ≡ (x == y)

@@ -1,5 +1,5 @@
 -- Names that are looked up in lower case.
-use Rattle.std.proofs.Common.{◌≡◌, ℕ, ◌+◌, Bool, true, false, not, ◌&&◌, ◌||◌, ◌==◌, if◌then◌else◌, List, [], ◌∷◌, ◌++◌, length}
+use Rattle.std.proofs.Common.{◌≡◌, ℕ, ◌+◌, Bool, true, false, not, ◌||◌, ◌==◌, if◌then◌else◌, List, [], ◌∷◌, ◌++◌, length}
 use Rattle.std.proofs.Common.{Option, Some, None, refl, sym, ap, subst, ◌∙◌, arith}
 use Rattle.std.specs.Char.{is_ascii_alphabetic}
 use Rattle.std.specs.List.{list_any, position}
@@ -9,6 +9,7 @@ use Rattle.std.proofs.lemmas.Bool.{eqb-true}
 use Rattle.std.proofs.lemmas.List.{append-nil, map-append}
 use Rattle.std.proofs.lemmas.List.Folds.{list_any-append}
 use Rattle.std.proofs.lemmas.Slice.Eq.{bytes_eq-Decides}
+use Rattle.std.specs.Cmp.{first_so as first_true}
 use Rattle.bool_functions.specs.NameList.{number_of, Adds}
 use Rattle.bool_functions.proofs.NameLists.{list_any-map, position-map, position-none, position-some}
 use Rattle.grammar_reader.proofs.Tests.{there, not_there}
@@ -24,10 +25,6 @@ use Rattle.vhdl_grammar.specs.VhdlDeclarations.{name_of_port, port_names}
 use Rattle.vhdl_grammar.specs.VhdlNames.{port_of}
 use Rattle.vhdl_grammar.specs.VhdlText.{entity_names}
 use Rattle.vhdl_scope.specs.Lowered.{all_lowered, HaveSame, AreKeptOf}
-
-first_true : (a b : Bool) → (a && b) ≡ true → a ≡ true
-first_true true b e = refl
-first_true false b e = absurd cc
 
 letter_no_apostrophe : (b : ℕ) → is_ascii_alphabetic b ≡ true → (b == 39) ≡ false
 letter_no_apostrophe b e = by (b == 39) refl

@@ -1,10 +1,11 @@
 -- The second bytes of the words of VHDL.
-use Rattle.std.proofs.Common.{◌≡◌, ℕ, Bool, true, false, not, ◌&&◌, List, [], ◌∷◌, ◌<◌, length, get_or, refl, sym, ap, ◌∙◌, arith}
+use Rattle.std.proofs.Common.{◌≡◌, ℕ, Bool, true, false, not, List, [], ◌∷◌, ◌<◌, length, get_or, refl, sym, ap, ◌∙◌, arith}
 use Rattle.std.specs.Prelude.{codes}
 use Rattle.std.specs.Char.{to_ascii_lowercase}
 use Rattle.std.specs.List.{list_all, list_any}
 use Rattle.std.specs.Str.{bytes_eq, str_eq_ignore_ascii_case, str_to_ascii_lowercase}
 use Rattle.std.proofs.lemmas.Slice.Eq.{bytes_eq-Decides}
+use Rattle.std.specs.Cmp.{first_so as and_left, second_so as and_right}
 use Rattle.vhdl_tokens.specs.Tokens.{is_one_of}
 use Rattle.vhdl_tokens.specs.Words.{vhdl_words, used_words, is_reserved, is_used, is_vhdl_word}
 
@@ -13,14 +14,6 @@ abbrev pub has_second : List ℕ → Bool
 has_second [] = false
 has_second (a ∷ []) = false
 has_second (a ∷ b ∷ bs) = not (is_one_of (codes "dgjkqvwz123456789_") b)
-
-and_left : (a b : Bool) → (a && b) ≡ true → a ≡ true
-and_left true b e = refl
-and_left false b e = absurd cc
-
-and_right : (a b : Bool) → (a && b) ≡ true → b ≡ true
-and_right true b e = e
-and_right false b e = absurd cc
 
 from_eq : (xs ys : List ℕ) → bytes_eq xs ys ≡ true → xs ≡ ys
 from_eq xs ys e = (bytes_eq-Decides xs ys).0 e

@@ -1,8 +1,9 @@
 use Rattle.std.proofs.Common.{◌<◌, ap, sym, get_or, ◌∙◌, length, arith, None}
 use Rattle.std.proofs.Math.ListN.{length-set}
+use Rattle.std.proofs.lemmas.Option.{get_or_from_slice_get as entry-is}
 use Rattle.cell_machine.specs.KeptConditions.{kept_beyond}
 use Rattle.cell_machine.proofs.ArcDelays.{some_at}
-use Rattle.cell_machine.proofs.EachLemmas.{each-kept, each-done, entry-is}
+use Rattle.cell_machine.proofs.EachLemmas.{each-kept, each-done}
 use Rattle.cell_machine.proofs.kept_conditions.forget.Goals as goal
 
 pub loop-i-preserved : goal.loop-i-preserved

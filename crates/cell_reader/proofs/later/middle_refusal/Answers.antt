@@ -1,7 +1,7 @@
 use Rattle.std.proofs.Common.{◌∙◌}
+use Rattle.std.proofs.lemmas.Result.{IfOk-weaker as lift_ok}
 use Rattle.cell_reader.specs.Parts.{subject_in}
 use Rattle.cell_reader.proofs.Decides.{told_decides}
-use Rattle.cell_reader.proofs.Reading.{lift_ok}
 use Rattle.cell_reader.proofs.later.middle_refusal.Goals as goal
 
 -- what is told decides as all does

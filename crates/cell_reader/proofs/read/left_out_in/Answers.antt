@@ -1,4 +1,5 @@
 use Rattle.std.proofs.Common.{◌≡◌, ◌≤◌, ◌∙◌, List, length, map, sym, ap, arith}
+use Rattle.std.proofs.lemmas.Result.{IfOk-weaker as lift_ok}
 use Rattle.cell_attributes.specs.Pins.{pins_of, owners_of}
 use Rattle.cell_attributes.proofs.Turns.{count_shown}
 use Rattle.liberty_groups.specs.declared.tree.Group.{Group}
@@ -6,7 +7,7 @@ use Rattle.cell_attributes.specs.Groups.{pin_groups}
 use Rattle.cell_attributes.proofs.PinRules.{owners_count}
 use Rattle.cell_timings.specs.PinTimings.{left_out_from}
 use Rattle.cell_reader.specs.Parts.{subject_in}
-use Rattle.cell_reader.proofs.Reading.{accepted_few_pins, lift_ok}
+use Rattle.cell_reader.proofs.Reading.{accepted_few_pins}
 use Rattle.cell_reader.proofs.read.left_out_in.Goals as goal
 
 -- each pin has its group and its answer

@@ -1,7 +1,8 @@
 use Rattle.std.proofs.Common.{◌∙◌, map, ap}
+use Rattle.std.proofs.lemmas.Result.{IfOk-weaker as lift_ok}
 use Rattle.cell_attributes.specs.Shown.{shown_vocabulary}
 use Rattle.cell_reader.specs.Parts.{subject_in}
-use Rattle.cell_reader.proofs.Reading.{accepted_few_pins, accepted_few_groups, outputs_are, lift_ok}
+use Rattle.cell_reader.proofs.Reading.{accepted_few_pins, accepted_few_groups, outputs_are}
 use Rattle.cell_reader.proofs.read.outputs_in.Goals as goal
 
 pub reader-requires-clause-pins : goal.reader-requires-clause-pins

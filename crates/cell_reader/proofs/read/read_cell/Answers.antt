@@ -1,9 +1,10 @@
 use Rattle.std.proofs.Common.{◌≡◌, ◌∙◌, ℕ, List, Option, sym, subst, ap, None, rules}
+use Rattle.std.proofs.lemmas.Result.{IfErr-weaker as lift_err, IfOk-weaker as lift_ok}
 use Rattle.liberty_text.specs.declared.time.Unit.{Unit}
 use Rattle.liberty_groups.specs.declared.tree.Group.{Group}
 use Rattle.cell_reader.specs.CellTexts.{subject_of, Tells}
 use Rattle.cell_reader.specs.Refusals.{first_refusal, early_reasons, later_reasons, refusal_of}
-use Rattle.cell_reader.proofs.Reading.{names_are_distinct, early_decides, later_decide, lift_ok, lift_err}
+use Rattle.cell_reader.proofs.Reading.{names_are_distinct, early_decides, later_decide}
 use Rattle.cell_reader.proofs.read.read_cell.Goals as goal
 
 pub read_parts-requires-clause-distinct : goal.read_parts-requires-clause-distinct

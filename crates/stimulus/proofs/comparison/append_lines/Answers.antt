@@ -1,6 +1,6 @@
 use Rattle.std.proofs.Common.{sym, ◌∙◌, ◌++◌, ap}
+use Rattle.std.proofs.lemmas.Result.{on_ok_weaker as ok_gives}
 use Rattle.stimulus.proofs.AlikeLines.{alike_print}
-use Rattle.stimulus.proofs.Runs.{ok_gives}
 use Rattle.stimulus.proofs.comparison.append_lines.Goals as goal
 
 pub returns-then-alike : goal.returns-then-alike

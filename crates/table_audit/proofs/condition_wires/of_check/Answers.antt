@@ -1,7 +1,8 @@
 use Rattle.std.proofs.Common.{◌≡◌, None, Some, length, slice_get, sym, ap, ◌∙◌}
 use Rattle.std.proofs.lemmas.Bool.{ltb-false}
+use Rattle.std.proofs.lemmas.Option.{slice_get_past as get-past}
 use Rattle.cell_machine.specs.CellData.{data_of}
-use Rattle.table_audit.proofs.Gatings.{check_few, check_gating_is, check_gating_past, get-there, get-past}
+use Rattle.table_audit.proofs.Gatings.{check_few, check_gating_is, check_gating_past, get-there}
 use Rattle.table_audit.proofs.condition_wires.of_check.Goals as goal
 
 pub returns-in-Some-clause-few : goal.returns-in-Some-clause-few

@@ -1,8 +1,9 @@
 use Rattle.std.proofs.Common.{◌≡◌, None, Some, length, slice_get, sym, ap, ◌∙◌}
 use Rattle.std.proofs.lemmas.Bool.{ltb-false}
+use Rattle.std.proofs.lemmas.Option.{slice_get_past as get-past}
 use Rattle.cell_machine.specs.CellData.{data_of}
 use Rattle.table_audit.specs.Shape.{gating}
-use Rattle.table_audit.proofs.Gatings.{arc_few, path_gating_is, path_gating_past, get-there, get-past}
+use Rattle.table_audit.proofs.Gatings.{arc_few, path_gating_is, path_gating_past, get-there}
 use Rattle.table_audit.proofs.condition_wires.of_path.Goals as goal
 
 pub returns-in-Some-clause-few : goal.returns-in-Some-clause-few

@@ -1,12 +1,11 @@
 use Rattle.std.proofs.Common.{◌≡◌, ◌<◌, ◌∙◌, ap, sym, subst, get_or, set, length, arith, rules}
 use Rattle.std.proofs.Math.ListN.{length-set}
-use Rattle.std.proofs.lemmas.List.{length-map}
+use Rattle.std.proofs.lemmas.List.{length-map, get_or_default as get_or-default}
 use Rattle.trit_cubes.specs.declared.trits.Trit.TheVariants.{Zero, Unknown}
 use Rattle.cell_machine.specs.Each.{each}
 use Rattle.cell_machine.specs.KeptConditions.{arc_inputs, AreKept, kept_beyond}
 use Rattle.cell_machine.specs.Report.{any_true}
 use Rattle.cell_machine.specs.Times.{no_times, stamped}
-use Rattle.cell_machine.proofs.EachLemmas.{get_or-default}
 use Rattle.cell_machine.specs.CellData.{data_of}
 use Rattle.cell_machine.proofs.RuleLemmas.{checks_hold}
 use Rattle.cell_machine.proofs.KeptValues.{kept_length, kept_changed}

@@ -1,5 +1,6 @@
+use Rattle.std.proofs.lemmas.Result.{on_ok_weaker as on_ok}
 use Rattle.caught_models.proofs.Started.{of_started}
-use Rattle.selftest_runs.proofs.CountedCells.{next_counted, on_ok}
+use Rattle.selftest_runs.proofs.CountedCells.{next_counted}
 use Rattle.selftest_runs.proofs.library.CountsCellFold.take.Goals as goal
 
 pub returns-clause-made : goal.returns-clause-made

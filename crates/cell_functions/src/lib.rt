@@ -5,5 +5,4 @@ pub mod cell_numbers;
 pub mod output_pins;
 mod sources;
 pub mod state_groups;
-mod table_copies;
 mod text_kinds;

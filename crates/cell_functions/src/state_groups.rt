@@ -7,11 +7,10 @@ ghost use Rattle.cell_attributes.specs.Building.{FitsReading};
 ghost use Rattle.cell_machine.specs.declared.groups.GroupKind.TheVariants as kind_of;
 ghost use Rattle.cell_attributes.specs.Shown.{shown_arguments};
 
-use crate::table_copies::copy_table;
 use crate::text_kinds::Numbering;
 use cell_attributes::state_readings::StateReading;
 use cell_attributes::states::{Arguments, arguments_of, is_table, names_in};
-use cell_machine::{GroupKind, StateGroup};
+use cell_machine::{GroupKind, Shared, StateGroup};
 use liberty_groups::{Group, last_attribute};
 use sqlite_items::Items;
 use statetables::{StateTable, TableFault, read_table};
@@ -46,7 +45,7 @@ fn table_in(
 /// The state of a node of a table.
 fn node_group(
     alloc: Global,
-    table: &StateTable,
+    table: &Shared<StateTable>,
     node: usize,
     reading: &StateReading,
 ) -> Result<StateGroup, AllocError>
@@ -56,7 +55,7 @@ fn node_group(
           reading.now.support;
     }) }
 {
-    let table = copy_table(alloc, table)?;
+    let table = table.again()?;
     let inputs = Items::from_slice(alloc, reading.inputs.as_slice())?;
     let support = Items::from_slice(alloc, reading.support.as_slice())?;
     let kind = GroupKind::Table {
@@ -70,7 +69,7 @@ fn node_group(
 /// The states of these nodes of a table.
 fn node_groups_of(
     alloc: Global,
-    table: &StateTable,
+    table: &Shared<StateTable>,
     nodes: &[&[u8]],
     reading: &StateReading,
 ) -> Result<Items<StateGroup>, AllocError>
@@ -95,7 +94,7 @@ fn table_groups(
 {
     let inputs = names_in(alloc, arguments.first)?;
     let nodes = names_in(alloc, arguments.second)?;
-    let table = table_in(alloc, inputs.len(), nodes.len(), group)?;
+    let table = Shared::new(alloc, table_in(alloc, inputs.len(), nodes.len(), group)?)?;
     node_groups_of(alloc, &table, &nodes, reading)
 }
 

@@ -2,6 +2,7 @@
 ghost use Rattle.std.specs.Prelude.{◌≡◌, ◌<◌};
 ghost use Rattle.cell_machine.specs.Step.{clocked_value, clocked_step, gated_value, gated_step, KindIsBounded};
 
+use crate::shared::Shared;
 use crate::steps::cleared_by;
 use crate::values::Values;
 use bool_functions::Function;
@@ -120,8 +121,8 @@ pub enum GroupKind {
     Latch(Gated),
     /// One node of a `statetable` group.
     Table {
-        /// The table.
-        table: StateTable,
+        /// The table, which all its nodes hold.
+        table: Shared<StateTable>,
         /// The node's number among the table's nodes.
         node: usize,
         /// For each input of the table the number of its pin.

@@ -116,7 +116,7 @@ impl GroupKind {
                 table,
                 node,
                 inputs,
-            } => match table_step(table, *node, inputs.as_slice(), before, after, state) {
+            } => match table_step(table.get(), *node, inputs.as_slice(), before, after, state) {
                 Some(next) => Trit::from(next),
                 None => Trit::Unknown,
             },

@@ -100,7 +100,7 @@ fn kept_of(cell: &Cell, group: usize, places: usize) -> Kept
             node,
             inputs,
         } => Kept::Words(change_words(TableNode {
-            table,
+            table: table.get(),
             node: *node,
             inputs: inputs.as_slice(),
             support: entry.support.as_slice(),

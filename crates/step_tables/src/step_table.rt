@@ -74,7 +74,7 @@ fn values_from(
         } if inputs.len() <= MOST_INPUTS => node_values(
             alloc,
             TableNode {
-                table,
+                table: table.get(),
                 node: *node,
                 inputs: inputs.as_slice(),
                 support: entry.support.as_slice(),

@@ -2,6 +2,7 @@ use Rattle.std.proofs.Common.{ℕ, List, subst, sym}
 use Rattle.cell_machine.specs.CellData.{data_of}
 use Rattle.step_tables.specs.NodeSteps.{TellChange}
 use Rattle.std.proofs.lemmas.Option.{none-some}
+use Rattle.statetables.specs.declared.table.StateTable.{StateTable}
 use Rattle.kept_steps.specs.declared.held.HeldPoint.{HeldPoint}
 use Rattle.kept_steps.specs.Kept.{AreHeld}
 use Rattle.kept_steps.proofs.KeptLemmas.{points_held, points_kept, words_tell, words_kept}
@@ -31,4 +32,6 @@ returns-in-Table-2 c =
     c.requires.places
     (λ j w at.
     subst (λ (xs : List ℕ). TellChange table node xs group.support j w) c.as_slice.ensures
-    (subst (λ (xs : List ℕ). TellChange table node c.as_slice.result.now xs j w) c.as_slice-in-Table-2.ensures (c.change_words.ensures j w at))))
+    (subst (λ (xs : List ℕ). TellChange table node c.as_slice.result.now xs j w) c.as_slice-in-Table-2.ensures
+    (subst (λ (t : StateTable). TellChange t node c.as_slice.result.now c.as_slice-in-Table-2.result.now j w) c.get.ensures
+    (c.change_words.ensures j w at)))))

@@ -14,15 +14,14 @@ pub returns-in-Table : goal.returns-in-Table
 returns-in-Table c =
     let cell = data_of c.args.cell.now in
     let group = c.group-entry.result.now in
-    let table = c.in-Table.table in
     let node = c.in-Table.node in
     let name = state_name (length cell.pins) c.args.group in
     let inputs = c.as_slice.result.now in
     let support = c.as_slice-in-Table.result.now in
     let long : length support ≡ length (support_at cell c.args.group)
     = ap length (c.as_slice-in-Table.ensures ∙ sym (support_at-is cell c.args.group group c.group-entry.ensures.is)) in
-    let steps : node_step table node inputs support ≡ step_at cell c.args.group
-    = (λ i. node_step table node (c.as_slice.ensures i) (c.as_slice-in-Table.ensures i))
+    let steps : node_step c.get.result.now node inputs support ≡ step_at cell c.args.group
+    = (λ i. node_step (c.get.ensures i) node (c.as_slice.ensures i) (c.as_slice-in-Table.ensures i))
     ∙ sym (λ i before after s. kind_step (c.in-Table.is i) name (written no_values group.support before) (written no_values group.support after) s)
     ∙ sym (step_at-is cell c.args.group group c.group-entry.ensures.is) in
     subst (λ n. IfOk c.node_values.result (λ values. AreValuesOf n (turned_step (step_at cell c.args.group) c.args.place c.args.state) values.items)) long

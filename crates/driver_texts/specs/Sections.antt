@@ -1,11 +1,9 @@
 -- Sections that hold drivers, in any language: what they begin with, what stands behind that, and the driver of their bytes.
-use Rattle.std.specs.Prelude.{◌≡◌, ℕ, ◌-◌, Bool, List, [], length, drop, Result, Ok, Err}
+use Rattle.std.specs.Prelude.{◌≡◌, ℕ, Bool, List, [], Result, Ok, Err}
 use Rattle.grammar_rules.specs.Rule.{Takes}
 use Rattle.grammar_reader.specs.Words.{Grammar, ◌>>=◌}
 use Rattle.grammar_reader.specs.Texts.{Texts, text}
 use Rattle.lexer.specs.Tokens.{Lexis}
-use Rattle.lexer.specs.declared.span.Span.{Span}
-use Rattle.lexer.specs.Spans.{spelled}
 use Rattle.udp_tables.specs.declared.models.ModelFault.{ModelFault}
 use Rattle.udp_tables.specs.declared.models.ModelFault.TheVariants as fault
 use Rattle.udp_tables.specs.ModelFaults.{model_faults}
@@ -61,7 +59,3 @@ driver_of front call paths = record {
   ports = front.ports;
   driver = record { inputs = input_count front.ports; outputs = output_count front.ports; drives = call.drives; paths = paths };
 }
-
--- the tokens before which so many of a text's are left
-abbrev pub last_tokens : List ℕ → List Span → ℕ → List (List ℕ)
-last_tokens text tokens left = drop (length tokens - left) (spelled text tokens)

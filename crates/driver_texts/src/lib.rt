@@ -4,7 +4,6 @@
 
 mod core_terminals;
 mod counts;
-mod cursors;
 mod driven_outputs;
 mod numbered_names;
 mod numbered_ports;
@@ -14,7 +13,6 @@ mod sections;
 
 pub use core_terminals::CoreTerminals;
 pub use counts::{input_count, output_count};
-pub use cursors::cursor_before;
 pub use driven_outputs::driven_names;
 pub use numbered_names::{ListedNames, NumberedNames, WireNames};
 pub use numbered_ports::{EachPort, PortText};

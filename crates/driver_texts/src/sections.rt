@@ -7,7 +7,6 @@ ghost use Rattle.grammar_reader.specs.Reading.{read, Reads};
 ghost use Rattle.driver_models.specs.Models.{IsSound};
 ghost use Rattle.driver_texts.specs.Sections as spec;
 
-use crate::cursors::cursor_before;
 use crate::section_parts::SectionFront;
 use driver_models::{Cores, DriverLanguage, DriverModel, KnownNames};
 use grammar_reader::{Cursor, Language, Read, Stop};
@@ -49,38 +48,35 @@ pub trait DriverSections: DriverLanguage {
     ) -> Read<SectionFront>
         ensures { Reads (read (grammar.front names.now) cursor.old) result cursor.new };
 
-    /// The rest of a section behind its front, which is the last tokens of a text, so many, where the models that may be cores
-    /// are these.
+    /// The rest of a section behind its front, where the models that may be cores are these.
     fn rest<'a>(
         alloc: Global,
-        text: &'a [u8],
-        tokens: &'a [KeptSpan],
-        left: usize,
+        before: &mut Cursor<'a, Self::Front>,
         cores: &Cores<'_, Self>,
         front: SectionFront,
     ) -> SectionRead<'a, Self::Rest>
-        requires { LieInside text.now tokens.now }
-        ensures { Reads (read (grammar.rest cores.now front) (spec.last_tokens text.now tokens.now left)) result.driver
-            result.left };
+        ensures { Reads (read (grammar.rest cores.now front) before.old) result.driver result.left };
 }
 
-/// A section with these tokens, where these names are taken and the models that may be cores are these.
+/// A section with the tokens at these places of a text, where these names are taken and the models that may be cores are these.
+#[tactic(auto, unfolding(crate::specs::Sections::section))]
 fn section<'a, L: DriverSections>(
     alloc: Global,
     text: &'a [u8],
-    tokens: &'a [KeptSpan],
+    tokens: Vec<KeptSpan>,
     names: &KnownNames<L>,
     cores: &Cores<'_, L>,
 ) -> SectionRead<'a, L::Rest>
-    requires { LieInside text.now tokens.now }
-    ensures { Reads (read (spec.section L.grammar names.now cores.now) (spelled text.now tokens.now)) result.driver result.left }
+    requires { LieInside text.now tokens.items }
+    ensures { Reads (read (spec.section L.grammar names.now cores.now) (spelled text.now tokens.items)) result.driver
+        result.left }
 {
     let mut before = Cursor::<L::Front>::new(text, tokens);
     match L::front(&mut before, alloc, names) {
-        Ok(front) => L::rest(alloc, text, tokens, before.left(), cores, front),
+        Ok(front) => L::rest(alloc, &mut before, cores, front),
         Err(stop) => SectionRead {
             driver: Err(stop),
-            left: cursor_before::<L::Rest>(text, tokens, before.left()),
+            left: before.in_language::<L::Rest>(alloc),
         },
     }
 }
@@ -99,14 +95,18 @@ fn driver_of_text<L: DriverSections>(
     let Ok(Scan { tokens, fault }) = L::scan(alloc, text) else {
         return Err(ModelFault::Memory);
     };
-    let SectionRead { driver, left } = section(alloc, text, &tokens, names, cores);
+    let SectionRead { driver, left } = section(alloc, text, tokens, names, cores);
     match driver {
         Ok(found) => match fault {
             None => Ok(found),
             Some(at) => Err(ModelFault::Lexical(at)),
         },
         Err(Stop::Memory) => Err(ModelFault::Memory),
-        Err(Stop::Refused(refusal)) => Err(refusal_fault(text, &tokens, fault, refusal, &left)),
+        // the tokens before those that are left were given back
+        Err(Stop::Refused(refusal)) => match L::scan(alloc, text) {
+            Ok(Scan { tokens, fault }) => Err(refusal_fault(text, &tokens, fault, refusal, &left)),
+            Err(_) => Err(ModelFault::Memory),
+        },
     }
 }
 

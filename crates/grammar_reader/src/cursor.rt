@@ -1,42 +1,65 @@
 //! A cursor over the tokens of a text.
 
-ghost use Rattle.std.specs.Prelude.{◌≡◌, length};
+ghost use Rattle.std.specs.Prelude.{◌≡◌, [], length};
 ghost use Rattle.lexer.specs.Spans.{LieInside, spelled};
 ghost use Rattle.grammar_reader.specs.Next.{is_next, is_next_name, next_bytes, rest};
 
 use crate::language::Language;
 use lexer::KeptSpan;
+use std::alloc::Global;
 use std::marker::{Model, PhantomData};
+use std::mem::replace;
 
-/// The tokens of a text that are not read yet, each seen as its bytes, in a language `L`.
+/// The tokens of a text that are not read yet, each seen as its bytes, in a language `L`. It holds their places, and gives the
+/// memory of those back that were read, so that the tokens of a text and what they are read as never stand whole beside each
+/// other.
 #[derive(Drop)]
 pub struct Cursor<'a, L> {
     text: &'a [u8],
-    left: &'a [KeptSpan],
+    /// The last one first.
+    left: Vec<KeptSpan>,
+    /// Where no more than so many are left, the room of those that were read is given back.
+    few: usize,
     language: PhantomData<L>,
 }
 
 impl<'a, L> Model for Cursor<'a, L> {
-    ghost use Rattle.std.specs.Prelude.{ℕ, List};
+    ghost use Rattle.std.specs.Prelude.{ℕ, List, reverse};
 
     ghost Value = { List (List ℕ) };
 
     ghost use Rattle.lexer.specs.Spans.{spelled, LieInside};
 
-    ghost view = { λ c. spelled c.text.now c.left.now };
+    ghost view = { λ c. spelled c.text.now (reverse c.left.items) };
 
-    ghost invariant = { λ c. LieInside c.text.now c.left.now };
+    ghost invariant = { λ c. LieInside c.text.now (reverse c.left.items) };
 }
 
 impl<'a, L: Language> Cursor<'a, L> {
     /// A cursor before the tokens that stand at these places of a text.
-    pub fn new(text: &'a [u8], tokens: &'a [KeptSpan]) -> Cursor<'a, L>
-        requires { LieInside text.now tokens.now }
-        ensures { result ≡ spelled text.now tokens.now }
+    pub fn new(text: &'a [u8], tokens: Vec<KeptSpan>) -> Cursor<'a, L>
+        requires { LieInside text.now tokens.items }
+        ensures { result ≡ spelled text.now tokens.items }
     {
+        let mut left = tokens;
+        left.reverse();
         Cursor {
             text,
-            left: tokens,
+            few: left.len() / 2,
+            left,
+            language: PhantomData,
+        }
+    }
+
+    /// A cursor of another language takes the tokens that are left, and leaves none.
+    pub fn in_language<M: Language>(&mut self, alloc: Global) -> Cursor<'a, M>
+        ensures taken { result ≡ self.old }
+        ensures none { self.new ≡ [] }
+    {
+        Cursor {
+            text: self.text,
+            left: replace(&mut self.left, Vec::new(alloc)),
+            few: self.few,
             language: PhantomData,
         }
     }
@@ -54,9 +77,9 @@ impl<'a, L: Language> Cursor<'a, L> {
     pub fn bytes(&self) -> &'a [u8]
         ensures { result.now ≡ next_bytes self.now }
     {
-        match self.left {
-            [first, ..] => {
-                let span = first.span();
+        match self.left.as_slice() {
+            [.., next] => {
+                let span = next.span();
                 &self.text[span.at..span.end]
             }
             [] => &[],
@@ -83,8 +106,20 @@ impl<'a, L: Language> Cursor<'a, L> {
     pub fn skip(&mut self)
         ensures { self.new ≡ rest self.old }
     {
-        if let [_, rest @ ..] = self.left {
-            self.left = rest;
+        if self.left.len() > self.few {
+            let _token = self.left.pop();
+        } else {
+            self.skip_last();
         }
+    }
+
+    /// The same, and gives the room back of the tokens that were read.
+    #[cold]
+    fn skip_last(&mut self)
+        ensures { self.new ≡ rest self.old }
+    {
+        let _token = self.left.pop();
+        self.left.shrink_to_fit();
+        self.few = self.left.len() / 2;
     }
 }

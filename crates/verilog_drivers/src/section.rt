@@ -12,11 +12,10 @@ use crate::read_buffers::buffers;
 use driven_traces::DrivePath;
 use driver_models::{Cores, DriverModel, KnownNames};
 use driver_texts::{
-    CoreCall, DriverSections, SectionFront, SectionRead, cursor_before, driven_names, driver_of,
-    fresh_name,
+    CoreCall, DriverSections, SectionFront, SectionRead, driven_names, driver_of, fresh_name,
 };
 use grammar_reader::{Read, Refusal, Stop};
-use lexer::{KeptSpan, Scan};
+use lexer::Scan;
 use sqlite_items::Items;
 use std::alloc::{AllocError, Global};
 use udp_tables::VPort;
@@ -115,13 +114,11 @@ impl DriverSections for VerilogDrivers {
 
     fn rest<'a>(
         alloc: Global,
-        text: &'a [u8],
-        tokens: &'a [KeptSpan],
-        left: usize,
+        before: &mut verilog_udp_reader::Cursor<'a>,
         cores: &Cores<'_, VerilogDrivers>,
         front: SectionFront,
     ) -> SectionRead<'a, VerilogDrivers> {
-        let mut left = cursor_before::<VerilogDrivers>(text, tokens, left);
+        let mut left = before.in_language::<VerilogDrivers>(alloc);
         let driver = section_rest(&mut left, alloc, cores, front);
         SectionRead { driver, left }
     }

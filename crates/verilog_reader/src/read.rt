@@ -25,14 +25,20 @@ fn models_of(alloc: Global, text: &[u8]) -> Result<Vec<VModule>, ModelFault>
     let Ok(Scan { tokens, fault }) = scan(alloc, text) else {
         return Err(ModelFault::Memory);
     };
-    let mut cursor = Cursor::<Verilog>::new(text, &tokens);
+    let mut cursor = Cursor::<Verilog>::new(text, tokens);
     match file(&mut cursor, alloc) {
         Ok(Before { modules, .. }) => match fault {
             None => Ok(modules),
             Some(at) => Err(ModelFault::Lexical(at)),
         },
         Err(Stop::Memory) => Err(ModelFault::Memory),
-        Err(Stop::Refused(refusal)) => Err(refusal_fault(text, &tokens, fault, refusal, &cursor)),
+        // the tokens before those that are left were given back
+        Err(Stop::Refused(refusal)) => match scan(alloc, text) {
+            Ok(Scan { tokens, fault }) => {
+                Err(refusal_fault(text, &tokens, fault, refusal, &cursor))
+            }
+            Err(_) => Err(ModelFault::Memory),
+        },
     }
 }
 

@@ -1,9 +1,7 @@
 //! VHDL as a language with sections that hold drivers. (IEEE 1076-1993, 1.1, 1.2 and 9.6; IEEE 1076.4-2000, VitalBUFIF1; the form
 //! of the section is this project's.)
 
-ghost use Rattle.lexer.specs.Spans.{LieInside};
 ghost use Rattle.grammar_reader.specs.Reading.{read, Reads};
-ghost use Rattle.driver_texts.specs.Sections.{last_tokens};
 ghost use Rattle.vhdl_drivers.specs.DriverSections as spec;
 
 use crate::core_call::section_core;
@@ -11,9 +9,9 @@ use crate::front::section_front;
 use crate::language::VitalDrivers;
 use crate::section::section_process;
 use driver_models::{Cores, KnownNames};
-use driver_texts::{CoreCall, DriverSections, SectionFront, SectionRead, cursor_before};
+use driver_texts::{CoreCall, DriverSections, SectionFront, SectionRead};
 use grammar_reader::Read;
-use lexer::{KeptSpan, Scan};
+use lexer::Scan;
 use std::alloc::{AllocError, Global};
 use udp_tables::VPort;
 use vhdl_scope::{Cursor, Vhdl};
@@ -26,23 +24,18 @@ struct CoreRead<'a> {
     left: Cursor<'a>,
 }
 
-/// The signals and the core of a driver with these ports before the last tokens of a text, so many, where the models that may
-/// be cores are these.
-fn core_before<'a>(
+/// The signals and the core of a driver with these ports, where the models that may be cores are these.
+fn core_behind<'a>(
     alloc: Global,
-    text: &'a [u8],
-    tokens: &'a [KeptSpan],
-    left: usize,
+    before: &mut Cursor<'a>,
     cores: &Cores<'_, VitalDrivers>,
     ports: &[VPort],
 ) -> CoreRead<'a>
-    requires { LieInside text.now tokens.now }
-    ensures { Reads (read (spec.section_core cores.now ports.now) (last_tokens text.now tokens.now left)) result.call
-        result.left }
+    ensures { Reads (read (spec.section_core cores.now ports.now) before.old) result.call result.left }
 {
-    let mut inner = cursor_before::<VitalDrivers>(text, tokens, left);
+    let mut inner = before.in_language::<VitalDrivers>(alloc);
     let call = section_core(&mut inner, alloc, cores, ports);
-    let left = cursor_before::<Vhdl>(text, tokens, inner.left());
+    let left = inner.in_language::<Vhdl>(alloc);
     CoreRead { call, left }
 }
 
@@ -70,14 +63,12 @@ impl DriverSections for VitalDrivers {
     #[tactic(auto, unfolding(crate::specs::DriverSections::section_rest))]
     fn rest<'a>(
         alloc: Global,
-        text: &'a [u8],
-        tokens: &'a [KeptSpan],
-        left: usize,
+        before: &mut Cursor<'a>,
         cores: &Cores<'_, VitalDrivers>,
         front: SectionFront,
     ) -> SectionRead<'a, Vhdl> {
         let ports = front.ports.as_slice();
-        let CoreRead { call, mut left } = core_before(alloc, text, tokens, left, cores, ports);
+        let CoreRead { call, mut left } = core_behind(alloc, before, cores, ports);
         let driver = match call {
             Ok(call) => section_process(&mut left, alloc, front, call),
             Err(stop) => Err(stop),

@@ -13,7 +13,7 @@ use Rattle.stimulus.specs.declared.catalog.PinFound.TheVariants as pins
 use Rattle.stimulus.specs.declared.context.Context.{Context}
 use Rattle.stimulus.specs.declared.context.Said.{Said}
 use Rattle.stimulus.specs.declared.context.Said.TheVariants.{Nothing, Begins, Changes}
-use Rattle.stimulus.specs.declared.judged.TheConstants.{MAX_CHANGES}
+use Rattle.stimulus.specs.declared.line_meanings.TheConstants.{MAX_CHANGES}
 use Rattle.stimulus.specs.Catalog.{Listing, cell_found, pin_found}
 use Rattle.stimulus.specs.Times.{time_of}
 use Rattle.stimulus.specs.Written.{Written, no_words, section_line, change_line, other_line, written_in}
@@ -71,12 +71,12 @@ changed listing context time pin value =
     and_then (ok_or (time_of time) cause.Form) (λ at.
     changed_in listing context pin value cell at))
 
-abbrev pub judged_as : Listing → Context → Written → Result Said Cause
-judged_as listing context no_words = Ok Nothing
-judged_as listing context (section_line name) = begun (cell_found listing name)
-judged_as listing context (change_line time pin value) = changed listing context time pin value
-judged_as listing context other_line = Err cause.Form
+abbrev pub written_meaning : Listing → Context → Written → Result Said Cause
+written_meaning listing context no_words = Ok Nothing
+written_meaning listing context (section_line name) = begun (cell_found listing name)
+written_meaning listing context (change_line time pin value) = changed listing context time pin value
+written_meaning listing context other_line = Err cause.Form
 
 -- what a line says after lines that leave this to be known, or the first of its causes
-abbrev pub judged : Listing → Context → List ℕ → Result Said Cause
-judged listing context line = judged_as listing context (written_in line)
+abbrev pub line_meaning : Listing → Context → List ℕ → Result Said Cause
+line_meaning listing context line = written_meaning listing context (written_in line)

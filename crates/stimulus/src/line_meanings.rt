@@ -1,8 +1,8 @@
 //! What a line says, after the lines before it.
 ghost use Rattle.std.specs.Prelude.{◌≡◌};
 ghost use Rattle.stimulus.specs.Written.{shown};
-ghost use Rattle.stimulus.specs.Judged.{judged_as, begun as begun_of, changed as changed_of, input_of as input_of_answer};
-ghost use Rattle.stimulus.specs.Judged.{value_of as value_of_word, is_later as is_later_of};
+ghost use Rattle.stimulus.specs.LineMeanings.{written_meaning, begun as begun_of, changed as changed_of, input_of as input_of_answer};
+ghost use Rattle.stimulus.specs.LineMeanings.{value_of as value_of_word, is_later as is_later_of};
 
 use crate::catalog::{Catalog, CellFound, PinFound};
 use crate::context::{Context, Said};
@@ -16,12 +16,12 @@ use trit_cubes::Trit;
 pub const MAX_CHANGES: usize = 1_000_000;
 
 /// What a line says in which this is written, or the first of the causes for which it is bad.
-pub(crate) fn judged<C: Catalog>(
+pub(crate) fn line_meaning<C: Catalog>(
     catalog: &C,
     context: Context,
     written: Written<'_>,
 ) -> Result<Said, Cause>
-    ensures { result ≡ judged_as (C.listing catalog.now) context (shown written.entry) }
+    ensures { result ≡ written_meaning (C.listing catalog.now) context (shown written.entry) }
 {
     match written {
         Written::Nothing => Ok(Said::Nothing),

@@ -1,5 +1,5 @@
 use Rattle.vhdl_writer.specs.Outputs.{path_text}
-use Rattle.vhdl_writer.proofs.outputs.OfItemTextHPath.put.Goals as goal
+use Rattle.vhdl_writer.proofs.outputs.InEntityItemTextHPath.put.Goals as goal
 
 pub returns-clause-text : goal.returns-clause-text
 unfolding path_text

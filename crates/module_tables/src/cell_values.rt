@@ -1,12 +1,12 @@
 //! What the functions of a cell give for values that may be unknown.
-ghost use Rattle.std.specs.Prelude.{◌≡◌, ◌+◌, ◌<◌, ◌≤◌, suc, ◌++◌, ◌∷◌, [], length, slice_index_or};
+ghost use Rattle.std.specs.Prelude.{◌≡◌, ◌<◌, ◌≤◌, ◌++◌, ◌∷◌, [], length, slice_index_or};
 ghost use Rattle.trit_cubes.specs.declared.trits.Trit.TheVariants as trit;
 ghost use Rattle.trit_cubes.specs.Resolution.{res};
 ghost use Rattle.bool_functions.specs.Tree.{name_bound};
-ghost use Rattle.cell_machine.specs.Machine.{insert, edge_value, without};
+ghost use Rattle.cell_machine.specs.Machine.{without};
 ghost use Rattle.cell_machine.specs.Outputs.{condition_at};
 ghost use Rattle.cell_machine.specs.CellData.{data_of};
-ghost use Rattle.cell_machine.specs.CellTrace.{support_at, step_at, sources_at, output_value_at};
+ghost use Rattle.cell_machine.specs.CellTrace.{support_at, sources_at, output_value_at};
 ghost use Rattle.row_selection.specs.NextStates.{next_states};
 ghost use Rattle.module_tables.specs.Tables.{cell_step, cell_forced};
 ghost use Rattle.module_tables.specs.LookUps.{AreSteps, AreForces};
@@ -14,60 +14,10 @@ ghost use Rattle.module_tables.specs.LookUps.{AreSteps, AreForces};
 use crate::net_rows::NetRows;
 use crate::resolved::{resolved, values_at};
 use bool_functions::Function;
-use cell_machine::{Cell, Few, Values, boolean_step, numbered_value, output_at};
+use cell_machine::{Cell, Few, Values, change_value, numbered_value, point_value};
 use cell_tables::forced_at;
 use row_selection::NextStates;
 use trit_cubes::{Trit, resolve};
-
-/// The other values with one at this place.
-fn inserted(place: usize, bit: bool, others: &[bool]) -> Few<bool, 8>
-    requires place { place ≤ length others.now }
-    requires few { length others.now < 8 }
-    ensures { result ≡ insert place bit others.now }
-{
-    let (front, back) = others.split_at(place);
-    let mut all = Few::new(false);
-    all.append(front);
-    all.push(bit);
-    all.append(back);
-    all
-}
-
-/// What the step of a group gives at a change of the pin at `place`, at a point of the value before, the value after, the other
-/// pins and the state.
-fn edge_value(cell: &Cell, group: usize, place: usize, point: &[bool]) -> Trit
-    requires group { group < length cell.now.groups }
-    requires place { place < length (support_at (data_of cell.now) group) }
-    requires point { length point.now ≡ length (support_at (data_of cell.now) group) + 2 }
-    requires few { length (support_at (data_of cell.now) group) ≤ 8 }
-    ensures { result ≡ edge_value (step_at (data_of cell.now) group) place point.now }
-{
-    let last = point.len() - 1;
-    let others = &point[2..last];
-    let before = inserted(place, point[0], others);
-    let after = inserted(place, point[1], others);
-    boolean_step(
-        cell,
-        group,
-        before.as_slice(),
-        after.as_slice(),
-        point[last],
-    )
-}
-
-/// The same, unknown where the point has another number of places.
-fn edge_value_at(cell: &Cell, group: usize, place: usize, point: &[bool]) -> Trit
-    requires group { group < length cell.now.groups }
-    requires place { place < length (support_at (data_of cell.now) group) }
-    ensures { length point.now ≡ suc (suc (length (support_at (data_of cell.now) group)))
-        → result ≡ edge_value (step_at (data_of cell.now) group) place point.now }
-{
-    let pins = cell.group(group).support.len();
-    if point.len() != pins + 2 {
-        return Trit::Unknown;
-    }
-    edge_value(cell, group, place, point)
-}
 
 /// The values of a group's step at changes of the pin at a place, by the numbers of the points.
 pub(crate) fn edge_values(cell: &Cell, group: usize, place: usize) -> Few<Trit, 1024>
@@ -78,7 +28,7 @@ pub(crate) fn edge_values(cell: &Cell, group: usize, place: usize) -> Few<Trit, 
     let pins = cell.group(group).support.len();
     values_at(
         pins + 2,
-        &|point: &[bool]| { edge_value_at(cell, group, place, point) },
+        &|point: &[bool]| { change_value(cell, group, place, point) },
     )
 }
 
@@ -196,18 +146,6 @@ pub(crate) fn condition_value(condition: &Function, names: &[usize], values: &[T
     )
 }
 
-/// The value of an output at a point of its support.
-fn output_at_point(cell: &Cell, output: usize, point: &[bool]) -> Trit
-    requires { output < length cell.now.outputs }
-    ensures { length point.now ≡ length (sources_at (data_of cell.now) output)
-        → result ≡ output_value_at (data_of cell.now) output point.now }
-{
-    if point.len() != cell.output_pin(output).support.len() {
-        return Trit::Unknown;
-    }
-    output_at(cell, output, point)
-}
-
 /// The value of an output where its support has these values.
 pub(crate) fn output_value(cell: &Cell, output: usize, values: &[Trit]) -> Trit
     requires output { output < length cell.now.outputs }
@@ -217,6 +155,6 @@ pub(crate) fn output_value(cell: &Cell, output: usize, values: &[Trit]) -> Trit
 {
     resolved(
         values,
-        &|point: &[bool]| { output_at_point(cell, output, point) },
+        &|point: &[bool]| { point_value(cell, output, point) },
     )
 }

@@ -1,7 +1,7 @@
 use Rattle.std.proofs.Common.{◌∙◌, sym}
 use Rattle.cell_reader.specs.Parts.{subject_in}
 use Rattle.cell_reader.proofs.Reading.{middle_decides}
-use Rattle.cell_reader.proofs.read.judged.Goals as goal
+use Rattle.cell_reader.proofs.read.unrefused_numbers.Goals as goal
 
 pub returns-in-Some-clause-refused : goal.returns-in-Some-clause-refused
 returns-in-Some-clause-refused c =

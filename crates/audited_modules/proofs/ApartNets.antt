@@ -15,8 +15,8 @@ use Rattle.specify_blocks.specs.declared.model.VNet.{VNet}
 use Rattle.specify_blocks.specs.declared.model.VNet.TheVariants as net
 use Rattle.specify_blocks.specs.Nets.{same_net, are_apart}
 use Rattle.model_traces.proofs.PlaceLemmas.{position-from, get-map}
-use Rattle.table_audit.specs.Terminals.{is_among, same_nets}
-use Rattle.table_audit.specs.Tables.{value_among, arranged}
+use Rattle.table_audit.specs.module_terminals.Terminals.{is_among, same_nets}
+use Rattle.table_audit.specs.module_tables.Tables.{value_among, arranged}
 use Rattle.audited_modules.proofs.ListLemmas.{among-place}
 use Rattle.audited_modules.proofs.NetLemmas.{same-net, itself}
 

@@ -20,11 +20,12 @@ use Rattle.model_traces.specs.PortNumbers.{input_event}
 use Rattle.model_traces.specs.NetValues.{source_value, net_value}
 use Rattle.model_traces.specs.CheckTimes.{is_enabled}
 use Rattle.model_traces.specs.ModuleFits.{FitsCheck}
-use Rattle.table_audit.specs.Terminals.{condition_nets}
-use Rattle.table_audit.specs.Shape.{cell_inputs, port_inputs, both_or_neither, Gating, gating, gating_of, check_gating}
-use Rattle.table_audit.specs.Shape.{feeds_condition}
-use Rattle.table_audit.specs.Tables.{cell_condition, model_condition}
-use Rattle.table_audit.specs.Matches.{SameCheck, HasShape, HasValues}
+use Rattle.table_audit.specs.module_terminals.Terminals.{condition_nets}
+use Rattle.table_audit.specs.module_shapes.Shape.{cell_inputs, port_inputs, both_or_neither}
+use Rattle.table_audit.specs.module_terminals.Feeding.{Gating, gating, gating_of, check_gating, feeds_condition}
+use Rattle.table_audit.specs.module_tables.Tables.{cell_condition, model_condition}
+use Rattle.table_audit.specs.module_shapes.SameShape.{SameCheck, HasShape}
+use Rattle.table_audit.specs.module_tables.SameValues.{HasValues}
 use Rattle.audited_modules.proofs.PortSides.{number, pin-value}
 use Rattle.audited_modules.proofs.PartValues.{part-value}
 

@@ -3,11 +3,11 @@ use Rattle.std.proofs.Common.{◌≡◌, Bool, true, false, cond, List, [], ◌�
 use Rattle.std.specs.Prelude.{find}
 use Rattle.trit_cubes.proofs.ListLemmas.{Among, among-contains}
 use Rattle.model_traces.proofs.PlaceLemmas.{apart}
-use Rattle.table_audit.specs.declared.shape.ShapeTest.{ShapeTest}
-use Rattle.table_audit.specs.declared.verdicts.Difference.{Difference}
+use Rattle.table_audit.specs.module_shapes.declared.shape.ShapeTest.{ShapeTest}
+use Rattle.table_audit.specs.module_tables.declared.differences.Difference.{Difference}
 use Rattle.table_audit.specs.declared.verdicts.Verdict.TheVariants.{Differs}
-use Rattle.table_audit.specs.Shape.{shape_tests, first_amiss}
-use Rattle.table_audit.specs.Tables.{compared, is_unlike, first_difference}
+use Rattle.table_audit.specs.module_shapes.Shape.{shape_tests, first_amiss}
+use Rattle.table_audit.specs.module_tables.Tables.{compared, is_unlike, first_difference}
 use Rattle.table_audit.specs.Verdict.{by_tables, by_shape}
 use Rattle.table_audit.proofs.ShapeLaws.{shape-from}
 use Rattle.audited_modules.specs.Laws.{DifferencesAreUnlike}

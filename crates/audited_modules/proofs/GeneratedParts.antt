@@ -34,9 +34,9 @@ use Rattle.model_traces.proofs.PlaceLemmas.{get-within}
 use Rattle.model_traces.proofs.CellSteps.{IsOutputPin, place-is, no-sources}
 use Rattle.model_traces.proofs.ModuleParts.{group-instance-at, condition-instance-at, output-instance-at, condition-driver}
 use Rattle.model_traces.proofs.ModuleParts.{output-driver, sequential-are}
-use Rattle.table_audit.specs.Terminals.{sequential_instances, driving, nets_feeding, same_nets, group_nets, condition_nets}
-use Rattle.table_audit.specs.Terminals.{state_net, source_net, output_nets, stands_for}
-use Rattle.table_audit.specs.Shape.{feeds_group, feeds_condition, output_net, feeds_output}
+use Rattle.table_audit.specs.module_terminals.Terminals.{sequential_instances, driving, nets_feeding, same_nets, group_nets}
+use Rattle.table_audit.specs.module_terminals.Terminals.{condition_nets, state_net, source_net, output_nets, stands_for}
+use Rattle.table_audit.specs.module_terminals.Feeding.{feeds_group, feeds_condition, output_net, feeds_output}
 use Rattle.audited_modules.proofs.ListLemmas.{place-within}
 use Rattle.audited_modules.proofs.StateWires.{instance-at}
 use Rattle.audited_modules.proofs.ApartNets.{found-at, same-nets}

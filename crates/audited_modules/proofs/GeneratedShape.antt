@@ -22,9 +22,10 @@ use Rattle.specify_blocks.specs.Sound.{IsSound}
 use Rattle.specify_blocks.specs.Generated.{wire_of, is_conditional, gate_by, path_of, check_of, module_of}
 use Rattle.model_traces.proofs.PinNumbers.{module-sides}
 use Rattle.model_traces.proofs.CellSteps.{check-place, arc-place, output-pin, all-passes}
-use Rattle.table_audit.specs.Shape.{both_or_neither, gated_by, gate_wire, Gating, gating, gating_of, check_gating, path_gating}
-use Rattle.table_audit.specs.Shape.{feeds_condition}
-use Rattle.table_audit.specs.Matches.{SameCheck, SamePath, HasShape}
+use Rattle.table_audit.specs.module_shapes.Shape.{both_or_neither, gated_by}
+use Rattle.table_audit.specs.module_terminals.Feeding.{gate_wire, Gating, gating, gating_of, check_gating, path_gating}
+use Rattle.table_audit.specs.module_terminals.Feeding.{feeds_condition}
+use Rattle.table_audit.specs.module_shapes.SameShape.{SameCheck, SamePath, HasShape}
 use Rattle.audited_modules.proofs.ListLemmas.{among-place, place-within}
 use Rattle.audited_modules.proofs.PortSides.{sides-are}
 use Rattle.audited_modules.proofs.GeneratedParts.{IsUsed, state-count, feeds-group, feeds-condition, feeds-output}

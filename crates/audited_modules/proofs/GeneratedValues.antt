@@ -42,12 +42,12 @@ use Rattle.specify_blocks.proofs.PrimitiveLemmas.{get-left, get-right, group_pri
 use Rattle.model_traces.proofs.PlaceLemmas.{set-last}
 use Rattle.model_traces.proofs.CellSteps.{IsOutputPin, output-pin, no-sources}
 use Rattle.model_traces.proofs.ModuleParts.{output-instance-at}
-use Rattle.table_audit.specs.Terminals.{group_nets, condition_nets, source_net, output_nets}
-use Rattle.table_audit.specs.Shape.{Gating}
-use Rattle.table_audit.specs.Tables.{arranged, next_at, next_by, group_next, value_by, cell_step, place_net, model_step}
-use Rattle.table_audit.specs.Tables.{note_after, cell_forced, model_notified, cell_condition, model_condition, cell_output}
-use Rattle.table_audit.specs.Tables.{model_output}
-use Rattle.table_audit.specs.Matches.{HasValues}
+use Rattle.table_audit.specs.module_terminals.Terminals.{group_nets, condition_nets, source_net, output_nets}
+use Rattle.table_audit.specs.module_terminals.Feeding.{Gating}
+use Rattle.table_audit.specs.module_tables.Tables.{arranged, next_at, next_by, group_next, value_by, cell_step, place_net}
+use Rattle.table_audit.specs.module_tables.Tables.{model_step, note_after, cell_forced, model_notified, cell_condition}
+use Rattle.table_audit.specs.module_tables.Tables.{model_condition, cell_output, model_output}
+use Rattle.table_audit.specs.module_tables.SameValues.{HasValues}
 use Rattle.audited_modules.proofs.ListLemmas.{place-within}
 use Rattle.audited_modules.proofs.StateWires.{instance-at}
 use Rattle.audited_modules.proofs.ApartNets.{own-place, own-values}

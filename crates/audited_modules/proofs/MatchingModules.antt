@@ -18,8 +18,9 @@ use Rattle.specify_blocks.specs.Sound.{IsSound}
 use Rattle.model_traces.specs.ModuleFits.{FitsGroup, FitsCheck, FitsOutput, FitOutputs, ModuleFits}
 use Rattle.model_traces.proofs.PlaceLemmas.{get-within}
 use Rattle.model_traces.proofs.CellSteps.{IsNamed, named, supported, output-pin, length-named}
-use Rattle.table_audit.specs.Terminals.{sequential_instances, nets_feeding, same_nets, group_nets}
-use Rattle.table_audit.specs.Matches.{HasShape, HasValues}
+use Rattle.table_audit.specs.module_terminals.Terminals.{sequential_instances, nets_feeding, same_nets, group_nets}
+use Rattle.table_audit.specs.module_shapes.SameShape.{HasShape}
+use Rattle.table_audit.specs.module_tables.SameValues.{HasValues}
 use Rattle.audited_modules.specs.Laws.{MatchingModulesFit}
 use Rattle.audited_modules.proofs.ListLemmas.{fit-places, filtered-place}
 use Rattle.audited_modules.proofs.PortSides.{count, outputs-are}

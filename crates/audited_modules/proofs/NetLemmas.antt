@@ -14,8 +14,8 @@ use Rattle.specify_blocks.specs.declared.model.VNet.TheVariants as net
 use Rattle.specify_blocks.specs.Nets.{same_net}
 use Rattle.specify_blocks.specs.Generated.{pin_net, notifier_nets}
 use Rattle.model_traces.proofs.PlaceLemmas.{position-from, placed, get-map}
-use Rattle.table_audit.specs.Terminals.{is_among, same_nets}
-use Rattle.table_audit.specs.Tables.{value_among, arranged}
+use Rattle.table_audit.specs.module_terminals.Terminals.{is_among, same_nets}
+use Rattle.table_audit.specs.module_tables.Tables.{value_among, arranged}
 use Rattle.audited_modules.proofs.ListLemmas.{some-place, among-place}
 
 pub same-net : (n k : VNet) → same_net n k ≡ true → n ≡ k

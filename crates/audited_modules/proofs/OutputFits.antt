@@ -26,9 +26,10 @@ use Rattle.model_traces.specs.ModuleFits.{FitsOutput}
 use Rattle.model_traces.proofs.PlaceLemmas.{get-within}
 use Rattle.model_traces.proofs.PinNumbers.{output-pin-port}
 use Rattle.model_traces.proofs.CellSteps.{IsOutputPin}
-use Rattle.table_audit.specs.Terminals.{sequential_instances, source_net, output_nets}
-use Rattle.table_audit.specs.Shape.{output_net}
-use Rattle.table_audit.specs.Matches.{HasShape, HasValues}
+use Rattle.table_audit.specs.module_terminals.Terminals.{sequential_instances, source_net, output_nets}
+use Rattle.table_audit.specs.module_terminals.Feeding.{output_net}
+use Rattle.table_audit.specs.module_shapes.SameShape.{HasShape}
+use Rattle.table_audit.specs.module_tables.SameValues.{HasValues}
 use Rattle.audited_modules.proofs.ListLemmas.{place-within}
 use Rattle.audited_modules.proofs.PortSides.{pin-value}
 use Rattle.audited_modules.proofs.StateWires.{state-value}

@@ -14,8 +14,8 @@ use Rattle.specify_blocks.specs.declared.model.VModule.{VModule}
 use Rattle.specify_blocks.specs.Nets.{same_net, net_driven, is_sequential}
 use Rattle.model_traces.specs.NetValues.{source_value, table_value, primitive_value, instance_value, value_from, net_value}
 use Rattle.model_traces.proofs.PlaceLemmas.{position-from}
-use Rattle.table_audit.specs.Terminals.{driving, same_nets, stands_for, drives_value}
-use Rattle.table_audit.specs.Tables.{arranged, value_by, driven_value}
+use Rattle.table_audit.specs.module_terminals.Terminals.{driving, same_nets, stands_for, drives_value}
+use Rattle.table_audit.specs.module_tables.Tables.{arranged, value_by, driven_value}
 use Rattle.audited_modules.proofs.ListLemmas.{found-place}
 use Rattle.audited_modules.proofs.NetLemmas.{arranged-values, nets-among}
 

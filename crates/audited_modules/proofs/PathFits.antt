@@ -27,8 +27,10 @@ use Rattle.model_traces.specs.NetValues.{net_value}
 use Rattle.model_traces.specs.PathDelays.{is_off, is_quiet, is_active, path_at, is_between, paths_between}
 use Rattle.model_traces.proofs.PinNumbers.{is_port_pin, input-pin-port, output-pin-port, same-port}
 use Rattle.model_traces.proofs.CellSteps.{all-passes}
-use Rattle.table_audit.specs.Shape.{gated_by, gate_wire, Gating, gating, gating_of, path_gating}
-use Rattle.table_audit.specs.Matches.{SamePath, HasShape, HasValues}
+use Rattle.table_audit.specs.module_shapes.Shape.{gated_by}
+use Rattle.table_audit.specs.module_terminals.Feeding.{gate_wire, Gating, gating, gating_of, path_gating}
+use Rattle.table_audit.specs.module_shapes.SameShape.{SamePath, HasShape}
+use Rattle.table_audit.specs.module_tables.SameValues.{HasValues}
 use Rattle.audited_modules.proofs.ListLemmas.{among-place, fit-places}
 use Rattle.audited_modules.proofs.PortSides.{number}
 use Rattle.audited_modules.proofs.ConditionFits.{condition-net}

@@ -22,7 +22,7 @@ use Rattle.vital_models.proofs.PortFacts.{output_ports as entity_output_ports}
 use Rattle.vital_models.proofs.PortFacts as vital
 use Rattle.model_traces.specs.PortNumbers.{input_count, input_number, input_value, output_ports}
 use Rattle.model_traces.proofs.PinNumbers.{number-tied, count-tied, outputs-by-sides, is_port_pin, count-below}
-use Rattle.table_audit.specs.Shape.{cell_inputs, port_inputs}
+use Rattle.table_audit.specs.module_shapes.Shape.{cell_inputs, port_inputs}
 
 -- the directions of the pins that are ports
 pub sides-are : (pins : List Pin) → map is_input_at (filter is_port pins) ≡ sides pins

@@ -15,7 +15,7 @@ use Rattle.specify_blocks.specs.Sound.{IsInstance, AreInstances, IsSound}
 use Rattle.model_traces.specs.NetValues.{driver, source_value, kept_state}
 use Rattle.model_traces.specs.SequentialStates.{states_among}
 use Rattle.model_traces.proofs.PlaceLemmas.{position-from, only-place}
-use Rattle.table_audit.specs.Terminals.{sequential_instances, state_net}
+use Rattle.table_audit.specs.module_terminals.Terminals.{sequential_instances, state_net}
 use Rattle.audited_modules.proofs.ListLemmas.{filtered-place}
 use Rattle.audited_modules.proofs.NetLemmas.{itself}
 

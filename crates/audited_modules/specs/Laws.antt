@@ -12,10 +12,11 @@ use Rattle.model_traces.specs.ModuleRun.{run_after}
 use Rattle.model_traces.specs.ModuleTrace.{module_trace}
 use Rattle.model_traces.specs.SequentialStates.{sequential_states}
 use Rattle.model_traces.specs.ModuleFits.{ModuleFits}
-use Rattle.table_audit.specs.declared.verdicts.Difference.{Difference}
+use Rattle.table_audit.specs.module_tables.declared.differences.Difference.{Difference}
 use Rattle.table_audit.specs.declared.verdicts.Verdict.TheVariants.{Same, Differs}
-use Rattle.table_audit.specs.Tables.{compared}
-use Rattle.table_audit.specs.Matches.{HasShape, Matches}
+use Rattle.table_audit.specs.module_tables.Tables.{compared}
+use Rattle.table_audit.specs.module_shapes.SameShape.{HasShape}
+use Rattle.table_audit.specs.Matches.{Matches}
 use Rattle.table_audit.specs.Verdict.{verdict_of}
 
 -- A sound module that matches data which keep the rules of cells fits them.

@@ -29,8 +29,8 @@ fn inserted(place: usize, bit: bool, point: &[bool]) -> Few<bool, 8>
 }
 
 /// The step of a group at a change of a place of its support, at a point: the value before, the value after, the other inputs
-/// and the state.
-fn change_value(cell: &Cell, group: usize, place: usize, point: &[bool]) -> Trit
+/// and the state. Unknown where the point has another number of places.
+pub fn change_value(cell: &Cell, group: usize, place: usize, point: &[bool]) -> Trit
     requires group { group < length cell.now.groups }
     requires place { place < length (support_at (data_of cell.now) group) }
     ensures { length point.now ≡ suc (suc (length (support_at (data_of cell.now) group)))

@@ -47,12 +47,14 @@ pub use entries::entry;
 pub use evaluation::output_at;
 pub use few::Few;
 pub use group_steps::{boolean_step, forced};
+pub use group_tables::change_value;
 pub use groups::{Both, Clocked, Gated, GroupKind, StateGroup};
 pub use laws::{
     fewer_unknowns_keep_outputs, forced_is_step, fronts_have_fronts, last_line_is_of_history,
     report_is_whole_list, same_value_changes_nothing, times_decide_reports,
 };
 pub use liberty_sim::LibertySim;
+pub use output_tables::point_value;
 pub use outputs::{OutputPin, Source};
 pub use pin_values::numbered_value;
 pub use pins::{Direction, Pin};

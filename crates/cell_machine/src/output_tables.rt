@@ -19,8 +19,8 @@ use sqlite_items::Items;
 use std::alloc::{AllocError, Global};
 use trit_cubes::{Trit, values_of};
 
-/// The value of an output at a point, which is of its support.
-fn point_value(cell: &Cell, output: usize, point: &[bool]) -> Trit
+/// The value of an output at a point of its support. Unknown where the point has another number of places.
+pub fn point_value(cell: &Cell, output: usize, point: &[bool]) -> Trit
     requires { output < length cell.now.outputs }
     ensures { length point.now ≡ length (sources_at (data_of cell.now) output)
         → result ≡ output_value_at (data_of cell.now) output point.now }

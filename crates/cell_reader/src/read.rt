@@ -52,7 +52,7 @@ fn left_out_in(alloc: Global, parts: &Parts<'_>) -> Result<Items<LeftOut>, Alloc
     left_out_of(alloc, &parts.named.owners, &parts.said.answers)
 }
 
-/// What of a cell is made anew from its parts.
+/// The values of a cell that are no part of what was read.
 #[derive(Drop)]
 struct Made {
     name: Items<u8>,
@@ -60,8 +60,12 @@ struct Made {
     left_out: Items<LeftOut>,
 }
 
-/// What of the cell that the parts make is made anew, where nothing refuses it.
-fn made_anew(alloc: Global, parts: &Parts<'_>, numbered: &Numbered) -> Result<Made, AllocError>
+/// The name, the outputs and the left-out timing groups of the cell that the parts make, where nothing refuses it.
+fn name_and_outputs(
+    alloc: Global,
+    parts: &Parts<'_>,
+    numbered: &Numbered,
+) -> Result<Made, AllocError>
     requires parts { AreParts parts.now }
     requires numbered { AreNumbered parts.now.cell.now numbered.now }
     requires unmet { IsUnmet (subject_in parts.now) parts.now.cell.now }
@@ -89,7 +93,7 @@ fn make_cell(
     ensures cell { IfOk result (λ read. IsCellOf (subject_in parts.entry) number parts.entry.cell.now read.cell) }
     ensures left_out { IfOk result (λ read. read.left_out ≡ left_out_of_cell (subject_in parts.entry) parts.entry.cell.now) }
 {
-    let made = made_anew(alloc, &parts, &numbered)?;
+    let made = name_and_outputs(alloc, &parts, &numbered)?;
     let (pins, answers) = parts.pins_and_answers();
     let timing = cell_timing(alloc, answers)?;
     let cell = Cell {
@@ -108,7 +112,7 @@ fn make_cell(
 }
 
 /// The numbers and the groups of a cell, or the first of the reasons that are tried after the texts are read.
-fn judged(alloc: Global, parts: &Parts<'_>) -> Result<Numbered, CellFault>
+fn unrefused_numbers(alloc: Global, parts: &Parts<'_>) -> Result<Numbered, CellFault>
     requires { AreParts parts.now }
     ensures numbered { IfOk result (λ numbered. AreNumbered parts.now.cell.now numbered) }
     ensures unmet { IfOk result (λ _. first_refusal (later_reasons (subject_in parts.now) parts.now.cell.now) ≡ None) }
@@ -134,7 +138,7 @@ fn read_later(alloc: Global, parts: Parts<'_>, number: usize) -> Result<ReadCell
     ensures unmet { IfOk result (λ _. first_refusal (later_reasons (subject_in parts.entry) parts.entry.cell.now) ≡ None) }
     ensures refused { IfErr result (Tells (first_refusal (later_reasons (subject_in parts.entry) parts.entry.cell.now))) }
 {
-    let numbered = judged(alloc, &parts)?;
+    let numbered = unrefused_numbers(alloc, &parts)?;
     Ok(make_cell(alloc, parts, numbered, number)?)
 }
 

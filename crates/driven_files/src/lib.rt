@@ -6,5 +6,5 @@ mod verilog;
 mod vital;
 
 pub use read::{read_driven_entities, read_driven_models};
-pub use verilog::VerilogFiles;
-pub use vital::VitalFiles;
+pub use verilog::{VerilogFiles, read_verilog_driver};
+pub use vital::{VitalFiles, read_vital_driver};

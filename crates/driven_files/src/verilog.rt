@@ -1,6 +1,9 @@
 //! Verilog as a language of models and of sections that hold drivers. (IEEE 1364-2005, 12.1 and 19.1.)
-ghost use Rattle.std.specs.Prelude.{◌≡◌, IfOk};
+ghost use Rattle.std.specs.Prelude.{◌≡◌, Ok, IfOk, IfErr};
 ghost use Rattle.specify_blocks.specs.WellFormed.{outer_names};
+ghost use Rattle.driver_models.specs.Models.{IsSound};
+ghost use Rattle.driver_texts.specs.Sections.{section_text, IsFaultOf};
+ghost use Rattle.verilog_drivers.specs.DriverSections.{verilog_section_grammar};
 
 use driver_models::{Core, Cores, DriverModel, KnownNames};
 use driver_sections::{Ending, Marks, all_ends, find_sections};
@@ -43,6 +46,21 @@ fn names_of(alloc: Global, model: &VModule) -> Result<Items<Items<u8>>, AllocErr
     }
     names.push(Items::from_slice(alloc, model.name.as_slice())?)?;
     Ok(names)
+}
+
+/// The driver of a section of a Verilog text, where these names are taken and the models that may be cores are these, or its first
+/// fault. A driver that is read is sound.
+pub fn read_verilog_driver(
+    alloc: Global,
+    text: &[u8],
+    names: &KnownNames<VerilogDrivers>,
+    cores: &Cores<'_, VerilogDrivers>,
+) -> Result<DriverModel, ModelFault>
+    ensures driver { IfOk result (λ found. section_text verilog_section_grammar names.now cores.now text.now ≡ Ok found) }
+    ensures sound { IfOk result (λ found. IsSound found) }
+    ensures fault { IfErr result (λ e. IsFaultOf verilog_section_grammar names.now cores.now text.now e) }
+{
+    read_driver(alloc, text, names, cores)
 }
 
 impl SectionLanguage for VerilogFiles {
@@ -88,7 +106,7 @@ impl SectionLanguage for VerilogFiles {
         names: &KnownNames<VerilogDrivers>,
         cores: &Cores<'_, VerilogDrivers>,
     ) -> Result<DriverModel, ModelFault> {
-        read_driver(alloc, text, names, cores)
+        read_verilog_driver(alloc, text, names, cores)
     }
 
     ghost hold = { text_may_stand };

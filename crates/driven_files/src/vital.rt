@@ -1,4 +1,8 @@
 //! VHDL by VITAL as a language of models and of sections that hold drivers. (IEEE 1076-1993, 1.1 and 1.2; IEEE 1076.4-2000.)
+ghost use Rattle.std.specs.Prelude.{◌≡◌, Ok, IfOk, IfErr};
+ghost use Rattle.driver_models.specs.Models.{IsSound};
+ghost use Rattle.driver_texts.specs.Sections.{section_text, IsFaultOf};
+ghost use Rattle.vhdl_drivers.specs.DriverSections.{vhdl_section_grammar};
 
 use driver_models::{Core, Cores, DriverModel, KnownNames};
 use driver_sections::{Ending, Marks, all_ends, find_sections};
@@ -30,6 +34,21 @@ const MODEL_END: Ending<'static> = Ending {
 
 /// VHDL by VITAL, with sections that hold drivers.
 pub struct VitalFiles;
+
+/// The driver of a section of a VHDL text, where these names are taken and the models that may be cores are these, or its first
+/// fault. A driver that is read is sound.
+pub fn read_vital_driver(
+    alloc: Global,
+    text: &[u8],
+    names: &KnownNames<VitalDrivers>,
+    cores: &Cores<'_, VitalDrivers>,
+) -> Result<DriverModel, ModelFault>
+    ensures driver { IfOk result (λ found. section_text vhdl_section_grammar names.now cores.now text.now ≡ Ok found) }
+    ensures sound { IfOk result (λ found. IsSound found) }
+    ensures fault { IfErr result (λ e. IsFaultOf vhdl_section_grammar names.now cores.now text.now e) }
+{
+    read_driver(alloc, text, names, cores)
+}
 
 impl SectionLanguage for VitalFiles {
     ghost use Rattle.std.specs.Prelude.{◌≡◌};
@@ -76,7 +95,7 @@ impl SectionLanguage for VitalFiles {
         names: &KnownNames<VitalDrivers>,
         cores: &Cores<'_, VitalDrivers>,
     ) -> Result<DriverModel, ModelFault> {
-        read_driver(alloc, text, names, cores)
+        read_vital_driver(alloc, text, names, cores)
     }
 
     ghost hold = { text_may_stand };

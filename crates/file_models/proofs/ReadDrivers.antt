@@ -4,7 +4,7 @@ use Rattle.std.proofs.Common.{◌≡◌, ℕ, List, [], ◌∷◌, ◌++◌, map
 use Rattle.std.specs.Prelude.{All}
 use Rattle.std.specs.Result.{result_map_both}
 use Rattle.std.proofs.lemmas.List.Elements.{All-nil, All-push}
-use Rattle.stimulus.specs.Judged.{and_then}
+use Rattle.stimulus.specs.LineMeanings.{and_then}
 use Rattle.lexer.specs.declared.span.Span.{Span}
 use Rattle.udp_tables.specs.declared.models.ModelFault.{ModelFault}
 use Rattle.driver_models.specs.declared.model.DriverModel.{DriverModel}

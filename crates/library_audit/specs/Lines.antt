@@ -2,11 +2,11 @@
 use Rattle.std.specs.Prelude.{ℕ, ◌+◌, List, [], ◌∷◌, ◌++◌, codes, decimal, flat_map, Option, Some, None}
 use Rattle.trit_cubes.specs.declared.trits.Trit.{Trit}
 use Rattle.trit_cubes.specs.declared.trits.Trit.TheVariants.{Zero, One, Unknown}
-use Rattle.table_audit.specs.declared.verdicts.AuditPart.{AuditPart}
-use Rattle.table_audit.specs.declared.verdicts.AuditPart.TheVariants as table
-use Rattle.table_audit.specs.declared.verdicts.Difference.{Difference}
-use Rattle.table_audit.specs.declared.verdicts.ShapePart.{ShapePart}
-use Rattle.table_audit.specs.declared.verdicts.ShapePart.TheVariants as shape
+use Rattle.table_audit.specs.module_tables.declared.differences.AuditPart.{AuditPart}
+use Rattle.table_audit.specs.module_tables.declared.differences.AuditPart.TheVariants as table
+use Rattle.table_audit.specs.module_tables.declared.differences.Difference.{Difference}
+use Rattle.table_audit.specs.module_shapes.declared.shape_parts.ShapePart.{ShapePart}
+use Rattle.table_audit.specs.module_shapes.declared.shape_parts.ShapePart.TheVariants as shape
 use Rattle.table_audit.specs.declared.verdicts.Verdict.{Verdict}
 use Rattle.table_audit.specs.declared.verdicts.Verdict.TheVariants as verdict
 

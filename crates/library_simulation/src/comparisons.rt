@@ -27,7 +27,9 @@ use model_replay::{start_entity, start_module};
 use simulation_catalog::described_are_cells;
 use specify_blocks::VModule;
 use std::alloc::{AllocError, Global};
-use stimulus::{Ports, Section, Three, TraceSim, write_comparison, write_heading, write_verdict};
+use stimulus::{
+    Ports, Section, ThreeSimulators, TraceSim, write_comparison, write_heading, write_verdict,
+};
 use text_io::{Desk, Stop};
 use three_state_cells::DrivenCell;
 use vital_models::VEntity;
@@ -88,10 +90,10 @@ fn all_started<L: Drop, V: Drop, H: Drop>(
     liberty: Result<L, AllocError>,
     verilog: Result<V, AllocError>,
     vital: Result<H, AllocError>,
-) -> Result<Three<L, V, H>, AllocError>
+) -> Result<ThreeSimulators<L, V, H>, AllocError>
     ensures { IfOk result (λ three. (liberty ≡ Ok three.liberty) × ((verilog ≡ Ok three.verilog) × (vital ≡ Ok three.vital))) }
 {
-    Ok(Three {
+    Ok(ThreeSimulators {
         liberty: liberty?,
         verilog: verilog?,
         vital: vital?,
@@ -106,7 +108,7 @@ fn write_started<D: Desk, L: TraceSim + Drop, V: TraceSim + Drop, H: TraceSim + 
     desk: &mut D,
     name: &[u8],
     ports: &Ports,
-    mut three: Three<L, V, H>,
+    mut three: ThreeSimulators<L, V, H>,
     changes: &[Change],
 ) -> Result<bool, Stop>
     requires ports { HavePorts ports.now (L.machine three.liberty) (V.machine three.verilog) (H.machine three.vital) }

@@ -2,7 +2,7 @@
 use Rattle.std.proofs.Common.{◌≡◌, ℕ, ◌+◌, ◌<◌, List, [], ◌∷◌, ◌++◌, length, map, flat_map, drop, get_or, Result, Ok, Err, sym}
 use Rattle.std.proofs.Common.{ap, ◌∙◌, append_assoc}
 use Rattle.std.proofs.lemmas.List.{map-append, drop_more}
-use Rattle.stimulus.specs.Judged.{and_then}
+use Rattle.stimulus.specs.LineMeanings.{and_then}
 use Rattle.lexer.specs.declared.span.Span.{Span}
 use Rattle.udp_tables.specs.declared.models.ModelFault.{ModelFault}
 use Rattle.driver_models.specs.declared.model.DriverModel.{DriverModel}

@@ -6,7 +6,7 @@ use Rattle.std.proofs.lemmas.Bool.{cases_order}
 use Rattle.std.proofs.lemmas.List.{take-append-le, get_or_push}
 use Rattle.std.proofs.Math.ListN.{get_or-append}
 use Rattle.std.proofs.Math.Seq.{take-append_seam}
-use Rattle.stimulus.specs.Judged.{and_then}
+use Rattle.stimulus.specs.LineMeanings.{and_then}
 use Rattle.lexer.specs.declared.span.Span.{Span}
 use Rattle.udp_tables.specs.declared.models.ModelFault.{ModelFault}
 use Rattle.driver_models.specs.declared.model.DriverModel.{DriverModel}

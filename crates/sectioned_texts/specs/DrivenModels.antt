@@ -6,7 +6,7 @@ use Rattle.std.specs.List.{filter}
 use Rattle.std.specs.Result.{result_map_both, result_unwrap_or}
 use Rattle.lexer.specs.Tokens.{scan_of}
 use Rattle.lexer.specs.declared.span.Span.{Span}
-use Rattle.stimulus.specs.Judged.{and_then}
+use Rattle.stimulus.specs.LineMeanings.{and_then}
 use Rattle.udp_tables.specs.declared.models.ModelFault.{ModelFault}
 use Rattle.udp_tables.specs.declared.models.ModelFault.TheVariants as fault
 use Rattle.udp_tables.specs.ModelFaults.{fault_place, fault_rank}

@@ -13,11 +13,11 @@ use Rattle.stimulus.specs.declared.faults.Cause.{Cause}
 use Rattle.stimulus.specs.declared.faults.Cause.TheVariants as cause
 use Rattle.stimulus.specs.declared.faults.StimulusFault.{StimulusFault}
 use Rattle.stimulus.specs.declared.faults.StimulusFault.TheVariants as fault
-use Rattle.stimulus.specs.declared.judged.TheConstants.{MAX_CHANGES}
+use Rattle.stimulus.specs.declared.line_meanings.TheConstants.{MAX_CHANGES}
 use Rattle.stimulus.specs.Catalog.{Listing, cell_found, pin_found}
 use Rattle.stimulus.specs.Context.{start, after}
-use Rattle.stimulus.specs.Judged.{and_then, begun, input_of, value_of, is_later, changed_at, changed_in, changed, judged_as}
-use Rattle.stimulus.specs.Judged.{judged}
+use Rattle.stimulus.specs.LineMeanings.{and_then, begun, input_of, value_of, is_later, changed_at, changed_in, changed, written_meaning}
+use Rattle.stimulus.specs.LineMeanings.{line_meaning}
 use Rattle.stimulus.specs.Sections.{sections_of}
 use Rattle.stimulus.specs.Stimulus.{at_line, all_said}
 use Rattle.stimulus.specs.Text.{lines_of}
@@ -83,7 +83,7 @@ by_cell listing name (cells.Refused number) e = ends listing (cause.RefusedCell 
 by_cell listing name (cells.VerilogPorts number) e = ends listing (cause.VerilogPorts number) (name, e)
 by_cell listing name (cells.VitalPorts number) e = ends listing (cause.VitalPorts number) (name, e)
 
-by_written : (listing : Listing) (context : Context) (line : Written) → NameAnswers listing (judged_as listing context line)
+by_written : (listing : Listing) (context : Context) (line : Written) → NameAnswers listing (written_meaning listing context line)
 by_written listing context no_words = well listing Nothing
 by_written listing context (section_line name) = by_cell listing name (cell_found listing name) refl
 by_written listing context (change_line time pin value) = by_change listing context time pin value
@@ -99,7 +99,7 @@ first_bad : (listing : Listing) (number : ℕ) (context : Context) (lines : List
     → (bad : StimulusFault) → all_said listing number context lines ≡ Err bad → FaultNamesAnswer listing bad
 first_bad listing number context [] bad e = absurd cc
 first_bad listing number context (line ∷ lines) bad e =
-    by (judged listing context line) (by_written listing context (written_in line))
+    by (line_meaning listing context line) (by_written listing context (written_in line))
     (λ here one. first_bad listing (number + 1) (after context here) lines one) e
   where
     later : (here : Said) (answer : Result (List Said) StimulusFault)

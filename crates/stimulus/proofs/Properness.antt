@@ -14,10 +14,10 @@ use Rattle.stimulus.specs.declared.catalog.PinFound.TheVariants as pins
 use Rattle.stimulus.specs.declared.context.Context.{Context}
 use Rattle.stimulus.specs.declared.context.Said.{Said}
 use Rattle.stimulus.specs.declared.context.Said.TheVariants.{Nothing, Begins, Changes}
-use Rattle.stimulus.specs.declared.judged.TheConstants.{MAX_CHANGES}
+use Rattle.stimulus.specs.declared.line_meanings.TheConstants.{MAX_CHANGES}
 use Rattle.stimulus.specs.Catalog.{Listing, cell_found, pin_found}
 use Rattle.stimulus.specs.Context.{start, after}
-use Rattle.stimulus.specs.Judged.{and_then, begun, input_of, value_of, is_later, changed_at, changed, judged_as, judged}
+use Rattle.stimulus.specs.LineMeanings.{and_then, begun, input_of, value_of, is_later, changed_at, changed, written_meaning, line_meaning}
 use Rattle.stimulus.specs.Times.{time_of}
 use Rattle.stimulus.specs.Written.{Written, no_words, section_line, change_line, other_line, written_in}
 use Rattle.stimulus.specs.Sections.{changes_ahead, sections_of}
@@ -94,7 +94,7 @@ may_change listing context time pin value said e =
     subst (MaySay listing context) same is
 
 may_say_as : (listing : Listing) (context : Context) (written : Written) (said : Said)
-    → judged_as listing context written ≡ Ok said → MaySay listing context said
+    → written_meaning listing context written ≡ Ok said → MaySay listing context said
 unfolding MaySay
 may_say_as listing context no_words said e = let same : Nothing ≡ said = cc in subst (MaySay listing context) same tt
 may_say_as listing context (section_line name) said e = may_begin listing context name (cell_found listing name) said refl e
@@ -154,12 +154,12 @@ all_proper : (listing : Listing) (number : ℕ) (context : Context) (lines : Lis
 all_proper listing number context [] all e = let same : [] ≡ all = cc
     in subst (AreProper listing context) same (nothing_more listing context)
 all_proper listing number context (line ∷ lines) all e =
-    let (said, (s, e1)) = both_given (at_line number (judged listing context line)) _ all e in
+    let (said, (s, e1)) = both_given (at_line number (line_meaning listing context line)) _ all e in
     let (more, (m, e2)) = both_given (all_said listing (number + 1) (after context said) lines) (λ more. Ok (said ∷ more)) all e1
     in
     let same : said ∷ more ≡ all = cc in
     subst (AreProper listing context) same (one_more listing context said more
-    (may_say_as listing context (written_in line) said (at_line_ok number (judged listing context line) said s))
+    (may_say_as listing context (written_in line) said (at_line_ok number (line_meaning listing context line) said s))
     (all_proper listing (number + 1) (after context said) lines more m))
 
 pub sections_proper : SectionsAreProper

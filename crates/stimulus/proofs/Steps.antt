@@ -4,7 +4,7 @@ use Rattle.std.specs.Prelude.{Option, Some, None, Result, Ok}
 use Rattle.stimulus.specs.declared.faults.StimulusFault.{StimulusFault}
 use Rattle.stimulus.specs.declared.context.Said.{Said}
 use Rattle.stimulus.specs.declared.sections.Section.{Section}
-use Rattle.stimulus.specs.Judged.{and_then}
+use Rattle.stimulus.specs.LineMeanings.{and_then}
 use Rattle.stimulus.specs.Sections.{gathered}
 use Rattle.stimulus.specs.Text.{lines_of}
 

@@ -6,7 +6,7 @@ pub mod PortEntries
 pub mod PortPlaces
 pub mod CauseWords
 pub mod Context
-pub mod Judged
+pub mod LineMeanings
 pub mod Sections
 pub mod Stimulus
 pub mod DriveLines

@@ -8,7 +8,7 @@ use Rattle.stimulus.specs.declared.context.Said.{Said}
 use Rattle.stimulus.specs.declared.sections.Section.{Section}
 use Rattle.stimulus.specs.Catalog.{Listing}
 use Rattle.stimulus.specs.Context.{start, after}
-use Rattle.stimulus.specs.Judged.{and_then, judged}
+use Rattle.stimulus.specs.LineMeanings.{and_then, line_meaning}
 use Rattle.stimulus.specs.Sections.{sections_of}
 use Rattle.stimulus.specs.Text.{lines_of}
 
@@ -21,7 +21,7 @@ at_line line (Err cause) = Err (fault.Line line cause)
 abbrev pub all_said : Listing → ℕ → Context → List (List ℕ) → Result (List Said) StimulusFault
 all_said listing number context [] = Ok []
 all_said listing number context (line ∷ lines) =
-    and_then (at_line number (judged listing context line)) (λ here.
+    and_then (at_line number (line_meaning listing context line)) (λ here.
     and_then (all_said listing (number + 1) (after context here) lines) (λ more. Ok (here ∷ more)))
 
 -- the sections of a stimulus over a catalog, or its first bad line, counted from 1, with the first of its causes

@@ -19,13 +19,13 @@ use text_io::{Desk, Failed, OutSlot, Stop, write_pieces, write_whole};
 
 /// Simulators of a cell, of its Verilog module and of its VITAL entity.
 #[derive(Drop)]
-pub struct Three<L, V, H> {
+pub struct ThreeSimulators<L, V, H> {
     pub liberty: L,
     pub verilog: V,
     pub vital: H,
 }
 
-impl<L: TraceSim, V: TraceSim, H: TraceSim> Three<L, V, H> {
+impl<L: TraceSim, V: TraceSim, H: TraceSim> ThreeSimulators<L, V, H> {
     /// Gives a change to each.
     fn step(&mut self, change: &Change)
         requires liberty_pin { change.now.pin < (L.machine self.old.liberty).inputs }
@@ -68,7 +68,7 @@ pub fn write_comparison<D: Desk, L: TraceSim, V: TraceSim, H: TraceSim>(
     alloc: Global,
     desk: &mut D,
     ports: &Ports,
-    three: &mut Three<L, V, H>,
+    three: &mut ThreeSimulators<L, V, H>,
     changes: &[Change],
 ) -> Result<Option<usize>, Stop>
     requires ports { HavePorts ports.now (L.machine three.old.liberty) (V.machine three.old.verilog) (H.machine three.old.vital) }
@@ -117,7 +117,7 @@ fn put_lines<D: Desk, L: TraceSim, V: TraceSim, H: TraceSim>(
     text: &mut Vec<u8>,
     change: Option<&Change>,
     ports: &Ports,
-    three: &Three<L, V, H>,
+    three: &ThreeSimulators<L, V, H>,
 ) -> Result<bool, Stop>
     requires ports { HavePorts ports.now (L.machine three.now.liberty) (V.machine three.now.verilog) (H.machine three.now.vital) }
     requires pin { IfSome change (λ change. change.now.pin < length ports.now.inputs) }
@@ -144,7 +144,7 @@ fn append_lines<L: TraceSim, V: TraceSim, H: TraceSim>(
     text: &mut Vec<u8>,
     change: Option<&Change>,
     ports: &Ports,
-    three: &Three<L, V, H>,
+    three: &ThreeSimulators<L, V, H>,
 ) -> Result<(), AllocError>
     requires ports { HavePorts ports.now (L.machine three.now.liberty) (V.machine three.now.verilog) (H.machine three.now.vital) }
     requires pin { IfSome change (λ change. change.now.pin < length ports.now.inputs) }
@@ -204,7 +204,7 @@ fn append_own_lines<L: TraceSim, V: TraceSim, H: TraceSim>(
     waiting: &mut Vec<u8>,
     change: Option<&Change>,
     ports: &Ports,
-    three: &Three<L, V, H>,
+    three: &ThreeSimulators<L, V, H>,
 ) -> Result<(), AllocError>
     requires ports { HavePorts ports.now (L.machine three.now.liberty) (V.machine three.now.verilog) (H.machine three.now.vital) }
     requires pin { IfSome change (λ change. change.now.pin < length ports.now.inputs) }

@@ -9,8 +9,8 @@ mod differences;
 mod drives;
 mod faults;
 mod heading;
-mod judged;
 mod laws;
+mod line_meanings;
 mod line_pieces;
 mod lines;
 mod next_line;
@@ -25,16 +25,16 @@ mod trace_sim;
 mod written;
 
 pub use catalog::{Catalog, CellFound, PinFound};
-pub use comparison::{Three, none_unlike_is_equal, write_comparison, write_verdict};
+pub use comparison::{ThreeSimulators, none_unlike_is_equal, write_comparison, write_verdict};
 pub use differences::{first_difference, no_difference_is_equal, same_line};
 pub use drives::Drive;
 pub use faults::{Cause, StimulusFault};
 pub use heading::write_heading;
-pub use judged::MAX_CHANGES;
 pub use laws::{
     causes_name_answers, drive_lines_show_traces, equal_lines_are_equal_traces, ports_are_inputs,
     sections_are_proper,
 };
+pub use line_meanings::MAX_CHANGES;
 pub use ports::{PortCatalog, Ports, Standing};
 pub use read::read_stimulus;
 pub use section::write_section;

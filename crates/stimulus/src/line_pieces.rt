@@ -4,8 +4,11 @@ ghost use Rattle.std.specs.Prelude.{◌≡◌, ◌++◌, [], ◌∷◌, OnOk};
 use cell_machine::Few;
 use std::alloc::AllocError;
 
+/// The most bytes that wait to be appended to a text.
+const MOST_WAITING: usize = 128;
+
 /// Pieces of a line that wait to be appended to a text.
-pub(crate) type Pieces = Few<u8, 128>;
+pub(crate) type Pieces = Few<u8, MOST_WAITING>;
 
 /// Appends the pieces that wait to a text.
 pub(crate) fn append_pieces(text: &mut Vec<u8>, pieces: &mut Pieces) -> Result<(), AllocError>
@@ -25,7 +28,7 @@ pub(crate) fn gather_byte(
 ) -> Result<(), AllocError>
     ensures { OnOk result (text.new.items ++ pieces.new ≡ (text.old.items ++ pieces.old) ++ byte ∷ []) }
 {
-    if pieces.as_slice().len() >= 128 {
+    if pieces.as_slice().len() >= MOST_WAITING {
         append_pieces(text, pieces)?;
     }
     pieces.push(byte);
@@ -37,7 +40,7 @@ pub(crate) fn gather_byte(
 pub(crate) fn gather(text: &mut Vec<u8>, pieces: &mut Pieces, word: &[u8]) -> Result<(), AllocError>
     ensures { OnOk result (text.new.items ++ pieces.new ≡ (text.old.items ++ pieces.old) ++ word.now) }
 {
-    if pieces.as_slice().len() + word.len() <= 128 {
+    if pieces.as_slice().len() + word.len() <= MOST_WAITING {
         pieces.append(word);
         return Ok(());
     }

@@ -5,7 +5,7 @@ ghost use Rattle.stimulus.specs.Stimulus.{stimulus_of, at_line as at_line_of, Gi
 use crate::catalog::Catalog;
 use crate::context::Context;
 use crate::faults::{Cause, StimulusFault};
-use crate::judged::judged;
+use crate::line_meanings::line_meaning;
 use crate::next_line::next_line;
 use crate::sections::{Section, Sections};
 use std::alloc::Global;
@@ -28,7 +28,7 @@ pub fn read_stimulus<C: Catalog>(
     let mut rest = Some(bytes);
     while let Some(text) = rest {
         let (written, more) = next_line(text);
-        let said = at_line(before + 1, judged(catalog, context, written))?;
+        let said = at_line(before + 1, line_meaning(catalog, context, written))?;
         let Ok(()) = sections.take(alloc, said) else {
             return Err(StimulusFault::Memory);
         };

@@ -1,11 +1,4 @@
-pub mod ListNumbers
+pub use Rattle.module_shapes.proofs.ShapeLaws as ShapeLaws
 pub mod Firsts
-pub mod SoundInstances
-pub mod Names
-pub mod Searches
-pub mod ShapeLaws
-pub mod TableLaws
+pub mod Feeding
 pub mod VerdictLaws
-pub mod Gatings
-pub mod NetOrder
-pub mod StepStates

@@ -1,14 +1,14 @@
 -- The verdict is Same exactly where the module matches the cell.
 use Rattle.std.proofs.Common.{◌≡◌, Option, None, Some, refl, ◌∙◌, ap}
-use Rattle.table_audit.specs.declared.shape.ShapeTest.{ShapeTest}
-use Rattle.table_audit.specs.declared.verdicts.Difference.{Difference}
+use Rattle.module_shapes.specs.declared.shape.ShapeTest.{ShapeTest}
+use Rattle.module_tables.specs.declared.differences.Difference.{Difference}
 use Rattle.table_audit.specs.declared.verdicts.Verdict.TheVariants.{Same}
-use Rattle.table_audit.specs.Shape.{shape_tests, first_amiss}
-use Rattle.table_audit.specs.Tables.{compared, first_difference}
+use Rattle.module_shapes.specs.Shape.{shape_tests, first_amiss}
+use Rattle.module_tables.specs.Tables.{compared, first_difference}
 use Rattle.table_audit.specs.Verdict.{by_tables, by_shape}
 use Rattle.table_audit.specs.Laws.{SameIsMatching}
-use Rattle.table_audit.proofs.ShapeLaws.{shape-from, from-shape}
-use Rattle.table_audit.proofs.TableLaws.{tables-from, from-tables}
+use Rattle.module_shapes.proofs.ShapeLaws.{shape-from, from-shape}
+use Rattle.module_tables.proofs.TableLaws.{tables-from, from-tables}
 
 same-tables : (o : Option Difference) → by_tables o ≡ Same → o ≡ None
 same-tables None h = refl

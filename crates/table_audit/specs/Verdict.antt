@@ -2,12 +2,12 @@
 use Rattle.std.specs.Prelude.{Option, Some, None}
 use Rattle.cell_machine.specs.CellData.{CellData}
 use Rattle.specify_blocks.specs.declared.model.VModule.{VModule}
-use Rattle.table_audit.specs.declared.verdicts.Difference.{Difference}
+use Rattle.module_tables.specs.declared.differences.Difference.{Difference}
 use Rattle.table_audit.specs.declared.verdicts.Verdict.{Verdict}
 use Rattle.table_audit.specs.declared.verdicts.Verdict.TheVariants.{Same, Shape, Differs}
-use Rattle.table_audit.specs.declared.shape.ShapeTest.{ShapeTest}
-use Rattle.table_audit.specs.Shape.{shape_tests, first_amiss}
-use Rattle.table_audit.specs.Tables.{compared, first_difference}
+use Rattle.module_shapes.specs.declared.shape.ShapeTest.{ShapeTest}
+use Rattle.module_shapes.specs.Shape.{shape_tests, first_amiss}
+use Rattle.module_tables.specs.Tables.{compared, first_difference}
 
 -- by the first difference of the tables
 abbrev pub by_tables : Option Difference → Verdict

@@ -2,21 +2,12 @@
 //! each other is this project's rule.)
 #![tactic(auto)]
 
-mod cell_values;
 mod comparison;
-mod condition_wires;
 mod laws;
-mod lists;
-mod model_tables;
-mod net_rows;
-mod resolved;
-mod shape;
-mod states;
-mod supports;
-mod terminals;
-mod values;
 mod verdicts;
 
 pub use comparison::audit;
 pub use laws::same_is_matching;
-pub use verdicts::{AuditPart, Difference, ShapePart, Verdict};
+pub use module_shapes::ShapePart;
+pub use module_tables::{AuditPart, Difference};
+pub use verdicts::Verdict;

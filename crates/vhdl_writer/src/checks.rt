@@ -5,7 +5,7 @@ ghost use Rattle.vhdl_writer.specs.Statements.{low_word, referring_text, setup_h
 ghost use Rattle.vhdl_writer.specs.Statements.{pulse_word, period_pulse_text, check_text};
 
 use crate::names::{Condition, port_at};
-use crate::parts::{CheckAt, ItemText, Of};
+use crate::parts::{CheckAt, InEntity, ItemText};
 use cell_machine::{CheckKind, Edge, Event};
 use text_io::{Bytes, Decimal, Desk, Line, OutSlot, Part, Put, parts};
 use udp_tables::TimingCheck;
@@ -222,7 +222,7 @@ impl Part for PeriodPulse<'_> {
     }
 }
 
-impl ItemText<TimingCheck> for Of<'_> {
+impl ItemText<TimingCheck> for InEntity<'_> {
     ghost text = { λ m n k. check_text m.0.now n k };
 
     #[tactic(auto, unfolding(crate::specs::Statements::check_text))]

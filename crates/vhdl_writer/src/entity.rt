@@ -8,7 +8,7 @@ ghost use Rattle.vhdl_writer.specs.Entity.{end_text, entity_text};
 
 use crate::declarations::{Header, Process, first_input};
 use crate::outputs::{OutputLines, ValueLines};
-use crate::parts::{Each, Of};
+use crate::parts::{Each, InEntity};
 use crate::states::ListedReports;
 use crate::tables::ConstantLines;
 use crate::variables::{VariableLines, violation_variable};
@@ -64,9 +64,9 @@ impl Part for Entity<'_> {
         let reports = Each(ListedReports, checks);
         let violation = parts!(Bytes(b"    viol := "), reports, Bytes(b";\n"));
         let statements = parts!(
-            Each(Of(entity), checks),
+            Each(InEntity(entity), checks),
             When(checks.len() > 0, violation),
-            Each(Of(entity), states),
+            Each(InEntity(entity), states),
             Each(ValueLines(entity), outputs),
             Each(OutputLines(entity), outputs)
         );

@@ -4,7 +4,7 @@ ghost use Rattle.vhdl_writer.specs.Joined.{apart_text};
 ghost use Rattle.vhdl_writer.specs.Names.{port_at, inputs_at, list_start, violated_start, listed_text, input_text};
 ghost use Rattle.vhdl_writer.specs.Names.{next_input_text, columns_text, source_text, condition_text};
 
-use crate::parts::{At, Each, ItemText, Of};
+use crate::parts::{At, Each, InEntity, ItemText};
 use cell_machine::Source;
 use text_io::{Bytes, Decimal, Desk, Line, OutSlot, Part, Put, parts};
 use vital_models::{VEntity, VState};
@@ -50,7 +50,7 @@ fn violated_start(count: usize) -> &'static [u8]
     if count == 0 { b"(0 => viol" } else { b"(viol" }
 }
 
-impl ItemText<usize> for Of<'_> {
+impl ItemText<usize> for InEntity<'_> {
     ghost text = { λ m n p. input_text m.0.now n p };
 
     #[tactic(auto, unfolding(crate::specs::Names::input_text))]
@@ -60,7 +60,7 @@ impl ItemText<usize> for Of<'_> {
     }
 }
 
-impl ItemText<Source> for Of<'_> {
+impl ItemText<Source> for InEntity<'_> {
     ghost text = { λ m n s. source_text m.0.now n s };
 
     #[tactic(auto, unfolding(crate::specs::Names::source_text, crate::specs::Names::source_name))]
@@ -115,7 +115,7 @@ impl Part for StateColumns<'_> {
             let names = Each(NextInput(self.0), inputs);
             parts!(Bytes(violated_start(inputs.len())), names, Bytes(b")")).put(line, desk, slot)
         } else {
-            Listed(Each(Of(self.0), inputs)).put(line, desk, slot)
+            Listed(Each(InEntity(self.0), inputs)).put(line, desk, slot)
         }
     }
 }
@@ -129,7 +129,7 @@ impl Part for Condition<'_> {
 
     #[tactic(auto, unfolding(crate::specs::Names::condition_text, crate::specs::Names::inputs_text))]
     fn put<D: Desk>(&self, line: &mut Line, desk: &mut D, slot: OutSlot) -> Put {
-        let inputs = Each(Of(self.0), inputs_at(self.0, self.1));
+        let inputs = Each(InEntity(self.0), inputs_at(self.0, self.1));
         parts!(
             Bytes(b"VitalTruthTable (TruthTable => c_"),
             Decimal(self.1 as u128 + 1),

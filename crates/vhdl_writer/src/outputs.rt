@@ -3,7 +3,7 @@ ghost use Rattle.vhdl_writer.specs.Outputs.{lookup_text, assigned_text, value_li
 ghost use Rattle.vhdl_writer.specs.Outputs.{output_line};
 
 use crate::names::{Condition, Listed, apart, port_at};
-use crate::parts::{At, Each, ItemText, Of};
+use crate::parts::{At, Each, InEntity, ItemText};
 use crate::tables::table_number;
 use cell_machine::Source;
 use text_io::{Bytes, Decimal, Desk, Line, OutSlot, Part, Put, parts};
@@ -17,7 +17,7 @@ impl Part for Lookup<'_> {
     ghost text = { λ m. lookup_text m.0.now m.1 m.2.now };
 
     fn put<D: Desk>(&self, line: &mut Line, desk: &mut D, slot: OutSlot) -> Put {
-        let sources = Each(Of(self.0), self.2);
+        let sources = Each(InEntity(self.0), self.2);
         parts!(
             Bytes(b"VitalTruthTable (TruthTable => k_"),
             Decimal(table_number(self.0, self.1)),
@@ -110,7 +110,7 @@ impl Part for Gate<'_> {
     }
 }
 
-impl ItemText<HPath> for Of<'_> {
+impl ItemText<HPath> for InEntity<'_> {
     ghost text = { λ m n path. path_text m.0.now n path };
 
     fn put<D: Desk>(&self, at: &At<HPath>, line: &mut Line, desk: &mut D, slot: OutSlot) -> Put {
@@ -141,7 +141,7 @@ impl Part for PathCall<'_> {
 
     fn put<D: Desk>(&self, line: &mut Line, desk: &mut D, slot: OutSlot) -> Put {
         let port = port_at(self.0, self.2.port);
-        let paths = Each(Of(self.0), self.2.paths.as_slice());
+        let paths = Each(InEntity(self.0), self.2.paths.as_slice());
         parts!(
             Bytes(b"    VitalPathDelay01 (OutSignal => "),
             Bytes(port),

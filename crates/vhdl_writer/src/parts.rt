@@ -37,7 +37,7 @@ pub trait ItemText<T> {
 /// Items of an entity, as they stand in lists and in lines of its text: an input and a source by its name, a check and a state by
 /// its call, a path by its ports and delays.
 #[derive(Drop)]
-pub(crate) struct Of<'a>(pub(crate) &'a VEntity);
+pub(crate) struct InEntity<'a>(pub(crate) &'a VEntity);
 
 /// What each item of a list is as text, and the items, numbered from 1.
 #[derive(Drop)]

@@ -2,7 +2,7 @@
 ghost use Rattle.vhdl_writer.specs.Statements.{report_text, state_text};
 
 use crate::names::{StateColumns, apart};
-use crate::parts::{At, CheckAt, ItemText, Of};
+use crate::parts::{At, CheckAt, InEntity, ItemText};
 use text_io::{Bytes, Decimal, Desk, Line, OutSlot, Part, Put, parts};
 use udp_tables::TimingCheck;
 use vital_models::VState;
@@ -21,7 +21,7 @@ impl ItemText<TimingCheck> for ListedReports {
     }
 }
 
-impl ItemText<VState> for Of<'_> {
+impl ItemText<VState> for InEntity<'_> {
     ghost text = { λ m n state. state_text m.0.now n state };
 
     #[tactic(auto, unfolding(crate::specs::Statements::state_text))]

@@ -33,20 +33,20 @@ known false bytes all b m =
     ∙ ap (λ t. drawn_outcome (drawing_of t)) (sym (b ∙ take_all report_limit all short))
 
 -- what holds of what the bytes taken come to holds of what the report comes to, where the desk tells it
-told : (P : Outcome → Type 0) (left : Option (List ℕ)) (taken : Taken)
+of_report : (P : Outcome → Type 0) (left : Option (List ℕ)) (taken : Taken)
     → IfSome left (λ all. taken.bytes.items ≡ take report_limit all)
     → IfSome left (λ all. taken.more ≡ nat_lt report_limit (length all)) → P (outcome_where taken.more taken.bytes.items)
     → IfSome left (λ all. P (report_outcome all))
-told P None taken b m h = tt
-told P (Some all) taken b m h = subst P (sym (known taken.more taken.bytes.items all b m)) h
+of_report P None taken b m h = tt
+of_report P (Some all) taken b m h = subst P (sym (known taken.more taken.bytes.items all b m)) h
 
-whole_told : (old : DeskState) (taken : Taken) (text : Written) (faults : List ℕ) (r : Result Status Stop)
+whole_of_report : (old : DeskState) (taken : Taken) (text : Written) (faults : List ℕ) (r : Result Status Stop)
     → IfSome (old.left Library) (λ all. taken.bytes.items ≡ take report_limit all)
     → IfSome (old.left Library) (λ all. taken.more ≡ nat_lt report_limit (length all))
     → IfOk r (λ status. IsAllOf status text faults (outcome_where taken.more taken.bytes.items))
     → IfOk r (λ status. IfSome (old.left Library) (λ bytes. IsAllOf status text faults (report_outcome bytes)))
-whole_told old taken text faults (Ok status) b m h = told (IsAllOf status text faults) (old.left Library) taken b m h
-whole_told old taken text faults (Err y) b m h = tt
+whole_of_report old taken text faults (Ok status) b m h = of_report (IsAllOf status text faults) (old.left Library) taken b m h
+whole_of_report old taken text faults (Err y) b m h = tt
 
 -- the report was read, and this was appended
 pub draws_so : (old now new : DeskState) (taken : Taken) (text : Written) (faults : List ℕ) (r : Result Status Stop)
@@ -58,8 +58,8 @@ draws_so old now new taken text faults r read state part whole = record {
   text = text;
   faults = faults;
   state = state ∙ ap (λ s. wrote (wrote_all s text) Faults faults) read.state;
-  part = told (IsPartOf text faults) (old.left Library) taken read.bytes read.more part;
-  whole = whole_told old taken text faults r read.bytes read.more whole;
+  part = of_report (IsPartOf text faults) (old.left Library) taken read.bytes read.more part;
+  whole = whole_of_report old taken text faults r read.bytes read.more whole;
 }
 
 no_status : (r : Result Status Stop) (P : Status → Type 0) → IsErr r → IfOk r P
@@ -95,9 +95,9 @@ faulted : (s : DeskState) (line : List ℕ) → wrote s Faults line ≡ wrote (w
 faulted s line = ap (λ t. wrote t Faults line) (sym (wrote_all-nothing s))
 
 -- it has too many bytes, which was told
-pub long_told : (old now new : DeskState) (taken : Taken) → IsRead old now Library report_limit taken → taken.more ≡ true
+pub too_long : (old now new : DeskState) (taken : Taken) → IsRead old now Library report_limit taken → taken.more ≡ true
     → new ≡ wrote now Faults too_long_line → Draws old new (Ok TooLong)
-long_told old now new taken read more w =
+too_long old now new taken read more w =
     draws_so old now new taken nothing_written too_long_line (Ok TooLong) read (w ∙ faulted now too_long_line)
     (rw more (record { text_part = IsPart-nothing _; faults_part = whole_prefix too_long_line }))
     (rw more (record { same_status = refl; same_text = refl; same_faults = refl }))
@@ -144,13 +144,13 @@ faults_stop old now put new taken definitions changes faults y r e read more d c
     (rw (more, same) (record { text_part = IsPart-all _; faults_part = front })) (no_status r _ e)
 
 -- all was told
-pub all_told : (old now put new : DeskState) (taken : Taken) (definitions changes faults : List ℕ) (status : Status)
+pub all_written : (old now put new : DeskState) (taken : Taken) (definitions changes faults : List ℕ) (status : Status)
     → IsRead old now Library report_limit taken → taken.more ≡ false → definitions ≡ (drawing_of taken.bytes.items).definitions
     → changes ≡ (drawing_of taken.bytes.items).changes
     → faults ≡ (drawing_of taken.bytes.items).faults → put ≡ wrote now VerilogText (dump_text definitions changes)
     → new ≡ wrote put Faults faults
     → status ≡ status_behind faults → Draws old new (Ok status)
-all_told old now put new taken definitions changes faults status read more d c f dump w s =
+all_written old now put new taken definitions changes faults status read more d c f dump w s =
     let text : List ℕ = dump_text definitions changes in
     let same : text ≡ dump_text (drawing_of taken.bytes.items).definitions (drawing_of taken.bytes.items).changes =
     λ i. dump_text (d i) (c i) in

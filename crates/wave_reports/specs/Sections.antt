@@ -7,7 +7,7 @@ use Rattle.std.specs.Str.{bytes_eq}
 use Rattle.std.specs.declared.cmp.Ordering.{Ordering}
 use Rattle.bool_functions.specs.NameList.{number_of}
 use Rattle.wave_reports.specs.declared.sections.Section.{Section}
-use Rattle.wave_reports.specs.declared.sections.Told.{Told}
+use Rattle.wave_reports.specs.declared.sections.ValueChange.{ValueChange}
 use Rattle.wave_reports.specs.Signs.{Sign, sign_of}
 use Rattle.wave_reports.specs.Traces.{Input, Trace, trace_of}
 
@@ -15,7 +15,7 @@ use Rattle.wave_reports.specs.Traces.{Input, Trace, trace_of}
 -- name. What is told of each signal at each time, in the order of times and then of signals; and the latest time.
 pub record Drawn : Type 0 where
   pub keys : List (List ℕ)
-  pub changes : List ((ℕ × ℕ) × Told)
+  pub changes : List ((ℕ × ℕ) × ValueChange)
   pub end : ℕ
 
 abbrev pub drawn : Section → Drawn
@@ -50,9 +50,9 @@ with_change d line at key value = record {
 }
 
 -- where the line tells when
-abbrev pub with_told : Drawn → ℕ → ℕ → Option ℕ → List ℕ → ℕ → Drawn
-with_told d line at None key value = d
-with_told d line at (Some delay) key value = with_change d line (later at delay) key value
+abbrev pub with_delayed : Drawn → ℕ → ℕ → Option ℕ → List ℕ → ℕ → Drawn
+with_delayed d line at None key value = d
+with_delayed d line at (Some delay) key value = with_change d line (later at delay) key value
 
 -- the delay of what is told at the start, where nothing is old, or at a change
 abbrev pub delay_shown : Option Input → Option ℕ → Option ℕ
@@ -63,7 +63,7 @@ delay_shown (Some change) delay = delay
 abbrev pub with_sign : Drawn → ℕ → ℕ → ℕ → Option Input → Option Sign → Drawn
 with_sign d line at tag change None = d
 with_sign d line at tag change (Some sign) =
-    with_told d line at (delay_shown change sign.delay) (tag ∷ sign.mark ∷ sign.name) sign.value
+    with_delayed d line at (delay_shown change sign.delay) (tag ∷ sign.mark ∷ sign.name) sign.value
 
 abbrev pub with_signs : Drawn → ℕ → ℕ → ℕ → Option Input → List (List ℕ) → Drawn
 with_signs d line at tag change [] = d

@@ -41,9 +41,9 @@ report_sign (first ∷ number) =
 
 -- with the name ahead of the last `=`, which is not empty, or without
 abbrev pub sign_with : Option (List ℕ) → List ℕ → Option Sign
-sign_with (Some []) told = None
-sign_with (Some (b ∷ name)) told = level_sign (b ∷ name) told
-sign_with None told = report_sign told
+sign_with (Some []) text = None
+sign_with (Some (b ∷ name)) text = level_sign (b ∷ name) text
+sign_with None text = report_sign text
 
 -- what a word tells
 abbrev pub sign_of : List ℕ → Option Sign

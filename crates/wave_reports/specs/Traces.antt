@@ -47,9 +47,9 @@ value_of (b ∷ []) = if is_value b then Some b else None
 value_of _ = None
 
 -- words that tell something of outputs and of checks, behind a colon
-abbrev pub told : ℕ → ℕ → Option Input → List (List ℕ) → Option Trace
-told tag at change [] = None
-told tag at change (colon ∷ words) =
+abbrev pub behind_change : ℕ → ℕ → Option Input → List (List ℕ) → Option Trace
+behind_change tag at change [] = None
+behind_change tag at change (colon ∷ words) =
     if bytes_eq colon (codes ":") then
     (if list_all (λ word. is_some (sign_of word)) words then Some (record { tag = tag; at = at; change = change; words = words })
     else None)
@@ -59,14 +59,14 @@ told tag at change (colon ∷ words) =
 abbrev pub changed : ℕ → ℕ → List (List ℕ) → Option Trace
 changed tag at ([] ∷ words) = None
 changed tag at ((b ∷ name) ∷ (value ∷ words)) =
-    option_and_then (λ value. told tag at (Some (record { name = b ∷ name; value = value })) words) (value_of value)
+    option_and_then (λ value. behind_change tag at (Some (record { name = b ∷ name; value = value })) words) (value_of value)
 changed tag at _ = None
 
 -- behind the tag: `start`, or the time of a change
 abbrev pub behind_tag : ℕ → List (List ℕ) → Option Trace
 behind_tag tag [] = None
 behind_tag tag (first ∷ words) =
-    if bytes_eq first (codes "start") then told tag 0 None words
+    if bytes_eq first (codes "start") then behind_change tag 0 None words
     else option_and_then (λ at. changed tag at words) (number_of first)
 
 abbrev pub trace_words : List (List ℕ) → Option Trace

@@ -2,7 +2,7 @@
 ghost use Rattle.std.specs.Prelude.{◌≡◌, ◌++◌, [], None, OnOk};
 ghost use Rattle.wave_reports.specs.Changes as spec;
 
-use crate::sections::{Section, Told};
+use crate::sections::{Section, ValueChange};
 use crate::texts::push_pieces;
 use bool_functions::Names;
 use itoa::Buffer;
@@ -67,20 +67,20 @@ fn push_change(
     keys: &Names,
     last: Option<u64>,
     moment: (u64, usize),
-    told: Told,
+    change: ValueChange,
 ) -> Result<(), AllocError>
-    ensures { OnOk result (text.new.items ≡ text.old.items ++ spec.change_text section keys.now last (moment, told)) }
+    ensures { OnOk result (text.new.items ≡ text.old.items ++ spec.change_text section keys.now last (moment, change)) }
 {
     push_time(text, last, moment.0)?;
-    push_level(text, section, key_at(keys, moment.1), told.value)
+    push_level(text, section, key_at(keys, moment.1), change.value)
 }
 
 /// Whether no line behind the one that tells this told of the signal what showed before.
-fn stands(latest: &BTreeMap<usize, usize>, moment: (u64, usize), told: Told) -> bool
-    ensures { result ≡ spec.stands latest.now.entries (moment, told) }
+fn stands(latest: &BTreeMap<usize, usize>, moment: (u64, usize), change: ValueChange) -> bool
+    ensures { result ≡ spec.stands latest.now.entries (moment, change) }
 {
     match latest.get(&moment.1) {
-        Some(line) => *line <= told.line,
+        Some(line) => *line <= change.line,
         None => true,
     }
 }
@@ -110,10 +110,10 @@ fn push_standing(
         ++ spec.changes_text number section.now.keys latest.old.entries None section.now.changes.entries) }
 {
     let mut last = None;
-    for (moment, told) in section.changes.iter() {
-        if stands(latest, *moment, *told) {
-            push_change(text, number, &section.keys, last, *moment, *told)?;
-            latest.insert(moment.1, told.line)?;
+    for (moment, change) in section.changes.iter() {
+        if stands(latest, *moment, *change) {
+            push_change(text, number, &section.keys, last, *moment, *change)?;
+            latest.insert(moment.1, change.line)?;
             last = Some(moment.0);
         }
     }

@@ -19,7 +19,7 @@ pub(crate) const INPUTS: u8 = b'.';
 
 /// What is told of a signal at a time.
 #[derive(Clone, Copy)]
-pub(crate) struct Told {
+pub(crate) struct ValueChange {
     /// The number of the line that tells it.
     pub line: usize,
     /// The byte of the level.
@@ -32,7 +32,7 @@ pub(crate) struct Section {
     /// The keys of its signals: `L`, `V` or `H` of an output or a check and `.` of an input, then its mark and its name.
     pub keys: Names,
     /// What is told at a time of the signal with a number among the keys.
-    pub changes: BTreeMap<(u64, usize), Told>,
+    pub changes: BTreeMap<(u64, usize), ValueChange>,
     /// The latest time at which something is told.
     pub end: u64,
 }
@@ -55,13 +55,14 @@ impl Section {
         ensures { OnOk result (spec.drawn self.new ≡ spec.with_change (spec.drawn self.old) line at key.now value) }
     {
         let number = number_in(&mut self.keys, key)?;
-        self.changes.insert((at, number), Told { line, value })?;
+        self.changes
+            .insert((at, number), ValueChange { line, value })?;
         self.end = self.end.max(at);
         Ok(())
     }
 
     /// Adds what a line tells of a signal, where it tells when.
-    fn add_told(
+    fn add_delayed(
         &mut self,
         line: usize,
         at: u64,
@@ -69,7 +70,7 @@ impl Section {
         key: &[u8],
         value: u8,
     ) -> Result<(), AllocError>
-        ensures { OnOk result (spec.drawn self.new ≡ spec.with_told (spec.drawn self.old) line at delay key.now value) }
+        ensures { OnOk result (spec.drawn self.new ≡ spec.with_delayed (spec.drawn self.old) line at delay key.now value) }
     {
         match delay {
             Some(delay) => self.add(line, at.saturating_add(delay), key, value),
@@ -93,7 +94,7 @@ impl Section {
             Some(sign) => {
                 let key = key_of(alloc, trace.tag, sign.mark, sign.name)?;
                 let delay = delay_shown(trace.change, sign.delay);
-                self.add_told(line, at, delay, key.as_slice(), sign.value)
+                self.add_delayed(line, at, delay, key.as_slice(), sign.value)
             }
             None => Ok(()),
         }

@@ -42,10 +42,10 @@ fn level(name: &[u8], value: u8, delay: Option<u64>) -> Option<Sign<'_>>
 }
 
 /// The level that stands behind the name of an output.
-fn level_sign<'a>(name: &'a [u8], told: &[u8]) -> Option<Sign<'a>>
-    ensures { option_map spec.seen result ≡ spec.level_sign name.now told.now }
+fn level_sign<'a>(name: &'a [u8], text: &[u8]) -> Option<Sign<'a>>
+    ensures { option_map spec.seen result ≡ spec.level_sign name.now text.now }
 {
-    let (value, behind) = told.split_first()?;
+    let (value, behind) = text.split_first()?;
     match behind.split_first() {
         None => level(name, *value, None),
         Some((at, digits)) => {
@@ -78,12 +78,12 @@ pub(crate) fn sign_of(word: &[u8]) -> Option<Sign<'_>>
     ensures { option_map spec.seen result ≡ spec.sign_of word.now }
 {
     match cut_last(word, b'=') {
-        (Some(name), told) => {
+        (Some(name), text) => {
             if name.is_empty() {
                 return None;
             }
-            level_sign(name, told)
+            level_sign(name, text)
         }
-        (None, told) => report_sign(told),
+        (None, text) => report_sign(text),
     }
 }

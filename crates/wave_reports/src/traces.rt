@@ -67,13 +67,13 @@ fn are_signs(words: Option<&[u8]>) -> bool
 }
 
 /// A line of which this stands behind the change.
-fn told<'a>(
+fn behind_change<'a>(
     tag: u8,
     at: u64,
     change: Option<Input<'a>>,
     rest: Option<&'a [u8]>,
 ) -> Option<Trace<'a>>
-    ensures { option_map spec.seen result ≡ spec.told tag at (option_map spec.seen_input change.entry)
+    ensures { option_map spec.seen result ≡ spec.behind_change tag at (option_map spec.seen_input change.entry)
         (pieces_left 32 (option_copied rest.entry)) }
 {
     let (colon, words) = first_word(rest)?;
@@ -98,7 +98,7 @@ fn changed<'a>(tag: u8, at: u64, rest: Option<&'a [u8]>) -> Option<Trace<'a>>
     }
     let (value, rest) = first_word(rest)?;
     let value = value_of(value)?;
-    told(tag, at, Some(Input { name, value }), rest)
+    behind_change(tag, at, Some(Input { name, value }), rest)
 }
 
 /// A line of which this stands behind the tag.
@@ -107,7 +107,7 @@ fn behind_tag<'a>(tag: u8, rest: Option<&'a [u8]>) -> Option<Trace<'a>>
 {
     let (first, rest) = first_word(rest)?;
     if first == b"start".as_slice() {
-        return told(tag, 0, None, rest);
+        return behind_change(tag, 0, None, rest);
     }
     changed(tag, number_of(first)?, rest)
 }

@@ -1,7 +1,7 @@
 use Rattle.std.proofs.Common.{flat_map, sym, ap, ◌∙◌}
 use Rattle.std.specs.Option.{option_or}
 use Rattle.cell_machine.specs.CellData.{data_of}
-use Rattle.table_audit.specs.Tables.{part_compared, first_difference}
+use Rattle.module_tables.specs.Tables.{part_compared, first_difference}
 use Rattle.table_audit.proofs.Firsts.{differences_first}
 use Rattle.table_audit.proofs.comparison.+first_among.Goals as goal
 

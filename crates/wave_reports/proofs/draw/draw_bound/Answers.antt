@@ -1,7 +1,7 @@
 use Rattle.text_io.specs.declared.slots.OutSlot.TheVariants.{VerilogText}
 use Rattle.text_io.specs.declared.slots.Slot.TheVariants.{Output}
 use Rattle.text_io.proofs.Took.{bound_still}
-use Rattle.wave_reports.proofs.DrawLemmas.{unread, undrawn, long_told, long_stops, dump_stops, faults_stop, all_told}
+use Rattle.wave_reports.proofs.DrawLemmas.{unread, undrawn, too_long, long_stops, dump_stops, faults_stop, all_written}
 use Rattle.wave_reports.proofs.draw.draw_bound.Goals as goal
 
 pub returns-in_err-taken-clause-text : goal.returns-in_err-taken-clause-text
@@ -13,7 +13,7 @@ pub returns-in_err-tell_too_long-clause-text : goal.returns-in_err-tell_too_long
 returns-in_err-tell_too_long-clause-text g c = long_stops _ _ _ c.in_ok-taken.taken _ _ c.from_residual-in_err-tell_too_long.ensures.0 c.in_ok-taken.ensures.ok c.if-taken.true c.in_err-tell_too_long.ensures.text
 
 pub returns-then-taken-clause-text : goal.returns-then-taken-clause-text
-returns-then-taken-clause-text g c = long_told _ _ _ c.in_ok-taken.taken c.in_ok-taken.ensures.ok c.if-taken.true c.in_ok-tell_too_long.ensures.text.whole
+returns-then-taken-clause-text g c = too_long _ _ _ c.in_ok-taken.taken c.in_ok-taken.ensures.ok c.if-taken.true c.in_ok-tell_too_long.ensures.text.whole
 
 pub returns-in_err-waves-clause-text : goal.returns-in_err-waves-clause-text
 returns-in_err-waves-clause-text g c = undrawn _ _ c.in_ok-taken.taken _ c.from_residual-in_err-waves.ensures.0 c.in_ok-taken.ensures.ok
@@ -32,5 +32,5 @@ returns-in_err-tell_faults-clause-text g c =
 
 pub returns-clause-text : goal.returns-clause-text
 returns-clause-text g c =
-    all_told _ _ _ _ c.in_ok-taken.taken _ _ _ _ c.in_ok-taken.ensures.ok c.if-taken.false c.in_ok-waves.ensures.definitions c.in_ok-waves.ensures.changes c.in_ok-waves.ensures.faults
+    all_written _ _ _ _ c.in_ok-taken.taken _ _ _ _ c.in_ok-taken.ensures.ok c.if-taken.false c.in_ok-waves.ensures.definitions c.in_ok-waves.ensures.changes c.in_ok-waves.ensures.faults
     c.in_ok-write_dump.ensures.text.whole c.in_ok-tell_faults.ensures.text.whole c.status_behind.ensures

@@ -1,0 +1,5 @@
+pub mod Lists
+pub mod ChangeInputs
+pub mod Tables
+pub mod LookUps
+pub mod SameValues

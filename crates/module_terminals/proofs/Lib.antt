@@ -1,0 +1,4 @@
+pub mod SoundInstances
+pub mod Names
+pub mod Searches
+pub mod Gatings

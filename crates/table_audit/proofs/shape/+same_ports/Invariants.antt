@@ -1,5 +1,0 @@
-use Rattle.std.proofs.Common.{length}
-use Rattle.table_audit.proofs.shape.+same_ports.Given as goal
-
-abbrev pub decreases-same_ports : goal.decreases-same_ports
-decreases-same_ports l = length l.pins.now

@@ -1,9 +1,0 @@
-use Rattle.cell_machine.specs.CellData.{data_of}
-use Rattle.table_audit.specs.Tables.{steps_where_changed}
-use Rattle.table_audit.proofs.Firsts.{lists-from}
-use Rattle.table_audit.proofs.states.GroupTables.over_lists.Goals as goal
-
-pub loop-k-init : goal.loop-k-init
-loop-k-init c =
-    lists-from (steps_where_changed (data_of c.args.self.now.cell.now) c.args.self.now.model.now c.args.self.now.group c.args.place c.args.old)
-    c.pins-pins.result _ c.list_count-count.result c.list_count-count.ensures.count c.pins-pins.ensures.value

@@ -9,7 +9,7 @@ ghost use Rattle.driven_files.specs.Vital.{vital_sections};
 use crate::verilog::VerilogFiles;
 use crate::vital::VitalFiles;
 use sectioned_texts::{DrivenModels, read_driven};
-use specify_blocks::VModule;
+use verilog_grammar::modules::VModule;
 use std::alloc::Global;
 use udp_tables::ModelFault;
 use vital_models::VEntity;

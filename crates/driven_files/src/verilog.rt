@@ -1,13 +1,13 @@
 //! Verilog as a language of models and of sections that hold drivers. (IEEE 1364-2005, 12.1 and 19.1.)
 ghost use Rattle.std.specs.Prelude.{◌≡◌, IfOk};
-ghost use Rattle.specify_blocks.specs.WellFormed.{outer_names};
+ghost use Rattle.verilog_grammar.specs.WellFormed.{outer_names};
 
 use driver_models::{Core, Cores, DriverModel, KnownNames};
 use driver_sections::{Ending, Marks, all_ends, find_sections};
 use driver_texts::read_driver;
 use lexer::Span;
 use sectioned_texts::SectionLanguage;
-use specify_blocks::VModule;
+use verilog_grammar::modules::VModule;
 use sqlite_items::Items;
 use std::alloc::{AllocError, Global};
 use udp_tables::ModelFault;

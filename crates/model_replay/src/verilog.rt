@@ -5,7 +5,7 @@ use cell_machine::{Change, Shared};
 use driven_files::{VerilogFiles, read_driven_models};
 use file_models::{FileModel, file_models};
 use model_files::{ModelFormat, ModelLanguage};
-use specify_blocks::VModule;
+use verilog_grammar::modules::VModule;
 use std::alloc::{AllocError, Global};
 use stimulus::{Ports, write_section};
 use table_interpreters::ModuleStart;

@@ -2,11 +2,11 @@
 
 ghost use Rattle.std.specs.Prelude.{◌≡◌, ◌==◌, length};
 ghost use Rattle.std.specs.List.{list_all};
-ghost use Rattle.specify_blocks.specs.VerilogModules as spec;
+ghost use Rattle.verilog_grammar.specs.VerilogModules as spec;
 
 use crate::netlist::Netlist;
 use crate::nets::is_output_port;
-use specify_blocks::VNet;
+use verilog_grammar::modules::VNet;
 use udp_tables::{Udp, is_input_port};
 
 /// The net of a name: a port, a wire or the register.

@@ -7,11 +7,11 @@ use driver_sections::{Ending, Marks, all_ends, find_sections};
 use driver_texts::read_driver;
 use lexer::Span;
 use sectioned_texts::SectionLanguage;
-use verilog_grammar::modules::VModule;
 use sqlite_items::Items;
 use std::alloc::{AllocError, Global};
 use udp_tables::ModelFault;
 use verilog_drivers::VerilogDrivers;
+use verilog_grammar::modules::VModule;
 use verilog_reader::read_models;
 use verilog_tokens::InTable;
 

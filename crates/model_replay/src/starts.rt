@@ -11,10 +11,10 @@ ghost use Rattle.table_interpreters.specs.EntityStarts.{IsEntityStart};
 use cell_machine::Shared;
 use driven_traces::DrivenSim;
 use file_models::FileModel;
-use verilog_grammar::modules::VModule;
 use std::alloc::{AllocError, Global};
 use stimulus::TraceSim;
 use table_interpreters::{EntityStart, ModuleStart, VerilogSim, VitalSim};
+use verilog_grammar::modules::VModule;
 use vital_models::VEntity;
 
 /// What is known of a model of a Verilog file before any change. An `Err` comes only where memory is wanting.

@@ -9,10 +9,10 @@ ghost use Rattle.verilog_header_reader.specs.Headers.{inputs_of};
 use crate::ports::{output_place, port_place};
 use crate::wires::{module_notifier, module_wires};
 use grammar_reader::{Read, Refusal, RepeatedPart, Stop, while_next, with_end};
-use verilog_grammar::modules::VModule;
 use sqlite_items::Items;
 use std::alloc::Global;
 use udp_tables::{Udp, VPort};
+use verilog_grammar::modules::VModule;
 use verilog_tokens::is_name;
 use verilog_udp_reader::{Cursor, NamedItems, TextNames, Verilog, new_name};
 

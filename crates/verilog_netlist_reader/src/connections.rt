@@ -10,9 +10,9 @@ ghost use Rattle.verilog_netlist_reader.specs.Terminals.{AreNamed};
 use crate::netlist::Netlist;
 use crate::terminals::{may_drive, may_feed, net_of};
 use grammar_reader::{Read, Refusal, Stop};
-use verilog_grammar::modules::VNet;
 use sqlite_items::Items;
 use std::alloc::Global;
+use verilog_grammar::modules::VNet;
 use verilog_tokens::is_name;
 use verilog_udp_reader::{Cursor, NamedItems, TextNames};
 

@@ -7,9 +7,9 @@ ghost use Rattle.verilog_netlist_reader.specs.DrivenNets.{AreDriven};
 
 use crate::nets::{FEW, has_state};
 use grammar_reader::{Read, Stop};
-use verilog_grammar::modules::{VModule, VNet};
 use sqlite_items::Items;
 use std::alloc::Global;
+use verilog_grammar::modules::{VModule, VNet};
 
 /// Which nets the instances of a module drive: a mark for each port, one for each wire that is driven as a state, and one for
 /// each wire that is driven without a state. Nothing is told of a net without a mark.

@@ -15,8 +15,8 @@ use crate::nets::is_sequential;
 use crate::terminals::has_all_inputs;
 use first_names::FirstNames;
 use grammar_reader::{Language, Read, Refusal, Stop, value_of, where_read};
-use verilog_grammar::modules::{Instance, VModule};
 use std::alloc::Global;
+use verilog_grammar::modules::{Instance, VModule};
 use verilog_tokens::is_name;
 use verilog_udp_reader::{Cursor, NamedItems, Verilog};
 

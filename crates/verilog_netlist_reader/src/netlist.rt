@@ -7,11 +7,11 @@ use crate::name_search::{many_names, place_of};
 use crate::nets::{has_state, is_driven_already, is_wire_driven_by};
 use first_names::FirstNames;
 use grammar_reader::{Read, Stop};
-use verilog_grammar::modules::{Instance, VModule, VNet, VPath};
 use sqlite_items::Items;
 use std::alloc::Global;
 use std::marker::Model;
 use udp_tables::TimingCheck;
+use verilog_grammar::modules::{Instance, VModule, VNet, VPath};
 
 /// A module. Contracts see it alone. Beside it stand the names of its ports, where there are more than a few, those of its wires
 /// likewise, and which nets are driven.

@@ -6,8 +6,8 @@ ghost use Rattle.verilog_grammar.specs.specify_blocks.Nets as spec;
 ghost use Rattle.verilog_grammar.specs.VerilogModules.{is_driven_already};
 ghost use Rattle.verilog_netlist_reader.specs.DrivenNets.{drives_wire};
 
-use verilog_grammar::modules::{Instance, VModule, VNet};
 use udp_tables::{Udp, VPort};
+use verilog_grammar::modules::{Instance, VModule, VNet};
 
 /// How many nets of a kind are looked for one after another.
 pub const FEW: usize = 16;

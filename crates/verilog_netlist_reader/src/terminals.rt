@@ -6,8 +6,8 @@ ghost use Rattle.verilog_grammar.specs.VerilogModules as spec;
 
 use crate::netlist::Netlist;
 use crate::nets::is_output_port;
-use verilog_grammar::modules::VNet;
 use udp_tables::{Udp, is_input_port};
+use verilog_grammar::modules::VNet;
 
 /// The net of a name: a port, a wire or the register.
 pub fn net_of(model: &Netlist, name: &[u8]) -> Option<VNet>

@@ -9,11 +9,11 @@ use crate::nets::{Netlist, are_all_driven, module_instances};
 use crate::specify;
 use bool_functions::Names;
 use grammar_reader::{Language, Read, Refusal, Stop, where_read};
-use verilog_grammar::modules::VModule;
 use sqlite_items::Items;
 use std::alloc::Global;
 use std::mem::replace;
 use udp_tables::Udp;
+use verilog_grammar::modules::VModule;
 use verilog_header_reader::module_declarations;
 use verilog_udp_reader::{Cursor, Verilog, declare, primitive};
 

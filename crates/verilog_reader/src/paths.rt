@@ -11,10 +11,10 @@ ghost use Rattle.grammar_reader.specs.Next.{next_bytes, rest};
 
 use crate::numbers::number;
 use grammar_reader::{Language, Read, with_end};
-use verilog_grammar::modules::{Gate, VPath};
 use sqlite_items::Items;
 use std::alloc::Global;
 use udp_tables::is_input_port;
+use verilog_grammar::modules::{Gate, VPath};
 use verilog_netlist_reader::{Netlist, is_output_port};
 use verilog_udp_reader::{Cursor, Verilog};
 

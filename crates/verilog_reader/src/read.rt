@@ -10,9 +10,9 @@ ghost use Rattle.verilog_reader.specs.File.{IsFaultOf};
 use crate::file::{Before, file};
 use grammar_reader::{Cursor, Stop};
 use lexer::Scan;
-use verilog_grammar::modules::VModule;
 use std::alloc::Global;
 use udp_tables::{ModelFault, refusal_fault};
+use verilog_grammar::modules::VModule;
 use verilog_tokens::scan;
 use verilog_udp_reader::Verilog;
 

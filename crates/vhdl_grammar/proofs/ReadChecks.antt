@@ -237,7 +237,8 @@ IsToldPulse scope pulse =
     → IsToldCheck scope (pulse_check pulse p limit when)
 
 told_pulse : (scope : Scope) (pulse : Pulse)
-    → ((p limit : ℕ) (when : Option ℕ) → IsTrue (has_events (pulse_check pulse p limit when) pulse.kind)) → IsToldPulse scope pulse
+    → ((p limit : ℕ) (when : Option ℕ) → IsTrue (has_events (pulse_check pulse p limit when) pulse.kind))
+    → IsToldPulse scope pulse
 told_pulse scope pulse events p limit when t w l =
     record { first = t; second = t; events = events p limit when; enabled = w; limit = l }
 

@@ -294,7 +294,8 @@ pub parts_in_text : (bytes : List ℕ) (es : List VEntity) → Takes file (text_
     → k < length es → part_count (get_or es k d) ≤ length bytes
 parts_in_text bytes es h k d below =
     let whole = file_counted.counted (text_tokens lexis bytes) es [] h in
-    let tokens : length (text_tokens lexis bytes) ≡ length (scan_of bytes).0 = length-map (scan_of bytes).0 (λ (t : Token). t.bytes) in
+    let tokens : length (text_tokens lexis bytes) ≡ length (scan_of bytes).0 =
+    length-map (scan_of bytes).0 (λ (t : Token). t.bytes) in
     let short = scan_short false 0 0 bytes in
     let part = part_below es k d below in
     omega (arith, whole, tokens, short, part)

@@ -287,8 +287,8 @@ reads :
     Reads (flip-flop-head ++ (flip-flop-tables ++ (flip-flop-variables ++ flip-flop-statements))) (flip-flop ∷ [])
     × Reads (in-assignment ++ (assignment-end ++ (in-call ++ call-end))) (assigned-so-named ∷ called-so-named ∷ [])
     × Reads [] []
-unfolding kept flip-flop assigned-so-named called-so-named digits vhdl_words used_words is_reserved is_used rule.a_number rule.a_time
-    rule.only_element rule.more_elements rule.several_elements rule.elements table.next_symbol table.symbols table.state_row
+unfolding kept flip-flop assigned-so-named called-so-named digits vhdl_words used_words is_reserved is_used rule.a_number
+    rule.a_time rule.only_element rule.more_elements rule.several_elements rule.elements table.next_symbol table.symbols table.state_row
     table.state_table table.next_level table.levels table.truth_row table.truth_table table.assigned_truth_table
     table.condition_constant table.output_constant table.state_constant table.constant table.constants declared.packages
     declared.next_port declared.port_list declared.ports_of declared.entity_header declared.architecture_header

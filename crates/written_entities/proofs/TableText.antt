@@ -73,7 +73,8 @@ state_is : (state : VState) → IsWrittenState state → IsStateTable (columns_o
     → IsStateTableText (state_table_text state) state.table
 state_is state w all =
     let e = all_found (state_spelled state) in
-    let tokens : text_tokens lexis (state_table_text state) ≡ codes "(" ∷ rows_front state_row_front state.table.rows (codes ")" ∷ []) =
+    let tokens : text_tokens lexis (state_table_text state)
+    ≡ codes "(" ∷ rows_front state_row_front state.table.rows (codes ")" ∷ []) =
     ap (λ (p : List (List ℕ) × Bool). p.0) e in
     let reads = state_table_read (columns_of state) state.table [] w.columns w.rows
     (recursion_from_All (λ (row : VStateRow). length row.inputs ≡ columns_of state) state.table.rows all)

@@ -20,7 +20,7 @@ use Rattle.udp_tables.specs.declared.timing_checks.TimingCheck.{TimingCheck}
 use Rattle.specify_blocks.specs.declared.model.VModule.{VModule}
 use Rattle.specify_blocks.specs.Nets.{is_output_port, is_value}
 use Rattle.udp_tables.specs.Ports.{is_input_port}
-use Rattle.specify_blocks.specs.Sound.{is_gate, IsPath, is_enabling, IsCheck}
+use Rattle.specify_blocks.specs.Sound.{is_gate, IsPath, is_enabling, IsCheck, has_written_events}
 use Rattle.grammar_reader.specs.Words.{is_this}
 use Rattle.verilog_grammar.specs.VerilogBlocks.{a_number, kept, port_of, an_input, an_output, a_condition, if_gate, ifnone_gate}
 use Rattle.verilog_grammar.specs.VerilogBlocks.{gate_by, path_gate, path, next_path, paths, edge_of, an_event, an_edge_event}

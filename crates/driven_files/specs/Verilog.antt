@@ -3,9 +3,9 @@
 use Rattle.std.specs.Prelude.{[], ◌∷◌, codes}
 use Rattle.std.specs.Str.{bytes_eq}
 use Rattle.verilog_tokens.specs.Tokens.{lexis}
-use Rattle.specify_blocks.specs.declared.model.VModule.{VModule}
-use Rattle.specify_blocks.specs.VerilogText.{verilog_text}
-use Rattle.specify_blocks.specs.WellFormed.{outer_names}
+use Rattle.verilog_grammar.specs.specify_blocks.declared.model.VModule.{VModule}
+use Rattle.verilog_grammar.specs.VerilogText.{verilog_text}
+use Rattle.verilog_grammar.specs.WellFormed.{outer_names}
 use Rattle.section_outlines.specs.VerilogMarks.{verilog_marks}
 use Rattle.driver_texts.specs.Sections.{section_text}
 use Rattle.verilog_drivers.specs.DriverSections.{verilog_section_grammar}

@@ -9,9 +9,9 @@ ghost use Rattle.driven_files.specs.Vital.{vital_sections};
 use crate::verilog::VerilogFiles;
 use crate::vital::VitalFiles;
 use sectioned_texts::{DrivenModels, read_driven};
-use specify_blocks::VModule;
 use std::alloc::Global;
 use udp_tables::ModelFault;
+use verilog_grammar::modules::VModule;
 use vital_models::VEntity;
 
 /// The modules and the drivers of a Verilog text. The fault is the one with the least offset, which counts bytes from 0; `Memory`

@@ -1,6 +1,6 @@
 //! Verilog as a language of models and of sections that hold drivers. (IEEE 1364-2005, 12.1 and 19.1.)
 ghost use Rattle.std.specs.Prelude.{◌≡◌, Ok, IfOk, IfErr};
-ghost use Rattle.specify_blocks.specs.WellFormed.{outer_names};
+ghost use Rattle.verilog_grammar.specs.WellFormed.{outer_names};
 ghost use Rattle.driver_models.specs.Models.{IsSound};
 ghost use Rattle.driver_texts.specs.Sections.{section_text, IsFaultOf};
 ghost use Rattle.verilog_drivers.specs.DriverSections.{verilog_section_grammar};
@@ -10,11 +10,11 @@ use driver_sections::{Ending, Marks, all_ends, find_sections};
 use driver_texts::read_driver;
 use lexer::Span;
 use sectioned_texts::SectionLanguage;
-use specify_blocks::VModule;
 use sqlite_items::Items;
 use std::alloc::{AllocError, Global};
 use udp_tables::ModelFault;
 use verilog_drivers::VerilogDrivers;
+use verilog_grammar::modules::VModule;
 use verilog_reader::read_models;
 use verilog_tokens::InTable;
 

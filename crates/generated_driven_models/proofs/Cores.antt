@@ -11,7 +11,7 @@ use Rattle.written_driven_models.proofs.trit_cubes.ListLemmas.{Among, among-appe
 use Rattle.generated_drivers.specs.verilog_tokens.Kept.{is_kept_name, is_kept_cell_name}
 use Rattle.generated_drivers.specs.cell_machine.CellData.{CellData}
 use Rattle.generated_drivers.specs.specify_blocks.Generated.{module_of}
-use Rattle.generated_drivers.specs.specify_blocks.WellFormed.{AreWellFormed}
+use Rattle.written_driven_models.specs.verilog_grammar.WellFormed.{AreWellFormed}
 use Rattle.generated_drivers.specs.three_state_cells.DrivenCells.{DrivenData, core_name, may_float}
 use Rattle.generated_entities.specs.generated_modules.Cells.{IsNumberedCell, names_of_cells, kept_names, AreCellsOfOneLibrary}
 use Rattle.generated_entities.proofs.generated_modules.NameLists.{unlike, each_among, other_key}

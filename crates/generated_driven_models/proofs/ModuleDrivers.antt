@@ -17,7 +17,7 @@ use Rattle.generated_drivers.specs.cell_machine.CellData.{CellData}
 use Rattle.generated_drivers.specs.specify_blocks.declared.model.VModule.{VModule}
 use Rattle.generated_drivers.specs.specify_blocks.Names.{driver_name, module_name}
 use Rattle.generated_drivers.specs.specify_blocks.Generated.{module_of}
-use Rattle.generated_drivers.specs.specify_blocks.WellFormed.{outer_names}
+use Rattle.written_driven_models.specs.verilog_grammar.WellFormed.{outer_names}
 use Rattle.generated_drivers.specs.driver_models.declared.model.DriverModel.{DriverModel}
 use Rattle.generated_drivers.specs.driver_models.Cores.{Core, core_ports}
 use Rattle.written_driven_models.specs.verilog_drivers.WellFormed.{IsWellFormedDriver}

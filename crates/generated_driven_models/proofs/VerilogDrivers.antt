@@ -15,8 +15,8 @@ use Rattle.written_driven_models.specs.driver_texts.NumberedPorts.{numbered_port
 use Rattle.written_driven_models.specs.grammar_reader.Words.{is_among}
 use Rattle.generated_drivers.specs.specify_blocks.Names.{driver_name}
 use Rattle.generated_drivers.specs.specify_blocks.Ports.{ports_of}
-use Rattle.generated_drivers.specs.specify_blocks.VerilogModules.{port_names}
-use Rattle.generated_drivers.specs.specify_blocks.WellFormed.{IsName}
+use Rattle.written_driven_models.specs.verilog_grammar.VerilogModules.{port_names}
+use Rattle.written_driven_models.specs.verilog_grammar.WellFormed.{IsName}
 use Rattle.generated_drivers.specs.verilog_tokens.Kept.{is_kept_cell_name}
 use Rattle.generated_drivers.specs.verilog_tokens.Tokens.{is_name_byte}
 use Rattle.generated_drivers.specs.verilog_tokens.Words.{is_verilog_word, verilog_words}

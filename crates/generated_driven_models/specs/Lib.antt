@@ -11,6 +11,7 @@ pub use Rattle.generated_entities.specs.generated_modules as generated_modules
 pub use Rattle.generated_drivers.specs.specify_blocks as specify_blocks
 pub use Rattle.generated_drivers.specs.three_state_cells as three_state_cells
 pub use Rattle.written_driven_models.specs.verilog_drivers as verilog_drivers
+pub use Rattle.written_driven_models.specs.verilog_grammar as verilog_grammar
 pub use Rattle.written_driven_models.specs.vhdl_drivers as vhdl_drivers
 pub use Rattle.generated_drivers.specs.vhdl_tokens as vhdl_tokens
 pub use Rattle.written_driven_models.specs.vhdl_grammar as vhdl_grammar

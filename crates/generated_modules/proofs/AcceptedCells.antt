@@ -8,6 +8,7 @@ use Rattle.std.proofs.lemmas.Bool.{ne_eqb}
 use Rattle.std.proofs.lemmas.List.Elements.{All-nil, All-cons}
 use Rattle.std.proofs.lemmas.Map.Keys.{IsDistinct-cons}
 use Rattle.std.proofs.lemmas.Map.Views.{list_any-from_Contains}
+use Rattle.std.proofs.lemmas.Cmp.{nat_list_eq_equiv as bytes_equivalence}
 use Rattle.trit_cubes.proofs.ListLemmas.{Among, among-map}
 use Rattle.bool_functions.specs.NameList.{number_of}
 use Rattle.bool_functions.proofs.Elements.{contains_here, contains_later}
@@ -19,7 +20,6 @@ use Rattle.cell_attributes.specs.Declarations.{declared_of, known_cell, clashes_
 use Rattle.cell_attributes.proofs.Distinct.{nil_parts}
 use Rattle.cell_reader.specs.CellTexts.{subject_of}
 use Rattle.cell_reader.proofs.Accepted.{accepted_meets_none, accepted_cells_are_sound}
-use Rattle.specify_blocks.proofs.ReadNames.{bytes_equivalence}
 use Rattle.generated_modules.specs.Accepted.{IsAccepted, AreAccepted}
 use Rattle.generated_modules.specs.Cells.{IsNumberedCell, names_of_cells, numbers_of_cells, AreCellsOfOneLibrary}
 use Rattle.generated_modules.specs.Laws.{AcceptedAreOfOneLibrary, AcceptedModulesAreWellFormed}

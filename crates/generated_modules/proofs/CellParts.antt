@@ -15,8 +15,8 @@ use Rattle.cell_machine.specs.CellRules.{longest_time, is_name, are_distinct, is
 use Rattle.cell_machine.specs.CellRules.{are_groups_from, is_output_of, has_events, is_check, is_arc, output_pins_from}
 use Rattle.cell_machine.specs.CellData.{CellData}
 use Rattle.cell_machine.specs.CellTrace.{support_at}
-use Rattle.specify_blocks.proofs.cell_tables.CellParts.{Rules, groups_hold}
-use Rattle.specify_blocks.proofs.OutputPins.{outputs_are_pins, few_output_pins}
+use Rattle.verilog_grammar.proofs.specify_blocks.cell_tables.CellParts.{Rules, groups_hold}
+use Rattle.verilog_grammar.proofs.specify_blocks.OutputPins.{outputs_are_pins, few_output_pins}
 
 -- between these numbers
 pub record IsWithin (low high n : ℕ) : Type 0 where

@@ -16,7 +16,7 @@ use Rattle.cell_machine.specs.CellTrace.{same_pins}
 use Rattle.cell_machine.specs.CellData.{CellData}
 use Rattle.cell_machine.proofs.RuleLemmas.{check_parts, arc_condition}
 use Rattle.udp_tables.specs.Conditions.{condition_list, conditions_by, arc_conditions, added, added_all, conditions_of}
-use Rattle.specify_blocks.proofs.cell_tables.ConditionUses.{all-among, conditions-each}
+use Rattle.verilog_grammar.proofs.specify_blocks.cell_tables.ConditionUses.{all-among, conditions-each}
 
 -- a function of 1 to 10 names
 abbrev pub has_places : Node → Bool

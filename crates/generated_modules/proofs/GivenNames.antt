@@ -8,7 +8,7 @@ use Rattle.std.proofs.lemmas.List.{append_cancel_left}
 use Rattle.verilog_tokens.specs.Numbers.{is_number}
 use Rattle.verilog_tokens.specs.Words.{is_verilog_word}
 use Rattle.verilog_tokens.specs.Kept.{is_identifier, is_numbered, is_kept_name}
-use Rattle.specify_blocks.specs.WellFormed.{IsName}
+use Rattle.verilog_grammar.specs.WellFormed.{IsName}
 use Rattle.generated_modules.proofs.NumberedNames.{decimal_digits, IsStem, stem_name}
 
 -- the name with this number: a library's where it is kept, and else a word and the number

@@ -12,12 +12,12 @@ use Rattle.cell_machine.specs.CellRules.{are_distinct}
 use Rattle.cell_machine.specs.CellData.{CellData}
 use Rattle.verilog_tokens.specs.Words.{verilog_words, is_verilog_word}
 use Rattle.udp_tables.specs.CellPrimitives.{has_notifier}
-use Rattle.specify_blocks.specs.Ports.{is_port, port_name, port_of, ports_from}
-use Rattle.specify_blocks.specs.Names.{notifier_name, state_wires, condition_wires}
-use Rattle.specify_blocks.specs.Generated.{condition_count, module_of}
-use Rattle.specify_blocks.specs.VerilogModules.{port_names}
-use Rattle.specify_blocks.specs.WellFormed.{IsName, register_names, inner_names}
-use Rattle.specify_blocks.proofs.ReadNames.{AreNames, no_names, one_name}
+use Rattle.verilog_grammar.specs.specify_blocks.Ports.{is_port, port_name, port_of, ports_from}
+use Rattle.verilog_grammar.specs.specify_blocks.Names.{notifier_name, state_wires, condition_wires}
+use Rattle.verilog_grammar.specs.specify_blocks.Generated.{condition_count, module_of}
+use Rattle.verilog_grammar.specs.VerilogModules.{port_names}
+use Rattle.verilog_grammar.specs.WellFormed.{IsName, register_names, inner_names}
+use Rattle.verilog_grammar.proofs.ReadNames.{AreNames, no_names, one_name}
 use Rattle.generated_modules.proofs.NameLists.{unlike, told_apart, none_passes, join_names, cons_name}
 use Rattle.generated_modules.proofs.NumberedNames.{lib_stem, pin_stem, numbered_names, numbered_form}
 use Rattle.generated_modules.proofs.GivenNames.{given_apart, given_is_name, given_no_lib}

@@ -13,10 +13,10 @@ use Rattle.std.proofs.lemmas.Map.Keys.{IsDistinct-tail}
 use Rattle.trit_cubes.proofs.ListLemmas.{Among, among-append, among-contains, map-among}
 use Rattle.cell_machine.specs.CellData.{CellData}
 use Rattle.verilog_tokens.specs.Kept.{is_kept_cell_name}
-use Rattle.specify_blocks.specs.Names.{module_name}
-use Rattle.specify_blocks.specs.Generated.{primitives_of, module_of}
-use Rattle.specify_blocks.specs.WellFormed.{IsWellFormedModule, udp_names, outer_names}
-use Rattle.specify_blocks.proofs.ReadNames.{AreNames, no_names, one_name}
+use Rattle.verilog_grammar.specs.specify_blocks.Names.{module_name}
+use Rattle.verilog_grammar.specs.specify_blocks.Generated.{primitives_of, module_of}
+use Rattle.verilog_grammar.specs.WellFormed.{IsWellFormedModule, udp_names, outer_names}
+use Rattle.verilog_grammar.proofs.ReadNames.{AreNames, no_names, one_name}
 use Rattle.generated_modules.specs.Cells.{IsNumberedCell, names_of_cells, numbers_of_cells, AreCellsOfOneLibrary}
 use Rattle.generated_modules.specs.Laws.{ModulesAreWellFormed}
 use Rattle.generated_modules.proofs.NameLists.{unlike, told_apart, other_key, join_names}

@@ -24,12 +24,13 @@ use Rattle.udp_tables.specs.Conditions.{conditions_of}
 use Rattle.udp_tables.specs.Edges.{each_below}
 use Rattle.udp_tables.specs.CellPrimitives.{primitive_name, condition_number, condition_tree, condition_primitive}
 use Rattle.udp_tables.specs.CellPrimitives.{group_primitive, has_sources, output_number, output_primitive}
-use Rattle.specify_blocks.specs.Names.{module_name}
-use Rattle.specify_blocks.specs.Generated.{condition_count, output_primitives, group_primitives, condition_primitives}
-use Rattle.specify_blocks.specs.Generated.{primitives_of, path_of, check_of, module_of}
+use Rattle.verilog_grammar.specs.specify_blocks.Names.{module_name}
+use Rattle.verilog_grammar.specs.specify_blocks.Generated.{condition_count, output_primitives, group_primitives}
+use Rattle.verilog_grammar.specs.specify_blocks.Generated.{condition_primitives}
+use Rattle.verilog_grammar.specs.specify_blocks.Generated.{primitives_of, path_of, check_of, module_of}
 use Rattle.udp_tables.specs.declared.timing_checks.TimingCheck.{TimingCheck}
-use Rattle.specify_blocks.specs.WellFormed.{IsName, IsNumber, HasNumbers, IsWellFormedUdp, IsWellFormedModule}
-use Rattle.specify_blocks.proofs.Soundness.{module_is_sound}
+use Rattle.verilog_grammar.specs.WellFormed.{IsName, IsNumber, HasNumbers, IsWellFormedUdp, IsWellFormedModule}
+use Rattle.verilog_grammar.proofs.specify_blocks.Soundness.{module_is_sound}
 use Rattle.generated_modules.specs.Cells.{IsNumberedCell}
 use Rattle.generated_modules.specs.Laws.{ModuleIsWellFormed}
 use Rattle.generated_modules.proofs.NumberedNames.{cell_stem}
@@ -38,8 +39,8 @@ use Rattle.generated_modules.proofs.InnerNames.{inner_are_named}
 use Rattle.generated_modules.proofs.PrimitiveNames.{primitive_is_name, primitive_count}
 use Rattle.generated_modules.proofs.Primitives.{function_well_formed, group_well_formed}
 use Rattle.generated_modules.proofs.Conditions.{condition_placed, few_conditions}
-use Rattle.specify_blocks.proofs.cell_tables.OutputLemmas.{among-at}
-use Rattle.specify_blocks.proofs.cell_tables.CellParts.{Rules, outputs_hold, checks_hold, arcs_hold}
+use Rattle.verilog_grammar.proofs.specify_blocks.cell_tables.OutputLemmas.{among-at}
+use Rattle.verilog_grammar.proofs.specify_blocks.cell_tables.CellParts.{Rules, outputs_hold, checks_hold, arcs_hold}
 use Rattle.generated_modules.proofs.CellParts.{few_pins, distinct_pins, few_groups, group_support, few_sources, few_outputs}
 use Rattle.generated_modules.proofs.CellParts.{few_checks, few_arcs, arc_numbers, check_number}
 

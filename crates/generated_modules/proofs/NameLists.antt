@@ -8,8 +8,8 @@ use Rattle.std.proofs.lemmas.Map.Keys.{IsDistinct-cons, IsDistinct-head, IsDisti
 use Rattle.std.proofs.lemmas.Slice.Eq.{bytes_eq-Decides}
 use Rattle.trit_cubes.proofs.ListLemmas.{Among, map-among}
 use Rattle.udp_tables.proofs.FirstLemmas.{found-any}
-use Rattle.specify_blocks.specs.WellFormed.{IsName}
-use Rattle.specify_blocks.proofs.ReadNames.{AreNames, one_name}
+use Rattle.verilog_grammar.specs.WellFormed.{IsName}
+use Rattle.verilog_grammar.proofs.ReadNames.{AreNames, one_name}
 
 -- names that are unlike are so to the test
 pub unlike : (x y : List ℕ) → (x ≡ y → ⊥) → bytes_eq x y ≡ false

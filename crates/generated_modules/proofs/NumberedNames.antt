@@ -16,9 +16,9 @@ use Rattle.udp_tables.proofs.FirstLemmas.{any-found}
 use Rattle.verilog_tokens.specs.Numbers.{is_number}
 use Rattle.verilog_tokens.specs.Words.{verilog_words, is_verilog_word}
 use Rattle.verilog_tokens.specs.Kept.{is_name_byte, is_identifier}
-use Rattle.specify_blocks.specs.Names.{numbered}
-use Rattle.specify_blocks.specs.WellFormed.{IsName}
-use Rattle.specify_blocks.proofs.ReadNames.{AreNames, no_names, push_name}
+use Rattle.verilog_grammar.specs.specify_blocks.Names.{numbered}
+use Rattle.verilog_grammar.specs.WellFormed.{IsName}
+use Rattle.verilog_grammar.proofs.ReadNames.{AreNames, no_names, push_name}
 use Rattle.generated_modules.proofs.NameLists.{unlike, all_weaker}
 
 -- the digits of a number

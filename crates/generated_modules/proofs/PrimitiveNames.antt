@@ -13,11 +13,12 @@ use Rattle.verilog_tokens.specs.Kept.{is_name_byte}
 use Rattle.udp_tables.specs.declared.table.Udp.{Udp}
 use Rattle.udp_tables.specs.Edges.{each_below}
 use Rattle.udp_tables.specs.CellPrimitives.{primitive_name, group_primitive, condition_primitive, has_sources, output_primitive}
-use Rattle.specify_blocks.specs.Names.{numbered}
-use Rattle.specify_blocks.specs.Generated.{condition_count, output_primitives, group_primitives, condition_primitives}
-use Rattle.specify_blocks.specs.Generated.{primitives_of}
-use Rattle.specify_blocks.specs.WellFormed.{IsName, udp_names}
-use Rattle.specify_blocks.proofs.ReadNames.{AreNames}
+use Rattle.verilog_grammar.specs.specify_blocks.Names.{numbered}
+use Rattle.verilog_grammar.specs.specify_blocks.Generated.{condition_count, output_primitives, group_primitives}
+use Rattle.verilog_grammar.specs.specify_blocks.Generated.{condition_primitives}
+use Rattle.verilog_grammar.specs.specify_blocks.Generated.{primitives_of}
+use Rattle.verilog_grammar.specs.WellFormed.{IsName, udp_names}
+use Rattle.verilog_grammar.proofs.ReadNames.{AreNames}
 use Rattle.generated_modules.proofs.NumberedNames.{number_in_name, decimal_digits, IsStem, lib_stem, stem_name, numbered_names}
 
 -- the front of the names of a cell's primitives

@@ -17,12 +17,12 @@ use Rattle.udp_tables.specs.Tables.{value_rows, or_row}
 use Rattle.udp_tables.specs.PortNames.{output_name, input_name, input_names}
 use Rattle.udp_tables.specs.Generated.{level_row, function_rows, primitive_of}
 use Rattle.udp_tables.specs.CellPrimitives.{has_notifier, group_inputs, group_primitive}
-use Rattle.specify_blocks.proofs.cell_tables.TableLemmas.{length-input_names, primitive-combinational}
-use Rattle.specify_blocks.proofs.cell_tables.CellLaws.{groups_are_sequential-lem}
-use Rattle.specify_blocks.specs.Names.{numbered}
-use Rattle.specify_blocks.specs.Sound.{IsTable}
-use Rattle.specify_blocks.specs.WellFormed.{IsName, most_inputs_of, HasNoState, HasNoStates, IsWellFormedUdp}
-use Rattle.specify_blocks.proofs.ReadNames.{AreNames}
+use Rattle.verilog_grammar.proofs.specify_blocks.cell_tables.TableLemmas.{length-input_names, primitive-combinational}
+use Rattle.verilog_grammar.proofs.specify_blocks.cell_tables.CellLaws.{groups_are_sequential-lem}
+use Rattle.verilog_grammar.specs.specify_blocks.Names.{numbered}
+use Rattle.verilog_grammar.specs.specify_blocks.Sound.{IsTable}
+use Rattle.verilog_grammar.specs.WellFormed.{IsName, most_inputs_of, HasNoState, HasNoStates, IsWellFormedUdp}
+use Rattle.verilog_grammar.proofs.ReadNames.{AreNames}
 use Rattle.generated_modules.proofs.NameLists.{cons_name}
 use Rattle.generated_modules.proofs.NumberedNames.{input_stem, numbered_names, numbered_form}
 

@@ -1,8 +1,8 @@
 -- Laws of the modules that are generated for cells.
 use Rattle.std.specs.Prelude.{List, [], map}
 use Rattle.cell_machine.specs.CellData.{CellData}
-use Rattle.specify_blocks.specs.Generated.{module_of}
-use Rattle.specify_blocks.specs.WellFormed.{IsWellFormedModule, AreWellFormed}
+use Rattle.verilog_grammar.specs.specify_blocks.Generated.{module_of}
+use Rattle.verilog_grammar.specs.WellFormed.{IsWellFormedModule, AreWellFormed}
 use Rattle.generated_modules.specs.Accepted.{AreAccepted}
 use Rattle.generated_modules.specs.Cells.{IsNumberedCell, AreCellsOfOneLibrary}
 

@@ -90,3 +90,7 @@ text l bytes = answer_of l (length bytes) (scan_of l.lexis bytes).0 (scan_of l.l
 pub record IsAnswer {A F : Type 0} (l : Texts A F) (bytes : List ℕ) : Type 0 where
   pub value : (a : A) → IsText l bytes a ↔ (text l bytes ≡ Ok a)
   pub fault : (f : F) → IsFault l bytes f ↔ (text l bytes ≡ Err f)
+
+-- this of every text of a language
+abbrev pub HaveOneAnswer : {A F : Type 0} → Texts A F → Type 0
+HaveOneAnswer l = (bytes : List ℕ) → IsAnswer l bytes

@@ -5,11 +5,11 @@ use Rattle.std.specs.Str.{bytes_eq}
 use Rattle.std.proofs.lemmas.List.{append-nil}
 use Rattle.std.proofs.lemmas.Map.Keys.{IsDistinct-push}
 use Rattle.std.proofs.lemmas.Simd.{map-map}
+use Rattle.std.proofs.lemmas.Cmp.{nat_list_eq_equiv as bytes_equivalence}
 use Rattle.bool_functions.specs.NameList.{number_of, AreDistinct}
 use Rattle.bool_functions.proofs.NameLists.{IsDistinct-map}
 use Rattle.cell_attributes.proofs.Clashes.{found_is}
 use Rattle.specify_blocks.specs.declared.model.VModule.{VModule}
-use Rattle.specify_blocks.proofs.ReadNames.{bytes_equivalence}
 use Rattle.vhdl_tokens.specs.Kept.{lowered}
 use Rattle.vital_models.specs.declared.model.VEntity.{VEntity}
 use Rattle.vhdl_grammar.specs.WellFormed.{AreApart}

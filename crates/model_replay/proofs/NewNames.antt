@@ -4,9 +4,9 @@ use Rattle.std.proofs.lemmas.Slice.Eq.{bytes_eq-Decides}
 use Rattle.std.specs.Str.{bytes_eq, str_eq_ignore_ascii_case, str_to_ascii_lowercase}
 use Rattle.std.specs.List.{IsDistinct, AllByRecursion, list_any}
 use Rattle.std.proofs.lemmas.List.Folds.{list_any-append}
+use Rattle.std.proofs.lemmas.Cmp.{nat_list_eq_equiv as bytes_equivalence}
 use Rattle.udp_tables.specs.declared.models.VPort.{VPort}
-use Rattle.specify_blocks.specs.WellFormed.{AreApart}
-use Rattle.specify_blocks.proofs.ReadNames.{bytes_equivalence}
+use Rattle.verilog_grammar.specs.WellFormed.{AreApart}
 use Rattle.file_models.proofs.bool_functions.NameLists.{position-none}
 use Rattle.model_files.specs.ModelNames.{input_names, output_names, AreNew, HasOwnNames}
 

@@ -3,7 +3,7 @@ use Rattle.std.proofs.Common.{◌≡◌, List, [], Option, sym, subst, ◌∙◌
 use Rattle.std.specs.Prelude.{All, map, flat_map}
 use Rattle.std.proofs.lemmas.List.Elements.{All-nil, All-cons, All-append, All-map, All-weaker}
 use Rattle.udp_tables.specs.declared.models.VPort.{VPort}
-use Rattle.specify_blocks.specs.WellFormed.{AreApart}
+use Rattle.verilog_grammar.specs.WellFormed.{AreApart}
 use Rattle.file_models.specs.driver_models.declared.model.DriverModel.{DriverModel}
 use Rattle.file_models.specs.sectioned_texts.declared.driven_models.DrivenModels.{DrivenModels}
 use Rattle.file_models.specs.sectioned_texts.DrivenModels.{SectionLanguage}

@@ -1,10 +1,10 @@
 -- Names of VHDL that are the same whatever the case of their letters.
 use Rattle.std.proofs.Common.{◌≡◌, ℕ, true, false, ◌||◌, List, [], ◌∷◌, ◌++◌, refl, sym, ◌∙◌}
 use Rattle.std.specs.Cmp.{IsEquivalence}
+use Rattle.std.specs.Cmp.Lexicographic.{on_texts_equal}
 use Rattle.std.specs.List.{list_any}
 use Rattle.std.specs.Str.{str_eq_ignore_ascii_case, str_to_ascii_lowercase}
 use Rattle.std.proofs.lemmas.Map.Keys.{IsDistinct-push}
-use Rattle.specify_blocks.proofs.ReadNames.{bytes_equivalence}
 use Rattle.grammar_reader.specs.Words.{is_among}
 use Rattle.driven_files.specs.vhdl_tokens.Tokens.{is_name}
 use Rattle.driven_files.specs.vhdl_tokens.Spelling.{is_same}
@@ -12,11 +12,7 @@ use Rattle.vhdl_grammar.specs.WellFormed.{AreApart}
 use Rattle.vhdl_scope.proofs.LoweredNames.{same_lowered}
 
 pub same_equivalence : IsEquivalence str_eq_ignore_ascii_case
-same_equivalence = record {
-  refl = λ x. bytes_equivalence.refl (str_to_ascii_lowercase x);
-  symm = λ x y. bytes_equivalence.symm (str_to_ascii_lowercase x) (str_to_ascii_lowercase y);
-  congr = λ x y z. bytes_equivalence.congr (str_to_ascii_lowercase x) (str_to_ascii_lowercase y) (str_to_ascii_lowercase z);
-}
+same_equivalence = on_texts_equal str_to_ascii_lowercase
 
 -- a name is no character literal
 pub same_name : (x y : List ℕ) → is_name x ≡ true → is_same x y ≡ str_eq_ignore_ascii_case x y

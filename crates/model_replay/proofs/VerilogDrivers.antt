@@ -4,14 +4,14 @@ use Rattle.std.specs.Str.{bytes_eq}
 use Rattle.std.specs.List.{IsDistinct}
 use Rattle.std.proofs.lemmas.List.{map_push}
 use Rattle.std.proofs.lemmas.Map.Keys.{IsDistinct-push}
+use Rattle.std.proofs.lemmas.Cmp.{nat_list_eq_equiv as bytes_equivalence}
 use Rattle.grammar_rules.proofs.Promises.{Promises, gives, in_turn, many, choice}
 use Rattle.udp_tables.specs.declared.models.VPort.{VPort}
 use Rattle.driven_files.specs.verilog_tokens.Tokens.{is_name}
-use Rattle.specify_blocks.specs.VerilogModules.{port_name, port_names, plain_port, next_port, more_ports, some_ports, Inputs}
-use Rattle.specify_blocks.specs.VerilogModules.{input_at, declared_input, declared_inputs}
-use Rattle.specify_blocks.specs.WellFormed.{AreApart}
-use Rattle.specify_blocks.proofs.ReadNames.{bytes_equivalence}
-use Rattle.specify_blocks.proofs.ReadHeaders.{HasNames, input_named}
+use Rattle.verilog_grammar.specs.VerilogModules.{port_name, port_names, plain_port, next_port, more_ports, some_ports, Inputs}
+use Rattle.verilog_grammar.specs.VerilogModules.{input_at, declared_input, declared_inputs}
+use Rattle.verilog_grammar.specs.WellFormed.{AreApart}
+use Rattle.verilog_grammar.proofs.ReadHeaders.{HasNames, input_named}
 use Rattle.file_models.specs.driver_models.declared.model.DriverModel.{DriverModel}
 use Rattle.file_models.specs.driver_models.Cores.{Core}
 use Rattle.driven_files.specs.driver_texts.Sections.{section, section_text}

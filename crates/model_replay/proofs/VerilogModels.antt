@@ -4,14 +4,15 @@ use Rattle.std.specs.Prelude.{All, flat_map}
 use Rattle.std.specs.Str.{bytes_eq}
 use Rattle.std.specs.List.{IsDistinct, AllByRecursion, list_any}
 use Rattle.std.proofs.lemmas.List.Folds.{list_any-append}
+use Rattle.std.proofs.lemmas.Cmp.{nat_list_eq_equiv as bytes_equivalence}
 use Rattle.driven_files.specs.verilog_tokens.Tokens.{is_name}
-use Rattle.specify_blocks.specs.declared.model.VModule.{VModule}
-use Rattle.specify_blocks.specs.Sound.{IsSound}
-use Rattle.specify_blocks.specs.VerilogModules.{port_names}
-use Rattle.specify_blocks.specs.WellFormed.{AreApart, IsWellFormedModule, AreWellFormed, udp_names, outer_names, register_names}
-use Rattle.specify_blocks.proofs.ReadNames.{bytes_equivalence}
-use Rattle.specify_blocks.proofs.ReadText.{text_modules}
-use Rattle.specify_blocks.proofs.VerilogAnswers.{is_answer}
+use Rattle.verilog_grammar.specs.specify_blocks.declared.model.VModule.{VModule}
+use Rattle.verilog_grammar.specs.specify_blocks.Sound.{IsSound}
+use Rattle.verilog_grammar.specs.VerilogModules.{port_names}
+use Rattle.verilog_grammar.specs.WellFormed.{AreApart, IsWellFormedModule, AreWellFormed, udp_names, outer_names, register_names}
+use Rattle.verilog_grammar.specs.VerilogText.{verilog_text}
+use Rattle.verilog_grammar.proofs.ReadText.{text_modules}
+use Rattle.verilog_grammar.proofs.VerilogAnswers.{is_answer}
 use Rattle.model_traces.specs.ModuleTrace.{module_machine}
 use Rattle.file_models.specs.sectioned_texts.declared.driven_models.DrivenModels.{DrivenModels}
 use Rattle.file_models.specs.sectioned_texts.DrivenModels.{rest_of, driven_models}
@@ -83,11 +84,12 @@ pub record AreFound (found : DrivenModels VModule) : Type 0 where
   pub named : All (IsNamed is_name bytes_eq) found.drivers
 
 pub found_in : (bytes : List ℕ) (found : DrivenModels VModule) → driven_models verilog_sections bytes ≡ Ok found → AreFound found
+unfolding verilog_text
 found_in bytes found e =
     let parts = read_parts verilog_sections (IsNamed is_name bytes_eq) text_is_named bytes found e in
     let rest = rest_of verilog_sections bytes in
     record {
-      models = text_modules rest found.models (((is_answer rest).modules found.models).1 parts.models);
+      models = text_modules rest found.models (((is_answer rest).value found.models).1 parts.models);
       stand = drivers_stand verilog_sections text_may_stand bytes found e;
       named = parts.drivers;
     }

@@ -13,7 +13,7 @@ use Rattle.vital_models.specs.declared.model.VOutput.{VOutput}
 use Rattle.vital_models.specs.declared.model.VEntity.{VEntity}
 use Rattle.vital_models.specs.Sound.{IsSound}
 use Rattle.vhdl_grammar.specs.VhdlDeclarations.{port_names}
-use Rattle.vhdl_grammar.specs.VhdlText.{entity_names}
+use Rattle.vhdl_grammar.specs.VhdlText.{entity_names, vhdl_text}
 use Rattle.vhdl_grammar.specs.WellFormed.{AreApart, IsCount, IsWellFormedEntity, AreWellFormed}
 use Rattle.vhdl_grammar.specs.Laws.{TextsAreWellFormed}
 use Rattle.vhdl_grammar.proofs.VhdlAnswers.{is_answer}
@@ -76,12 +76,13 @@ found_beside bytes found e h =
 
 pub found_in : TextsAreWellFormed → (bytes : List ℕ) (found : DrivenModels VEntity) → IsCount (length bytes)
     → driven_models vital_sections bytes ≡ Ok found → AreFound found
+unfolding vhdl_text
 found_in well bytes found few e =
     let parts = read_parts vital_sections (IsNamed is_name str_eq_ignore_ascii_case) text_is_named bytes found e in
     let rest = rest_of vital_sections bytes in
     let short : IsCount (length rest) = subst IsCount (sym (rest_length vital_sections.vocabulary vital_sections.marks bytes)) few
     in
-    found_beside bytes found e (well rest found.models short (((is_answer rest).entities found.models).1 parts.models))
+    found_beside bytes found e (well rest found.models short (((is_answer rest).value found.models).1 parts.models))
 
 own_of : (f : FileModel VEntity) → HasPorts f → HasOwnPorts vital f
 own_of f h = record { names = h.names; inputs = h.inputs; outputs = h.outputs }

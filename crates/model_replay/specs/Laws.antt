@@ -2,8 +2,8 @@
 use Rattle.std.specs.Prelude.{◌≡◌, ℕ, All, List, [], map, length, Ok}
 use Rattle.std.specs.Result.{result_map_both}
 use Rattle.file_models.specs.driver_sections.Sections.{sections}
-use Rattle.specify_blocks.specs.declared.model.VModule.{VModule}
-use Rattle.specify_blocks.specs.VerilogText.{verilog_text}
+use Rattle.verilog_grammar.specs.specify_blocks.declared.model.VModule.{VModule}
+use Rattle.verilog_grammar.specs.VerilogText.{verilog_text}
 use Rattle.vital_models.specs.declared.model.VEntity.{VEntity}
 use Rattle.vhdl_grammar.specs.VhdlText.{vhdl_text}
 use Rattle.vhdl_grammar.specs.WellFormed.{AreApart, IsCount, AreWellFormed}

@@ -3,8 +3,8 @@
 use Rattle.std.specs.Prelude.{ℕ, List, Result}
 use Rattle.std.specs.Result.{result_map_both}
 use Rattle.udp_tables.specs.declared.models.ModelFault.{ModelFault}
-use Rattle.specify_blocks.specs.declared.model.VModule.{VModule}
-use Rattle.specify_blocks.specs.Sound.{IsSound}
+use Rattle.verilog_grammar.specs.specify_blocks.declared.model.VModule.{VModule}
+use Rattle.verilog_grammar.specs.specify_blocks.Sound.{IsSound}
 use Rattle.model_traces.specs.ModuleTrace.{module_machine}
 use Rattle.file_models.specs.sectioned_texts.DrivenModels.{driven_models}
 use Rattle.driven_files.specs.Verilog.{verilog_sections}

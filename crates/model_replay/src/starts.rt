@@ -1,6 +1,6 @@
 //! The simulators of models of files, at their starts.
 ghost use Rattle.std.specs.Prelude.{◌≡◌, [], IfOk};
-ghost use Rattle.specify_blocks.specs.Sound as modules_of;
+ghost use Rattle.verilog_grammar.specs.specify_blocks.Sound as modules_of;
 ghost use Rattle.vital_models.specs.Sound as entities_of;
 ghost use Rattle.model_traces.specs.ModuleTrace.{module_machine};
 ghost use Rattle.model_traces.specs.EntityTrace.{entity_machine};
@@ -11,10 +11,10 @@ ghost use Rattle.table_interpreters.specs.EntityStarts.{IsEntityStart};
 use cell_machine::Shared;
 use driven_traces::DrivenSim;
 use file_models::FileModel;
-use specify_blocks::VModule;
 use std::alloc::{AllocError, Global};
 use stimulus::TraceSim;
 use table_interpreters::{EntityStart, ModuleStart, VerilogSim, VitalSim};
+use verilog_grammar::modules::VModule;
 use vital_models::VEntity;
 
 /// What is known of a model of a Verilog file before any change. An `Err` comes only where memory is wanting.

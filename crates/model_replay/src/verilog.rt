@@ -5,12 +5,12 @@ use cell_machine::{Change, Shared};
 use driven_files::{VerilogFiles, read_driven_models};
 use file_models::{FileModel, file_models};
 use model_files::{ModelFormat, ModelLanguage};
-use specify_blocks::VModule;
 use std::alloc::{AllocError, Global};
 use stimulus::{Ports, write_section};
 use table_interpreters::ModuleStart;
 use text_io::{Desk, Stop};
 use udp_tables::{ModelFault, VPort};
+use verilog_grammar::modules::VModule;
 
 /// Verilog. (IEEE 1364-2005.)
 pub struct Verilog;

@@ -9,10 +9,10 @@ use Rattle.cell_machine.specs.History.{IsProperFrom}
 use Rattle.cell_machine.specs.Lines.{Line}
 use Rattle.cell_machine.specs.Sized.{cell_machine_sized}
 use Rattle.cell_machine.proofs.RuleLemmas.{rules_of}
-use Rattle.specify_blocks.specs.declared.model.VModule.{VModule}
-use Rattle.specify_blocks.specs.Generated.{module_of}
-use Rattle.specify_blocks.specs.Sound as modules_of
-use Rattle.specify_blocks.proofs.Soundness.{module_is_sound}
+use Rattle.verilog_grammar.specs.specify_blocks.declared.model.VModule.{VModule}
+use Rattle.verilog_grammar.specs.specify_blocks.Generated.{module_of}
+use Rattle.verilog_grammar.specs.specify_blocks.Sound as modules_of
+use Rattle.verilog_grammar.proofs.specify_blocks.Soundness.{module_is_sound}
 use Rattle.vital_models.specs.declared.model.VEntity.{VEntity}
 use Rattle.vital_models.specs.declared.model.VState.{VState}
 use Rattle.vital_models.specs.declared.model.VOutput.{VOutput}

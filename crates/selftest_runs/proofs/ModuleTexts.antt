@@ -6,9 +6,9 @@ use Rattle.text_io.specs.declared.slots.OutSlot.{OutSlot}
 use Rattle.text_io.specs.declared.slots.Slot.TheVariants.{Output}
 use Rattle.text_io.specs.Desk.{DeskState, is_bound, wrote}
 use Rattle.cell_machine.specs.CellData.{CellData}
-use Rattle.specify_blocks.specs.declared.model.VModule.{VModule}
-use Rattle.specify_blocks.specs.Generated.{module_of}
-use Rattle.specify_blocks.specs.WellFormed.{AreWellFormed}
+use Rattle.verilog_grammar.specs.specify_blocks.declared.model.VModule.{VModule}
+use Rattle.verilog_grammar.specs.specify_blocks.Generated.{module_of}
+use Rattle.verilog_grammar.specs.WellFormed.{AreWellFormed}
 use Rattle.verilog_writer.specs.Model.{prelude_text, module_text}
 use Rattle.written_modules.specs.Laws.{modules_text}
 use Rattle.generated_modules.specs.Laws.{ModulesAreWellFormed}

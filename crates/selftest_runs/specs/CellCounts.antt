@@ -3,7 +3,7 @@ use Rattle.std.specs.Prelude.{ℕ, zero, suc, List, []}
 use Rattle.cell_machine.specs.declared.changes.Change.{Change}
 use Rattle.cell_machine.specs.CellData.{CellData}
 use Rattle.cell_machine.specs.CellTrace.{inputs_of, cell_trace}
-use Rattle.specify_blocks.specs.Generated.{module_of}
+use Rattle.verilog_grammar.specs.specify_blocks.Generated.{module_of}
 use Rattle.vital_models.specs.Generated.{entity_of}
 use Rattle.model_traces.specs.ModuleTrace.{module_trace}
 use Rattle.model_traces.specs.EntityTrace.{entity_trace}

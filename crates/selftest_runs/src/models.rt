@@ -3,7 +3,7 @@ ghost use Rattle.std.specs.Prelude.{◌≡◌, [], IfOk};
 ghost use Rattle.cell_machine.specs.CellData.{data_of};
 ghost use Rattle.cell_machine.specs.CellTrace.{inputs_of, cell_trace};
 ghost use Rattle.cell_machine.specs.History.{IsProperFrom};
-ghost use Rattle.specify_blocks.specs.Generated.{module_of};
+ghost use Rattle.verilog_grammar.specs.specify_blocks.Generated.{module_of};
 ghost use Rattle.vital_models.specs.Generated.{entity_of};
 ghost use Rattle.model_traces.specs.ModuleTrace.{module_trace};
 ghost use Rattle.model_traces.specs.EntityTrace.{entity_trace};

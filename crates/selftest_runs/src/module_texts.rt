@@ -2,18 +2,18 @@
 
 ghost use Rattle.std.specs.Prelude.{◌≡◌, [], ◌∷◌, IfOk};
 ghost use Rattle.cell_machine.specs.CellData.{data_of};
-ghost use Rattle.specify_blocks.specs.Generated.{module_of};
-ghost use Rattle.specify_blocks.specs.WellFormed.{AreWellFormed};
+ghost use Rattle.verilog_grammar.specs.specify_blocks.Generated.{module_of};
+ghost use Rattle.verilog_grammar.specs.WellFormed.{AreWellFormed};
 ghost use Rattle.written_modules.specs.Laws.{modules_text};
 
 use crate::numbered_cells::cell_is_numbered;
 use crate::text_desk::{NotKept, TextDesk};
 use cell_machine::Cell;
 use generated_modules::modules_are_well_formed;
-use specify_blocks::{VModule, verilog_model};
 use std::alloc::{AllocError, Global};
 use text_io::OutSlot;
 use udp_tables::ModelFault;
+use verilog_grammar::modules::{VModule, verilog_model};
 use verilog_reader::read_models;
 use verilog_writer::{write_model, write_prelude};
 use written_modules::written_modules_read_back;

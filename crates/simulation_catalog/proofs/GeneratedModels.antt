@@ -8,6 +8,7 @@ use Rattle.std.specs.Option.{option_map}
 use Rattle.std.proofs.lemmas.Bool.{and_from}
 use Rattle.std.proofs.lemmas.Iterator.Adapters.{position_from-zero}
 use Rattle.std.proofs.lemmas.List.{length-map, take_all}
+use Rattle.std.proofs.lemmas.Cmp.{nat_list_eq_equiv as bytes_equivalence}
 use Rattle.bool_functions.specs.NameList.{number_of, AreDistinct}
 use Rattle.cell_machine.proofs.RuleLemmas.{rules_of}
 use Rattle.three_state_cells.specs.DrivenCells.{DrivenData, may_float}
@@ -23,7 +24,6 @@ use Rattle.specify_blocks.specs.Names.{module_name, driver_name}
 use Rattle.specify_blocks.specs.Ports as ports_in_verilog
 use Rattle.specify_blocks.specs.Sound as sound_modules
 use Rattle.specify_blocks.proofs.Soundness.{module_is_sound}
-use Rattle.specify_blocks.proofs.ReadNames.{bytes_equivalence}
 use Rattle.vhdl_tokens.specs.Kept.{lowered}
 use Rattle.vital_models.specs.declared.model.VEntity.{VEntity}
 use Rattle.vital_models.specs.Ports as ports_in_vital

@@ -4,7 +4,3 @@ pub mod Ports
 pub mod Names
 pub mod Generated
 pub mod Laws
-pub mod VerilogModules
-pub mod VerilogBlocks
-pub mod VerilogText
-pub mod WellFormed

@@ -13,7 +13,7 @@ mod primitives;
 mod timing;
 
 pub use generation::verilog_model;
-pub use laws::{generated_is_sound, texts_are_well_formed};
+pub use laws::generated_is_sound;
 pub use model::{Gate, Instance, VModule, VNet, VPath};
 pub use names::{driver_name, module_name};
 pub use ports::verilog_ports;

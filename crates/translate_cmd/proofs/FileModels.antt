@@ -6,7 +6,7 @@ use Rattle.std.specs.Result.{result_map_both}
 use Rattle.std.proofs.lemmas.List.Elements.{recursion_from_All}
 use Rattle.generated_driven_models.specs.specify_blocks.declared.model.VModule.{VModule}
 use Rattle.generated_driven_models.specs.specify_blocks.Generated.{module_of}
-use Rattle.generated_driven_models.specs.specify_blocks.WellFormed as verilog_rules
+use Rattle.generated_driven_models.specs.verilog_grammar.WellFormed as verilog_rules
 use Rattle.generated_driven_models.specs.vhdl_tokens.Kept.{lowered}
 use Rattle.generated_driven_models.specs.vital_models.declared.model.VEntity.{VEntity}
 use Rattle.generated_driven_models.specs.vital_models.Generated.{entity_of}

@@ -1,7 +1,7 @@
 -- Laws of what `translate` writes.
 use Rattle.std.specs.Prelude.{◌≡◌, ℕ, List, [], Ok}
 use Rattle.library_simulation.specs.file_models.sectioned_texts.DrivenModels.{driven_models}
-use Rattle.generated_driven_models.specs.specify_blocks.WellFormed as modules
+use Rattle.generated_driven_models.specs.verilog_grammar.WellFormed as modules
 use Rattle.generated_driven_models.specs.vhdl_grammar.WellFormed as entities
 use Rattle.generated_driven_models.specs.written_driven_models.driven_files.Verilog.{verilog_sections}
 use Rattle.generated_driven_models.specs.written_driven_models.driven_files.Vital.{vital_sections}

@@ -10,8 +10,8 @@ use Rattle.grammar_reader.specs.Words.{Grammar, ◌>>=◌, go_on_where, name_by}
 use Rattle.verilog_tokens.specs.Tokens.{is_name, lexis}
 use Rattle.udp_tables.specs.declared.models.VPort.{VPort}
 use Rattle.udp_tables.specs.VerilogRules.{expect, begins, known, new_name, this_name}
-use Rattle.specify_blocks.specs.VerilogModules.{some_ports, declared_inputs, declared_outputs}
-use Rattle.specify_blocks.specs.VerilogBlocks.{a_number}
+use Rattle.verilog_grammar.specs.VerilogModules.{some_ports, declared_inputs, declared_outputs}
+use Rattle.verilog_grammar.specs.VerilogBlocks.{a_number}
 use Rattle.driven_traces.specs.declared.delays.DrivePath.{DrivePath}
 use Rattle.driver_models.specs.declared.model.DriverModel.{DriverModel}
 use Rattle.driver_models.specs.Wires.{numbered}

@@ -4,8 +4,8 @@
 use Rattle.std.specs.Prelude.{◌≡◌, ℕ, ◌≤◌, true, false, All, List, length, None}
 use Rattle.std.specs.Str.{bytes_eq}
 use Rattle.udp_tables.specs.VerilogRules.{is_among}
-use Rattle.specify_blocks.specs.VerilogModules.{port_names}
-use Rattle.specify_blocks.specs.WellFormed.{IsName, IsNumber, AreApart}
+use Rattle.verilog_grammar.specs.VerilogModules.{port_names}
+use Rattle.verilog_grammar.specs.WellFormed.{IsName, IsNumber, AreApart}
 use Rattle.driven_traces.specs.declared.delays.DrivePath.{DrivePath}
 use Rattle.driver_models.specs.declared.model.DriverModel.{DriverModel}
 use Rattle.driver_models.specs.Models.{IsSound}

@@ -1,7 +1,7 @@
 //! The paths of a driver, by recursive descent. (IEEE 1364-2005, 14.2 and 14.3.)
 
 ghost use Rattle.grammar_reader.specs.Reading.{read, Reads};
-ghost use Rattle.specify_blocks.specs.VerilogBlocks.{a_number};
+ghost use Rattle.verilog_grammar.specs.VerilogBlocks.{a_number};
 ghost use Rattle.verilog_drivers.specs.DriverSections as spec;
 
 use crate::language::Cursor;
@@ -14,7 +14,7 @@ use udp_tables::VPort;
 use verilog_tokens::number_of;
 
 /// The number that stands next.
-#[tactic(auto, using(grammar_reader::proofs::Values::valued_found), unfolding(specify_blocks::specs::VerilogBlocks::a_number))]
+#[tactic(auto, using(grammar_reader::proofs::Values::valued_found), unfolding(verilog_grammar::specs::VerilogBlocks::a_number))]
 fn number(cursor: &mut Cursor) -> Read<u64>
     ensures { Reads (read a_number cursor.old) result cursor.new }
 {

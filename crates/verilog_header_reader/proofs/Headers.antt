@@ -11,7 +11,7 @@ use Rattle.verilog_tokens.specs.Tokens.{is_name}
 use Rattle.udp_tables.specs.declared.models.VPort.{VPort}
 use Rattle.udp_tables.specs.VerilogRules.{known}
 use Rattle.verilog_udp_reader.proofs.Words as words
-use Rattle.specify_blocks.specs.VerilogModules.{Inputs, with_input, first_port, port_names}
+use Rattle.verilog_grammar.specs.VerilogModules.{Inputs, with_input, first_port, port_names}
 
 -- a header has a port, where a name is next, and else none
 pub choose_port : {B : Type 0} (s : List (List ℕ)) (go : List ℕ → List (List ℕ) → Outcome (List ℕ) Refusal B)

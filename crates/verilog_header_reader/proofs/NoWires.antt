@@ -4,7 +4,7 @@ use Rattle.std.specs.Str.{bytes_eq}
 use Rattle.grammar_rules.specs.Reading.{read}
 use Rattle.grammar_reader.specs.Next.{is_next}
 use Rattle.udp_tables.specs.declared.models.VPort.{VPort}
-use Rattle.specify_blocks.specs.VerilogModules.{declared_wires}
+use Rattle.verilog_grammar.specs.VerilogModules.{declared_wires}
 
 pub no_wires : (ports : List VPort) (s : List (List ℕ)) → is_next bytes_eq (codes "wire") s ≡ false
     → read (declared_wires ports) s ≡ Ok ([], s)

@@ -13,7 +13,7 @@ use Rattle.grammar_reader.specs.Reading.{Reads}
 use Rattle.udp_tables.specs.declared.models.VPort.{VPort}
 use Rattle.udp_tables.specs.VerilogRules.{is_among, new_name}
 use Rattle.verilog_udp_reader.proofs.NewNames.{name_read}
-use Rattle.specify_blocks.specs.VerilogModules.{port_names}
+use Rattle.verilog_grammar.specs.VerilogModules.{port_names}
 use Rattle.verilog_header_reader.specs.SameNames.{HaveSame}
 
 -- a name that was there already changes nothing

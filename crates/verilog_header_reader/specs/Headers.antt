@@ -1,5 +1,5 @@
 -- Parts of declarations, as the grammar names them.
-use Rattle.specify_blocks.specs.VerilogModules as modules
+use Rattle.verilog_grammar.specs.VerilogModules as modules
 use Rattle.verilog_header_reader.specs.declared.declarations.Inputs.{Inputs}
 
 abbrev pub inputs_of : Inputs → modules.Inputs

@@ -2,17 +2,17 @@
 
 ghost use Rattle.std.specs.Prelude.{◌≡◌, IfOk, OnOk};
 ghost use Rattle.udp_tables.specs.VerilogRules.{known};
-ghost use Rattle.specify_blocks.specs.VerilogModules as spec;
+ghost use Rattle.verilog_grammar.specs.VerilogModules as spec;
 ghost use Rattle.grammar_reader.specs.Reading.{read, Reads, ReadsAs};
 ghost use Rattle.verilog_header_reader.specs.Headers.{inputs_of};
 
 use crate::ports::{output_place, port_place};
 use crate::wires::{module_notifier, module_wires};
 use grammar_reader::{Read, Refusal, RepeatedPart, Stop, while_next, with_end};
-use specify_blocks::VModule;
 use sqlite_items::Items;
 use std::alloc::Global;
 use udp_tables::{Udp, VPort};
+use verilog_grammar::modules::VModule;
 use verilog_tokens::is_name;
 use verilog_udp_reader::{Cursor, NamedItems, TextNames, Verilog, new_name};
 
@@ -27,7 +27,7 @@ pub struct Inputs {
 type HeaderPorts<'a> = NamedItems<'a, VPort>;
 
 /// Adds one more port of a header.
-#[tactic(auto, unfolding(specify_blocks::specs::VerilogModules::next_port))]
+#[tactic(auto, unfolding(verilog_grammar::specs::VerilogModules::next_port))]
 fn next_port<'a>(cursor: &mut Cursor<'a>, alloc: Global, found: &mut HeaderPorts<'a>) -> Read<()>
     requires { found.old.names ≡ spec.port_names found.old.items }
     ensures reads { ReadsAs (λ _. found.new.items) (read (spec.next_port found.old.items) cursor.old) result cursor.new }
@@ -39,7 +39,7 @@ fn next_port<'a>(cursor: &mut Cursor<'a>, alloc: Global, found: &mut HeaderPorts
 }
 
 /// Adds the ports of a header behind these.
-#[tactic(auto, unfolding(specify_blocks::specs::VerilogModules::more_ports), using(grammar_reader::proofs::Repeats::turns))]
+#[tactic(auto, unfolding(verilog_grammar::specs::VerilogModules::more_ports), using(grammar_reader::proofs::Repeats::turns))]
 fn more_ports<'a>(cursor: &mut Cursor<'a>, alloc: Global, found: &mut HeaderPorts<'a>) -> Read<()>
     requires { found.old.names ≡ spec.port_names found.old.items }
     ensures { ReadsAs (λ _. found.new.items) (read (spec.more_ports found.old.items) cursor.old) result cursor.new }
@@ -55,7 +55,7 @@ fn more_ports<'a>(cursor: &mut Cursor<'a>, alloc: Global, found: &mut HeaderPort
 }
 
 /// The ports of a header.
-#[tactic(auto, unfolding(specify_blocks::specs::VerilogModules::some_ports), using(crate::proofs::Headers::choose_port, crate::proofs::Headers::choose_no_port))]
+#[tactic(auto, unfolding(verilog_grammar::specs::VerilogModules::some_ports), using(crate::proofs::Headers::choose_port, crate::proofs::Headers::choose_no_port))]
 pub fn some_ports(cursor: &mut Cursor, alloc: Global) -> Read<Items<VPort>>
     ensures { Reads (read spec.some_ports cursor.old) result cursor.new }
 {
@@ -81,7 +81,7 @@ pub fn some_ports(cursor: &mut Cursor, alloc: Global) -> Read<Items<VPort>>
 }
 
 /// The header of a module, behind its name.
-#[tactic(auto, unfolding(specify_blocks::specs::VerilogModules::header))]
+#[tactic(auto, unfolding(verilog_grammar::specs::VerilogModules::header))]
 fn module_header(cursor: &mut Cursor, alloc: Global) -> Read<Items<VPort>>
     ensures { Reads (read spec.header cursor.old) result cursor.new }
 {
@@ -117,7 +117,7 @@ fn module_input_name(cursor: &mut Cursor, alloc: Global, found: Inputs) -> Read<
 }
 
 /// One more declared input, behind its word.
-#[tactic(auto, unfolding(specify_blocks::specs::VerilogModules::declared_input))]
+#[tactic(auto, unfolding(verilog_grammar::specs::VerilogModules::declared_input))]
 fn module_input(cursor: &mut Cursor, alloc: Global, found: Inputs) -> Read<Inputs>
     ensures { ReadsAs inputs_of (read (spec.declared_input (inputs_of found)) cursor.old) result cursor.new }
 {
@@ -127,7 +127,7 @@ fn module_input(cursor: &mut Cursor, alloc: Global, found: Inputs) -> Read<Input
 }
 
 /// All declared inputs.
-#[tactic(auto, unfolding(specify_blocks::specs::VerilogModules::declared_inputs), using(grammar_reader::proofs::Repeats::turns))]
+#[tactic(auto, unfolding(verilog_grammar::specs::VerilogModules::declared_inputs), using(grammar_reader::proofs::Repeats::turns))]
 pub fn module_inputs(cursor: &mut Cursor, alloc: Global, mut found: Inputs) -> Read<Inputs>
     ensures { ReadsAs inputs_of (read (spec.declared_inputs (inputs_of found)) cursor.old) result cursor.new }
 {
@@ -150,7 +150,7 @@ impl RepeatedPart<Verilog> for DeclaredOutput<'_> {
 
     ghost reading = { λ output from s. read (spec.declared_output output.0.now from) s };
 
-    #[tactic(auto, unfolding(specify_blocks::specs::VerilogModules::declared_output))]
+    #[tactic(auto, unfolding(verilog_grammar::specs::VerilogModules::declared_output))]
     fn next(&self, cursor: &mut Cursor<'_>, from: usize) -> Read<usize> {
         let Some(place) = output_place(self.0, from) else {
             return Err(Stop::Refused(cursor.no_name()));
@@ -165,7 +165,7 @@ impl RepeatedPart<Verilog> for DeclaredOutput<'_> {
 }
 
 /// The declarations of all outputs.
-#[tactic(auto, unfolding(specify_blocks::specs::VerilogModules::declared_outputs))]
+#[tactic(auto, unfolding(verilog_grammar::specs::VerilogModules::declared_outputs))]
 pub fn module_outputs(cursor: &mut Cursor, ports: &[VPort]) -> Read<()>
     ensures { Reads (read (spec.declared_outputs ports.now) cursor.old) result cursor.new }
 {
@@ -174,7 +174,7 @@ pub fn module_outputs(cursor: &mut Cursor, ports: &[VPort]) -> Read<()>
 }
 
 /// The declarations of a module behind its name, where it has these primitives: the module without instances.
-#[tactic(auto, unfolding(specify_blocks::specs::VerilogModules::declarations))]
+#[tactic(auto, unfolding(verilog_grammar::specs::VerilogModules::declarations))]
 pub fn module_declarations(
     cursor: &mut Cursor,
     alloc: Global,

@@ -3,7 +3,7 @@
 ghost use Rattle.std.specs.Prelude.{◌≡◌, ◌<◌, ◌++◌, length, IfSome};
 ghost use Rattle.std.specs.Str.{bytes_eq};
 ghost use Rattle.udp_tables.specs.VerilogRules.{is_among, place_from};
-ghost use Rattle.specify_blocks.specs.VerilogModules.{port_names, output_place};
+ghost use Rattle.verilog_grammar.specs.VerilogModules.{port_names, output_place};
 
 use grammar_reader::{Language, is_among};
 use sqlite_items::Items;

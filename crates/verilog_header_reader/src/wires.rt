@@ -2,7 +2,7 @@
 
 ghost use Rattle.std.specs.Prelude.{◌≡◌, ◌++◌, ◌∷◌, [], false, IfOk, IfErr, OnOk};
 ghost use Rattle.udp_tables.specs.VerilogRules.{is_among, new_name};
-ghost use Rattle.specify_blocks.specs.VerilogModules as spec;
+ghost use Rattle.verilog_grammar.specs.VerilogModules as spec;
 ghost use Rattle.grammar_reader.specs.Next.{next_bytes};
 ghost use Rattle.grammar_reader.specs.Reading.{read, Reads, ReadsAs};
 ghost use Rattle.verilog_header_reader.specs.SameNames.{HaveSame};
@@ -72,7 +72,7 @@ fn new_wire_name(
 }
 
 /// The line of a wire, behind its word, and behind the ports and others, of which these are the names: the name of the wire.
-#[tactic(auto, unfolding(specify_blocks::specs::VerilogModules::declared_wire))]
+#[tactic(auto, unfolding(verilog_grammar::specs::VerilogModules::declared_wire))]
 fn wire_line(
     cursor: &mut Cursor,
     alloc: Global,
@@ -110,7 +110,7 @@ fn module_wire<'a>(
 }
 
 /// The declared wires, of which there are some as a rule.
-#[tactic(auto, unfolding(specify_blocks::specs::VerilogModules::declared_wires), using(grammar_reader::proofs::Repeats::turns))]
+#[tactic(auto, unfolding(verilog_grammar::specs::VerilogModules::declared_wires), using(grammar_reader::proofs::Repeats::turns))]
 fn some_wires(cursor: &mut Cursor, alloc: Global, ports: &[VPort]) -> Read<Items<Items<u8>>>
     ensures { Reads (read (spec.declared_wires ports.now) cursor.old) result cursor.new }
 {
@@ -142,7 +142,7 @@ pub fn module_wires(cursor: &mut Cursor, alloc: Global, ports: &[VPort]) -> Read
 }
 
 /// The register of the checks, if there is one.
-#[tactic(auto, unfolding(specify_blocks::specs::VerilogModules::notifier, specify_blocks::specs::VerilogModules::declared_notifier), using(grammar_reader::proofs::Repeats::choose_begun, grammar_reader::proofs::Repeats::choose_other))]
+#[tactic(auto, unfolding(verilog_grammar::specs::VerilogModules::notifier, verilog_grammar::specs::VerilogModules::declared_notifier), using(grammar_reader::proofs::Repeats::choose_begun, grammar_reader::proofs::Repeats::choose_other))]
 pub fn module_notifier(
     cursor: &mut Cursor,
     alloc: Global,

@@ -12,9 +12,9 @@ use Rattle.grammar_reader.specs.declared.refusal.Refusal.TheVariants.{Undefined}
 use Rattle.grammar_reader.specs.declared.refusal.Stop.{Stop}
 use Rattle.grammar_reader.specs.declared.refusal.Stop.TheVariants.{Memory, Refused}
 use Rattle.grammar_reader.specs.Reading.{ReadsAs}
-use Rattle.specify_blocks.specs.VerilogModules.{begins_instance, of_primitive, primitive_number, one_instance, with_instance}
-use Rattle.specify_blocks.specs.declared.model.Instance.{Instance}
-use Rattle.specify_blocks.specs.declared.model.VModule.{VModule}
+use Rattle.verilog_grammar.specs.VerilogModules.{begins_instance, of_primitive, primitive_number, one_instance, with_instance}
+use Rattle.verilog_grammar.specs.specify_blocks.declared.model.Instance.{Instance}
+use Rattle.verilog_grammar.specs.specify_blocks.declared.model.VModule.{VModule}
 use Rattle.grammar_reader.proofs.Repeats.{turn}
 use Rattle.verilog_netlist_reader.specs.Begun.{is_instance_start, instance_primitive, numbered}
 use Rattle.grammar_reader.specs.Next.{next_bytes, rest}

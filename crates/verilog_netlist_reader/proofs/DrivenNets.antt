@@ -10,10 +10,10 @@ use Rattle.std.proofs.lemmas.List.{take_more}
 use Rattle.std.proofs.lemmas.List.Folds.{list_any-append}
 use Rattle.std.proofs.Math.Bool.{and-false as and_false}
 use Rattle.udp_tables.specs.declared.table.Udp.{Udp}
-use Rattle.specify_blocks.specs.declared.model.VNet.{VNet}
-use Rattle.specify_blocks.specs.declared.model.VNet.TheVariants as net
-use Rattle.specify_blocks.specs.declared.model.Instance.{Instance}
-use Rattle.specify_blocks.specs.Nets.{same_net, net_driven, has_state}
+use Rattle.verilog_grammar.specs.specify_blocks.declared.model.VNet.{VNet}
+use Rattle.verilog_grammar.specs.specify_blocks.declared.model.VNet.TheVariants as net
+use Rattle.verilog_grammar.specs.specify_blocks.declared.model.Instance.{Instance}
+use Rattle.verilog_grammar.specs.specify_blocks.Nets.{same_net, net_driven, has_state}
 use Rattle.verilog_netlist_reader.specs.declared.driven_nets.DrivenNets.{DrivenNets}
 use Rattle.verilog_netlist_reader.specs.DrivenNets.{Tell, AreDriven, driven_by, drives_port, drives_state, drives_value}
 

@@ -4,13 +4,13 @@ use Rattle.std.proofs.Common.{refl, sym, ap, ◌∙◌, arith, if◌then◌else�
 use Rattle.std.specs.Prelude.{slice_get}
 use Rattle.std.specs.List.{list_any}
 use Rattle.udp_tables.specs.declared.table.Udp.{Udp}
-use Rattle.specify_blocks.specs.declared.model.VNet.{VNet}
-use Rattle.specify_blocks.specs.declared.model.VNet.TheVariants as net
-use Rattle.specify_blocks.specs.declared.model.Instance.{Instance}
-use Rattle.specify_blocks.specs.declared.model.VModule.{VModule}
-use Rattle.specify_blocks.specs.Nets.{same_net, net_driven, has_state, drivers}
-use Rattle.specify_blocks.specs.VerilogModules.{is_driven_already}
-use Rattle.specify_blocks.proofs.InstanceLemmas.{drivers-cons}
+use Rattle.verilog_grammar.specs.specify_blocks.declared.model.VNet.{VNet}
+use Rattle.verilog_grammar.specs.specify_blocks.declared.model.VNet.TheVariants as net
+use Rattle.verilog_grammar.specs.specify_blocks.declared.model.Instance.{Instance}
+use Rattle.verilog_grammar.specs.specify_blocks.declared.model.VModule.{VModule}
+use Rattle.verilog_grammar.specs.specify_blocks.Nets.{same_net, net_driven, has_state, drivers}
+use Rattle.verilog_grammar.specs.VerilogModules.{is_driven_already}
+use Rattle.verilog_grammar.proofs.specify_blocks.InstanceLemmas.{drivers-cons}
 use Rattle.verilog_netlist_reader.specs.declared.driven_nets.DrivenNets.{DrivenNets}
 use Rattle.first_names.specs.declared.places.FirstNames.{FirstNames}
 use Rattle.verilog_netlist_reader.specs.DrivenNets.{AreDriven, driven_by, drives_wire, drives_state, drives_value}

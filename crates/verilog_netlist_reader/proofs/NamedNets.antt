@@ -1,11 +1,11 @@
 -- The terminal of an instance, at the next token.
 use Rattle.std.proofs.Common.{◌≡◌, ℕ, Bool, true, false, List, [], ◌∷◌, Some, None, Ok, Err, refl}
 use Rattle.grammar_rules.specs.Reading.{read}
-use Rattle.specify_blocks.specs.declared.model.VNet.{VNet}
-use Rattle.specify_blocks.specs.declared.model.VModule.{VModule}
+use Rattle.verilog_grammar.specs.specify_blocks.declared.model.VNet.{VNet}
+use Rattle.verilog_grammar.specs.specify_blocks.declared.model.VModule.{VModule}
 use Rattle.verilog_tokens.specs.Tokens.{is_name}
 use Rattle.grammar_reader.specs.declared.refusal.Refusal.TheVariants.{Syntax, Undefined, Twice}
-use Rattle.specify_blocks.specs.VerilogModules.{net_of, terminal}
+use Rattle.verilog_grammar.specs.VerilogModules.{net_of, terminal}
 use Rattle.grammar_reader.specs.Next.{next_bytes, rest}
 
 module _ (m : VModule) (is_allowed is_taken : VNet → Bool) (s : List (List ℕ)) where

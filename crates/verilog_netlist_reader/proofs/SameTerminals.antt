@@ -12,11 +12,11 @@ use Rattle.std.proofs.lemmas.Bool.{eqb-true, eq-eqb}
 use Rattle.std.proofs.lemmas.Slice.Eq.{bytes_eq-Decides}
 use Rattle.udp_tables.specs.declared.models.VPort.{VPort}
 use Rattle.udp_tables.specs.VerilogRules.{is_among}
-use Rattle.specify_blocks.specs.declared.model.VNet.{VNet}
-use Rattle.specify_blocks.specs.declared.model.VNet.TheVariants as net
-use Rattle.specify_blocks.specs.declared.model.VModule.{VModule}
-use Rattle.specify_blocks.specs.Nets.{same_net}
-use Rattle.specify_blocks.specs.VerilogModules.{port_name, net_of, net_by, other_net, terminal}
+use Rattle.verilog_grammar.specs.specify_blocks.declared.model.VNet.{VNet}
+use Rattle.verilog_grammar.specs.specify_blocks.declared.model.VNet.TheVariants as net
+use Rattle.verilog_grammar.specs.specify_blocks.declared.model.VModule.{VModule}
+use Rattle.verilog_grammar.specs.specify_blocks.Nets.{same_net}
+use Rattle.verilog_grammar.specs.VerilogModules.{port_name, net_of, net_by, other_net, terminal}
 use Rattle.grammar_rules.specs.Reading.{read}
 use Rattle.grammar_reader.specs.declared.refusal.Refusal.TheVariants.{Twice}
 use Rattle.grammar_reader.specs.Next.{next_bytes, rest}

@@ -3,7 +3,7 @@ use Rattle.std.specs.Prelude.{ℕ, Bool, ◌||◌, List, Option, Some, None, if�
 use Rattle.std.specs.Str.{bytes_eq}
 use Rattle.udp_tables.specs.declared.table.Udp.{Udp}
 use Rattle.verilog_tokens.specs.Tokens.{is_name}
-use Rattle.specify_blocks.specs.VerilogModules.{primitive_number}
+use Rattle.verilog_grammar.specs.VerilogModules.{primitive_number}
 
 abbrev pub is_instance_start : List ℕ → Bool
 is_instance_start x = bytes_eq x (codes "buf") || is_name x

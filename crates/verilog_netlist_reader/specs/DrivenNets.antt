@@ -2,10 +2,10 @@
 use Rattle.std.specs.Prelude.{◌≡◌, ℕ, Bool, true, false, not, ◌&&◌, if◌then◌else◌, List, slice_get, slice_set, Some}
 use Rattle.std.specs.List.{list_any}
 use Rattle.udp_tables.specs.declared.table.Udp.{Udp}
-use Rattle.specify_blocks.specs.declared.model.VNet.{VNet}
-use Rattle.specify_blocks.specs.declared.model.VNet.TheVariants as net
-use Rattle.specify_blocks.specs.declared.model.Instance.{Instance}
-use Rattle.specify_blocks.specs.Nets.{same_net, net_driven, has_state}
+use Rattle.verilog_grammar.specs.specify_blocks.declared.model.VNet.{VNet}
+use Rattle.verilog_grammar.specs.specify_blocks.declared.model.VNet.TheVariants as net
+use Rattle.verilog_grammar.specs.specify_blocks.declared.model.Instance.{Instance}
+use Rattle.verilog_grammar.specs.specify_blocks.Nets.{same_net, net_driven, has_state}
 use Rattle.verilog_netlist_reader.specs.declared.driven_nets.DrivenNets.{DrivenNets}
 
 -- each mark tells whether one of the instances passes the test of its number

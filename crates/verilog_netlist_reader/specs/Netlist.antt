@@ -1,7 +1,7 @@
 -- What stands beside a module, and finds its nets.
 use Rattle.std.specs.Prelude.{ℕ, List, Option, Some, None}
-use Rattle.specify_blocks.specs.declared.model.VModule.{VModule}
-use Rattle.specify_blocks.specs.VerilogModules.{port_name}
+use Rattle.verilog_grammar.specs.specify_blocks.declared.model.VModule.{VModule}
+use Rattle.verilog_grammar.specs.VerilogModules.{port_name}
 use Rattle.verilog_netlist_reader.specs.declared.driven_nets.DrivenNets.{DrivenNets}
 use Rattle.first_names.specs.declared.places.FirstNames.{FirstNames}
 use Rattle.first_names.specs.Places.{FindsFirst}

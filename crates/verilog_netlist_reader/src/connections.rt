@@ -2,7 +2,7 @@
 
 ghost use Rattle.std.specs.Prelude.{◌≡◌, ◌∷◌, [], false, Some, IfOk, OnOk};
 ghost use Rattle.udp_tables.specs.VerilogRules.{is_among};
-ghost use Rattle.specify_blocks.specs.VerilogModules as spec;
+ghost use Rattle.verilog_grammar.specs.VerilogModules as spec;
 ghost use Rattle.grammar_reader.specs.Next.{next_bytes};
 ghost use Rattle.grammar_reader.specs.Reading.{read, Reads, ReadsAs};
 ghost use Rattle.verilog_netlist_reader.specs.Terminals.{AreNamed};
@@ -10,9 +10,9 @@ ghost use Rattle.verilog_netlist_reader.specs.Terminals.{AreNamed};
 use crate::netlist::Netlist;
 use crate::terminals::{may_drive, may_feed, net_of};
 use grammar_reader::{Read, Refusal, Stop};
-use specify_blocks::VNet;
 use sqlite_items::Items;
 use std::alloc::Global;
+use verilog_grammar::modules::VNet;
 use verilog_tokens::is_name;
 use verilog_udp_reader::{Cursor, NamedItems, TextNames};
 
@@ -20,7 +20,7 @@ use verilog_udp_reader::{Cursor, NamedItems, TextNames};
 type Terminals<'a> = NamedItems<'a, VNet>;
 
 /// The net that an instance drives.
-#[tactic(auto, unfolding(specify_blocks::specs::VerilogModules::driven_terminal), using(crate::proofs::NamedNets::other, crate::proofs::NamedNets::no_net, crate::proofs::NamedNets::barred, crate::proofs::NamedNets::taken, crate::proofs::NamedNets::fits))]
+#[tactic(auto, unfolding(verilog_grammar::specs::VerilogModules::driven_terminal), using(crate::proofs::NamedNets::other, crate::proofs::NamedNets::no_net, crate::proofs::NamedNets::barred, crate::proofs::NamedNets::taken, crate::proofs::NamedNets::fits))]
 pub fn driven_terminal(cursor: &mut Cursor, model: &Netlist, sequential: bool) -> Read<VNet>
     ensures reads { Reads (read (spec.driven_terminal model.now sequential) cursor.old) result cursor.new }
     ensures named { IfOk result (λ net. spec.net_of model.now (next_bytes cursor.old) ≡ Some net) }
@@ -42,7 +42,7 @@ pub fn driven_terminal(cursor: &mut Cursor, model: &Netlist, sequential: bool) -
 }
 
 /// A net that feeds an instance with this output and these inputs already.
-#[tactic(auto, unfolding(specify_blocks::specs::VerilogModules::feeding_terminal), using(crate::proofs::NamedNets::other, crate::proofs::NamedNets::no_net, crate::proofs::NamedNets::barred))]
+#[tactic(auto, unfolding(verilog_grammar::specs::VerilogModules::feeding_terminal), using(crate::proofs::NamedNets::other, crate::proofs::NamedNets::no_net, crate::proofs::NamedNets::barred))]
 fn feeding_terminal(
     cursor: &mut Cursor,
     model: &Netlist,
@@ -74,7 +74,7 @@ fn feeding_terminal(
 }
 
 /// Adds one more net that feeds an instance.
-#[tactic(auto, unfolding(specify_blocks::specs::VerilogModules::next_input), using(crate::proofs::SameTerminals::named_more))]
+#[tactic(auto, unfolding(verilog_grammar::specs::VerilogModules::next_input), using(crate::proofs::SameTerminals::named_more))]
 fn next_terminal<'a>(
     cursor: &mut Cursor<'a>,
     model: &Netlist,
@@ -115,7 +115,7 @@ pub fn first_terminal<'a>(
 }
 
 /// Adds the nets that feed an instance behind these.
-#[tactic(auto, unfolding(specify_blocks::specs::VerilogModules::more_inputs), using(grammar_reader::proofs::Repeats::turns))]
+#[tactic(auto, unfolding(verilog_grammar::specs::VerilogModules::more_inputs), using(grammar_reader::proofs::Repeats::turns))]
 pub fn more_terminals<'a>(
     cursor: &mut Cursor<'a>,
     model: &Netlist,

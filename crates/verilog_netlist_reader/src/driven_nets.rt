@@ -2,14 +2,14 @@
 
 ghost use Rattle.std.specs.Prelude.{◌≡◌, List, [], false, replicate, slice_set, true, IfOk, IfErr};
 ghost use Rattle.udp_tables.specs.declared.table.Udp.{Udp};
-ghost use Rattle.specify_blocks.specs.declared.model.Instance.{Instance};
+ghost use Rattle.verilog_grammar.specs.specify_blocks.declared.model.Instance.{Instance};
 ghost use Rattle.verilog_netlist_reader.specs.DrivenNets.{AreDriven};
 
 use crate::nets::{FEW, has_state};
 use grammar_reader::{Read, Stop};
-use specify_blocks::{VModule, VNet};
 use sqlite_items::Items;
 use std::alloc::Global;
+use verilog_grammar::modules::{VModule, VNet};
 
 /// Which nets the instances of a module drive: a mark for each port, one for each wire that is driven as a state, and one for
 /// each wire that is driven without a state. Nothing is told of a net without a mark.

@@ -2,7 +2,7 @@
 
 ghost use Rattle.std.specs.Prelude.{◌≡◌, IfOk};
 ghost use Rattle.grammar_reader.specs.Words.{valued};
-ghost use Rattle.specify_blocks.specs.VerilogModules as spec;
+ghost use Rattle.verilog_grammar.specs.VerilogModules as spec;
 ghost use Rattle.verilog_netlist_reader.specs.Begun.{is_instance_start, instance_primitive};
 ghost use Rattle.verilog_netlist_reader.specs.NameSearch.{udp_name};
 ghost use Rattle.verilog_netlist_reader.specs.Netlist.{MayFind};
@@ -15,8 +15,8 @@ use crate::nets::is_sequential;
 use crate::terminals::has_all_inputs;
 use first_names::FirstNames;
 use grammar_reader::{Language, Read, Refusal, Stop, value_of, where_read};
-use specify_blocks::{Instance, VModule};
 use std::alloc::Global;
+use verilog_grammar::modules::{Instance, VModule};
 use verilog_tokens::is_name;
 use verilog_udp_reader::{Cursor, NamedItems, Verilog};
 
@@ -53,7 +53,7 @@ fn instance_primitive(
 }
 
 /// The terminals of an instance of the primitive with this number, behind its name.
-#[tactic(auto, unfolding(specify_blocks::specs::VerilogModules::call))]
+#[tactic(auto, unfolding(verilog_grammar::specs::VerilogModules::call))]
 fn call(cursor: &mut Cursor, alloc: Global, model: &Netlist, udp: usize) -> Read<Instance>
     ensures { ReadsAs (spec.with_instance model.now) (read (spec.call model.now udp) cursor.old) result cursor.new }
 {
@@ -85,7 +85,7 @@ fn a_bit(cursor: &mut Cursor) -> Read<bool>
 }
 
 /// The terminals of a buffer of a constant, behind its word.
-#[tactic(auto, unfolding(specify_blocks::specs::VerilogModules::constant))]
+#[tactic(auto, unfolding(verilog_grammar::specs::VerilogModules::constant))]
 fn constant(cursor: &mut Cursor, model: &Netlist) -> Read<Instance>
     ensures { ReadsAs (spec.with_instance model.now) (read (spec.constant model.now) cursor.old) result cursor.new }
 {
@@ -114,7 +114,7 @@ fn one_instance(
 }
 
 /// Puts the instances of a module behind those that it has, where its primitives have these names, if they are many.
-#[tactic(auto, unfolding(specify_blocks::specs::VerilogModules::instances), using(grammar_reader::proofs::Repeats::turn, crate::proofs::Begun::no_instance, crate::proofs::Begun::undefined, crate::proofs::Begun::some_instance))]
+#[tactic(auto, unfolding(verilog_grammar::specs::VerilogModules::instances), using(grammar_reader::proofs::Repeats::turn, crate::proofs::Begun::no_instance, crate::proofs::Begun::undefined, crate::proofs::Begun::some_instance))]
 fn more_instances(
     cursor: &mut Cursor,
     alloc: Global,

@@ -3,7 +3,7 @@
 ghost use Rattle.std.specs.Prelude.{◌≡◌, IfOk, IfErr};
 ghost use Rattle.std.specs.List.{position};
 ghost use Rattle.std.specs.Str.{bytes_eq};
-ghost use Rattle.specify_blocks.specs.VerilogModules.{port_name};
+ghost use Rattle.verilog_grammar.specs.VerilogModules.{port_name};
 ghost use Rattle.first_names.specs.Places.{FindsFirst};
 ghost use Rattle.verilog_netlist_reader.specs.NameSearch.{udp_name, own_name};
 ghost use Rattle.verilog_netlist_reader.specs.Netlist.{MayFind};

@@ -7,11 +7,11 @@ use crate::name_search::{many_names, place_of};
 use crate::nets::{has_state, is_driven_already, is_wire_driven_by};
 use first_names::FirstNames;
 use grammar_reader::{Read, Stop};
-use specify_blocks::{Instance, VModule, VNet, VPath};
 use sqlite_items::Items;
 use std::alloc::Global;
 use std::marker::Model;
 use udp_tables::TimingCheck;
+use verilog_grammar::modules::{Instance, VModule, VNet, VPath};
 
 /// A module. Contracts see it alone. Beside it stand the names of its ports, where there are more than a few, those of its wires
 /// likewise, and which nets are driven.
@@ -24,7 +24,7 @@ pub struct Netlist {
 }
 
 impl Model for Netlist {
-    ghost use Rattle.specify_blocks.specs.declared.model.VModule.{VModule};
+    ghost use Rattle.verilog_grammar.specs.specify_blocks.declared.model.VModule.{VModule};
     ghost use Rattle.verilog_netlist_reader.specs.Netlist.{AreKeptOf};
 
     ghost Value = { VModule };
@@ -62,10 +62,10 @@ impl Netlist {
     ghost use Rattle.std.specs.Prelude.{◌≡◌, IfErr, IfOk, OnOk};
     ghost use Rattle.std.specs.List.{list_any, position};
     ghost use Rattle.std.specs.Str.{bytes_eq};
-    ghost use Rattle.specify_blocks.specs.declared.model.VNet.TheVariants as net;
-    ghost use Rattle.specify_blocks.specs.Nets as nets;
-    ghost use Rattle.specify_blocks.specs.VerilogModules.{is_driven_already, with_instance};
-    ghost use Rattle.specify_blocks.specs.VerilogBlocks.{port_of, with_block};
+    ghost use Rattle.verilog_grammar.specs.specify_blocks.declared.model.VNet.TheVariants as net;
+    ghost use Rattle.verilog_grammar.specs.specify_blocks.Nets as nets;
+    ghost use Rattle.verilog_grammar.specs.VerilogModules.{is_driven_already, with_instance};
+    ghost use Rattle.verilog_grammar.specs.VerilogBlocks.{port_of, with_block};
     ghost use Rattle.verilog_netlist_reader.specs.DrivenNets.{drives_wire};
 
     /// A module, with what finds its nets.

@@ -2,12 +2,12 @@
 
 ghost use Rattle.std.specs.Prelude.{◌≡◌};
 ghost use Rattle.std.specs.List.{list_any};
-ghost use Rattle.specify_blocks.specs.Nets as spec;
-ghost use Rattle.specify_blocks.specs.VerilogModules.{is_driven_already};
+ghost use Rattle.verilog_grammar.specs.specify_blocks.Nets as spec;
+ghost use Rattle.verilog_grammar.specs.VerilogModules.{is_driven_already};
 ghost use Rattle.verilog_netlist_reader.specs.DrivenNets.{drives_wire};
 
-use specify_blocks::{Instance, VModule, VNet};
 use udp_tables::{Udp, VPort};
+use verilog_grammar::modules::{Instance, VModule, VNet};
 
 /// How many nets of a kind are looked for one after another.
 pub const FEW: usize = 16;

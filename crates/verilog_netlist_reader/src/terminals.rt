@@ -2,12 +2,12 @@
 
 ghost use Rattle.std.specs.Prelude.{◌≡◌, ◌==◌, length};
 ghost use Rattle.std.specs.List.{list_all};
-ghost use Rattle.specify_blocks.specs.VerilogModules as spec;
+ghost use Rattle.verilog_grammar.specs.VerilogModules as spec;
 
 use crate::netlist::Netlist;
 use crate::nets::is_output_port;
-use specify_blocks::VNet;
 use udp_tables::{Udp, is_input_port};
+use verilog_grammar::modules::VNet;
 
 /// The net of a name: a port, a wire or the register.
 pub fn net_of(model: &Netlist, name: &[u8]) -> Option<VNet>

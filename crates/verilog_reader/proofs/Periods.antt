@@ -4,7 +4,7 @@ use Rattle.grammar_rules.specs.Reading.{judge, read}
 use Rattle.grammar_reader.specs.Next.{next_bytes}
 use Rattle.grammar_reader.specs.Reading.{number_at}
 use Rattle.verilog_tokens.specs.Numbers.{number_of}
-use Rattle.specify_blocks.specs.VerilogBlocks.{equal_to, same_number}
+use Rattle.verilog_grammar.specs.VerilogBlocks.{equal_to, same_number}
 
 -- what is read at a token that has to stand for the same number as before
 pub number_found : (limit : ℕ) (s : List (List ℕ)) → read (same_number limit) s ≡ number_at limit (number_of (next_bytes s)) s

@@ -6,8 +6,8 @@ use Rattle.cell_machine.specs.declared.checks.CheckKind.{CheckKind}
 use Rattle.cell_machine.specs.declared.checks.Event.{Event}
 use Rattle.udp_tables.specs.declared.timing_checks.TimingCheck.{TimingCheck}
 use Rattle.udp_tables.specs.VerilogRules.{expect}
-use Rattle.specify_blocks.specs.VerilogBlocks.{a_number, check_end}
-use Rattle.specify_blocks.specs.declared.model.VModule.{VModule}
+use Rattle.verilog_grammar.specs.VerilogBlocks.{a_number, check_end}
+use Rattle.verilog_grammar.specs.specify_blocks.declared.model.VModule.{VModule}
 
 -- "," NUM "," NAME ")" ";" behind the events of a check of this kind and its condition
 unfoldable pub limited : VModule → CheckKind → Event → Event → Option ℕ → Grammar TimingCheck

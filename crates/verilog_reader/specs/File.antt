@@ -6,10 +6,10 @@ use Rattle.grammar_reader.specs.declared.refusal.Refusal.TheVariants.{Undriven}
 use Rattle.udp_tables.specs.declared.models.ModelFault.{ModelFault}
 use Rattle.udp_tables.specs.declared.models.ModelFault.TheVariants as fault
 use Rattle.udp_tables.specs.VerilogRules.{expect_where}
-use Rattle.specify_blocks.specs.VerilogModules.{are_all_driven}
-use Rattle.specify_blocks.specs.VerilogText.{verilog_text}
-use Rattle.specify_blocks.specs.declared.model.VModule.{VModule}
-use Rattle.specify_blocks.specs.VerilogText as spec
+use Rattle.verilog_grammar.specs.VerilogModules.{are_all_driven}
+use Rattle.verilog_grammar.specs.VerilogText.{verilog_text}
+use Rattle.verilog_grammar.specs.specify_blocks.declared.model.VModule.{VModule}
+use Rattle.verilog_grammar.specs.VerilogText as spec
 use Rattle.verilog_reader.specs.declared.file.Before.{Before}
 
 abbrev pub before_of : Before → spec.Before

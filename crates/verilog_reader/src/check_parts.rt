@@ -2,7 +2,7 @@
 
 ghost use Rattle.std.specs.Prelude.{◌≡◌};
 ghost use Rattle.udp_tables.specs.VerilogRules.{this_name};
-ghost use Rattle.specify_blocks.specs.VerilogBlocks as spec;
+ghost use Rattle.verilog_grammar.specs.VerilogBlocks as spec;
 ghost use Rattle.grammar_reader.specs.Reading.{read, Reads};
 
 use crate::paths::{condition_name, input_name};
@@ -19,7 +19,7 @@ fn edge_of(token: &[u8]) -> Option<Edge>
 }
 
 /// The word before the port of an event, if there is one.
-#[tactic(auto, using(grammar_reader::proofs::Choices::choose_as, grammar_reader::proofs::Choices::choose_not_as), unfolding(specify_blocks::specs::VerilogBlocks::any_edge))]
+#[tactic(auto, using(grammar_reader::proofs::Choices::choose_as, grammar_reader::proofs::Choices::choose_not_as), unfolding(verilog_grammar::specs::VerilogBlocks::any_edge))]
 fn any_edge(cursor: &mut Cursor) -> Read<Edge>
     ensures { Reads (read spec.any_edge cursor.old) result cursor.new }
 {
@@ -33,7 +33,7 @@ fn any_edge(cursor: &mut Cursor) -> Read<Edge>
 }
 
 /// An event of an input.
-#[tactic(auto, unfolding(specify_blocks::specs::VerilogBlocks::an_event))]
+#[tactic(auto, unfolding(verilog_grammar::specs::VerilogBlocks::an_event))]
 pub fn an_event(cursor: &mut Cursor, model: &Netlist) -> Read<Event>
     ensures { Reads (read (spec.an_event model.now) cursor.old) result cursor.new }
 {
@@ -43,7 +43,7 @@ pub fn an_event(cursor: &mut Cursor, model: &Netlist) -> Read<Event>
 }
 
 /// An event of an input, of one kind of edge.
-#[tactic(auto, unfolding(specify_blocks::specs::VerilogBlocks::an_edge_event), using(grammar_reader::proofs::Values::valued_found))]
+#[tactic(auto, unfolding(verilog_grammar::specs::VerilogBlocks::an_edge_event), using(grammar_reader::proofs::Values::valued_found))]
 pub fn an_edge_event(cursor: &mut Cursor, model: &Netlist) -> Read<Event>
     ensures { Reads (read (spec.an_edge_event model.now) cursor.old) result cursor.new }
 {
@@ -54,7 +54,7 @@ pub fn an_edge_event(cursor: &mut Cursor, model: &Netlist) -> Read<Event>
 }
 
 /// The condition of a check, if there is one.
-#[tactic(auto, using(grammar_reader::proofs::Repeats::choose_begun, grammar_reader::proofs::Repeats::choose_other), unfolding(specify_blocks::specs::VerilogBlocks::condition, specify_blocks::specs::VerilogBlocks::condition_name))]
+#[tactic(auto, using(grammar_reader::proofs::Repeats::choose_begun, grammar_reader::proofs::Repeats::choose_other), unfolding(verilog_grammar::specs::VerilogBlocks::condition, verilog_grammar::specs::VerilogBlocks::condition_name))]
 pub fn condition(cursor: &mut Cursor, model: &Netlist) -> Read<Option<usize>>
     ensures { Reads (read (spec.condition model.now) cursor.old) result cursor.new }
 {
@@ -77,7 +77,7 @@ fn notifier_name(cursor: &mut Cursor, model: &Netlist) -> Read<()>
 }
 
 /// The end of a check.
-#[tactic(auto, unfolding(specify_blocks::specs::VerilogBlocks::check_end))]
+#[tactic(auto, unfolding(verilog_grammar::specs::VerilogBlocks::check_end))]
 pub fn check_end(cursor: &mut Cursor, model: &Netlist) -> Read<()>
     ensures { Reads (read (spec.check_end model.now) cursor.old) result cursor.new }
 {

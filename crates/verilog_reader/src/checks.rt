@@ -1,7 +1,7 @@
 //! Specify blocks, and their timing checks. (IEEE 1364-2005, 14.1, 15.2 and 15.3.)
 
 ghost use Rattle.std.specs.Prelude.{◌≡◌, IfOk};
-ghost use Rattle.specify_blocks.specs.VerilogBlocks as spec;
+ghost use Rattle.verilog_grammar.specs.VerilogBlocks as spec;
 ghost use Rattle.grammar_reader.specs.Reading.{read, Reads, ReadsAs};
 ghost use Rattle.verilog_reader.specs.Checks.{limited};
 
@@ -70,7 +70,7 @@ fn limited(
 }
 
 /// A check whose first argument is the earlier event.
-#[tactic(auto, unfolding(specify_blocks::specs::VerilogBlocks::ordered_check, crate::specs::Checks::limited))]
+#[tactic(auto, unfolding(verilog_grammar::specs::VerilogBlocks::ordered_check, crate::specs::Checks::limited))]
 fn ordered_check(cursor: &mut Cursor, kind: CheckKind, model: &Netlist) -> Read<TimingCheck>
     ensures { Reads (read (spec.ordered_check kind model.now) cursor.old) result cursor.new }
 {
@@ -82,7 +82,7 @@ fn ordered_check(cursor: &mut Cursor, kind: CheckKind, model: &Netlist) -> Read<
 }
 
 /// A check whose first argument is the later event.
-#[tactic(auto, unfolding(specify_blocks::specs::VerilogBlocks::turned_check, crate::specs::Checks::limited))]
+#[tactic(auto, unfolding(verilog_grammar::specs::VerilogBlocks::turned_check, crate::specs::Checks::limited))]
 fn turned_check(cursor: &mut Cursor, kind: CheckKind, model: &Netlist) -> Read<TimingCheck>
     ensures { Reads (read (spec.turned_check kind model.now) cursor.old) result cursor.new }
 {
@@ -94,7 +94,7 @@ fn turned_check(cursor: &mut Cursor, kind: CheckKind, model: &Netlist) -> Read<T
 }
 
 /// The width of a pulse.
-#[tactic(auto, unfolding(specify_blocks::specs::VerilogBlocks::width_check))]
+#[tactic(auto, unfolding(verilog_grammar::specs::VerilogBlocks::width_check))]
 fn width_check(cursor: &mut Cursor, model: &Netlist) -> Read<TimingCheck>
     ensures { Reads (read (spec.width_check model.now) cursor.old) result cursor.new }
 {
@@ -119,7 +119,7 @@ fn width_check(cursor: &mut Cursor, model: &Netlist) -> Read<TimingCheck>
 }
 
 /// A check of a kind, behind its bracket.
-#[tactic(auto, unfolding(specify_blocks::specs::VerilogBlocks::check_of_kind))]
+#[tactic(auto, unfolding(verilog_grammar::specs::VerilogBlocks::check_of_kind))]
 fn check_of_kind(cursor: &mut Cursor, model: &Netlist, kind: CheckKind) -> Read<TimingCheck>
     ensures { Reads (read (spec.check_of_kind model.now kind) cursor.old) result cursor.new }
 {
@@ -134,7 +134,7 @@ fn check_of_kind(cursor: &mut Cursor, model: &Netlist, kind: CheckKind) -> Read<
 }
 
 /// A check, behind its word.
-#[tactic(auto, unfolding(specify_blocks::specs::VerilogBlocks::check))]
+#[tactic(auto, unfolding(verilog_grammar::specs::VerilogBlocks::check))]
 fn check(cursor: &mut Cursor, model: &Netlist, kind: CheckKind) -> Read<TimingCheck>
     ensures { Reads (read (spec.check model.now kind) cursor.old) result cursor.new }
 {
@@ -143,7 +143,7 @@ fn check(cursor: &mut Cursor, model: &Netlist, kind: CheckKind) -> Read<TimingCh
 }
 
 /// The checks of a specify block, in a list without room for more.
-#[tactic(auto, using(grammar_reader::proofs::Repeats::turn, grammar_reader::proofs::Choices::choose_as, grammar_reader::proofs::Choices::choose_not_as), unfolding(specify_blocks::specs::VerilogBlocks::checks, specify_blocks::specs::VerilogBlocks::next_check))]
+#[tactic(auto, using(grammar_reader::proofs::Repeats::turn, grammar_reader::proofs::Choices::choose_as, grammar_reader::proofs::Choices::choose_not_as), unfolding(verilog_grammar::specs::VerilogBlocks::checks, verilog_grammar::specs::VerilogBlocks::next_check))]
 fn checks(cursor: &mut Cursor, alloc: Global, model: &Netlist) -> Read<Items<TimingCheck>>
     ensures { Reads (read (spec.checks model.now) cursor.old) result cursor.new }
 {
@@ -159,7 +159,7 @@ fn checks(cursor: &mut Cursor, alloc: Global, model: &Netlist) -> Read<Items<Tim
 }
 
 /// The paths and checks of a specify block, behind its word, which the module gets.
-#[tactic(auto, unfolding(specify_blocks::specs::VerilogBlocks::block))]
+#[tactic(auto, unfolding(verilog_grammar::specs::VerilogBlocks::block))]
 fn block(cursor: &mut Cursor, alloc: Global, model: &mut Netlist) -> Read<()>
     ensures reads { ReadsAs (λ _. model.new) (read (spec.block model.old) cursor.old) result cursor.new }
     ensures named { IfOk result (λ _. model.new.name ≡ model.old.name) }
@@ -172,7 +172,7 @@ fn block(cursor: &mut Cursor, alloc: Global, model: &mut Netlist) -> Read<()>
 }
 
 /// The specify block of a module, if there is one: the module with its paths and checks.
-#[tactic(auto, using(grammar_reader::proofs::Repeats::choose_begun, grammar_reader::proofs::Repeats::choose_other, grammar_reader::proofs::WithRest::reads_before, grammar_reader::proofs::WithRest::kept_before), unfolding(specify_blocks::specs::VerilogBlocks::specify))]
+#[tactic(auto, using(grammar_reader::proofs::Repeats::choose_begun, grammar_reader::proofs::Repeats::choose_other, grammar_reader::proofs::WithRest::reads_before, grammar_reader::proofs::WithRest::kept_before), unfolding(verilog_grammar::specs::VerilogBlocks::specify))]
 pub fn specify(cursor: &mut Cursor, alloc: Global, mut joined: Netlist) -> Read<Netlist>
     ensures reads { Reads (read (spec.specify joined) cursor.old) result cursor.new }
     ensures named { IfOk result (λ model. model.name ≡ joined.name) }

@@ -1,7 +1,7 @@
 //! The primitives and modules of a text, by recursive descent. (IEEE 1364-2005, A.1 and 19.8.)
 
 ghost use Rattle.std.specs.Prelude.{◌≡◌, [], ◌∷◌, ◌++◌, IfOk};
-ghost use Rattle.specify_blocks.specs.VerilogText as spec;
+ghost use Rattle.verilog_grammar.specs.VerilogText as spec;
 ghost use Rattle.verilog_reader.specs.File.{before_of, modules_of, module_end};
 ghost use Rattle.grammar_reader.specs.Reading.{read, Reads, ReadsAs};
 
@@ -9,11 +9,11 @@ use crate::nets::{Netlist, are_all_driven, module_instances};
 use crate::specify;
 use bool_functions::Names;
 use grammar_reader::{Language, Read, Refusal, Stop, where_read};
-use specify_blocks::VModule;
 use sqlite_items::Items;
 use std::alloc::Global;
 use std::mem::replace;
 use udp_tables::Udp;
+use verilog_grammar::modules::VModule;
 use verilog_header_reader::module_declarations;
 use verilog_udp_reader::{Cursor, Verilog, declare, primitive};
 
@@ -34,7 +34,7 @@ fn is_design_start(token: &[u8]) -> bool
 }
 
 /// The first line of a text.
-#[tactic(auto, unfolding(specify_blocks::specs::VerilogText::prelude))]
+#[tactic(auto, unfolding(verilog_grammar::specs::VerilogText::prelude))]
 fn prelude(cursor: &mut Cursor) -> Read<()>
     ensures { Reads (read spec.prelude cursor.old) result cursor.new }
 {
@@ -45,7 +45,7 @@ fn prelude(cursor: &mut Cursor) -> Read<()>
 }
 
 /// Adds one more primitive, behind its word.
-#[tactic(auto, unfolding(specify_blocks::specs::VerilogText::next_primitive))]
+#[tactic(auto, unfolding(verilog_grammar::specs::VerilogText::next_primitive))]
 fn next_primitive(cursor: &mut Cursor, alloc: Global, before: &mut Before) -> Read<()>
     ensures { ReadsAs (λ _. before_of before.new) (read (spec.next_primitive (before_of before.old)) cursor.old) result
         cursor.new }
@@ -56,7 +56,7 @@ fn next_primitive(cursor: &mut Cursor, alloc: Global, before: &mut Before) -> Re
 }
 
 /// Adds the primitives behind these.
-#[tactic(auto, unfolding(specify_blocks::specs::VerilogText::more_primitives), using(grammar_reader::proofs::Repeats::turns))]
+#[tactic(auto, unfolding(verilog_grammar::specs::VerilogText::more_primitives), using(grammar_reader::proofs::Repeats::turns))]
 fn more_primitives(cursor: &mut Cursor, alloc: Global, before: &mut Before) -> Read<()>
     ensures { ReadsAs (λ _. before_of before.new) (read (spec.more_primitives (before_of before.old)) cursor.old) result
         cursor.new }
@@ -82,7 +82,7 @@ fn module_end(cursor: &mut Cursor, whole: Netlist) -> Read<VModule>
 }
 
 /// A module behind its word. Its own name is then the last of the names.
-#[tactic(auto, unfolding(specify_blocks::specs::VerilogText::one_module, crate::specs::File::module_end))]
+#[tactic(auto, unfolding(verilog_grammar::specs::VerilogText::one_module, crate::specs::File::module_end))]
 fn one_module(
     cursor: &mut Cursor,
     alloc: Global,
@@ -100,7 +100,7 @@ fn one_module(
 }
 
 /// Adds one more module, which has the primitives behind the last one, behind its word.
-#[tactic(auto, unfolding(specify_blocks::specs::VerilogText::next_module))]
+#[tactic(auto, unfolding(verilog_grammar::specs::VerilogText::next_module))]
 fn next_module(cursor: &mut Cursor, alloc: Global, before: &mut Before) -> Read<()>
     ensures { ReadsAs (λ _. before_of before.new) (read (spec.next_module (before_of before.old)) cursor.old) result cursor.new }
 {
@@ -112,7 +112,7 @@ fn next_module(cursor: &mut Cursor, alloc: Global, before: &mut Before) -> Read<
 }
 
 /// Adds primitives and their module, behind the word `primitive`.
-#[tactic(auto, unfolding(specify_blocks::specs::VerilogText::primitives_and_module))]
+#[tactic(auto, unfolding(verilog_grammar::specs::VerilogText::primitives_and_module))]
 fn primitives_and_module(cursor: &mut Cursor, alloc: Global, before: &mut Before) -> Read<()>
     ensures { ReadsAs (λ _. before_of before.new) (read (spec.primitives_and_module (before_of before.old)) cursor.old) result
         cursor.new }
@@ -136,7 +136,7 @@ fn design(cursor: &mut Cursor, alloc: Global, before: &mut Before, first: &[u8])
 }
 
 /// All primitives and modules of a text.
-#[tactic(auto, unfolding(specify_blocks::specs::VerilogText::designs), using(grammar_reader::proofs::Repeats::turn, grammar_reader::proofs::Choices::choose_by, grammar_reader::proofs::Choices::choose_not_by))]
+#[tactic(auto, unfolding(verilog_grammar::specs::VerilogText::designs), using(grammar_reader::proofs::Repeats::turn, grammar_reader::proofs::Choices::choose_by, grammar_reader::proofs::Choices::choose_not_by))]
 fn designs(cursor: &mut Cursor, alloc: Global) -> Read<Before>
     ensures { ReadsAs before_of (read spec.designs cursor.old) result cursor.new }
 {
@@ -157,7 +157,7 @@ fn designs(cursor: &mut Cursor, alloc: Global) -> Read<Before>
 }
 
 /// All primitives and modules of a text, and nothing behind them.
-#[tactic(auto, unfolding(specify_blocks::specs::VerilogText::file))]
+#[tactic(auto, unfolding(verilog_grammar::specs::VerilogText::file))]
 pub fn file(cursor: &mut Cursor, alloc: Global) -> Read<Before>
     ensures { ReadsAs modules_of (read spec.file cursor.old) result cursor.new }
 {

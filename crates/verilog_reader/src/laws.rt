@@ -3,12 +3,7 @@
 ghost use Rattle.std.specs.Prelude.{false};
 ghost use Rattle.verilog_tokens.specs.Separators.{Padded};
 ghost use Rattle.grammar_reader.specs.TextLaws.{HaveSameValues, HasFaultAtFirstToken};
-ghost use Rattle.specify_blocks.specs.VerilogText.{language, IsVerilogAnswer};
-
-/// A text is the text of one list of modules, or it has one fault, and not both.
-pub fn text_has_one_answer(text: &[u8])
-    ensures { IsVerilogAnswer text.now }
-{}
+ghost use Rattle.verilog_grammar.specs.VerilogText.{language};
 
 /// Blanks, line ends and comments that are added between the tokens of a text change none of its modules.
 pub fn added_separators_change_no_module(text: &[u8], padded: &[u8])

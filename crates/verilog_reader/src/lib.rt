@@ -12,6 +12,6 @@ mod period_lines;
 mod read;
 
 pub use checks::specify;
-pub use laws::{added_separators_change_no_module, fault_is_at_first_token, text_has_one_answer};
+pub use laws::{added_separators_change_no_module, fault_is_at_first_token};
 pub use read::read_models;
 pub use verilog_netlist_reader as nets;

@@ -4,17 +4,17 @@ ghost use Rattle.std.specs.Prelude.{◌≡◌};
 ghost use Rattle.std.specs.List.{position};
 ghost use Rattle.std.specs.Str.{bytes_eq};
 ghost use Rattle.udp_tables.specs.Ports.{is_input_port};
-ghost use Rattle.specify_blocks.specs.Nets as nets;
-ghost use Rattle.specify_blocks.specs.VerilogBlocks as spec;
+ghost use Rattle.verilog_grammar.specs.specify_blocks.Nets as nets;
+ghost use Rattle.verilog_grammar.specs.VerilogBlocks as spec;
 ghost use Rattle.grammar_reader.specs.Reading.{read, Reads};
 ghost use Rattle.grammar_reader.specs.Next.{next_bytes, rest};
 
 use crate::numbers::number;
 use grammar_reader::{Language, Read, with_end};
-use specify_blocks::{Gate, VPath};
 use sqlite_items::Items;
 use std::alloc::Global;
 use udp_tables::is_input_port;
+use verilog_grammar::modules::{Gate, VPath};
 use verilog_netlist_reader::{Netlist, is_output_port};
 use verilog_udp_reader::{Cursor, Verilog};
 
@@ -58,7 +58,7 @@ fn condition_of(model: &Netlist, name: &[u8]) -> Option<usize>
 }
 
 /// The name of an input.
-#[tactic(auto, unfolding(specify_blocks::specs::VerilogBlocks::an_input))]
+#[tactic(auto, unfolding(verilog_grammar::specs::VerilogBlocks::an_input))]
 pub fn input_name(cursor: &mut Cursor, model: &Netlist) -> Read<usize>
     ensures { Reads (read (spec.an_input model.now) cursor.old) result cursor.new }
 {
@@ -67,7 +67,7 @@ pub fn input_name(cursor: &mut Cursor, model: &Netlist) -> Read<usize>
 }
 
 /// The name of an output.
-#[tactic(auto, unfolding(specify_blocks::specs::VerilogBlocks::an_output))]
+#[tactic(auto, unfolding(verilog_grammar::specs::VerilogBlocks::an_output))]
 fn output_name(cursor: &mut Cursor, model: &Netlist) -> Read<usize>
     ensures { Reads (read (spec.an_output model.now) cursor.old) result cursor.new }
 {
@@ -76,7 +76,7 @@ fn output_name(cursor: &mut Cursor, model: &Netlist) -> Read<usize>
 }
 
 /// The name of a condition.
-#[tactic(auto, unfolding(specify_blocks::specs::VerilogBlocks::a_condition))]
+#[tactic(auto, unfolding(verilog_grammar::specs::VerilogBlocks::a_condition))]
 pub fn condition_name(cursor: &mut Cursor, model: &Netlist) -> Read<usize>
     ensures { Reads (read (spec.a_condition model.now) cursor.old) result cursor.new }
 {
@@ -85,7 +85,7 @@ pub fn condition_name(cursor: &mut Cursor, model: &Netlist) -> Read<usize>
 }
 
 /// What stands behind `if` and before the ports of a path.
-#[tactic(auto, unfolding(specify_blocks::specs::VerilogBlocks::if_gate))]
+#[tactic(auto, unfolding(verilog_grammar::specs::VerilogBlocks::if_gate))]
 fn if_gate(cursor: &mut Cursor, model: &Netlist) -> Read<Gate>
     ensures { Reads (read (spec.if_gate model.now) cursor.old) result cursor.new }
 {
@@ -95,7 +95,7 @@ fn if_gate(cursor: &mut Cursor, model: &Netlist) -> Read<Gate>
 }
 
 /// What stands behind `ifnone` and before the ports of a path.
-#[tactic(auto, unfolding(specify_blocks::specs::VerilogBlocks::ifnone_gate))]
+#[tactic(auto, unfolding(verilog_grammar::specs::VerilogBlocks::ifnone_gate))]
 fn ifnone_gate(cursor: &mut Cursor) -> Read<Gate>
     ensures { Reads (read spec.ifnone_gate cursor.old) result cursor.new }
 {
@@ -104,7 +104,7 @@ fn ifnone_gate(cursor: &mut Cursor) -> Read<Gate>
 }
 
 /// What stands before the ports of a path, of which the first token is next.
-#[tactic(auto, unfolding(specify_blocks::specs::VerilogBlocks::path_gate))]
+#[tactic(auto, unfolding(verilog_grammar::specs::VerilogBlocks::path_gate))]
 fn path_gate(cursor: &mut Cursor, model: &Netlist) -> Read<Gate>
     ensures { Reads (read (spec.path_gate model.now (next_bytes cursor.old)) (rest cursor.old)) result cursor.new }
 {
@@ -120,7 +120,7 @@ fn path_gate(cursor: &mut Cursor, model: &Netlist) -> Read<Gate>
 }
 
 /// A path, of which the first token is next.
-#[tactic(auto, unfolding(specify_blocks::specs::VerilogBlocks::path))]
+#[tactic(auto, unfolding(verilog_grammar::specs::VerilogBlocks::path))]
 fn path(cursor: &mut Cursor, model: &Netlist) -> Read<VPath>
     ensures { Reads (read (spec.path model.now (next_bytes cursor.old)) (rest cursor.old)) result cursor.new }
 {
@@ -145,7 +145,7 @@ fn path(cursor: &mut Cursor, model: &Netlist) -> Read<VPath>
 }
 
 /// The paths of a specify block, in a list without room for more.
-#[tactic(auto, using(grammar_reader::proofs::Repeats::turn, grammar_reader::proofs::Choices::choose_by, grammar_reader::proofs::Choices::choose_not_by), unfolding(specify_blocks::specs::VerilogBlocks::paths, specify_blocks::specs::VerilogBlocks::next_path))]
+#[tactic(auto, using(grammar_reader::proofs::Repeats::turn, grammar_reader::proofs::Choices::choose_by, grammar_reader::proofs::Choices::choose_not_by), unfolding(verilog_grammar::specs::VerilogBlocks::paths, verilog_grammar::specs::VerilogBlocks::next_path))]
 pub fn paths(cursor: &mut Cursor, alloc: Global, model: &Netlist) -> Read<Items<VPath>>
     ensures { Reads (read (spec.paths model.now) cursor.old) result cursor.new }
 {

@@ -3,8 +3,8 @@
 ghost use Rattle.std.specs.Prelude.{slice_get};
 ghost use Rattle.std.specs.Option.{option_map};
 ghost use Rattle.udp_tables.specs.VerilogRules.{this_name};
-ghost use Rattle.specify_blocks.specs.VerilogModules.{port_name};
-ghost use Rattle.specify_blocks.specs.VerilogBlocks as spec;
+ghost use Rattle.verilog_grammar.specs.VerilogModules.{port_name};
+ghost use Rattle.verilog_grammar.specs.VerilogBlocks as spec;
 ghost use Rattle.grammar_reader.specs.Reading.{read, Reads};
 
 use crate::check_parts::{check_end, condition};
@@ -38,7 +38,7 @@ fn port_name(cursor: &mut Cursor, model: &Netlist, port: usize) -> Read<()>
 }
 
 /// The condition of the line before, if it has one.
-#[tactic(auto, unfolding(specify_blocks::specs::VerilogBlocks::same_condition))]
+#[tactic(auto, unfolding(verilog_grammar::specs::VerilogBlocks::same_condition))]
 fn same_condition(cursor: &mut Cursor, model: &Netlist, condition: Option<usize>) -> Read<()>
     ensures { Reads (read (spec.same_condition model.now condition) cursor.old) result cursor.new }
 {
@@ -59,7 +59,7 @@ fn same_number(cursor: &mut Cursor, limit: u64) -> Read<()>
 }
 
 /// The line of the falls of a period.
-#[tactic(auto, unfolding(specify_blocks::specs::VerilogBlocks::second_period))]
+#[tactic(auto, unfolding(verilog_grammar::specs::VerilogBlocks::second_period))]
 fn second_period(
     cursor: &mut Cursor,
     model: &Netlist,
@@ -80,7 +80,7 @@ fn second_period(
 }
 
 /// A period: its two lines.
-#[tactic(auto, unfolding(specify_blocks::specs::VerilogBlocks::period_check))]
+#[tactic(auto, unfolding(verilog_grammar::specs::VerilogBlocks::period_check))]
 pub fn period_check(cursor: &mut Cursor, model: &Netlist) -> Read<TimingCheck>
     ensures { Reads (read (spec.period_check model.now) cursor.old) result cursor.new }
 {

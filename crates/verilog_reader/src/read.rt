@@ -2,22 +2,22 @@
 
 ghost use Rattle.std.specs.Prelude.{◌≡◌, length, IfOk, IfErr, Ok};
 ghost use Rattle.grammar_rules.specs.Reading.{read};
-ghost use Rattle.specify_blocks.specs.VerilogText.{verilog_text, language};
-ghost use Rattle.specify_blocks.specs.WellFormed.{AreWellFormed};
+ghost use Rattle.verilog_grammar.specs.VerilogText.{verilog_text, language};
+ghost use Rattle.verilog_grammar.specs.WellFormed.{AreWellFormed};
 ghost use Rattle.lexer.specs.Spans.{tokens_of, spelled};
 ghost use Rattle.verilog_reader.specs.File.{IsFaultOf};
 
 use crate::file::{Before, file};
 use grammar_reader::{Cursor, Stop};
 use lexer::Scan;
-use specify_blocks::VModule;
 use std::alloc::Global;
 use udp_tables::{ModelFault, refusal_fault};
+use verilog_grammar::modules::VModule;
 use verilog_tokens::scan;
 use verilog_udp_reader::Verilog;
 
 /// The modules of a Verilog text, or its first fault.
-#[tactic(auto, unfolding(specify_blocks::specs::VerilogText::verilog_text), using(lexer::proofs::Spelled::spelled))]
+#[tactic(auto, unfolding(verilog_grammar::specs::VerilogText::verilog_text), using(lexer::proofs::Spelled::spelled))]
 fn models_of(alloc: Global, text: &[u8]) -> Result<Vec<VModule>, ModelFault>
     ensures modules { IfOk result (λ found. verilog_text text.now ≡ Ok found.items) }
     ensures fault { IfErr result (λ e. IsFaultOf text.now e) }

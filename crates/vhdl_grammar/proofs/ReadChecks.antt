@@ -1,6 +1,6 @@
 -- The checks that are read, with their conditions.
 use Rattle.std.proofs.Common.{◌≡◌, ℕ, Bool, true, false, nat_eq, nat_lt, if◌then◌else◌, IsTrue, List, [], ◌∷◌, ◌++◌, length, ◌⊎◌}
-use Rattle.std.proofs.Common.{inl, inr, Option, Some, None, refl, sym, ap, subst, ◌∙◌, codes}
+use Rattle.std.proofs.Common.{inl, inr, Option, Some, None, refl, sym, ap, subst, ◌∙◌, codes, ◌&&◌}
 use Rattle.std.specs.Prelude.{All, flat_map}
 use Rattle.std.proofs.lemmas.Bool.{and_from, eq-eqb, eqb-true}
 use Rattle.std.proofs.lemmas.List.{append-nil}
@@ -236,6 +236,16 @@ IsToldPulse scope pulse =
     → IsNumber limit
     → IsToldCheck scope (pulse_check pulse p limit when)
 
+told_pulse : (scope : Scope) (pulse : Pulse)
+    → ((p limit : ℕ) (when : Option ℕ) → IsTrue (has_events (pulse_check pulse p limit when) pulse.kind))
+    → IsToldPulse scope pulse
+told_pulse scope pulse events p limit when t w l =
+    record { first = t; second = t; events = events p limit when; enabled = w; limit = l }
+
+-- a pin is itself, and the edges are those of the kind
+itself : (p : ℕ) → IsTrue (nat_eq p p && true)
+itself p = and_from (nat_eq p p) true (eq-eqb p p refl) refl
+
 one_of_three : {A : Type 0} (a b c : Bool) (v w x k : A)
     → (if a then Some v else (if b then Some w else (if c then Some x else None))) ≡ Some k → (v ≡ k) ⊎ ((w ≡ k) ⊎ (x ≡ k))
 one_of_three true b c v w x k e = inl cc
@@ -250,33 +260,9 @@ pulses_told scope word pulse h =
     (record { kind = check_kind.Width; first = edge.Rise; second = edge.Fall })
     (record { kind = check_kind.Width; first = edge.Fall; second = edge.Rise })
     (record { kind = check_kind.Period; first = edge.Any; second = edge.Any }) pulse h) [
-      | inl i ↦ subst (IsToldPulse scope) i
-          (λ p limit when t w l. record {
-            first = t;
-            second = t;
-            events =
-                and_from (nat_eq p p) true (eq-eqb p p refl) refl;
-            enabled = w;
-            limit = l;
-          })
-      | inr (inl i) ↦ subst (IsToldPulse scope) i
-          (λ p limit when t w l. record {
-            first = t;
-            second = t;
-            events =
-                and_from (nat_eq p p) true (eq-eqb p p refl) refl;
-            enabled = w;
-            limit = l;
-          })
-      | inr (inr i) ↦ subst (IsToldPulse scope) i
-          (λ p limit when t w l. record {
-            first = t;
-            second = t;
-            events =
-                and_from (nat_eq p p) true (eq-eqb p p refl) refl;
-            enabled = w;
-            limit = l;
-          })
+      | inl i ↦ subst (IsToldPulse scope) i (told_pulse scope _ (λ p limit when. itself p))
+      | inr (inl i) ↦ subst (IsToldPulse scope) i (told_pulse scope _ (λ p limit when. itself p))
+      | inr (inr i) ↦ subst (IsToldPulse scope) i (told_pulse scope _ (λ p limit when. itself p))
     ]
 
 period_pulses : (scope : Scope) (before : Checks) → AreChecks scope before

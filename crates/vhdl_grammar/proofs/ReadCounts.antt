@@ -11,8 +11,9 @@ use Rattle.udp_tables.specs.declared.models.VPort.{VPort}
 use Rattle.vital_models.specs.declared.table.TruthTable.{TruthTable}
 use Rattle.vital_models.specs.declared.table.VStateTable.{VStateTable}
 use Rattle.vital_models.specs.declared.model.VEntity.{VEntity}
+use Rattle.grammar_reader.specs.Texts.{text_tokens}
 use Rattle.grammar_reader.specs.Words.{Grammar}
-use Rattle.vhdl_tokens.specs.Tokens.{Token, is_name, after, at_front, scan, scan_of, separator_length, token_length}
+use Rattle.vhdl_tokens.specs.Tokens.{Token, is_name, after, at_front, scan, scan_of, separator_length, token_length, lexis}
 use Rattle.vhdl_grammar.specs.declared.scope.Columns.{Columns}
 use Rattle.vhdl_grammar.specs.declared.scope.Scope.{Scope}
 use Rattle.vhdl_grammar.specs.declared.scope.Tables.{Tables}
@@ -23,7 +24,6 @@ use Rattle.vhdl_grammar.specs.VhdlNames.{Uses}
 use Rattle.vhdl_grammar.specs.VhdlChecks.{Checks, Procedure, SetupHold, RecoveryRemoval, PeriodPulse, check_with, pulse_check}
 use Rattle.vhdl_grammar.specs.VhdlChecks.{setup_hold, recovery_removal, period_pulse, check, checks}
 use Rattle.vhdl_grammar.specs.VhdlText.{states_with, conditions_with, statements, entity, entity_names, next_entity, file}
-use Rattle.vhdl_grammar.specs.VhdlText.{text_tokens}
 use Rattle.vhdl_grammar.specs.WellFormed.{part_count}
 
 -- A rule, begun with so many parts, makes no more of them than tokens that it takes. The second number counts those of a value.
@@ -290,11 +290,12 @@ part_below (e ∷ es) (suc k) d h = let rest = part_below es k d (omega arith) i
     in omega (arith, rest, first)
 
 -- an entity of a text has no more parts than the text has bytes
-pub parts_in_text : (bytes : List ℕ) (es : List VEntity) → Takes file (text_tokens bytes) es [] → (k : ℕ) (d : VEntity)
+pub parts_in_text : (bytes : List ℕ) (es : List VEntity) → Takes file (text_tokens lexis bytes) es [] → (k : ℕ) (d : VEntity)
     → k < length es → part_count (get_or es k d) ≤ length bytes
 parts_in_text bytes es h k d below =
-    let whole = file_counted.counted (text_tokens bytes) es [] h in
-    let tokens : length (text_tokens bytes) ≡ length (scan_of bytes).0 = length-map (scan_of bytes).0 (λ (t : Token). t.bytes) in
+    let whole = file_counted.counted (text_tokens lexis bytes) es [] h in
+    let tokens : length (text_tokens lexis bytes) ≡ length (scan_of bytes).0 =
+    length-map (scan_of bytes).0 (λ (t : Token). t.bytes) in
     let short = scan_short false 0 0 bytes in
     let part = part_below es k d below in
     omega (arith, whole, tokens, short, part)

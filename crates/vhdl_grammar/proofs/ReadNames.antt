@@ -4,17 +4,16 @@ use Rattle.std.proofs.Common.{Option, Some, None, refl, sym, ap, subst, ◌∙�
 use Rattle.std.specs.Char.{is_ascii_alphabetic}
 use Rattle.std.specs.Str.{bytes_eq, str_eq_ignore_ascii_case, str_to_ascii_lowercase}
 use Rattle.std.specs.Cmp.{IsEquivalence}
+use Rattle.std.specs.Cmp.Lexicographic.{on_texts_equal}
 use Rattle.std.specs.Option.{option_map_or}
 use Rattle.std.specs.List.{list_any}
 use Rattle.std.proofs.lemmas.Bool.{and_parts, eqb-true, true≢false}
-use Rattle.std.proofs.lemmas.Slice.Eq.{bytes_eq-Decides}
 use Rattle.std.proofs.lemmas.Map.Keys.{IsDistinct-push}
 use Rattle.grammar_rules.specs.Rule.{Fits, Foul}
 use Rattle.grammar_rules.proofs.Promises.{Promises, token, weaker}
 use Rattle.grammar_reader.specs.declared.refusal.Refusal.{Refusal}
 use Rattle.grammar_reader.specs.declared.refusal.Refusal.TheVariants.{Syntax, Undefined}
 use Rattle.grammar_reader.specs.Words.{allowed_by}
-use Rattle.grammar_reader.proofs.ItemPlaces.{bytes_symm}
 pub use Rattle.grammar_reader.proofs.WordPromises.{values, goes_on, behind, surely}
 pub use Rattle.grammar_reader.proofs.Passing.{fits_if, fits_unless, fits_where, some_if, fits_allowed, IsFound}
 use Rattle.vhdl_tokens.specs.Words.{is_vhdl_word}
@@ -35,16 +34,8 @@ a_name (b ∷ bs) h e = record { identifier = h e; no_word = (and_parts (is_asci
 
 -- Names that are apart.
 
-same_congr : (x y z : List ℕ) → str_eq_ignore_ascii_case x y ≡ true → str_eq_ignore_ascii_case x z ≡ str_eq_ignore_ascii_case y z
-same_congr x y z e =
-    ap (λ t. bytes_eq t (str_to_ascii_lowercase z)) ((bytes_eq-Decides (str_to_ascii_lowercase x) (str_to_ascii_lowercase y)).0 e)
-
 pub same_equivalence : IsEquivalence str_eq_ignore_ascii_case
-same_equivalence = record {
-  refl = λ x. (bytes_eq-Decides (str_to_ascii_lowercase x) (str_to_ascii_lowercase x)).1 refl;
-  symm = λ x y. bytes_symm (str_to_ascii_lowercase x) (str_to_ascii_lowercase y);
-  congr = same_congr;
-}
+same_equivalence = on_texts_equal str_to_ascii_lowercase
 
 -- a name is no character literal
 pub same_name : (x y : List ℕ) → IsTrue (is_name x) → is_same x y ≡ str_eq_ignore_ascii_case x y

@@ -10,12 +10,13 @@ use Rattle.grammar_rules.specs.Rule.{Fits, Foul}
 use Rattle.grammar_rules.proofs.Promises.{Promises, token, gives, last, in_turn, many}
 use Rattle.vital_models.specs.declared.model.VEntity.{VEntity}
 use Rattle.grammar_reader.specs.declared.refusal.Refusal.TheVariants.{Syntax, Twice, Undriven}
-use Rattle.vhdl_tokens.specs.Tokens.{is_name}
+use Rattle.grammar_reader.specs.Texts.{text_tokens}
+use Rattle.vhdl_tokens.specs.Tokens.{is_name, lexis}
 use Rattle.vhdl_grammar.specs.declared.scope.Scope.{Scope}
 use Rattle.vhdl_grammar.specs.VhdlRules.{is_among, new_name}
 use Rattle.vhdl_grammar.specs.VhdlNames.{Uses}
 use Rattle.vhdl_grammar.specs.VhdlText.{are_looked_up, entity_end, statements, entity, entity_names, next_entity, file}
-use Rattle.vhdl_grammar.specs.VhdlText.{IsVhdlText, text_tokens}
+use Rattle.vhdl_grammar.specs.VhdlText.{IsVhdlText}
 use Rattle.vhdl_grammar.specs.WellFormed.{IsEntityName, AreApart, IsCount, part_count, conditions_of_check, AreWellFormed}
 use Rattle.vhdl_grammar.proofs.ReadNames.{IsSpelled, a_name, fits_if, fits_unless, push_apart, where_holds, behind, surely}
 use Rattle.vhdl_grammar.proofs.ReadTokens.{tokens_spelled}
@@ -98,7 +99,7 @@ files = in_turn (many none_read (λ w x a q p e. one_entity w q)) (λ es h. last
 
 pub text_entities : (bytes : List ℕ) (es : List VEntity) → IsCount (length bytes) → IsVhdlText bytes es → AreWellFormed es
 text_entities bytes es number h =
-    let read = (files.kept (text_tokens bytes) es [] (tokens_spelled bytes) h.takes).0 in
+    let read = (files.kept (text_tokens lexis bytes) es [] (tokens_spelled bytes) h.takes).0 in
     record {
       entities = λ k d below. read.entities k d below (few k d below);
       apart = read.apart;

@@ -8,7 +8,7 @@ use Rattle.vhdl_tokens.specs.Words.{is_vhdl_word}
 use Rattle.lexer.proofs.EachToken.{each_token}
 use Rattle.vhdl_tokens.specs.Tokens.{is_mark, is_name_byte, sign_length, number_length, word_length, character_length}
 use Rattle.vhdl_tokens.specs.Tokens.{string_length, token_length, lexis}
-use Rattle.vhdl_grammar.specs.VhdlText.{text_tokens}
+use Rattle.grammar_reader.specs.Texts.{text_tokens}
 use Rattle.vhdl_grammar.proofs.ReadNames.{IsSpelled}
 
 -- the first name bytes are name bytes
@@ -57,5 +57,5 @@ token_spelled after_name n (b ∷ bs) e = λ name.
     (rest_named (is_mark b) (b == 39) (b == 34) (is_ascii_alphabetic b) (is_ascii_digit b) after_name b n bs refl refl refl first
     e)
 
-pub tokens_spelled : (bytes : List ℕ) → AllByRecursion IsSpelled (text_tokens bytes)
+pub tokens_spelled : (bytes : List ℕ) → AllByRecursion IsSpelled (text_tokens lexis bytes)
 tokens_spelled = each_token lexis IsSpelled token_spelled

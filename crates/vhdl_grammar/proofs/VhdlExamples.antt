@@ -25,6 +25,10 @@ use Rattle.vhdl_grammar.specs.VhdlOutputs as output
 use Rattle.vhdl_grammar.specs.VhdlText as text
 use Rattle.vhdl_grammar.specs.VhdlText.{vhdl_text}
 
+-- the bytes are these entities
+abbrev Reads : List ℕ → List VEntity → Type 0
+Reads bytes entities = vhdl_text bytes ≡ Ok entities
+
 -- A flip-flop with a setup of 50 of D before rising CK, and delays of 100 and 120 from CK to Q: its ports, its tables, its
 -- variables and its statements.
 abbrev flip-flop-head : List ℕ
@@ -69,25 +73,6 @@ flip-flop =
         condition = None;
       } ∷ [];
     }
-
-reads-flip-flop : vhdl_text (flip-flop-head ++ (flip-flop-tables ++ (flip-flop-variables ++ flip-flop-statements))) ≡ Ok
-    (flip-flop ∷ [])
-unfolding kept flip-flop digits vhdl_words used_words is_reserved is_used rule.a_number rule.a_time rule.only_element
-    rule.more_elements rule.several_elements rule.elements table.next_symbol table.symbols table.state_row table.state_table
-    table.next_level table.levels table.truth_row table.truth_table table.assigned_truth_table table.condition_constant
-    table.output_constant table.state_constant table.constant table.constants declared.packages declared.next_port
-    declared.port_list declared.ports_of declared.entity_header declared.architecture_header declared.listed_name
-    declared.listed_names declared.check_variables declared.violation_variable declared.state_variables declared.output_variable
-    declared.glitch_variable declared.variable declared.variables declared.scope_of name.an_input name.listed_input
-    name.first_list name.same_input name.same_list name.list_by name.condition name.next_column name.columns_of name.listed_source
-    name.sources_of check.tested check.referred check.enabling_condition check.always_enabled check.enabled check.transition
-    check.same_number check.both_limits check.setup_hold check.one_limit check.active_low check.recovery_removal
-    check.period_pulse check.checks check.next_report check.any_report check.state_call_start check.state_call check.state_calls
-    output.lookup output.a_constant output.next_value output.values_of output.next_zero output.all_zero output.not_zero
-    output.equals_zero output.gate_of_conditions output.always output.gate_of output.delays output.next_path output.paths
-    output.path_call_start output.path_call output.assigned_value output.assignment output.call_or_assignment output.output_lines
-    text.entity_end text.statements text.entity text.next_entity text.file text.vhdl_text
-reads-flip-flop = refl
 
 -- the packages of an entity
 abbrev packages : List ℕ
@@ -297,10 +282,13 @@ assignment-end = codes "VitalPathDelay01 <= z_1; wait; end process; end vital;\n
 abbrev call-end : List ℕ
 call-end = codes "VitalPathDelay01 (OutSignal => VitalPathDelay01, GlitchData => g_1, OutSignalName => \"VitalPathDelay01\", OutTemp => z_1, Paths => (0 => (A'last_event, (1 ps, 2 ps), true)), Mode => VitalTransport); end process; end vital;\n"
 
-reads-so-named : vhdl_text (in-assignment ++ (assignment-end ++ (in-call ++ call-end))) ≡ Ok
-    (assigned-so-named ∷ called-so-named ∷ [])
-unfolding assigned-so-named called-so-named digits vhdl_words used_words is_reserved is_used rule.a_number rule.a_time
-    rule.only_element rule.more_elements rule.several_elements rule.elements table.next_symbol table.symbols table.state_row
+-- the texts of these, and no bytes, which are no entities
+reads :
+    Reads (flip-flop-head ++ (flip-flop-tables ++ (flip-flop-variables ++ flip-flop-statements))) (flip-flop ∷ [])
+    × Reads (in-assignment ++ (assignment-end ++ (in-call ++ call-end))) (assigned-so-named ∷ called-so-named ∷ [])
+    × Reads [] []
+unfolding kept flip-flop assigned-so-named called-so-named digits vhdl_words used_words is_reserved is_used rule.a_number
+    rule.a_time rule.only_element rule.more_elements rule.several_elements rule.elements table.next_symbol table.symbols table.state_row
     table.state_table table.next_level table.levels table.truth_row table.truth_table table.assigned_truth_table
     table.condition_constant table.output_constant table.state_constant table.constant table.constants declared.packages
     declared.next_port declared.port_list declared.ports_of declared.entity_header declared.architecture_header
@@ -314,23 +302,4 @@ unfolding assigned-so-named called-so-named digits vhdl_words used_words is_rese
     output.equals_zero output.gate_of_conditions output.always output.gate_of output.delays output.next_path output.paths
     output.path_call_start output.path_call output.assigned_value output.assignment output.call_or_assignment output.output_lines
     text.entity_end text.statements text.entity text.next_entity text.file text.vhdl_text
-reads-so-named = refl
-
--- no bytes are no entities
-reads-nothing : vhdl_text [] ≡ Ok []
-unfolding vhdl_words used_words is_reserved is_used rule.a_number rule.a_time rule.only_element rule.more_elements
-    rule.several_elements rule.elements table.next_symbol table.symbols table.state_row table.state_table table.next_level
-    table.levels table.truth_row table.truth_table table.assigned_truth_table table.condition_constant table.output_constant
-    table.state_constant table.constant table.constants declared.packages declared.next_port declared.port_list declared.ports_of
-    declared.entity_header declared.architecture_header declared.listed_name declared.listed_names declared.check_variables
-    declared.violation_variable declared.state_variables declared.output_variable declared.glitch_variable declared.variable
-    declared.variables declared.scope_of name.an_input name.listed_input name.first_list name.same_input name.same_list
-    name.list_by name.condition name.next_column name.columns_of name.listed_source name.sources_of check.tested check.referred
-    check.enabling_condition check.always_enabled check.enabled check.transition check.same_number check.both_limits
-    check.setup_hold check.one_limit check.active_low check.recovery_removal check.period_pulse check.checks check.next_report
-    check.any_report check.state_call_start check.state_call check.state_calls output.lookup output.a_constant output.next_value
-    output.values_of output.next_zero output.all_zero output.not_zero output.equals_zero output.gate_of_conditions output.always
-    output.gate_of output.delays output.next_path output.paths output.path_call_start output.path_call output.assigned_value
-    output.assignment output.call_or_assignment output.output_lines text.entity_end text.statements text.entity text.next_entity
-    text.file text.vhdl_text
-reads-nothing = refl
+reads = (refl, refl, refl)

@@ -1,6 +1,6 @@
 -- VHDL text: the entities that its bytes are, or its fault. (IEEE 1076-1993, 1.1 and 1.2; IEEE 1076.4-2000; the subset is this
 -- project's.)
-use Rattle.std.specs.Prelude.{◌≡◌, ◌↔◌, ℕ, nat_eq, Bool, List, [], ◌∷◌, ◌++◌, length, map, Option, Result, Ok, Err, codes}
+use Rattle.std.specs.Prelude.{ℕ, nat_eq, Bool, List, [], ◌∷◌, ◌++◌, length, map, Result, codes}
 use Rattle.grammar_rules.specs.Rule as r
 use Rattle.udp_tables.specs.declared.models.ModelFault.{ModelFault}
 use Rattle.udp_tables.specs.ModelFaults.{model_faults}
@@ -16,8 +16,7 @@ use Rattle.udp_tables.specs.declared.timing_checks.TimingCheck.{TimingCheck}
 use Rattle.vital_models.specs.declared.model.VEntity.{VEntity}
 use Rattle.vital_models.specs.Sound.{output_ports_from}
 use Rattle.grammar_reader.specs.declared.refusal.Refusal.TheVariants.{Syntax, Undriven}
-use Rattle.grammar_reader.specs.Texts.{Texts, IsText, IsFault, text}
-use Rattle.grammar_reader.specs.Texts as texts
+use Rattle.grammar_reader.specs.Texts.{Texts, IsText, text}
 use Rattle.grammar_reader.specs.Words.{Grammar, ◌>>=◌}
 use Rattle.vhdl_tokens.specs.Tokens.{lexis}
 use Rattle.vhdl_grammar.specs.declared.scope.Columns.{Columns}
@@ -129,30 +128,10 @@ language = record {
   faults = model_faults;
 }
 
--- the tokens of a text before its lexical fault, by their spelling
-abbrev pub text_tokens : List ℕ → List (List ℕ)
-text_tokens = texts.text_tokens lexis
-
--- the offset of the lexical fault, if there is one
-abbrev pub lexical_place : List ℕ → Option ℕ
-lexical_place = texts.lexical_place lexis
-
 -- The bytes are the text of these entities: they are tokens, without a lexical fault, that the grammar takes.
 abbrev pub IsVhdlText : List ℕ → List VEntity → Type 0
 IsVhdlText = IsText language
 
--- This is the fault of a text: of those that it meets, the first.
-abbrev pub IsVhdlFault : List ℕ → ModelFault → Type 0
-IsVhdlFault = IsFault language
-
--- the entities of a text, or its fault
+-- the entities of a text, or its fault (`Texts`, `IsAnswer`)
 unfoldable pub vhdl_text : List ℕ → Result (List VEntity) ModelFault
 vhdl_text bytes = text language bytes
-
--- A text has entities or a fault, and one of them.
-pub record IsVhdlAnswer (bytes : List ℕ) : Type 0 where
-  pub entities : (es : List VEntity) → IsVhdlText bytes es ↔ (vhdl_text bytes ≡ Ok es)
-  pub fault : (f : ModelFault) → IsVhdlFault bytes f ↔ (vhdl_text bytes ≡ Err f)
-
-abbrev pub VhdlTextHasOneAnswer : Type 0
-VhdlTextHasOneAnswer = (bytes : List ℕ) → IsVhdlAnswer bytes

@@ -3,11 +3,11 @@ use Rattle.std.proofs.Common.{◌≡◌, ℕ, ◌+◌, true, not, List, [], ◌�
 use Rattle.std.specs.List.{AllByRecursion}
 use Rattle.std.specs.Str.{bytes_eq}
 use Rattle.std.proofs.lemmas.List.Elements.{recursion_from_All}
+use Rattle.std.proofs.lemmas.Cmp.{nat_list_eq_equiv as bytes_equivalence}
 use Rattle.written_modules.specs.verilog_tokens.Tokens.{is_name}
 use Rattle.written_modules.specs.udp_tables.declared.models.VPort.{VPort}
-use Rattle.written_modules.specs.specify_blocks.VerilogModules.{port_names}
-use Rattle.written_modules.specs.specify_blocks.WellFormed.{IsName}
-use Rattle.written_modules.proofs.specify_blocks.ReadNames.{bytes_equivalence}
+use Rattle.written_modules.specs.verilog_grammar.VerilogModules.{port_names}
+use Rattle.written_modules.specs.verilog_grammar.WellFormed.{IsName}
 use Rattle.driven_traces.specs.declared.delays.DrivePath.{DrivePath}
 use Rattle.driven_traces.specs.Drivers.{IsPathOf}
 use Rattle.driven_files.specs.driver_models.declared.model.DriverModel.{DriverModel}

@@ -11,8 +11,8 @@ use Rattle.written_modules.specs.verilog_tokens.Words.{is_verilog_word, verilog_
 use Rattle.written_modules.specs.verilog_tokens.Tokens.{is_name}
 use Rattle.written_modules.specs.udp_tables.declared.models.VPort.{VPort}
 use Rattle.written_modules.specs.udp_tables.VerilogRules.{begins, this_name}
-use Rattle.written_modules.specs.specify_blocks.VerilogModules.{port_names}
-use Rattle.written_modules.specs.specify_blocks.WellFormed.{IsName, AreApart}
+use Rattle.written_modules.specs.verilog_grammar.VerilogModules.{port_names}
+use Rattle.written_modules.specs.verilog_grammar.WellFormed.{IsName, AreApart}
 use Rattle.driven_traces.specs.declared.delays.DrivePath.{DrivePath}
 use Rattle.driven_files.specs.driver_models.declared.model.DriverModel.{DriverModel}
 use Rattle.driven_files.specs.driver_models.PathEnds.{input_number, drive_number}

@@ -10,7 +10,7 @@ use Rattle.std.proofs.lemmas.Bool.Decides.{nat_tests}
 use Rattle.std.proofs.lemmas.Nat.{mod_below}
 use Rattle.written_modules.specs.verilog_tokens.Kept.{is_name_byte}
 use Rattle.written_modules.specs.verilog_tokens.Words.{is_verilog_word, verilog_words}
-use Rattle.written_modules.specs.specify_blocks.WellFormed.{IsName}
+use Rattle.written_modules.specs.verilog_grammar.WellFormed.{IsName}
 use Rattle.driven_traces.specs.declared.delays.DrivePath.{DrivePath}
 use Rattle.driven_files.specs.driver_models.declared.model.DriverModel.{DriverModel}
 use Rattle.written_modules.specs.verilog_writer.Model.{ports_text}

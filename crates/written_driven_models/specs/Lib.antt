@@ -9,6 +9,7 @@ pub use Rattle.driver_texts.specs as driver_texts
 pub use Rattle.written_modules.specs.grammar_reader as grammar_reader
 pub use Rattle.driven_files.specs.sectioned_texts as sectioned_texts
 pub use Rattle.driven_files.specs.verilog_drivers as verilog_drivers
+pub use Rattle.driven_files.specs.verilog_grammar as verilog_grammar
 pub use Rattle.driven_files.specs.vhdl_drivers as vhdl_drivers
 pub use Rattle.driven_files.specs.vhdl_grammar as vhdl_grammar
 pub use Rattle.driven_files.specs.vhdl_tokens as vhdl_tokens

@@ -2,8 +2,8 @@
 -- is its core is this project's layout.)
 use Rattle.std.specs.Prelude.{ℕ, List}
 use Rattle.driven_files.specs.specify_blocks.declared.model.VModule.{VModule}
-use Rattle.driven_files.specs.specify_blocks.VerilogText.{IsVerilogText}
-use Rattle.driven_files.specs.specify_blocks.WellFormed.{AreWellFormed}
+use Rattle.driven_files.specs.verilog_grammar.VerilogText.{IsVerilogText}
+use Rattle.driven_files.specs.verilog_grammar.WellFormed.{AreWellFormed}
 use Rattle.written_modules.specs.verilog_writer.Model.{prelude_text, module_text}
 use Rattle.driven_files.specs.driver_models.declared.model.DriverModel.{DriverModel}
 use Rattle.driven_files.specs.driver_models.Cores.{Core}

@@ -58,7 +58,8 @@ file_read es h =
 -- bytes with the tokens of well formed entities read as these
 pub read_from : (bytes : List ℕ) (es : List VEntity) → AreWellFormed es
     → spelled (scan false 0 0 bytes) ≡ (each entity_tokens es [], false) → ReadsBack vhdl_text IsVhdlText bytes es
-read_from bytes es h e = reads_back vhdl_text IsVhdlText bytes es (is_answer bytes).entities
+unfolding vhdl_text
+read_from bytes es h e = reads_back vhdl_text IsVhdlText bytes es (is_answer bytes).value
     (is_text language bytes es (each entity_tokens es []) e (file_read es h))
 
 -- what is well formed reads back

@@ -12,7 +12,8 @@ use Rattle.vital_models.specs.declared.table.VStateRow.{VStateRow}
 use Rattle.vital_models.specs.declared.model.VState.{VState}
 use Rattle.vital_models.specs.Sound.{IsTruthTable, IsStateTable, columns_of}
 use Rattle.vhdl_grammar.specs.VhdlTables.{truth_table, state_table}
-use Rattle.vhdl_grammar.specs.VhdlText.{text_tokens, lexical_place}
+use Rattle.vhdl_tokens.specs.Tokens.{lexis}
+use Rattle.grammar_reader.specs.Texts.{text_tokens, lexical_place}
 use Rattle.vhdl_grammar.specs.WellFormed.{HasOneEdge, IsWrittenState}
 use Rattle.vhdl_writer.specs.Tables.{truth_rows_text, state_rows_text}
 use Rattle.grammar_reader.proofs.Fronts.{Anything}
@@ -41,12 +42,12 @@ truth_is : (columns : ℕ) (table : TruthTable) → 1 ≤ columns → 1 ≤ leng
     → IsTruthTableText (truth_table_text table) table
 truth_is columns table some most all =
     let e = all_found (truth_spelled table) in
-    let tokens : text_tokens (truth_table_text table) ≡ codes "(" ∷ rows_front truth_row_front table.rows (codes ")" ∷ []) =
+    let tokens : text_tokens lexis (truth_table_text table) ≡ codes "(" ∷ rows_front truth_row_front table.rows (codes ")" ∷ []) =
     ap (λ (p : List (List ℕ) × Bool). p.0) e in
     let reads = truth_table_read columns table [] some most
     (recursion_from_All (λ (row : TruthRow). length row.inputs ≡ columns) table.rows all) in
     record {
-      lexes = none_if (lexical_place (truth_table_text table)) (ap (λ (p : List (List ℕ) × Bool). p.1) e);
+      lexes = none_if (lexical_place lexis (truth_table_text table)) (ap (λ (p : List (List ℕ) × Bool). p.1) e);
       takes = subst (λ (s : List (List ℕ)). Takes truth_table s table []) (sym tokens) reads.taken;
     }
 
@@ -57,7 +58,7 @@ truth_table_read_back columns table some most all =
     let h = truth_is columns table some most all in
     record {
       text = h;
-      only = λ other k. same_value truth_table (text_tokens (truth_table_text table)) other table k.takes
+      only = λ other k. same_value truth_table (text_tokens lexis (truth_table_text table)) other table k.takes
           h.takes;
     }
 
@@ -72,13 +73,14 @@ state_is : (state : VState) → IsWrittenState state → IsStateTable (columns_o
     → IsStateTableText (state_table_text state) state.table
 state_is state w all =
     let e = all_found (state_spelled state) in
-    let tokens : text_tokens (state_table_text state) ≡ codes "(" ∷ rows_front state_row_front state.table.rows (codes ")" ∷ []) =
+    let tokens : text_tokens lexis (state_table_text state)
+    ≡ codes "(" ∷ rows_front state_row_front state.table.rows (codes ")" ∷ []) =
     ap (λ (p : List (List ℕ) × Bool). p.0) e in
     let reads = state_table_read (columns_of state) state.table [] w.columns w.rows
     (recursion_from_All (λ (row : VStateRow). length row.inputs ≡ columns_of state) state.table.rows all)
     (recursion_from_All HasOneEdge state.table.rows w.edges) in
     record {
-      lexes = none_if (lexical_place (state_table_text state)) (ap (λ (p : List (List ℕ) × Bool). p.1) e);
+      lexes = none_if (lexical_place lexis (state_table_text state)) (ap (λ (p : List (List ℕ) × Bool). p.1) e);
       takes = subst (λ (s : List (List ℕ)). Takes state_table s state.table []) (sym tokens) reads.taken;
     }
 
@@ -89,6 +91,6 @@ state_table_read_back state w all =
     let h = state_is state w all in
     record {
       text = h;
-      only = λ other k. same_value state_table (text_tokens (state_table_text state)) other state.table k.takes
+      only = λ other k. same_value state_table (text_tokens lexis (state_table_text state)) other state.table k.takes
           h.takes;
     }

@@ -9,7 +9,9 @@ use Rattle.vital_models.specs.declared.model.VState.{VState}
 use Rattle.vital_models.specs.declared.model.VEntity.{VEntity}
 use Rattle.vital_models.specs.Sound.{IsTruthTable, IsStateTable, columns_of}
 use Rattle.vhdl_grammar.specs.VhdlTables.{truth_table, state_table}
-use Rattle.vhdl_grammar.specs.VhdlText.{text_tokens, lexical_place, IsVhdlText, vhdl_text}
+use Rattle.vhdl_tokens.specs.Tokens.{lexis}
+use Rattle.grammar_reader.specs.Texts.{text_tokens, lexical_place}
+use Rattle.vhdl_grammar.specs.VhdlText.{IsVhdlText, vhdl_text}
 use Rattle.vhdl_grammar.specs.WellFormed.{IsWrittenState, AreWellFormed}
 use Rattle.vhdl_writer.specs.Tables.{truth_rows_text, state_rows_text}
 use Rattle.vhdl_writer.specs.Entity.{entity_text}
@@ -25,13 +27,13 @@ state_table_text state = codes "(" ++ (state_rows_text state ++ codes ")")
 -- The bytes are the text of this truth table alone: they are tokens, without a lexical fault, that the grammar of truth tables
 -- takes.
 pub record IsTruthTableText (bytes : List ℕ) (table : TruthTable) : Type 0 where
-  pub lexes : lexical_place bytes ≡ None
-  pub takes : Takes truth_table (text_tokens bytes) table []
+  pub lexes : lexical_place lexis bytes ≡ None
+  pub takes : Takes truth_table (text_tokens lexis bytes) table []
 
 -- the same, of the table of a state
 pub record IsStateTableText (bytes : List ℕ) (table : VStateTable) : Type 0 where
-  pub lexes : lexical_place bytes ≡ None
-  pub takes : Takes state_table (text_tokens bytes) table []
+  pub lexes : lexical_place lexis bytes ≡ None
+  pub takes : Takes state_table (text_tokens lexis bytes) table []
 
 -- The text of a truth table reads as this table, and as no other.
 pub record TruthTableReadBack (table : TruthTable) : Type 0 where

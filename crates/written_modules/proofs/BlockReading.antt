@@ -6,12 +6,12 @@ use Rattle.std.proofs.lemmas.Bool.{or_parts as both_no}
 use Rattle.grammar_rules.specs.Rule.{Stops}
 use Rattle.cell_machine.specs.declared.checks.CheckKind.{CheckKind}
 use Rattle.cell_machine.specs.declared.checks.CheckKind.TheVariants as check_kind
-use Rattle.specify_blocks.specs.declared.model.VPath.{VPath}
+use Rattle.verilog_grammar.specs.specify_blocks.declared.model.VPath.{VPath}
 use Rattle.udp_tables.specs.declared.timing_checks.TimingCheck.{TimingCheck}
-use Rattle.specify_blocks.specs.declared.model.VModule.{VModule}
-use Rattle.specify_blocks.specs.Sound.{IsPath, IsCheck}
-use Rattle.specify_blocks.specs.WellFormed.{HasNumbers}
-use Rattle.specify_blocks.specs.VerilogBlocks.{is_path_start, paths, checks, block, specify}
+use Rattle.verilog_grammar.specs.specify_blocks.declared.model.VModule.{VModule}
+use Rattle.verilog_grammar.specs.specify_blocks.Sound.{IsPath, IsCheck}
+use Rattle.verilog_grammar.specs.WellFormed.{HasNumbers}
+use Rattle.verilog_grammar.specs.VerilogBlocks.{is_path_start, paths, checks, block, specify}
 use Rattle.grammar_reader.specs.Words.{begins_by}
 use Rattle.verilog_writer.specs.Timing.{has_block}
 use Rattle.grammar_reader.proofs.Fronts.{each}

@@ -12,17 +12,17 @@ use Rattle.cell_machine.specs.declared.checks.Edge.{Edge}
 use Rattle.cell_machine.specs.declared.checks.Edge.TheVariants as edge
 use Rattle.cell_machine.specs.declared.checks.Event.{Event}
 use Rattle.cell_machine.specs.CellRules.{is_any_edge, are_opposite}
-use Rattle.specify_blocks.specs.declared.model.VNet.TheVariants as net
+use Rattle.verilog_grammar.specs.specify_blocks.declared.model.VNet.TheVariants as net
 use Rattle.udp_tables.specs.declared.timing_checks.TimingCheck.{TimingCheck}
-use Rattle.specify_blocks.specs.declared.model.VModule.{VModule}
+use Rattle.verilog_grammar.specs.specify_blocks.declared.model.VModule.{VModule}
 use Rattle.udp_tables.specs.Ports.{is_input_port}
-use Rattle.specify_blocks.specs.Sound.{has_written_events, is_enabling, IsCheck}
-use Rattle.specify_blocks.specs.WellFormed.{IsName, IsNumber}
-use Rattle.specify_blocks.specs.VerilogModules.{port_name}
-use Rattle.specify_blocks.specs.VerilogBlocks.{edge_of, any_edge, an_event, an_edge_event, condition_name, condition, check_end}
-use Rattle.specify_blocks.specs.VerilogBlocks.{ordered_check, turned_check, opposite, width_check, same_condition, equal_to}
-use Rattle.specify_blocks.specs.VerilogBlocks.{same_number, second_period, period_check, check_of, check_of_kind, check}
-use Rattle.specify_blocks.specs.VerilogBlocks.{next_check}
+use Rattle.verilog_grammar.specs.specify_blocks.Sound.{has_written_events, is_enabling, IsCheck}
+use Rattle.verilog_grammar.specs.WellFormed.{IsName, IsNumber}
+use Rattle.verilog_grammar.specs.VerilogModules.{port_name}
+use Rattle.verilog_grammar.specs.VerilogBlocks.{edge_of, any_edge, an_event, an_edge_event, condition_name, condition, check_end}
+use Rattle.verilog_grammar.specs.VerilogBlocks.{ordered_check, turned_check, opposite, width_check, same_condition, equal_to}
+use Rattle.verilog_grammar.specs.VerilogBlocks.{same_number, second_period, period_check, check_of, check_of_kind, check}
+use Rattle.verilog_grammar.specs.VerilogBlocks.{next_check}
 use Rattle.grammar_reader.specs.Words.{begins_as}
 use Rattle.verilog_writer.specs.Nets.{port_at, wire_at, notifier_in}
 use Rattle.written_modules.proofs.Words.{unlike_word}

@@ -6,10 +6,10 @@ use Rattle.std.specs.Str.{bytes_eq}
 use Rattle.grammar_rules.specs.Rule.{Stops}
 use Rattle.udp_tables.specs.declared.models.VPort.{VPort}
 use Rattle.udp_tables.specs.VerilogRules.{begins}
-use Rattle.specify_blocks.specs.VerilogModules.{port_names, declared_wire, declared_wires, declared_notifier, notifier}
-use Rattle.specify_blocks.specs.VerilogModules.{declarations}
-use Rattle.specify_blocks.specs.declared.model.VModule.{VModule}
-use Rattle.specify_blocks.specs.WellFormed.{IsName, AreApart, register_names}
+use Rattle.verilog_grammar.specs.VerilogModules.{port_names, declared_wire, declared_wires, declared_notifier, notifier}
+use Rattle.verilog_grammar.specs.VerilogModules.{declarations}
+use Rattle.verilog_grammar.specs.specify_blocks.declared.model.VModule.{VModule}
+use Rattle.verilog_grammar.specs.WellFormed.{IsName, AreApart, register_names}
 use Rattle.grammar_reader.proofs.Fronts.{Front, each}
 use Rattle.written_modules.proofs.PrimitiveTokens.{declared}
 use Rattle.written_modules.proofs.ModuleTokens.{IsNamedPort, IsNamed, listed, declared_where, output_tokens, register_tokens}

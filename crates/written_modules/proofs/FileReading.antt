@@ -8,12 +8,12 @@ use Rattle.udp_tables.specs.declared.table.Udp.{Udp}
 use Rattle.verilog_tokens.specs.Tokens.{scan_of}
 use Rattle.verilog_tokens.specs.Separators.{spelled}
 use Rattle.udp_tables.specs.VerilogRules.{begins, is_among}
-use Rattle.specify_blocks.specs.declared.model.VModule.{VModule}
-use Rattle.specify_blocks.specs.VerilogText.{Before, with_primitive, next_primitive, next_module, more_primitives}
-use Rattle.specify_blocks.specs.VerilogText.{primitives_and_module, is_design_start, design, designs, prelude, file, language}
-use Rattle.specify_blocks.specs.VerilogText.{IsVerilogText, verilog_text}
-use Rattle.specify_blocks.specs.WellFormed.{AreApart, IsWellFormedUdp, IsWellFormedModule, udp_names, outer_names, AreWellFormed}
-use Rattle.specify_blocks.proofs.VerilogAnswers.{is_answer}
+use Rattle.verilog_grammar.specs.specify_blocks.declared.model.VModule.{VModule}
+use Rattle.verilog_grammar.specs.VerilogText.{Before, with_primitive, next_primitive, next_module, more_primitives}
+use Rattle.verilog_grammar.specs.VerilogText.{primitives_and_module, is_design_start, design, designs, prelude, file, language}
+use Rattle.verilog_grammar.specs.VerilogText.{IsVerilogText, verilog_text}
+use Rattle.verilog_grammar.specs.WellFormed.{AreApart, IsWellFormedUdp, IsWellFormedModule, udp_names, outer_names, AreWellFormed}
+use Rattle.verilog_grammar.proofs.VerilogAnswers.{is_answer}
 use Rattle.grammar_reader.specs.Words.{begins_by}
 use Rattle.verilog_writer.specs.Model.{prelude_text, module_text}
 use Rattle.written_modules.specs.Laws.{modules_text, WrittenModulesReadBack}
@@ -217,8 +217,9 @@ file_spelled ms h = behind prelude_spelled
 -- bytes of the tokens of well formed modules read back
 pub read_from : (ms : List VModule) → AreWellFormed ms → (bytes : List ℕ) → spelled (scan_of bytes) ≡ (file_tokens ms, false)
     → ReadsBack verilog_text IsVerilogText bytes ms
+unfolding verilog_text
 read_from ms h bytes e =
-    reads_back verilog_text IsVerilogText bytes ms (is_answer bytes).modules
+    reads_back verilog_text IsVerilogText bytes ms (is_answer bytes).value
     (is_text language bytes ms (file_tokens ms) e (file_read ms h))
 
 -- what is well formed reads back

@@ -11,18 +11,19 @@ use Rattle.verilog_tokens.specs.Words.{is_verilog_word, verilog_words}
 use Rattle.grammar_rules.specs.Rule.{Fits, Stops}
 use Rattle.udp_tables.specs.declared.table.Udp.{Udp}
 use Rattle.udp_tables.specs.VerilogRules.{begins}
-use Rattle.specify_blocks.specs.declared.model.VNet.{VNet}
-use Rattle.specify_blocks.specs.declared.model.VNet.TheVariants as net
-use Rattle.specify_blocks.specs.declared.model.Instance.{Instance}
-use Rattle.specify_blocks.specs.declared.model.Instance.TheVariants as instance
-use Rattle.specify_blocks.specs.declared.model.VModule.{VModule}
-use Rattle.specify_blocks.specs.Nets.{same_net, are_apart, is_sequential, is_driven, holds_state, net_driven, feeds_state}
-use Rattle.specify_blocks.specs.Nets.{feeds_value, drivers}
-use Rattle.specify_blocks.specs.Sound.{IsInstance, AreInstances, IsSound}
-use Rattle.specify_blocks.specs.VerilogModules.{net_of, terminal_by, terminal, may_drive, is_driven_already, driven_terminal}
-use Rattle.specify_blocks.specs.VerilogModules.{may_feed, feeding_terminal, next_input, more_inputs, input_count, call, bit}
-use Rattle.specify_blocks.specs.VerilogModules.{constant, of_primitive, begins_instance, one_instance, instances}
-use Rattle.specify_blocks.specs.WellFormed.{IsName, IsWellFormedUdp, AreApart, udp_names}
+use Rattle.verilog_grammar.specs.specify_blocks.declared.model.VNet.{VNet}
+use Rattle.verilog_grammar.specs.specify_blocks.declared.model.VNet.TheVariants as net
+use Rattle.verilog_grammar.specs.specify_blocks.declared.model.Instance.{Instance}
+use Rattle.verilog_grammar.specs.specify_blocks.declared.model.Instance.TheVariants as instance
+use Rattle.verilog_grammar.specs.specify_blocks.declared.model.VModule.{VModule}
+use Rattle.verilog_grammar.specs.specify_blocks.Nets.{same_net, are_apart, is_sequential, is_driven, holds_state, net_driven}
+use Rattle.verilog_grammar.specs.specify_blocks.Nets.{feeds_state}
+use Rattle.verilog_grammar.specs.specify_blocks.Nets.{feeds_value, drivers}
+use Rattle.verilog_grammar.specs.specify_blocks.Sound.{IsInstance, AreInstances, IsSound}
+use Rattle.verilog_grammar.specs.VerilogModules.{net_of, terminal_by, terminal, may_drive, is_driven_already, driven_terminal}
+use Rattle.verilog_grammar.specs.VerilogModules.{may_feed, feeding_terminal, next_input, more_inputs, input_count, call, bit}
+use Rattle.verilog_grammar.specs.VerilogModules.{constant, of_primitive, begins_instance, one_instance, instances}
+use Rattle.verilog_grammar.specs.WellFormed.{IsName, IsWellFormedUdp, AreApart, udp_names}
 use Rattle.grammar_reader.specs.declared.refusal.Refusal.TheVariants.{Width}
 use Rattle.grammar_reader.specs.Words.{valued}
 use Rattle.verilog_writer.specs.Nets.{primitive_at, net_at}

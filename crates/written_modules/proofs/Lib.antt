@@ -18,4 +18,3 @@ pub mod ModuleReading
 pub mod FileReading
 pub use Rattle.grammar_reader.proofs as grammar_reader
 pub use Rattle.section_outlines.proofs as section_outlines
-pub use Rattle.specify_blocks.proofs as specify_blocks

@@ -11,18 +11,18 @@ use Rattle.verilog_tokens.specs.Words.{is_verilog_word, verilog_words}
 use Rattle.grammar_rules.specs.Rule.{Stops}
 use Rattle.udp_tables.specs.declared.models.VPort.{VPort}
 use Rattle.udp_tables.specs.VerilogRules.{is_among}
-use Rattle.specify_blocks.specs.declared.model.VNet.{VNet}
-use Rattle.specify_blocks.specs.declared.model.VNet.TheVariants as net
-use Rattle.specify_blocks.specs.declared.model.Instance.{Instance}
-use Rattle.specify_blocks.specs.declared.model.Instance.TheVariants as instance
-use Rattle.specify_blocks.specs.declared.model.VModule.{VModule}
-use Rattle.specify_blocks.specs.Nets.{is_output_port, is_driven, feeds_state, feeds_value}
-use Rattle.specify_blocks.specs.Sound.{IsPath, IsCheck, IsInstance, AreInstances}
-use Rattle.specify_blocks.specs.VerilogModules.{port_names, begins_instance, is_driven_already, output_nets, wire_nets}
-use Rattle.specify_blocks.specs.VerilogModules.{are_all_driven}
-use Rattle.specify_blocks.specs.VerilogText.{one_module}
-use Rattle.specify_blocks.specs.WellFormed.{IsName, AreApart, IsWellFormedUdp, IsWellFormedModule, HasNumbers, register_names}
-use Rattle.specify_blocks.specs.WellFormed.{udp_names}
+use Rattle.verilog_grammar.specs.specify_blocks.declared.model.VNet.{VNet}
+use Rattle.verilog_grammar.specs.specify_blocks.declared.model.VNet.TheVariants as net
+use Rattle.verilog_grammar.specs.specify_blocks.declared.model.Instance.{Instance}
+use Rattle.verilog_grammar.specs.specify_blocks.declared.model.Instance.TheVariants as instance
+use Rattle.verilog_grammar.specs.specify_blocks.declared.model.VModule.{VModule}
+use Rattle.verilog_grammar.specs.specify_blocks.Nets.{is_output_port, is_driven, feeds_state, feeds_value}
+use Rattle.verilog_grammar.specs.specify_blocks.Sound.{IsPath, IsCheck, IsInstance, AreInstances}
+use Rattle.verilog_grammar.specs.VerilogModules.{port_names, begins_instance, is_driven_already, output_nets, wire_nets}
+use Rattle.verilog_grammar.specs.VerilogModules.{are_all_driven}
+use Rattle.verilog_grammar.specs.VerilogText.{one_module}
+use Rattle.verilog_grammar.specs.WellFormed.{IsName, AreApart, IsWellFormedUdp, IsWellFormedModule, HasNumbers, register_names}
+use Rattle.verilog_grammar.specs.WellFormed.{udp_names}
 use Rattle.grammar_reader.specs.declared.refusal.Refusal.TheVariants.{Undriven}
 use Rattle.verilog_writer.specs.Timing.{has_block}
 use Rattle.verilog_writer.specs.Model.{module_only_text}

@@ -3,11 +3,11 @@ use Rattle.std.proofs.Common.{ℕ, Bool, true, false, not, if◌then◌else◌, 
 use Rattle.std.proofs.Common.{flat_map}
 use Rattle.std.specs.List.{AllByRecursion}
 use Rattle.udp_tables.specs.declared.models.VPort.{VPort}
-use Rattle.specify_blocks.specs.declared.model.VNet.{VNet}
-use Rattle.specify_blocks.specs.declared.model.Instance.{Instance}
-use Rattle.specify_blocks.specs.declared.model.Instance.TheVariants as instance
-use Rattle.specify_blocks.specs.declared.model.VModule.{VModule}
-use Rattle.specify_blocks.specs.WellFormed.{IsName}
+use Rattle.verilog_grammar.specs.specify_blocks.declared.model.VNet.{VNet}
+use Rattle.verilog_grammar.specs.specify_blocks.declared.model.Instance.{Instance}
+use Rattle.verilog_grammar.specs.specify_blocks.declared.model.Instance.TheVariants as instance
+use Rattle.verilog_grammar.specs.specify_blocks.declared.model.VModule.{VModule}
+use Rattle.verilog_grammar.specs.WellFormed.{IsName}
 use Rattle.verilog_writer.specs.Nets.{primitive_at, net_at}
 use Rattle.verilog_writer.specs.Model.{module_opening_text, next_port_text, ports_text, module_header_text, input_port_text}
 use Rattle.verilog_writer.specs.Model.{output_port_text, wire_text, register_text, declarations_text, terminal_text, driver_text}

@@ -2,10 +2,10 @@
 use Rattle.std.proofs.Common.{◌≡◌, ℕ, Bool, true, false, List, [], ◌∷◌, ◌++◌, Option, Some, refl, ◌∙◌}
 use Rattle.std.specs.List.{IsDistinct}
 use Rattle.std.specs.Str.{bytes_eq}
+use Rattle.std.proofs.lemmas.Cmp.{nat_list_eq_equiv as bytes_equivalence}
 use Rattle.grammar_reader.specs.declared.refusal.Refusal.{Refusal}
 use Rattle.udp_tables.specs.VerilogRules.{expect, expect_where, any_name, is_among, new_name, known, this_name}
-use Rattle.specify_blocks.specs.WellFormed.{IsName, AreApart}
-use Rattle.specify_blocks.proofs.ReadNames.{bytes_equivalence}
+use Rattle.verilog_grammar.specs.WellFormed.{IsName, AreApart}
 use Rattle.grammar_reader.proofs.ItemPlaces.{at_place, same_bytes}
 use Rattle.grammar_reader.proofs.Derivations.{Reads, token}
 use Rattle.written_modules.proofs.Words.{name_is}

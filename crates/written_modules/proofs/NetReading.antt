@@ -12,15 +12,16 @@ use Rattle.std.proofs.lemmas.List.Folds.{list_any-append}
 use Rattle.std.proofs.lemmas.Iterator.Adapters.{position_from-zero}
 use Rattle.udp_tables.specs.declared.models.VPort.{VPort}
 use Rattle.udp_tables.specs.VerilogRules.{is_among}
-use Rattle.specify_blocks.specs.declared.model.VNet.{VNet}
-use Rattle.specify_blocks.specs.declared.model.VNet.TheVariants as net
-use Rattle.specify_blocks.specs.declared.model.Instance.{Instance}
-use Rattle.specify_blocks.specs.declared.model.VModule.{VModule}
-use Rattle.specify_blocks.specs.Nets.{same_net, is_output_port, is_driven, holds_state, net_driven, has_state, is_value}
-use Rattle.specify_blocks.specs.Nets.{feeds_state, feeds_value}
+use Rattle.verilog_grammar.specs.specify_blocks.declared.model.VNet.{VNet}
+use Rattle.verilog_grammar.specs.specify_blocks.declared.model.VNet.TheVariants as net
+use Rattle.verilog_grammar.specs.specify_blocks.declared.model.Instance.{Instance}
+use Rattle.verilog_grammar.specs.specify_blocks.declared.model.VModule.{VModule}
+use Rattle.verilog_grammar.specs.specify_blocks.Nets.{same_net, is_output_port, is_driven, holds_state, net_driven, has_state}
+use Rattle.verilog_grammar.specs.specify_blocks.Nets.{is_value}
+use Rattle.verilog_grammar.specs.specify_blocks.Nets.{feeds_state, feeds_value}
 use Rattle.udp_tables.specs.Ports.{is_input_port}
-use Rattle.specify_blocks.specs.VerilogModules.{port_name, port_names, net_by, net_of}
-use Rattle.specify_blocks.specs.WellFormed.{IsName, AreApart, register_names}
+use Rattle.verilog_grammar.specs.VerilogModules.{port_name, port_names, net_by, net_of}
+use Rattle.verilog_grammar.specs.WellFormed.{IsName, AreApart, register_names}
 use Rattle.verilog_writer.specs.Nets.{notifier_in, net_at}
 use Rattle.written_modules.proofs.NameReading.{is_new}
 use Rattle.grammar_reader.proofs.ItemPlaces.{same_bytes, found_behind, item_at, all_at}
@@ -133,12 +134,12 @@ net_read m h (net.Port p) (port, e) =
     rw e (ap (net_by m port.name) at)
 net_read m h (net.Wire w) (x, e) =
     let at = wire_position m h w x e in
-    rw e (ap (net_by m x) at.0 ∙ ap (Rattle.specify_blocks.specs.VerilogModules.other_net m x) at.1)
+    rw e (ap (net_by m x) at.0 ∙ ap (Rattle.verilog_grammar.specs.VerilogModules.other_net m x) at.1)
 net_read m h net.Notifier (x, e) =
     let at = register_position m h x e in
     let its : notifier_in m ≡ x = rw e refl in
     let here : option_map_or (bytes_eq x) m.notifier false ≡ true = rw e (same_bytes x) in
-    ap (net_of m) its ∙ ap (net_by m x) at.0 ∙ ap (Rattle.specify_blocks.specs.VerilogModules.other_net m x) at.1 ∙ rw here refl
+    ap (net_of m) its ∙ ap (net_by m x) at.0 ∙ ap (Rattle.verilog_grammar.specs.VerilogModules.other_net m x) at.1 ∙ rw here refl
 
 -- Where nets are known.
 

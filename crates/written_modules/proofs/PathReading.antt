@@ -5,18 +5,18 @@ use Rattle.std.specs.List.{AllByRecursion, position}
 use Rattle.std.specs.Str.{bytes_eq}
 use Rattle.grammar_rules.specs.Rule.{Fits}
 use Rattle.udp_tables.specs.declared.models.VPort.{VPort}
-use Rattle.specify_blocks.specs.declared.model.VNet.TheVariants as net
-use Rattle.specify_blocks.specs.declared.model.Gate.{Gate}
-use Rattle.specify_blocks.specs.declared.model.Gate.TheVariants as gate
-use Rattle.specify_blocks.specs.declared.model.VPath.{VPath}
-use Rattle.specify_blocks.specs.declared.model.VModule.{VModule}
-use Rattle.specify_blocks.specs.Nets.{is_output_port, is_value}
+use Rattle.verilog_grammar.specs.specify_blocks.declared.model.VNet.TheVariants as net
+use Rattle.verilog_grammar.specs.specify_blocks.declared.model.Gate.{Gate}
+use Rattle.verilog_grammar.specs.specify_blocks.declared.model.Gate.TheVariants as gate
+use Rattle.verilog_grammar.specs.specify_blocks.declared.model.VPath.{VPath}
+use Rattle.verilog_grammar.specs.specify_blocks.declared.model.VModule.{VModule}
+use Rattle.verilog_grammar.specs.specify_blocks.Nets.{is_output_port, is_value}
 use Rattle.udp_tables.specs.Ports.{is_input_port}
-use Rattle.specify_blocks.specs.Sound.{is_gate, IsPath}
-use Rattle.specify_blocks.specs.WellFormed.{IsNumber, HasNumbers, register_names}
-use Rattle.specify_blocks.specs.VerilogModules.{port_name}
-use Rattle.specify_blocks.specs.VerilogBlocks.{a_number, kept, port_of, an_input, an_output, a_condition, is_path_start, if_gate}
-use Rattle.specify_blocks.specs.VerilogBlocks.{ifnone_gate, path_gate, path, next_path}
+use Rattle.verilog_grammar.specs.specify_blocks.Sound.{is_gate, IsPath}
+use Rattle.verilog_grammar.specs.WellFormed.{IsNumber, HasNumbers, register_names}
+use Rattle.verilog_grammar.specs.VerilogModules.{port_name}
+use Rattle.verilog_grammar.specs.VerilogBlocks.{a_number, kept, port_of, an_input, an_output, a_condition, is_path_start, if_gate}
+use Rattle.verilog_grammar.specs.VerilogBlocks.{ifnone_gate, path_gate, path, next_path}
 use Rattle.grammar_reader.specs.declared.refusal.Refusal.TheVariants.{Syntax}
 use Rattle.grammar_reader.specs.Words.{begins_by, allowed_by}
 use Rattle.verilog_writer.specs.Nets.{port_at, wire_at}
@@ -44,11 +44,11 @@ port_found m w p (port, e) =
     ∙ position_is port_name m.ports (m.wires ++ register_names m.notifier) p port w.declared.apart e
 
 pub input_name : (m : VModule) → IsWritten m → (p : ℕ) → IsTrue (is_input_port m.ports p)
-    → Rattle.specify_blocks.specs.WellFormed.IsName (port_at m p)
+    → Rattle.verilog_grammar.specs.WellFormed.IsName (port_at m p)
 input_name m w p h = named_net m w.declared (net.Port p) (input_known m p h)
 
 output_name : (m : VModule) → IsWritten m → (p : ℕ) → IsTrue (is_output_port m.ports p)
-    → Rattle.specify_blocks.specs.WellFormed.IsName (port_at m p)
+    → Rattle.verilog_grammar.specs.WellFormed.IsName (port_at m p)
 output_name m w p h = named_net m w.declared (net.Port p) (output_known m p h)
 
 kept_one : (test : ℕ → Bool) (n : ℕ) → test n ≡ true → kept test (Some n) ≡ Some n
@@ -78,7 +78,7 @@ wire_found : (m : VModule) → IsWritten m → (v : ℕ) → IsKnown m (net.Wire
 wire_found m w v (x, e) = ap (λ y. position (bytes_eq y) m.wires) (wire_name_at m v x e) ∙ (wire_position m w.declared v x e).1
 
 pub condition_named : (m : VModule) → IsWritten m → (v : ℕ) → IsTrue (is_value m m.instances v)
-    → Rattle.specify_blocks.specs.WellFormed.IsName (wire_at m v)
+    → Rattle.verilog_grammar.specs.WellFormed.IsName (wire_at m v)
 condition_named m w v h = named_net m w.declared (net.Wire v) (condition_known m w v h)
 
 pub wire_read : (m : VModule) → IsWritten m → (v : ℕ) {s : List (List ℕ)} → IsTrue (is_value m m.instances v)

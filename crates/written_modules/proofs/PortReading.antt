@@ -11,10 +11,10 @@ use Rattle.grammar_rules.specs.Rule.{Verdict, Fits, Stops}
 use Rattle.grammar_rules.specs.Rule as r
 use Rattle.udp_tables.specs.declared.models.VPort.{VPort}
 use Rattle.udp_tables.specs.VerilogRules.{begins, is_among, place_from}
-use Rattle.specify_blocks.specs.VerilogModules.{port_name, port_names, plain_port, input_port, next_port, more_ports, some_ports}
-use Rattle.specify_blocks.specs.VerilogModules.{header, Inputs, with_input, input_at, declared_input, declared_inputs}
-use Rattle.specify_blocks.specs.VerilogModules.{output_place, name_at, place_behind, declared_output, declared_outputs}
-use Rattle.specify_blocks.specs.WellFormed.{IsName, AreApart}
+use Rattle.verilog_grammar.specs.VerilogModules.{port_name, port_names, plain_port, input_port, next_port, more_ports, some_ports}
+use Rattle.verilog_grammar.specs.VerilogModules.{header, Inputs, with_input, input_at, declared_input, declared_inputs}
+use Rattle.verilog_grammar.specs.VerilogModules.{output_place, name_at, place_behind, declared_output, declared_outputs}
+use Rattle.verilog_grammar.specs.WellFormed.{IsName, AreApart}
 use Rattle.grammar_reader.proofs.Fronts.{each}
 use Rattle.written_modules.proofs.Words.{name_is}
 use Rattle.grammar_reader.proofs.Derivations.{goes_on, Reads, from_same, gives, in_turn, chosen, passed, no_turn, Turn, turn}

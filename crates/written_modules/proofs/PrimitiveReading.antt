@@ -14,8 +14,8 @@ use Rattle.grammar_reader.specs.declared.refusal.Refusal.TheVariants.{Width}
 use Rattle.udp_tables.specs.VerilogPrimitives.{Header, most_inputs, most_inputs_with_state, next_input, more_inputs, header}
 use Rattle.udp_tables.specs.VerilogPrimitives.{declared_output, declared_state, register, declared_input, declared_inputs}
 use Rattle.udp_tables.specs.VerilogPrimitives.{begins_row, next_row, table, primitive}
-use Rattle.specify_blocks.specs.Sound.{IsTable}
-use Rattle.specify_blocks.specs.WellFormed.{IsName, AreApart, HasNoState, HasNoStates, IsWellFormedUdp, most_inputs_of}
+use Rattle.verilog_grammar.specs.specify_blocks.Sound.{IsTable}
+use Rattle.verilog_grammar.specs.WellFormed.{IsName, AreApart, HasNoState, HasNoStates, IsWellFormedUdp, most_inputs_of}
 use Rattle.grammar_reader.proofs.Fronts.{Front, each}
 use Rattle.written_modules.proofs.PrimitiveTokens.{next_name, declared, output_tokens, row_tokens}
 use Rattle.grammar_reader.proofs.Derivations.{Reads, from_same, gives, token, in_turn, chosen, passed, Turn, turn, through}

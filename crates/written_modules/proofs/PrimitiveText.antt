@@ -6,8 +6,9 @@ use Rattle.grammar_rules.proofs.Steps.{value_is}
 use Rattle.udp_tables.specs.declared.table.Udp.{Udp}
 use Rattle.udp_tables.specs.VerilogPrimitives.{primitive}
 use Rattle.grammar_reader.specs.declared.refusal.Refusal.{Refusal}
-use Rattle.specify_blocks.specs.VerilogText.{text_tokens, lexical_place}
-use Rattle.specify_blocks.specs.WellFormed.{IsWellFormedUdp}
+use Rattle.verilog_tokens.specs.Tokens.{lexis}
+use Rattle.grammar_reader.specs.Texts.{text_tokens, lexical_place}
+use Rattle.verilog_grammar.specs.WellFormed.{IsWellFormedUdp}
 use Rattle.verilog_writer.specs.Primitive.{primitive_text}
 use Rattle.written_modules.specs.Laws.{IsPrimitiveText, PrimitiveReadBack}
 use Rattle.grammar_reader.proofs.Spelling.{all_found}
@@ -23,7 +24,7 @@ is_text : (udp : Udp) → IsWellFormedUdp udp → IsPrimitiveText (primitive_tex
 is_text udp w =
     let e = text_found udp w in
     record {
-      lexes = none_if (lexical_place (primitive_text udp)) (ap (λ (p : List (List ℕ) × Bool). p.1) e);
+      lexes = none_if (lexical_place lexis (primitive_text udp)) (ap (λ (p : List (List ℕ) × Bool). p.1) e);
       others = udp.name ∷ udp_more udp.sequential udp.output udp.inputs udp.rows [];
       begins = ap (λ (p : List (List ℕ) × Bool). p.0) e;
       takes = (primitive_read [] udp [] w refl).taken;
@@ -40,7 +41,7 @@ only_one : (bytes : List ℕ) (udp other : Udp) → IsPrimitiveText bytes udp �
 only_one bytes udp other h k =
     same_value h.others other udp
     (subst (λ (s : List (List ℕ)). Takes (primitive []) s other [])
-    (same_others (text_tokens bytes) k.others h.others (codes "primitive") k.begins h.begins) k.takes) h.takes
+    (same_others (text_tokens lexis bytes) k.others h.others (codes "primitive") k.begins h.begins) k.takes) h.takes
 
 -- a primitive that is well formed reads back
 pub primitive_read_back : (udp : Udp) → IsWellFormedUdp udp → PrimitiveReadBack udp

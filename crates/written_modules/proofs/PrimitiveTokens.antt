@@ -10,7 +10,7 @@ use Rattle.udp_tables.specs.declared.table.Next.{Next}
 use Rattle.udp_tables.specs.declared.table.Next.TheVariants as next
 use Rattle.udp_tables.specs.declared.table.UdpRow.{UdpRow}
 use Rattle.udp_tables.specs.declared.table.Udp.{Udp}
-use Rattle.specify_blocks.specs.WellFormed.{IsName, IsWellFormedUdp}
+use Rattle.verilog_grammar.specs.WellFormed.{IsName, IsWellFormedUdp}
 use Rattle.verilog_writer.specs.Symbols.{level_text, entry_text, next_text}
 use Rattle.verilog_writer.specs.Primitive.{opening_text, port_text, header_text, output_text, input_text, spaced_text}
 use Rattle.verilog_writer.specs.Primitive.{outcome_text, row_text, table_text, primitive_text}

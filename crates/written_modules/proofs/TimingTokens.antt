@@ -6,12 +6,12 @@ use Rattle.cell_machine.specs.declared.checks.CheckKind.TheVariants as check_kin
 use Rattle.cell_machine.specs.declared.checks.Edge.{Edge}
 use Rattle.cell_machine.specs.declared.checks.Edge.TheVariants as edge
 use Rattle.cell_machine.specs.declared.checks.Event.{Event}
-use Rattle.specify_blocks.specs.declared.model.Gate.{Gate}
-use Rattle.specify_blocks.specs.declared.model.Gate.TheVariants as gate
-use Rattle.specify_blocks.specs.declared.model.VPath.{VPath}
+use Rattle.verilog_grammar.specs.specify_blocks.declared.model.Gate.{Gate}
+use Rattle.verilog_grammar.specs.specify_blocks.declared.model.Gate.TheVariants as gate
+use Rattle.verilog_grammar.specs.specify_blocks.declared.model.VPath.{VPath}
 use Rattle.udp_tables.specs.declared.timing_checks.TimingCheck.{TimingCheck}
-use Rattle.specify_blocks.specs.declared.model.VModule.{VModule}
-use Rattle.specify_blocks.specs.WellFormed.{IsName, IsNumber}
+use Rattle.verilog_grammar.specs.specify_blocks.declared.model.VModule.{VModule}
+use Rattle.verilog_grammar.specs.WellFormed.{IsName, IsNumber}
 use Rattle.verilog_writer.specs.Nets.{port_at, wire_at, notifier_in}
 use Rattle.verilog_writer.specs.Timing.{gate_text, path_line, delays_text, path_text, edge_text, joint_text, condition_text}
 use Rattle.verilog_writer.specs.Timing.{ordered_text, turned_text, width_text, period_line, period_text, kind_text, check_text}

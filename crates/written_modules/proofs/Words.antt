@@ -12,7 +12,7 @@ use Rattle.verilog_tokens.specs.Kept.{is_identifier, is_name_byte}
 use Rattle.verilog_tokens.specs.Words.{is_verilog_word, verilog_words}
 use Rattle.verilog_tokens.specs.Tokens.{is_blank, is_mark, is_one_of, begins_with, begins_word, word_length, number_length}
 use Rattle.verilog_tokens.specs.Tokens.{sign_length, is_open_after, is_name, separator_length, token_length}
-use Rattle.specify_blocks.specs.WellFormed.{IsName, IsNumber}
+use Rattle.verilog_grammar.specs.WellFormed.{IsName, IsNumber}
 use Rattle.grammar_reader.proofs.Bytes.{unlike, none_of, run_ends, AreFew, short, below_word, few}
 use Rattle.grammar_reader.proofs.Spelling.{one_token}
 use Rattle.section_outlines.specs.Marked.{marked}

@@ -4,9 +4,11 @@ use Rattle.std.specs.List.{flat_map}
 use Rattle.grammar_rules.specs.Rule.{Takes}
 use Rattle.udp_tables.specs.declared.table.Udp.{Udp}
 use Rattle.udp_tables.specs.VerilogPrimitives.{primitive}
-use Rattle.specify_blocks.specs.declared.model.VModule.{VModule}
-use Rattle.specify_blocks.specs.VerilogText.{text_tokens, lexical_place, IsVerilogText, verilog_text}
-use Rattle.specify_blocks.specs.WellFormed.{IsWellFormedUdp, AreWellFormed}
+use Rattle.verilog_grammar.specs.specify_blocks.declared.model.VModule.{VModule}
+use Rattle.verilog_tokens.specs.Tokens.{lexis}
+use Rattle.grammar_reader.specs.Texts.{text_tokens, lexical_place}
+use Rattle.verilog_grammar.specs.VerilogText.{IsVerilogText, verilog_text}
+use Rattle.verilog_grammar.specs.WellFormed.{IsWellFormedUdp, AreWellFormed}
 use Rattle.verilog_writer.specs.Primitive.{primitive_text}
 use Rattle.verilog_writer.specs.Model.{prelude_text, module_text}
 use Rattle.grammar_reader.specs.ReadBack.{ReadsBack}
@@ -14,9 +16,9 @@ use Rattle.grammar_reader.specs.ReadBack.{ReadsBack}
 -- The bytes are the text of this primitive alone: tokens, without a lexical fault, of which the first is `primitive` and the
 -- grammar takes the others.
 pub record IsPrimitiveText (bytes : List ℕ) (udp : Udp) : Type 0 where
-  pub lexes : lexical_place bytes ≡ None
+  pub lexes : lexical_place lexis bytes ≡ None
   pub others : List (List ℕ)
-  pub begins : text_tokens bytes ≡ codes "primitive" ∷ others
+  pub begins : text_tokens lexis bytes ≡ codes "primitive" ∷ others
   pub takes : Takes (primitive []) others udp []
 
 -- The text of a primitive reads as this primitive, and as no other.

@@ -1,5 +1,5 @@
 use Rattle.std.proofs.Common.{◌≡◌, ◌++◌, drop}
-use Rattle.specify_blocks.specs.WellFormed.{udp_names}
+use Rattle.verilog_grammar.specs.WellFormed.{udp_names}
 use Rattle.driven_files.proofs.verilog.names_of.Given as goal
 
 abbrev pub invariant-loop-udp : goal.invariant-loop-udp

@@ -3,7 +3,7 @@ use Rattle.std.specs.Option.{option_map}
 use Rattle.udp_tables.specs.declared.models.VPort.{VPort}
 use Rattle.std.specs.Str.{bytes_eq}
 use Rattle.udp_tables.specs.VerilogRules.{place_from}
-use Rattle.specify_blocks.specs.VerilogModules.{input_at, with_input}
+use Rattle.verilog_grammar.specs.VerilogModules.{input_at, with_input}
 use Rattle.verilog_header_reader.specs.Headers.{inputs_of}
 use Rattle.verilog_header_reader.proofs.Headers.{known_none, known_some, input_found}
 use Rattle.verilog_header_reader.proofs.declarations.module_input_name.Goals as goal

@@ -1,7 +1,7 @@
 use Rattle.std.proofs.Common.{◌≡◌, ◌-◌, codes}
 use Rattle.grammar_rules.specs.Reading.{repeat, read}
 use Rattle.udp_tables.specs.VerilogRules.{begins}
-use Rattle.specify_blocks.specs.VerilogModules.{declared_input}
+use Rattle.verilog_grammar.specs.VerilogModules.{declared_input}
 use Rattle.verilog_header_reader.specs.Headers.{inputs_of}
 use Rattle.verilog_header_reader.proofs.declarations.module_inputs.Given as goal
 

@@ -1,7 +1,7 @@
 use Rattle.std.proofs.Common.{◌≡◌, ◌-◌, codes}
 use Rattle.grammar_rules.specs.Reading.{repeat, read}
 use Rattle.udp_tables.specs.VerilogRules.{begins}
-use Rattle.specify_blocks.specs.VerilogModules.{next_port, port_names}
+use Rattle.verilog_grammar.specs.VerilogModules.{next_port, port_names}
 use Rattle.verilog_header_reader.proofs.declarations.more_ports.Given as goal
 
 abbrev pub invariant-loop-turn : goal.invariant-loop-turn

@@ -1,6 +1,6 @@
 use Rattle.std.proofs.Common.{◌≡◌, drop}
 use Rattle.udp_tables.specs.VerilogRules.{is_among}
-use Rattle.specify_blocks.specs.VerilogModules.{port_names}
+use Rattle.verilog_grammar.specs.VerilogModules.{port_names}
 use Rattle.verilog_header_reader.proofs.ports.has_port.Given as goal
 
 abbrev pub invariant-loop-port : goal.invariant-loop-port

@@ -1,5 +1,5 @@
 use Rattle.std.proofs.Common.{◌≡◌}
-use Rattle.specify_blocks.specs.VerilogModules.{output_place}
+use Rattle.verilog_grammar.specs.VerilogModules.{output_place}
 use Rattle.verilog_header_reader.proofs.ports.output_place.Given as goal
 
 abbrev pub invariant-loop-at : goal.invariant-loop-at

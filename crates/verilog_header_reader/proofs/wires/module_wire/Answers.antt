@@ -1,5 +1,5 @@
 use Rattle.std.proofs.Common.{sym, ◌∙◌}
-use Rattle.specify_blocks.specs.VerilogModules.{port_names}
+use Rattle.verilog_grammar.specs.VerilogModules.{port_names}
 use Rattle.verilog_header_reader.proofs.SameNames.{wire_added_where}
 use Rattle.verilog_header_reader.proofs.wires.module_wire.Goals as goal
 

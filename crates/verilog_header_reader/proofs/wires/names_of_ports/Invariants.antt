@@ -1,5 +1,5 @@
 use Rattle.std.proofs.Common.{take}
-use Rattle.specify_blocks.specs.VerilogModules.{port_names}
+use Rattle.verilog_grammar.specs.VerilogModules.{port_names}
 use Rattle.verilog_header_reader.specs.SameNames.{HaveSame}
 use Rattle.verilog_header_reader.proofs.wires.names_of_ports.Given as goal
 

@@ -1,6 +1,6 @@
 use Rattle.std.proofs.Common.{◌∙◌, ◌++◌, ap}
 use Rattle.udp_tables.specs.VerilogRules.{is_among}
-use Rattle.specify_blocks.specs.VerilogModules.{port_names}
+use Rattle.verilog_grammar.specs.VerilogModules.{port_names}
 use Rattle.verilog_header_reader.proofs.wires.new_net_name.Goals as goal
 
 pub returns : goal.returns

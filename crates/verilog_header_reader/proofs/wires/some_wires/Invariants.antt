@@ -1,7 +1,7 @@
 use Rattle.std.proofs.Common.{◌≡◌, ◌-◌, [], ◌++◌, codes}
 use Rattle.grammar_rules.specs.Reading.{repeat, read}
 use Rattle.udp_tables.specs.VerilogRules.{begins}
-use Rattle.specify_blocks.specs.VerilogModules.{declared_wire, port_names}
+use Rattle.verilog_grammar.specs.VerilogModules.{declared_wire, port_names}
 use Rattle.verilog_header_reader.specs.SameNames.{HaveSame}
 use Rattle.verilog_header_reader.proofs.wires.some_wires.Given as goal
 

@@ -1,5 +1,5 @@
 use Rattle.std.proofs.Common.{◌∷◌, Ok, ap, sym, ◌∙◌}
-use Rattle.specify_blocks.specs.VerilogModules.{may_feed, feeding_terminal}
+use Rattle.verilog_grammar.specs.VerilogModules.{may_feed, feeding_terminal}
 use Rattle.verilog_netlist_reader.proofs.SameTerminals.{taken, fits}
 use Rattle.verilog_netlist_reader.proofs.connections.feeding_terminal.Goals as goal
 

@@ -1,7 +1,7 @@
 use Rattle.std.proofs.Common.{◌≡◌, ◌-◌, ◌∷◌, codes}
 use Rattle.grammar_rules.specs.Reading.{repeat, read}
 use Rattle.udp_tables.specs.VerilogRules.{begins}
-use Rattle.specify_blocks.specs.VerilogModules.{next_input}
+use Rattle.verilog_grammar.specs.VerilogModules.{next_input}
 use Rattle.verilog_netlist_reader.specs.Terminals.{AreNamed}
 use Rattle.verilog_netlist_reader.proofs.connections.more_terminals.Given as goal
 

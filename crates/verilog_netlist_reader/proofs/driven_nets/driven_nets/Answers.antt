@@ -1,5 +1,5 @@
 use Rattle.std.proofs.Common.{◌≡◌, ◌<◌, List, length, get_or, subst}
-use Rattle.specify_blocks.specs.declared.model.Instance.{Instance}
+use Rattle.verilog_grammar.specs.specify_blocks.declared.model.Instance.{Instance}
 use Rattle.verilog_netlist_reader.proofs.DrivenNets.{driven_step}
 use Rattle.verilog_netlist_reader.proofs.driven_nets.driven_nets.Goals as goal
 

@@ -1,8 +1,8 @@
 use Rattle.std.proofs.Common.{subst}
 use Rattle.grammar_rules.specs.Reading.{read}
 use Rattle.grammar_reader.specs.Reading.{Reads}
-use Rattle.specify_blocks.specs.VerilogModules as spec
-use Rattle.specify_blocks.specs.declared.model.VModule.{VModule}
+use Rattle.verilog_grammar.specs.VerilogModules as spec
+use Rattle.verilog_grammar.specs.specify_blocks.declared.model.VModule.{VModule}
 use Rattle.verilog_netlist_reader.proofs.instances.module_instances.Goals as goal
 
 pub returns-clause-reads : goal.returns-clause-reads

@@ -1,6 +1,6 @@
 use Rattle.std.proofs.Common.{◌≡◌, sym, ap, subst, ◌∙◌}
-use Rattle.specify_blocks.specs.declared.model.VModule.{VModule}
-use Rattle.specify_blocks.specs.VerilogModules.{instances}
+use Rattle.verilog_grammar.specs.specify_blocks.declared.model.VModule.{VModule}
+use Rattle.verilog_grammar.specs.VerilogModules.{instances}
 use Rattle.verilog_netlist_reader.specs.NameSearch.{udp_name}
 use Rattle.verilog_netlist_reader.specs.Netlist.{MayFind}
 use Rattle.grammar_rules.specs.Reading.{read}

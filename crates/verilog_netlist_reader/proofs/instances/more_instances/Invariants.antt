@@ -1,7 +1,7 @@
 use Rattle.std.proofs.Common.{◌≡◌, ◌-◌}
 use Rattle.grammar_rules.specs.Reading.{repeat, read}
-use Rattle.specify_blocks.specs.declared.model.VModule.{VModule}
-use Rattle.specify_blocks.specs.VerilogModules.{begins_instance, one_instance}
+use Rattle.verilog_grammar.specs.specify_blocks.declared.model.VModule.{VModule}
+use Rattle.verilog_grammar.specs.VerilogModules.{begins_instance, one_instance}
 use Rattle.verilog_netlist_reader.specs.NameSearch.{udp_name}
 use Rattle.verilog_netlist_reader.specs.Netlist.{MayFind}
 use Rattle.verilog_netlist_reader.proofs.instances.more_instances.Given as goal

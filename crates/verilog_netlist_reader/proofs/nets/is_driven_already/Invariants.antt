@@ -1,5 +1,5 @@
 use Rattle.std.proofs.Common.{◌≡◌, drop, nat_lt}
-use Rattle.specify_blocks.specs.Nets.{drivers}
+use Rattle.verilog_grammar.specs.specify_blocks.Nets.{drivers}
 use Rattle.verilog_netlist_reader.proofs.nets.is_driven_already.Given as goal
 
 abbrev pub invariant-loop-instance : goal.invariant-loop-instance

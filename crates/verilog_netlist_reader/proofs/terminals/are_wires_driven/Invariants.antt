@@ -1,6 +1,6 @@
 use Rattle.std.proofs.Common.{◌≡◌, drop}
 use Rattle.std.specs.List.{list_all}
-use Rattle.specify_blocks.specs.VerilogModules.{is_driven_already, wire_nets}
+use Rattle.verilog_grammar.specs.VerilogModules.{is_driven_already, wire_nets}
 use Rattle.verilog_netlist_reader.proofs.terminals.are_wires_driven.Given as goal
 
 abbrev pub invariant-loop-wire : goal.invariant-loop-wire

@@ -1,7 +1,7 @@
 use Rattle.std.proofs.Common.{◌≡◌, ◌-◌}
 use Rattle.grammar_rules.specs.Reading.{repeat, read}
 use Rattle.grammar_reader.specs.Words.{begins_as}
-use Rattle.specify_blocks.specs.VerilogBlocks.{check_of, next_check, checks}
+use Rattle.verilog_grammar.specs.VerilogBlocks.{check_of, next_check, checks}
 use Rattle.verilog_reader.proofs.checks.checks.Given as goal
 
 abbrev pub invariant-loop-turn : goal.invariant-loop-turn

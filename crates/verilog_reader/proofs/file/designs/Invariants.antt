@@ -1,7 +1,7 @@
 use Rattle.std.proofs.Common.{◌≡◌, ◌-◌}
 use Rattle.grammar_rules.specs.Reading.{repeat, read}
 use Rattle.grammar_reader.specs.Words.{begins_by}
-use Rattle.specify_blocks.specs.VerilogText.{is_design_start, design, nothing}
+use Rattle.verilog_grammar.specs.VerilogText.{is_design_start, design, nothing}
 use Rattle.verilog_reader.specs.File.{before_of}
 use Rattle.verilog_reader.proofs.file.designs.Given as goal
 

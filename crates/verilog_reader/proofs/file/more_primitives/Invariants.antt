@@ -1,7 +1,7 @@
 use Rattle.std.proofs.Common.{◌≡◌, ◌-◌, codes}
 use Rattle.grammar_rules.specs.Reading.{repeat, read}
 use Rattle.udp_tables.specs.VerilogRules.{begins}
-use Rattle.specify_blocks.specs.VerilogText.{next_primitive}
+use Rattle.verilog_grammar.specs.VerilogText.{next_primitive}
 use Rattle.verilog_reader.specs.File.{before_of}
 use Rattle.verilog_reader.proofs.file.more_primitives.Given as goal
 

@@ -1,6 +1,6 @@
 use Rattle.grammar_reader.proofs.TextLaws.{same_values}
 use Rattle.verilog_tokens.proofs.Padding.{same_tokens}
-use Rattle.specify_blocks.specs.VerilogText.{language}
+use Rattle.verilog_grammar.specs.VerilogText.{language}
 use Rattle.verilog_reader.proofs.laws.added_separators_change_no_module.Goals as goal
 
 pub returns : goal.returns

@@ -1,8 +1,8 @@
 use Rattle.std.proofs.Common.{ℕ, List, Option, ap, ◌∙◌}
 use Rattle.std.specs.List.{position}
 use Rattle.std.specs.Str.{bytes_eq}
-use Rattle.specify_blocks.specs.Nets.{is_value}
-use Rattle.specify_blocks.specs.VerilogBlocks.{kept, a_condition}
+use Rattle.verilog_grammar.specs.specify_blocks.Nets.{is_value}
+use Rattle.verilog_grammar.specs.VerilogBlocks.{kept, a_condition}
 use Rattle.verilog_reader.proofs.paths.condition_name.Goals as goal
 
 pub returns : goal.returns

@@ -1,6 +1,6 @@
 use Rattle.std.proofs.Common.{ℕ, List, Option, ap, ◌∙◌}
 use Rattle.udp_tables.specs.Ports.{is_input_port}
-use Rattle.specify_blocks.specs.VerilogBlocks.{kept, port_of, an_input}
+use Rattle.verilog_grammar.specs.VerilogBlocks.{kept, port_of, an_input}
 use Rattle.verilog_reader.proofs.paths.input_name.Goals as goal
 
 pub returns : goal.returns

@@ -1,6 +1,6 @@
 use Rattle.std.proofs.Common.{ℕ, List, Option, ap, ◌∙◌}
-use Rattle.specify_blocks.specs.Nets.{is_output_port}
-use Rattle.specify_blocks.specs.VerilogBlocks.{kept, port_of, an_output}
+use Rattle.verilog_grammar.specs.specify_blocks.Nets.{is_output_port}
+use Rattle.verilog_grammar.specs.VerilogBlocks.{kept, port_of, an_output}
 use Rattle.verilog_reader.proofs.paths.output_name.Goals as goal
 
 pub returns : goal.returns

@@ -1,7 +1,7 @@
 use Rattle.std.proofs.Common.{◌≡◌, ◌-◌}
 use Rattle.grammar_rules.specs.Reading.{repeat, read}
 use Rattle.grammar_reader.specs.Words.{begins_by}
-use Rattle.specify_blocks.specs.VerilogBlocks.{is_path_start, next_path, paths}
+use Rattle.verilog_grammar.specs.VerilogBlocks.{is_path_start, next_path, paths}
 use Rattle.verilog_reader.proofs.paths.paths.Given as goal
 
 abbrev pub invariant-loop-turn : goal.invariant-loop-turn

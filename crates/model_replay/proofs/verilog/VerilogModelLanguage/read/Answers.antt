@@ -1,6 +1,6 @@
 use Rattle.std.proofs.Common.{List, sym, subst}
 use Rattle.std.specs.Prelude.{All}
-use Rattle.specify_blocks.specs.declared.model.VModule.{VModule}
+use Rattle.verilog_grammar.specs.specify_blocks.declared.model.VModule.{VModule}
 use Rattle.file_models.specs.declared.file_model.FileModel.{FileModel}
 use Rattle.model_files.specs.ModelNames.{HaveOwnNames}
 use Rattle.model_replay.specs.Verilog.{verilog}

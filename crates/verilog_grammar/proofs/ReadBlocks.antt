@@ -20,15 +20,15 @@ use Rattle.udp_tables.specs.declared.timing_checks.TimingCheck.{TimingCheck}
 use Rattle.specify_blocks.specs.declared.model.VModule.{VModule}
 use Rattle.specify_blocks.specs.Nets.{is_output_port, is_value}
 use Rattle.udp_tables.specs.Ports.{is_input_port}
-use Rattle.specify_blocks.specs.Sound.{is_gate, IsPath, is_enabling, IsCheck}
+use Rattle.specify_blocks.specs.Sound.{is_gate, IsPath, is_enabling, IsCheck, has_written_events}
 use Rattle.grammar_reader.specs.Words.{is_this}
-use Rattle.specify_blocks.specs.VerilogBlocks.{a_number, kept, port_of, an_input, an_output, a_condition, if_gate, ifnone_gate}
-use Rattle.specify_blocks.specs.VerilogBlocks.{gate_by, path_gate, path, next_path, paths, edge_of, an_event, an_edge_event}
-use Rattle.specify_blocks.specs.VerilogBlocks.{condition_name, condition, check_end, ordered_check, turned_check, opposite}
-use Rattle.specify_blocks.specs.VerilogBlocks.{width_check, period_check, check_of_kind, check, next_check, checks, with_block}
-use Rattle.specify_blocks.specs.VerilogBlocks.{block, specify}
-use Rattle.specify_blocks.specs.WellFormed.{IsNumber, HasNumbers}
-use Rattle.specify_blocks.proofs.ReadNames.{IsSpelled, some_if, known_values, values, behind, surely}
+use Rattle.verilog_grammar.specs.VerilogBlocks.{a_number, kept, port_of, an_input, an_output, a_condition, if_gate, ifnone_gate}
+use Rattle.verilog_grammar.specs.VerilogBlocks.{gate_by, path_gate, path, next_path, paths, edge_of, an_event, an_edge_event}
+use Rattle.verilog_grammar.specs.VerilogBlocks.{condition_name, condition, check_end, ordered_check, turned_check, opposite}
+use Rattle.verilog_grammar.specs.VerilogBlocks.{width_check, period_check, check_of_kind, check, next_check, checks, with_block}
+use Rattle.verilog_grammar.specs.VerilogBlocks.{block, specify}
+use Rattle.verilog_grammar.specs.WellFormed.{IsNumber, HasNumbers}
+use Rattle.verilog_grammar.proofs.ReadNames.{IsSpelled, some_if, known_values, values, behind, surely}
 
 -- Numbers.
 
@@ -147,30 +147,36 @@ pub record IsToldCheck (m : VModule) (k : TimingCheck) : Type 0 where
   pub sound : IsCheck m k
   pub number : IsNumber k.limit
 
-abbrev HasTwoEvents : CheckKind → Type 0
-HasTwoEvents kind = (m : VModule) (first second : Event) (limit : ℕ) (when : Option ℕ) → IsEvent m first → IsEvent m second
-    → IsTrue (is_enabling m when) → IsTrue (is_some m.notifier) → IsNumber limit
-    → IsToldCheck m (record { kind = kind; first = first; second = second; limit = limit; condition = when })
+-- whether the text of a check of this kind tells both of its events
+abbrev TellsBoth : CheckKind → Type 0
+TellsBoth kind = (k : TimingCheck) → IsTrue (has_written_events k kind)
 
-ordered : (m : VModule) (kind : CheckKind) → HasTwoEvents kind → Promises IsSpelled (ordered_check kind m) (IsToldCheck m)
+told_both : (m : VModule) (kind : CheckKind) → TellsBoth kind → (first second : Event) (limit : ℕ) (when : Option ℕ)
+    → IsEvent m first → IsEvent m second → IsTrue (is_enabling m when) → IsTrue (is_some m.notifier) → IsNumber limit
+    → IsToldCheck m (record { kind = kind; first = first; second = second; limit = limit; condition = when })
+told_both m kind both first second limit when f s w n l =
+    let k : TimingCheck = record { kind = kind; first = first; second = second; limit = limit; condition = when } in
+    record { sound = record { first = f; second = s; written = both k; enabled = w; notified = n }; number = l }
+
+ordered : (m : VModule) (kind : CheckKind) → TellsBoth kind → Promises IsSpelled (ordered_check kind m) (IsToldCheck m)
 unfolding ordered_check
-ordered m kind told =
+ordered m kind both =
     in_turn (events m) (λ first f.
     behind (λ a. in_turn (events m) (λ second s.
     in_turn (conditions m) (λ when w.
     behind (λ b. in_turn numbers (λ limit l.
     in_turn (ends m) (λ c n.
-    gives (told m first second limit when f s w n l))))))))
+    gives (told_both m kind both first second limit when f s w n l))))))))
 
-turned : (m : VModule) (kind : CheckKind) → HasTwoEvents kind → Promises IsSpelled (turned_check kind m) (IsToldCheck m)
+turned : (m : VModule) (kind : CheckKind) → TellsBoth kind → Promises IsSpelled (turned_check kind m) (IsToldCheck m)
 unfolding turned_check
-turned m kind told =
+turned m kind both =
     in_turn (events m) (λ second s.
     in_turn (conditions m) (λ when w.
     behind (λ a. in_turn (events m) (λ first f.
     behind (λ b. in_turn numbers (λ limit l.
     in_turn (ends m) (λ c n.
-    gives (told m first second limit when f s w n l))))))))
+    gives (told_both m kind both first second limit when f s w n l))))))))
 
 widths : (m : VModule) → Promises IsSpelled (width_check m) (IsToldCheck m)
 unfolding width_check
@@ -215,30 +221,10 @@ periods m =
 
 kinds : (m : VModule) (kind : CheckKind) → Promises IsSpelled (check_of_kind m kind) (IsToldCheck m)
 unfolding check_of_kind
-kinds m check_kind.Setup = ordered m check_kind.Setup
-    (λ m first second limit when f s w n l. record {
-      sound =
-          record { first = f; second = s; written = refl; enabled = w; notified = n };
-      number = l;
-    })
-kinds m check_kind.Hold = ordered m check_kind.Hold
-    (λ m first second limit when f s w n l. record {
-      sound =
-          record { first = f; second = s; written = refl; enabled = w; notified = n };
-      number = l;
-    })
-kinds m check_kind.Recovery = ordered m check_kind.Recovery
-    (λ m first second limit when f s w n l. record {
-      sound =
-          record { first = f; second = s; written = refl; enabled = w; notified = n };
-      number = l;
-    })
-kinds m check_kind.Removal = turned m check_kind.Removal
-    (λ m first second limit when f s w n l. record {
-      sound =
-          record { first = f; second = s; written = refl; enabled = w; notified = n };
-      number = l;
-    })
+kinds m check_kind.Setup = ordered m check_kind.Setup (λ k. refl)
+kinds m check_kind.Hold = ordered m check_kind.Hold (λ k. refl)
+kinds m check_kind.Recovery = ordered m check_kind.Recovery (λ k. refl)
+kinds m check_kind.Removal = turned m check_kind.Removal (λ k. refl)
 kinds m check_kind.Width = widths m
 kinds m check_kind.Period = periods m
 

@@ -14,7 +14,7 @@ use Rattle.specify_blocks.specs.declared.model.VPath.{VPath}
 use Rattle.udp_tables.specs.declared.timing_checks.TimingCheck.{TimingCheck}
 use Rattle.specify_blocks.specs.declared.model.VModule.{VModule}
 use Rattle.specify_blocks.specs.Sound.{IsTable, IsSound}
-use Rattle.specify_blocks.specs.VerilogModules.{port_names}
+use Rattle.verilog_grammar.specs.VerilogModules.{port_names}
 
 -- an identifier that is no word of Verilog
 pub record IsName (name : List ℕ) : Type 0 where

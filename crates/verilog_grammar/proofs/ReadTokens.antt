@@ -11,8 +11,8 @@ use Rattle.verilog_tokens.specs.Words.{is_verilog_word}
 use Rattle.lexer.proofs.EachToken.{each_token}
 use Rattle.verilog_tokens.specs.Tokens.{is_one_of, is_symbol, is_mark, sign_length, number_length, word_length, begins_word}
 use Rattle.verilog_tokens.specs.Tokens.{token_length, lexis}
-use Rattle.specify_blocks.specs.VerilogText.{text_tokens}
-use Rattle.specify_blocks.proofs.ReadNames.{IsSpelled}
+use Rattle.grammar_reader.specs.Texts.{text_tokens}
+use Rattle.verilog_grammar.proofs.ReadNames.{IsSpelled}
 
 -- the first bytes of which a test holds are name bytes, where the test says so
 prefix_named : (test : ℕ → Bool) → ((b : ℕ) → test b ≡ true → is_name_byte b ≡ true) → (bs : List ℕ)
@@ -84,5 +84,5 @@ token_spelled t n (b ∷ bs) e = λ name.
     and_from (is_ascii_alphabetic b || b == 95) (list_all is_name_byte (take n bs)) first
     (rest_named (t && is_symbol b) (is_mark b) (begins_word b) (is_ascii_digit b) b n bs refl first e)
 
-pub tokens_spelled : (bytes : List ℕ) → AllByRecursion IsSpelled (text_tokens bytes)
+pub tokens_spelled : (bytes : List ℕ) → AllByRecursion IsSpelled (text_tokens lexis bytes)
 tokens_spelled = each_token lexis IsSpelled token_spelled

@@ -1,12 +1,11 @@
 -- The tokens and the names that are read.
 use Rattle.std.proofs.Common.{◌≡◌, ℕ, Bool, true, false, not, ◌||◌, ◌==◌, if◌then◌else◌, IsTrue, List, [], ◌∷◌, ◌++◌, Option}
-use Rattle.std.proofs.Common.{refl, ap, subst, arith}
+use Rattle.std.proofs.Common.{refl, subst, arith}
 use Rattle.std.specs.Prelude.{All}
 use Rattle.std.specs.Str.{bytes_eq}
-use Rattle.std.specs.Cmp.{IsEquivalence}
 use Rattle.std.specs.List.{IsDistinct}
 use Rattle.std.proofs.lemmas.Bool.{and_parts}
-use Rattle.std.proofs.lemmas.Slice.Eq.{bytes_eq-Decides}
+use Rattle.std.proofs.lemmas.Cmp.{nat_list_eq_equiv}
 use Rattle.std.proofs.lemmas.List.Elements.{All-push}
 use Rattle.std.proofs.lemmas.Map.Keys.{IsDistinct-push}
 use Rattle.verilog_tokens.specs.Kept.{is_identifier}
@@ -17,12 +16,11 @@ use Rattle.grammar_rules.proofs.Promises.{Promises, token}
 use Rattle.verilog_tokens.specs.Tokens.{is_name}
 use Rattle.grammar_reader.specs.declared.refusal.Refusal.{Refusal}
 use Rattle.grammar_reader.specs.declared.refusal.Refusal.TheVariants.{Syntax, Undefined, Twice}
-use Rattle.grammar_reader.proofs.ItemPlaces.{same_bytes as bytes_refl, bytes_symm}
 pub use Rattle.grammar_reader.proofs.WordPromises.{values, goes_on, behind, surely}
 pub use Rattle.grammar_reader.proofs.Passing.{fits_if, fits_unless, fits_where, some_if, fits_allowed, IsFound}
 use Rattle.grammar_reader.specs.Words.{allowed_by, fresh}
 use Rattle.udp_tables.specs.VerilogRules.{expect_where, any_name, is_among, new_name, known}
-use Rattle.specify_blocks.specs.WellFormed.{IsName, AreApart}
+use Rattle.verilog_grammar.specs.WellFormed.{IsName, AreApart}
 
 -- a token that begins as a name is one whole identifier
 abbrev pub IsSpelled : List ℕ → Type 0
@@ -41,12 +39,6 @@ fits_same x a e = cc
 
 -- Names.
 
-bytes_congr : (x y z : List ℕ) → bytes_eq x y ≡ true → bytes_eq x z ≡ bytes_eq y z
-bytes_congr x y z e = ap (λ t. bytes_eq t z) ((bytes_eq-Decides x y).0 e)
-
-pub bytes_equivalence : IsEquivalence bytes_eq
-bytes_equivalence = record { refl = bytes_refl; symm = bytes_symm; congr = bytes_congr }
-
 -- a name that is none of these
 pub record IsNew (names : List (List ℕ)) (x : List ℕ) : Type 0 where
   pub name : IsName x
@@ -60,7 +52,7 @@ pub record AreNames (names : List (List ℕ)) : Type 0 where
 pub push_name : (names : List (List ℕ)) (x : List ℕ) → AreNames names → IsNew names x → AreNames (names ++ x ∷ [])
 push_name names x h n = record {
   all = All-push IsName names x h.all n.name;
-  apart = IsDistinct-push bytes_equivalence names x h.apart n.new;
+  apart = IsDistinct-push nat_list_eq_equiv names x h.apart n.new;
 }
 
 pub no_names : AreNames []

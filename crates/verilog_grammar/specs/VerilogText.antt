@@ -1,6 +1,6 @@
 -- Verilog text: the modules that its bytes are, or its fault. (IEEE 1364-2005, A.1, source text, and 19.8, `timescale; the subset
 -- is this project's.)
-use Rattle.std.specs.Prelude.{◌≡◌, ◌↔◌, ℕ, Bool, true, false, ◌||◌, List, [], ◌∷◌, ◌++◌, Option, Result, Ok, Err, codes}
+use Rattle.std.specs.Prelude.{ℕ, Bool, true, false, ◌||◌, List, [], ◌∷◌, ◌++◌, Result, codes}
 use Rattle.std.specs.Str.{bytes_eq}
 use Rattle.grammar_rules.specs.Rule as r
 use Rattle.udp_tables.specs.declared.table.Udp.{Udp}
@@ -8,14 +8,13 @@ use Rattle.udp_tables.specs.declared.models.ModelFault.{ModelFault}
 use Rattle.specify_blocks.specs.declared.model.VModule.{VModule}
 use Rattle.verilog_tokens.specs.Tokens.{lexis}
 use Rattle.grammar_reader.specs.declared.refusal.Refusal.TheVariants.{Syntax, Undriven}
-use Rattle.grammar_reader.specs.Texts.{Texts, IsText, IsFault, text}
-use Rattle.grammar_reader.specs.Texts as texts
+use Rattle.grammar_reader.specs.Texts.{Texts, IsText, text}
 use Rattle.grammar_reader.specs.Words.{Grammar, ◌>>=◌, begins_by}
 use Rattle.udp_tables.specs.ModelFaults.{model_faults}
 use Rattle.udp_tables.specs.VerilogRules.{expect, expect_where, begins, new_name}
 use Rattle.udp_tables.specs.VerilogPrimitives.{primitive}
-use Rattle.specify_blocks.specs.VerilogModules.{declarations, instances, are_all_driven}
-use Rattle.specify_blocks.specs.VerilogBlocks.{specify}
+use Rattle.verilog_grammar.specs.VerilogModules.{declarations, instances, are_all_driven}
+use Rattle.verilog_grammar.specs.VerilogBlocks.{specify}
 
 -- What stands before a place of a text: the modules, the names of all primitives and modules, and the primitives behind the last
 -- module.
@@ -112,30 +111,10 @@ language = record {
   faults = model_faults;
 }
 
--- the tokens of a text before its lexical fault, by their spelling
-abbrev pub text_tokens : List ℕ → List (List ℕ)
-text_tokens = texts.text_tokens lexis
-
--- the offset of the lexical fault, if there is one
-abbrev pub lexical_place : List ℕ → Option ℕ
-lexical_place = texts.lexical_place lexis
-
 -- The bytes are the text of these modules: they are tokens, without a lexical fault, that the grammar takes.
 abbrev pub IsVerilogText : List ℕ → List VModule → Type 0
 IsVerilogText = IsText language
 
--- This is the fault of a text: of those that it meets, the first.
-abbrev pub IsVerilogFault : List ℕ → ModelFault → Type 0
-IsVerilogFault = IsFault language
-
--- the modules of a text, or its fault
+-- the modules of a text, or its fault (`Texts`, `IsAnswer`)
 unfoldable pub verilog_text : List ℕ → Result (List VModule) ModelFault
 verilog_text bytes = text language bytes
-
--- A text has modules or a fault, and one of them.
-pub record IsVerilogAnswer (bytes : List ℕ) : Type 0 where
-  pub modules : (ms : List VModule) → IsVerilogText bytes ms ↔ (verilog_text bytes ≡ Ok ms)
-  pub fault : (f : ModelFault) → IsVerilogFault bytes f ↔ (verilog_text bytes ≡ Err f)
-
-abbrev pub VerilogTextHasOneAnswer : Type 0
-VerilogTextHasOneAnswer = (bytes : List ℕ) → IsVerilogAnswer bytes

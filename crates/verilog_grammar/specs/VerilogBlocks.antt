@@ -24,7 +24,7 @@ use Rattle.grammar_reader.specs.declared.refusal.Refusal.{Refusal}
 use Rattle.grammar_reader.specs.declared.refusal.Refusal.TheVariants.{Syntax, Unequal}
 use Rattle.grammar_reader.specs.Words.{Grammar, ◌>>=◌, begins_by, begins_as, valued}
 use Rattle.udp_tables.specs.VerilogRules.{expect, begins, known, this_name}
-use Rattle.specify_blocks.specs.VerilogModules.{port_name}
+use Rattle.verilog_grammar.specs.VerilogModules.{port_name}
 
 -- a number (3.5.1)
 unfoldable pub a_number : Grammar ℕ

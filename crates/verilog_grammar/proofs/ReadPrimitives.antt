@@ -27,9 +27,9 @@ use Rattle.udp_tables.specs.VerilogPrimitives.{declared_state, register, level_b
 use Rattle.udp_tables.specs.VerilogPrimitives.{begins_entry, entry_by, entry_after, has_change, next_entry, more_entries}
 use Rattle.udp_tables.specs.VerilogPrimitives.{state_and_next, output_level, row_end, row, next_row, table, primitive}
 use Rattle.specify_blocks.specs.Sound.{IsTable}
-use Rattle.specify_blocks.specs.WellFormed.{most_inputs_of, HasNoState, HasNoStates, IsWellFormedUdp}
-use Rattle.specify_blocks.proofs.ReadNames.{IsSpelled, IsNew, AreNames, push_name, one_name, fits_if, fits_where, some_if}
-use Rattle.specify_blocks.proofs.ReadNames.{new_names, any_names, values, where_holds, behind, surely, fits_same, fits_unless}
+use Rattle.verilog_grammar.specs.WellFormed.{most_inputs_of, HasNoState, HasNoStates, IsWellFormedUdp}
+use Rattle.verilog_grammar.proofs.ReadNames.{IsSpelled, IsNew, AreNames, push_name, one_name, fits_if, fits_where, some_if}
+use Rattle.verilog_grammar.proofs.ReadNames.{new_names, any_names, values, where_holds, behind, surely, fits_same, fits_unless}
 
 -- Headers.
 

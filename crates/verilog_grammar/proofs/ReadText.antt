@@ -24,19 +24,20 @@ use Rattle.udp_tables.specs.declared.timing_checks.TimingCheck.{TimingCheck}
 use Rattle.specify_blocks.specs.declared.model.VModule.{VModule}
 use Rattle.specify_blocks.specs.Nets.{is_output_port, is_driven, drivers}
 use Rattle.specify_blocks.specs.Sound.{is_gate, IsPath, is_enabling, IsCheck}
+use Rattle.verilog_tokens.specs.Tokens.{lexis}
 use Rattle.grammar_reader.specs.declared.refusal.Refusal.TheVariants.{Undriven}
-use Rattle.specify_blocks.specs.VerilogModules.{output_nets, wire_nets, is_driven_already, are_all_driven}
-use Rattle.specify_blocks.specs.VerilogBlocks.{with_block}
-use Rattle.specify_blocks.specs.VerilogText.{Before, with_primitive, with_module, next_primitive, one_module, next_module}
-use Rattle.specify_blocks.specs.VerilogText.{more_primitives, primitives_and_module, design_by, designs, file, IsVerilogText}
-use Rattle.specify_blocks.specs.VerilogText.{text_tokens}
-use Rattle.specify_blocks.specs.WellFormed.{IsName, IsWellFormedUdp, IsWellFormedModule, udp_names, outer_names, AreWellFormed}
-use Rattle.specify_blocks.proofs.ReadNames.{IsSpelled, IsNew, AreNames, push_name, no_names, new_names, where_holds, behind}
-use Rattle.specify_blocks.proofs.ReadPrimitives.{IsNewUdp, primitives}
-use Rattle.specify_blocks.proofs.ReadHeaders.{IsBare, bare_modules}
-use Rattle.specify_blocks.proofs.ReadInstances.{filled, filled_instances, AreDriven, IsBuilt, all_instances}
-use Rattle.specify_blocks.proofs.ReadBlocks.{IsToldPath, IsToldCheck, IsFinished, specified}
-use Rattle.specify_blocks.proofs.ReadTokens.{tokens_spelled}
+use Rattle.grammar_reader.specs.Texts.{text_tokens}
+use Rattle.verilog_grammar.specs.VerilogModules.{output_nets, wire_nets, is_driven_already, are_all_driven}
+use Rattle.verilog_grammar.specs.VerilogBlocks.{with_block}
+use Rattle.verilog_grammar.specs.VerilogText.{Before, with_primitive, with_module, next_primitive, one_module, next_module}
+use Rattle.verilog_grammar.specs.VerilogText.{more_primitives, primitives_and_module, design_by, designs, file, IsVerilogText}
+use Rattle.verilog_grammar.specs.WellFormed.{IsName, IsWellFormedUdp, IsWellFormedModule, udp_names, outer_names, AreWellFormed}
+use Rattle.verilog_grammar.proofs.ReadNames.{IsSpelled, IsNew, AreNames, push_name, no_names, new_names, where_holds, behind}
+use Rattle.verilog_grammar.proofs.ReadPrimitives.{IsNewUdp, primitives}
+use Rattle.verilog_grammar.proofs.ReadHeaders.{IsBare, bare_modules}
+use Rattle.verilog_grammar.proofs.ReadInstances.{filled, filled_instances, AreDriven, IsBuilt, all_instances}
+use Rattle.verilog_grammar.proofs.ReadBlocks.{IsToldPath, IsToldCheck, IsFinished, specified}
+use Rattle.verilog_grammar.proofs.ReadTokens.{tokens_spelled}
 
 -- Each net that has to be driven is among those that the end of a module looks at.
 
@@ -269,4 +270,4 @@ unfolding file
 files = behind (λ a. in_turn all_designs (λ all h. last (text_is_formed all h)))
 
 pub text_modules : (bytes : List ℕ) (ms : List VModule) → IsVerilogText bytes ms → AreWellFormed ms
-text_modules bytes ms h = (files.kept (text_tokens bytes) ms [] (tokens_spelled bytes) h.takes).0
+text_modules bytes ms h = (files.kept (text_tokens lexis bytes) ms [] (tokens_spelled bytes) h.takes).0

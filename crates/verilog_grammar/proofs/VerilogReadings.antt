@@ -16,10 +16,10 @@ use Rattle.specify_blocks.specs.declared.model.Instance.TheVariants as instance
 use Rattle.specify_blocks.specs.declared.model.Gate.TheVariants as gate
 use Rattle.specify_blocks.specs.declared.model.VModule.{VModule}
 use Rattle.udp_tables.specs.VerilogPrimitives as udp
-use Rattle.specify_blocks.specs.VerilogModules as m
-use Rattle.specify_blocks.specs.VerilogBlocks as block
-use Rattle.specify_blocks.specs.VerilogText as text
-use Rattle.specify_blocks.specs.VerilogText.{verilog_text}
+use Rattle.verilog_grammar.specs.VerilogModules as m
+use Rattle.verilog_grammar.specs.VerilogBlocks as block
+use Rattle.verilog_grammar.specs.VerilogText as text
+use Rattle.verilog_grammar.specs.VerilogText.{verilog_text}
 
 -- the bytes are these modules
 abbrev Reads : List ℕ → List VModule → Type 0
@@ -82,21 +82,9 @@ flip-flop =
       } ∷ [];
     }
 
--- A flip-flop with its rows in plain form, and its text.
-its-text : Reads (codes "`timescale 1ps/1ps\nprimitive lib_1_1 (q, i1, i2, i3);\n  output q;\n  reg q;\n  input i1;\n  input i2;\n  input i3;\n  table\n    ? ? * : ? : x;\n    (01) 1 ? : ? : 1;\n    (1?) ? ? : 1 : 1;\n    (?0) ? ? : 1 : 1;\n    * 1 ? : 1 : 1;\n    (01) 0 ? : ? : 0;\n    (1?) ? ? : 0 : 0;\n    (?0) ? ? : 0 : 0;\n    * 0 ? : 0 : 0;\n    ? * ? : 1 : 1;\n    ? * ? : 0 : 0;\n  endtable\nendprimitive\nprimitive lib_1_2 (q, i1);\n  output q;\n  input i1;\n  table\n    1 : 1;\n    0 : 0;\n  endtable\nendprimitive\nmodule DFFT (CK, D, Q);\n  input CK;\n  input D;\n  output Q;\n  wire lib_s1;\n  reg lib_n;\n  lib_1_1 (lib_s1, CK, D, lib_n);\n  lib_1_2 (Q, lib_s1);\n  specify\n    (CK => Q) = (100, 120);\n    $setup(D, posedge CK, 50, lib_n);\n  endspecify\nendmodule\n")
-    (flip-flop ∷ [])
-unfolding verilog_words is_verilog_word verilog_text text.file text.prelude text.designs text.one_module text.next_primitive
-    text.more_primitives text.next_module text.primitives_and_module udp.primitive udp.table udp.row udp.state_and_next
-    udp.output_level udp.pair udp.declared_inputs udp.declared_input udp.register udp.declared_state udp.declared_output
-    udp.header udp.next_input udp.more_inputs udp.next_entry udp.more_entries udp.next_row m.header m.next_port m.more_ports
-    m.some_ports m.declared_inputs m.declared_wires m.notifier m.driven_terminal m.feeding_terminal m.next_input m.more_inputs
-    m.instances m.declared_input m.declared_output m.declared_outputs m.declared_wire m.declared_notifier m.declarations m.call
-    m.constant block.a_number block.an_input block.an_output block.a_condition block.path_gate block.next_path block.paths
-    block.any_edge block.condition block.same_condition block.same_number block.check_of_kind block.next_check block.checks
-    block.specify block.if_gate block.ifnone_gate block.path block.an_event block.an_edge_event block.condition_name
-    block.check_end block.ordered_check block.turned_check block.width_check block.second_period block.period_check block.check
-    block.block state-primitive output-primitive flip-flop primitive row level-row
-its-text = refl
+-- the text of the flip-flop, with its rows in plain form
+abbrev flip-flop-text : List ℕ
+flip-flop-text = codes "`timescale 1ps/1ps\nprimitive lib_1_1 (q, i1, i2, i3);\n  output q;\n  reg q;\n  input i1;\n  input i2;\n  input i3;\n  table\n    ? ? * : ? : x;\n    (01) 1 ? : ? : 1;\n    (1?) ? ? : 1 : 1;\n    (?0) ? ? : 1 : 1;\n    * 1 ? : 1 : 1;\n    (01) 0 ? : ? : 0;\n    (1?) ? ? : 0 : 0;\n    (?0) ? ? : 0 : 0;\n    * 0 ? : 0 : 0;\n    ? * ? : 1 : 1;\n    ? * ? : 0 : 0;\n  endtable\nendprimitive\nprimitive lib_1_2 (q, i1);\n  output q;\n  input i1;\n  table\n    1 : 1;\n    0 : 0;\n  endtable\nendprimitive\nmodule DFFT (CK, D, Q);\n  input CK;\n  input D;\n  output Q;\n  wire lib_s1;\n  reg lib_n;\n  lib_1_1 (lib_s1, CK, D, lib_n);\n  lib_1_2 (Q, lib_s1);\n  specify\n    (CK => Q) = (100, 120);\n    $setup(D, posedge CK, 50, lib_n);\n  endspecify\nendmodule\n"
 
 abbrev plain : List ℕ → VModule
 plain name =
@@ -123,10 +111,11 @@ dense =
     ∷ []
     )
 
--- No module; modules without ports; ports declared in another order than the header's, an empty specify block, a primitive that
--- no instance names; and tokens with nothing between them, with blanks and with comments.
-small-texts :
-    Reads (codes "`timescale 1ps/1ps\n") []
+-- The flip-flop; no module; modules without ports; ports declared in another order than the header's, an empty specify block, a
+-- primitive that no instance names; and tokens with nothing between them, with blanks and with comments.
+reads :
+    Reads flip-flop-text (flip-flop ∷ [])
+    × Reads (codes "`timescale 1ps/1ps\n") []
     × Reads (codes "`timescale 1ps/1ps\nmodule M (); endmodule module N (); endmodule")
     (plain (codes "M") ∷ plain (codes "N") ∷ [])
     × Reads (codes "`timescale 1ps/1ps\nmodule T (B, A); input A; output B; buf (B, 1'b1); specify endspecify endmodule")
@@ -145,5 +134,5 @@ unfolding verilog_words is_verilog_word verilog_text text.file text.prelude text
     block.any_edge block.condition block.same_condition block.same_number block.check_of_kind block.next_check block.checks
     block.specify block.if_gate block.ifnone_gate block.path block.an_event block.an_edge_event block.condition_name
     block.check_end block.ordered_check block.turned_check block.width_check block.second_period block.period_check block.check
-    block.block primitive row
-small-texts = (refl, refl, refl, refl, refl)
+    block.block state-primitive output-primitive flip-flop primitive row level-row
+reads = (refl, refl, refl, refl, refl, refl)

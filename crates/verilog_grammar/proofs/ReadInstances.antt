@@ -25,12 +25,12 @@ use Rattle.specify_blocks.specs.Nets.{feeds_value, drivers}
 use Rattle.specify_blocks.specs.Sound.{IsPrimitive, IsInstance, AreInstances}
 use Rattle.verilog_tokens.specs.Tokens.{is_name}
 use Rattle.grammar_reader.specs.declared.refusal.Refusal.TheVariants.{Syntax, Width, Undefined, Twice}
-use Rattle.specify_blocks.specs.VerilogModules.{net_of, terminal_by, terminal, may_drive, is_driven_already, driven_terminal}
-use Rattle.specify_blocks.specs.VerilogModules.{may_feed, feeding_terminal, next_input, more_inputs, input_count, with_instance}
-use Rattle.specify_blocks.specs.VerilogModules.{call, constant, primitive_number, of_primitive, begins_instance, one_instance}
-use Rattle.specify_blocks.specs.VerilogModules.{instances}
+use Rattle.verilog_grammar.specs.VerilogModules.{net_of, terminal_by, terminal, may_drive, is_driven_already, driven_terminal}
+use Rattle.verilog_grammar.specs.VerilogModules.{may_feed, feeding_terminal, next_input, more_inputs, input_count, with_instance}
+use Rattle.verilog_grammar.specs.VerilogModules.{call, constant, primitive_number, of_primitive, begins_instance, one_instance}
+use Rattle.verilog_grammar.specs.VerilogModules.{instances}
 use Rattle.specify_blocks.proofs.InstanceLemmas.{drivers-cons, drivers-append, are-append}
-use Rattle.specify_blocks.proofs.ReadNames.{IsSpelled, fits_if, fits_unless, where_holds, behind}
+use Rattle.verilog_grammar.proofs.ReadNames.{IsSpelled, fits_if, fits_unless, where_holds, behind}
 
 -- a module with these instances, paths and checks, and otherwise as this one
 abbrev pub filled : VModule → List Instance → List VPath → List TimingCheck → VModule

@@ -5,10 +5,10 @@ use Rattle.udp_tables.specs.declared.models.ModelFault.TheVariants.{Unequal, Wid
 use Rattle.udp_tables.proofs.FaultCases.{at, behind, AreFaults}
 use Rattle.verilog_tokens.specs.Words.{verilog_words, is_verilog_word}
 use Rattle.udp_tables.specs.VerilogPrimitives as udp
-use Rattle.specify_blocks.specs.VerilogModules as m
-use Rattle.specify_blocks.specs.VerilogBlocks as block
-use Rattle.specify_blocks.specs.VerilogText as text
-use Rattle.specify_blocks.specs.VerilogText.{verilog_text}
+use Rattle.verilog_grammar.specs.VerilogModules as m
+use Rattle.verilog_grammar.specs.VerilogBlocks as block
+use Rattle.verilog_grammar.specs.VerilogText as text
+use Rattle.verilog_grammar.specs.VerilogText.{verilog_text}
 
 -- what stands before the first primitive or module
 abbrev behind-prelude : List ℕ

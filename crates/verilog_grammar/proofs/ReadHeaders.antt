@@ -15,12 +15,12 @@ use Rattle.udp_tables.specs.declared.models.VPort.{VPort}
 use Rattle.specify_blocks.specs.declared.model.VModule.{VModule}
 use Rattle.verilog_tokens.specs.Tokens.{is_name}
 use Rattle.udp_tables.specs.VerilogRules.{place_from}
-use Rattle.specify_blocks.specs.VerilogModules.{port_name, port_names, plain_port, input_port, next_port, more_ports, some_ports}
-use Rattle.specify_blocks.specs.VerilogModules.{header, Inputs, with_input, input_at, declared_input, declared_inputs}
-use Rattle.specify_blocks.specs.VerilogModules.{declared_wire, declared_wires, declared_notifier, notifier, declarations}
-use Rattle.specify_blocks.specs.WellFormed.{register_names, inner_names}
-use Rattle.specify_blocks.proofs.ReadNames.{IsSpelled, AreNames, a_name, push_name, no_names, one_name, fits_same, some_if}
-use Rattle.specify_blocks.proofs.ReadNames.{new_names, known_values, behind}
+use Rattle.verilog_grammar.specs.VerilogModules.{port_name, port_names, plain_port, input_port, next_port, more_ports, some_ports}
+use Rattle.verilog_grammar.specs.VerilogModules.{header, Inputs, with_input, input_at, declared_input, declared_inputs}
+use Rattle.verilog_grammar.specs.VerilogModules.{declared_wire, declared_wires, declared_notifier, notifier, declarations}
+use Rattle.verilog_grammar.specs.WellFormed.{register_names, inner_names}
+use Rattle.verilog_grammar.proofs.ReadNames.{IsSpelled, AreNames, a_name, push_name, no_names, one_name, fits_same, some_if}
+use Rattle.verilog_grammar.proofs.ReadNames.{new_names, known_values, behind}
 
 -- Headers.
 

@@ -1,0 +1,11 @@
+pub mod VerilogAnswers
+pub mod ReadNames
+pub mod ReadPrimitives
+pub mod ReadHeaders
+pub mod ReadInstances
+pub mod ReadBlocks
+pub mod ReadTokens
+pub mod ReadText
+mod VerilogExamples
+mod VerilogReadings
+pub use Rattle.specify_blocks.proofs as specify_blocks

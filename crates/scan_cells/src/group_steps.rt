@@ -12,10 +12,11 @@ ghost use Rattle.scan_cells.specs.Comparison.{difference, state_difference, chan
 ghost use Rattle.scan_cells.specs.Comparison.{group_difference as group_difference_of};
 
 use crate::answers::Difference;
+use crate::by_points::{Compared, first_from};
 use crate::masks::{is_mixed, mask_of};
 use crate::places::places_of;
 use crate::point_steps::{PointSteps, StateSteps};
-use crate::points::{changed_at, enable_place, is_inactive_by, point_count};
+use crate::points::{changed_at, enable_place, is_inactive_by};
 use crate::sources::{Sources, in_cell, pin_sources};
 use crate::views::View;
 use cell_machine::Cell;
@@ -210,29 +211,28 @@ impl<'a> GroupPair<'a> {
         }
     }
 
-    /// The first difference at a point, where there is none at the points before it. Then there is none at a point with 1 at a
-    /// place that the cell's group does not depend on and at one that the view's does not.
-    fn next_difference(&self, after: u32) -> Option<Difference>
-        requires before { (p : ℕ) → p < after
-            → after_difference (data_of self.now.cell.now) (view_data self.now.view.now) self.now.group p ≡ None }
-        ensures { result ≡ after_difference (data_of self.now.cell.now) (view_data self.now.view.now) self.now.group after }
-    {
-        if is_mixed(after, self.cell_mask, self.view_mask) {
-            return None;
-        }
-        self.after_difference(after)
-    }
-
     /// The first difference of the groups.
+    #[tactic(auto, using(crate::proofs::Halves::few_points))]
     fn difference(&self) -> Option<Difference>
         ensures { result ≡ group_difference_of (data_of self.now.cell.now) (view_data self.now.view.now) self.now.group }
     {
-        for after in 0..point_count(self.places.as_slice().len()) {
-            if let Some(difference) = self.next_difference(after) {
-                return Some(difference);
-            }
-        }
-        None
+        first_from(self, 0, self.places.as_slice().len())
+    }
+}
+
+impl<'a> Compared for GroupPair<'a> {
+    ghost use Rattle.cell_machine.specs.CellData.{data_of};
+    ghost use Rattle.scan_cells.specs.Views.{view_data};
+    ghost use Rattle.scan_cells.specs.Comparison.{after_difference};
+
+    ghost at = { λ pair. after_difference (data_of pair.cell.now) (view_data pair.view.now) pair.group };
+
+    fn is_mixed(&self, point: u32) -> bool {
+        is_mixed(point, self.cell_mask, self.view_mask)
+    }
+
+    fn difference_at(&self, point: u32) -> Option<Difference> {
+        self.after_difference(point)
     }
 }
 

@@ -3,6 +3,7 @@
 #![tactic(auto)]
 
 mod answers;
+mod by_points;
 mod comparison;
 mod enables;
 mod functional;

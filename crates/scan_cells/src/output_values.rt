@@ -10,9 +10,10 @@ ghost use Rattle.scan_cells.specs.Comparison.{output_places, cell_output, view_o
 ghost use Rattle.scan_cells.specs.Comparison.{output_difference as output_difference_of};
 
 use crate::answers::Difference;
+use crate::by_points::{Compared, first_from};
 use crate::masks::{is_mixed, mask_of};
 use crate::places::places_of;
-use crate::points::{Weights, is_inactive, point_count, values_over, weights_of};
+use crate::points::{Weights, is_inactive, values_over, weights_of};
 use crate::sources::{Sources, in_cell, pin_in_cell};
 use crate::views::View;
 use cell_machine::{Cell, OutputPin, output_at};
@@ -109,31 +110,29 @@ impl<'a> OutputPair<'a> {
         difference.found()
     }
 
-    /// The difference at a point, where there is none at the points before it. Then there is none at a point with 1 at a place
-    /// that the cell's output does not depend on and at one that the view's does not.
-    fn next_difference(&self, point: u32) -> Option<Difference>
-        ensures { ((p : ℕ) → p < point → point_difference (data_of self.now.cell.now) (view_data self.now.view.now)
-            self.now.output self.now.view_output p ≡ None)
-            → result ≡ point_difference (data_of self.now.cell.now) (view_data self.now.view.now) self.now.output
-            self.now.view_output point }
-    {
-        if is_mixed(point, self.cell_mask, self.view_mask) {
-            return None;
-        }
-        self.point_difference(point)
-    }
-
     /// The first difference of the outputs.
+    #[tactic(auto, using(crate::proofs::Halves::few_points))]
     fn difference(&self) -> Option<Difference>
         ensures { result ≡ pair_difference (data_of self.now.cell.now) (view_data self.now.view.now) self.now.output
             self.now.view_output }
     {
-        for point in 0..point_count(self.places.as_slice().len()) {
-            if let Some(difference) = self.next_difference(point) {
-                return Some(difference);
-            }
-        }
-        None
+        first_from(self, 0, self.places.as_slice().len())
+    }
+}
+
+impl<'a> Compared for OutputPair<'a> {
+    ghost use Rattle.cell_machine.specs.CellData.{data_of};
+    ghost use Rattle.scan_cells.specs.Views.{view_data};
+    ghost use Rattle.scan_cells.specs.Comparison.{point_difference};
+
+    ghost at = { λ pair. point_difference (data_of pair.cell.now) (view_data pair.view.now) pair.output pair.view_output };
+
+    fn is_mixed(&self, point: u32) -> bool {
+        is_mixed(point, self.cell_mask, self.view_mask)
+    }
+
+    fn difference_at(&self, point: u32) -> Option<Difference> {
+        self.point_difference(point)
     }
 }
 

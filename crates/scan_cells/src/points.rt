@@ -31,14 +31,6 @@ pub fn source_weight(places: &[Source], source: Source) -> u32
     }
 }
 
-/// How many points there are over so many places.
-pub fn point_count(places: usize) -> u32
-    requires { places ≤ 20 }
-    ensures { result ≡ 2 ^ places }
-{
-    1 << places
-}
-
 /// Whether a place of a point is 1.
 #[tactic(auto, unfolding(crate::specs::Places::is_set))]
 fn is_set(k: usize, point: u32) -> bool

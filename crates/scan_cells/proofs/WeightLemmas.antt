@@ -14,7 +14,8 @@ use Rattle.trit_cubes.proofs.PointLemmas.{point_of-number}
 use Rattle.cell_machine.specs.declared.outputs.Source.{Source}
 use Rattle.cell_machine.specs.CellData.{CellData}
 use Rattle.cell_machine.proofs.EachLemmas.{map-take-more}
-use Rattle.cell_machine.specs.CellTrace.{step_at, output_value_at}
+use Rattle.cell_machine.specs.CellTrace.{output_value_at}
+use Rattle.step_tables.specs.GroupPoints.{steps_between}
 use Rattle.scan_cells.specs.Places.{same_source, is_set, value_at, values_at}
 use Rattle.scan_cells.specs.Weights.{weight_of, has_weight, weighed, IsSplit}
 
@@ -53,15 +54,15 @@ pub values_weighed :
 values_weighed from places support weights point are same_places =
     ap (λ ws. weighed ws point) (are ∙ ap (λ ps. map (weight_of ps) support) same_places) ∙ weighed_values places support point
 
--- a step by the weights of a support
-pub step_weighed :
-    (of cell : CellData) (h g : ℕ) (from places support : List Source) (weights : List ℕ) (before after : ℕ) (s : Bool)
+-- the steps by the weights of a support
+pub steps_weighed :
+    (of cell : CellData) (h g : ℕ) (from places support : List Source) (weights : List ℕ) (before after : ℕ)
     → of ≡ cell → h ≡ g → weights ≡ map (weight_of from) support → from ≡ places
-    → step_at of h (weighed weights before) (weighed weights after) s
-    ≡ step_at cell g (values_at places support before) (values_at places support after) s
-step_weighed of cell h g from places support weights before after s same_cell same_group are same_places =
-    λ i. step_at (same_cell i) (same_group i) (values_weighed from places support weights before are same_places i)
-    (values_weighed from places support weights after are same_places i) s
+    → steps_between of h (weighed weights before) (weighed weights after)
+    ≡ steps_between cell g (values_at places support before) (values_at places support after)
+steps_weighed of cell h g from places support weights before after same_cell same_group are same_places =
+    λ i. steps_between (same_cell i) (same_group i) (values_weighed from places support weights before are same_places i)
+    (values_weighed from places support weights after are same_places i)
 
 -- an output's value by the weights of its support
 pub output_weighed :

@@ -15,11 +15,12 @@ use crate::answers::Difference;
 use crate::by_points::{Compared, first_from};
 use crate::masks::{is_mixed, mask_of};
 use crate::places::places_of;
-use crate::point_steps::{PointSteps, StateSteps};
+use crate::point_steps::PointSteps;
 use crate::points::{changed_at, enable_place, is_inactive_by};
 use crate::sources::{Sources, in_cell, pin_sources};
 use crate::views::View;
 use cell_machine::Cell;
+use step_tables::StateSteps;
 use trit_cubes::Trit;
 
 /// A state group of a cell and that of its view with the same number, over the places of both supports.
@@ -40,10 +41,10 @@ pub struct GroupPair<'a> {
     ghost is_enable: { enable ≡ position (same_source (source.Pin view.now.enable)) places },
     ghost few_enable: { unwrap_or enable 0 < 20 },
     ghost inside: { group < length cell.now.groups },
-    ghost is_cell: { of_cell.kept.cell.now ≡ cell.now },
-    ghost is_view: { of_view.kept.cell.now ≡ view.now.cell },
-    ghost is_of_cell: { of_cell.kept.group ≡ group },
-    ghost is_of_view: { of_view.kept.group ≡ group },
+    ghost is_cell: { of_cell.table.cell.now ≡ cell.now },
+    ghost is_view: { of_view.table.cell.now ≡ view.now.cell },
+    ghost is_of_cell: { of_cell.table.group ≡ group },
+    ghost is_of_view: { of_view.table.group ≡ group },
     ghost weigh_cell: { of_cell.weights ≡ map (weight_of places) (cell_support (data_of cell.now) group) },
     ghost weigh_view: { of_view.weights ≡ map (weight_of places) (view_support (view_data view.now) group) },
     ghost is_cell_mask: { IsMask (view_data view.now) places (cell_support (data_of cell.now) group) cell_mask },

@@ -1,15 +1,15 @@
 //! The steps of a group by points over the places at which a cell and its view are compared.
-ghost use Rattle.std.specs.Prelude.{◌≡◌, ◌<◌, ◌≤◌, ◌^◌, false, true, length, map};
+ghost use Rattle.std.specs.Prelude.{◌≡◌, ◌<◌, ◌≤◌, ◌^◌, length, map};
 ghost use Rattle.trit_cubes.specs.Filling.{number};
 ghost use Rattle.trit_cubes.specs.Sets.{point_of as point_with};
 ghost use Rattle.cell_machine.specs.CellData.{data_of};
-ghost use Rattle.cell_machine.specs.CellTrace.{support_at, step_at};
+ghost use Rattle.cell_machine.specs.CellTrace.{support_at};
+ghost use Rattle.step_tables.specs.GroupPoints.{steps_between};
 ghost use Rattle.scan_cells.specs.Weights.{weight_of as weight_of_source, weighed, IsSplit, numbers_of as numbers_of_multiples};
 
 use crate::points::{Weights, weights_of};
 use cell_machine::{Cell, Few, Source};
-use kept_steps::KeptSteps;
-use trit_cubes::Trit;
+use step_tables::{StateSteps, StepTable};
 
 /// The number that a point has over the places with these weights.
 fn number_at(weights: &[u32], point: u32) -> usize
@@ -46,19 +46,10 @@ fn numbers_of(weights: &[u32], unit: u32) -> Numbers
     numbers
 }
 
-/// What a group does from both states.
-#[derive(Clone, Copy)]
-pub struct StateSteps {
-    /// From state 0.
-    pub zero: Trit,
-    /// From state 1.
-    pub one: Trit,
-}
-
 /// The steps of a group, and the weights of its support's sources.
 #[derive(Drop)]
 pub struct PointSteps<'a> {
-    kept: KeptSteps<'a>,
+    table: StepTable<'a>,
     weights: Weights,
     /// The numbers of the points with 1 among the first eight places alone.
     low: Numbers,
@@ -67,7 +58,7 @@ pub struct PointSteps<'a> {
     ghost is_split: { IsSplit weights },
     ghost are_low: { low ≡ numbers_of_multiples weights 1 },
     ghost are_high: { high ≡ numbers_of_multiples weights 256 },
-    ghost each: { length weights ≡ length (support_at (data_of kept.cell.now) kept.group) },
+    ghost each: { length weights ≡ length (support_at (data_of table.cell.now) table.group) },
     ghost few: { length weights ≤ 8 },
 }
 
@@ -78,13 +69,13 @@ impl<'a> PointSteps<'a> {
         requires places { length places.now ≤ 20 }
         requires support { length support.now ≡ length (support_at (data_of cell.now) group) }
         requires few { length support.now ≤ 8 }
-        ensures cell { result.kept.cell.now ≡ cell.now }
-        ensures group { result.kept.group ≡ group }
+        ensures cell { result.table.cell.now ≡ cell.now }
+        ensures group { result.table.group ≡ group }
         ensures weights { result.weights ≡ map (weight_of_source places.now) support.now }
     {
         let weights = weights_of(places, support);
         PointSteps {
-            kept: KeptSteps::of(cell, group),
+            table: StepTable::of(cell, group),
             low: numbers_of(weights.as_slice(), 1),
             high: numbers_of(weights.as_slice(), BYTE),
             weights,
@@ -104,28 +95,21 @@ impl<'a> PointSteps<'a> {
         self.low.as_slice()[low] + self.high.as_slice()[high]
     }
 
-    /// The step at a change between the points with these numbers over the support, from this state.
-    fn step(&self, before: usize, after: usize, state: bool) -> Trit
+    /// The steps at a change between the points with these numbers over the support.
+    fn numbered_steps(&self, before: usize, after: usize) -> StateSteps
         requires before { before < 2 ^ length self.now.weights }
         requires after { after < 2 ^ length self.now.weights }
-        ensures { result ≡ step_at (data_of self.now.kept.cell.now) self.now.kept.group
-            (point_with (length self.now.weights) before) (point_with (length self.now.weights) after) state }
+        ensures { result ≡ steps_between (data_of self.now.table.cell.now) self.now.table.group
+            (point_with (length self.now.weights) before) (point_with (length self.now.weights) after) }
     {
-        self.kept.step(before, after, state)
+        self.table.steps(before, after)
     }
 
     /// The steps at a change of points.
     pub fn steps(&self, before: u32, after: u32) -> StateSteps
-        ensures zero { result.«zero» ≡ step_at (data_of self.now.kept.cell.now) self.now.kept.group
-            (weighed self.now.weights before) (weighed self.now.weights after) false }
-        ensures one { result.one ≡ step_at (data_of self.now.kept.cell.now) self.now.kept.group (weighed self.now.weights before)
-            (weighed self.now.weights after) true }
+        ensures { result ≡ steps_between (data_of self.now.table.cell.now) self.now.table.group
+            (weighed self.now.weights before) (weighed self.now.weights after) }
     {
-        let before = self.number(before);
-        let after = self.number(after);
-        StateSteps {
-            zero: self.step(before, after, false),
-            one: self.step(before, after, true),
-        }
+        self.numbered_steps(self.number(before), self.number(after))
     }
 }

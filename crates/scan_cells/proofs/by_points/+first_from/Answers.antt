@@ -31,9 +31,22 @@ first_from-requires-in-None g t c κs within =
     let later = later_whole c.args.point c.args.places rest count e c.requires.whole.1 in
     let whole : c.args.point + c.weight.result ≡ (count + count + 1) * 2 ^ rest = omega (arith, later, c.weight.ensures) in
     let few = half_few c.args.point c.args.places rest (2 ^ 20) e c.requires.few in
-    let none = none_behind f c.args.point (2 ^ rest) c.requires.before (sym c.first_from.ensures ∙ c.in-None.is) in
-    (omega (arith, c.decreases, e), (search rules, (omega (arith, c.requires.places), ((count + count + 1, whole), (omega (arith, few.1, c.weight.ensures),
-    λ p h. none p (omega (arith, h, c.weight.ensures)))))))
+    let none = none_behind f c.args.point (2 ^ rest) c.requires.before (sym c.first_from.ensures ∙ c.in-None.is) in (
+      omega (arith, c.decreases, e),
+      (
+        search rules,
+        (
+          omega (arith, c.requires.places),
+          (
+            (count + count + 1, whole),
+            (
+              omega (arith, few.1, c.weight.ensures),
+              λ p h. none p (omega (arith, h, c.weight.ensures)),
+            ),
+          ),
+        ),
+      ),
+    )
 
 pub returns-in-Some : goal.returns-in-Some
 returns-in-Some g t c =

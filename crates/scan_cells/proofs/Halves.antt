@@ -1,6 +1,6 @@
 -- Points that have 1 wherever another one has, and going through points by halves.
-use Rattle.std.proofs.Common.{◌≡◌, ◌≢◌, ℕ, zero, suc, ◌+◌, ◌*◌, ◌^◌, ◌<◌, ◌≤◌, ◌-◌, bit_and, Option, Some, None, refl, sym, ap, subst}
-use Rattle.std.proofs.Common.{◌∙◌, inl, inr, arith}
+use Rattle.std.proofs.Common.{◌≡◌, ◌≢◌, ℕ, zero, suc, ◌+◌, ◌*◌, ◌^◌, ◌<◌, ◌≤◌, ◌-◌, bit_and, Option, Some, None, refl, sym, ap}
+use Rattle.std.proofs.Common.{subst, ◌∙◌, inl, inr, arith}
 use Rattle.std.specs.List.{range_with_len}
 use Rattle.std.specs.Int.{bit_at}
 use Rattle.std.proofs.lemmas.Bool.{cases_eq, cases_lt}
@@ -108,7 +108,8 @@ later_whole point k rest c e whole =
     let half = half_whole point k rest c e whole in
     ap (λ p. p + 2 ^ rest) half ∙ omega arith
 
-pub half_few : (point k rest n : ℕ) → k ≡ suc rest → point + 2 ^ k ≤ n → (point + 2 ^ rest ≤ n) × (point + 2 ^ rest + 2 ^ rest ≤ n)
+pub half_few : (point k rest n : ℕ) → k ≡ suc rest → point + 2 ^ k ≤ n
+    → (point + 2 ^ rest ≤ n) × (point + 2 ^ rest + 2 ^ rest ≤ n)
 half_few point k rest n e few =
     let two = double k rest e in
     (omega (arith, two, few), omega (arith, two, few))

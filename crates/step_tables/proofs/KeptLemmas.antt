@@ -1,6 +1,6 @@
 -- What the words of a node and the points of a group tell.
-use Rattle.std.proofs.Common.{◌≡◌, ℕ, ◌+◌, ◌*◌, ◌/◌, ◌%◌, ◌^◌, ◌<◌, Bool, false, true, not, ◌&&◌, cond, nat_eq, List, length, Some, None}
-use Rattle.std.proofs.Common.{refl, sym, ap, ◌∙◌, slice_get, get_or, subst, [], arith}
+use Rattle.std.proofs.Common.{◌≡◌, ℕ, ◌+◌, ◌*◌, ◌/◌, ◌%◌, ◌^◌, ◌<◌, Bool, false, true, not, ◌&&◌, cond, nat_eq, List, length}
+use Rattle.std.proofs.Common.{Some, None, refl, sym, ap, ◌∙◌, slice_get, get_or, subst, [], arith}
 use Rattle.std.proofs.lemmas.Bool.{true≢false}
 use Rattle.std.proofs.lemmas.Option.{slice_get_within, get_or_from_slice_get}
 use Rattle.std.proofs.lemmas.List.FromFn.{length-map-range_with_len, get_or-map-range_with_len}
@@ -133,8 +133,9 @@ by_clocks cell i places before after points to are below at true e = are.risen a
 by_clocks cell i places before after points to are below at false e = are.held after before to at e
 
 pub points_tell :
-    (cell : CellData) (i places before after : ℕ) (points : List GroupPoint) (from to : GroupPoint) → ArePoints cell i places points
-    → before < 2 ^ places → slice_get points before ≡ Some from → slice_get points after ≡ Some to
+    (cell : CellData) (i places before after : ℕ) (points : List GroupPoint) (from to : GroupPoint)
+    → ArePoints cell i places points → before < 2 ^ places
+    → slice_get points before ≡ Some from → slice_get points after ≡ Some to
     → cond (not from.clock && to.clock) to.risen to.held ≡ steps_between cell i (point_of places before) (point_of places after)
 points_tell cell i places before after points from to are below at_from at_to =
     by_clocks cell i places before after points to are below at_to (not from.clock && to.clock)

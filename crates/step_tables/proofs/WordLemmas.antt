@@ -8,8 +8,8 @@ use Rattle.std.specs.Int.{bit_at, trailing_zeros}
 use Rattle.std.proofs.lemmas.Bool.{agree_below, agree_below_at, cases_eq, cases_lt}
 use Rattle.std.proofs.lemmas.Nat.{pow_pos, pow_below, xor_lt}
 use Rattle.std.proofs.lemmas.List.{get_or_past, get_or-replicate, length-set}
-use Rattle.std.proofs.lemmas.Nat.Bits.{bit_at-suc, bit_at_lowest, bit_at_cat_low, bit_at_cat_high, bit_at_xor, bit_at_ones, bit_at-lt}
-use Rattle.std.proofs.lemmas.Nat.Bits.{bit_at-pow_same, bit_at-pow_other, bit_at-trailing_zeros, same_from_bits}
+use Rattle.std.proofs.lemmas.Nat.Bits.{bit_at-suc, bit_at_lowest, bit_at_cat_low, bit_at_cat_high, bit_at_xor, bit_at_ones}
+use Rattle.std.proofs.lemmas.Nat.Bits.{bit_at-lt, bit_at-pow_same, bit_at-pow_other, bit_at-trailing_zeros, same_from_bits}
 use Rattle.trit_cubes.specs.Filling.{number}
 use Rattle.trit_cubes.specs.Sets.{point_of}
 use Rattle.trit_cubes.proofs.PointLemmas.{length-point_of}
@@ -135,7 +135,8 @@ not_turned n place before after small few other none e =
       | inl l ↦
           let there = turned_point n place (bit_xor after (2 ^ place)) after l refl in
           none place l (sym (sym (number_back n before small)
-          ∙ (ap number (e ∙ sym there) ∙ number_back n (bit_xor after (2 ^ place)) (xor_lt n after (2 ^ place) few (pow_below place n l)))))
+          ∙ (ap number (e ∙ sym there)
+          ∙ number_back n (bit_xor after (2 ^ place)) (xor_lt n after (2 ^ place) few (pow_below place n l)))))
       | inr g ↦
           let past = turned_past place (point_of n after) (let long = length-point_of n after in omega (arith, long, g)) in
           other (sym (number_back n before small) ∙ (ap number (e ∙ past) ∙ number_back n after few))

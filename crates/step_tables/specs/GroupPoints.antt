@@ -51,7 +51,8 @@ point_at cell i low point = record {
 
 -- the same at all points of so many places, in the order of their numbers
 abbrev pub points_from : CellData → ℕ → ℕ → ℕ → List GroupPoint
-points_from cell i places low = map (λ k. point_at cell i (point_of places low) (point_of places k)) (range_with_len 0 (2 ^ places))
+points_from cell i places low =
+    map (λ k. point_at cell i (point_of places low) (point_of places k)) (range_with_len 0 (2 ^ places))
 
 -- An entry for each point of so many places, in the order of their numbers, tells the clock of group i there, its steps from each
 -- point from which the clock does not rise, and its steps from each one from which it does.

@@ -20,7 +20,8 @@ pub record TellSteps (cell : CellData) (i places : ℕ) (words : List StepWords)
   pub tell :
       (j : ℕ) (w : StepWords) → slice_get words j ≡ Some w → (k : ℕ) → k < 64
       → trit_or_unknown (found_at k w None)
-      ≡ step_at cell i (turned (j % 18 / 2) (point_of places (64 * (j / 18) + k))) (point_of places (64 * (j / 18) + k)) (j % 2 == 1)
+      ≡ step_at cell i (turned (j % 18 / 2) (point_of places (64 * (j / 18) + k))) (point_of places (64 * (j / 18) + k))
+      (j % 2 == 1)
 
 -- what is kept of group i is true of it
 pub record IsKept (cell : CellData) (i places : ℕ) (kept : Kept) : Type 0 where

@@ -32,8 +32,8 @@ pub record TellFrom (next : ℕ → Option Bool) (start : ℕ) (words : StepWord
 abbrev pub blocks : ℕ → ℕ
 blocks n = (2 ^ n + 63) / 64
 
--- Words that tell what is found at one of the 18 changes to a point, over 64 points: number 18 * b + 2 * p + s is of the change of
--- place p (of none, where there is no such place) from state s to the points from 64 * b on.
+-- Words that tell what is found at one of the 18 changes to a point, over 64 points: number 18 * b + 2 * p + s is of the change
+-- of place p (of none, where there is no such place) from state s to the points from 64 * b on.
 abbrev pub TellChange : StateTable → ℕ → List ℕ → List ℕ → ℕ → StepWords → Type 0
 TellChange table node inputs support j words =
     TellFrom (next_at table node inputs support (j % 18 / 2) (j % 2 == 1)) (64 * (j / 18)) words

@@ -103,8 +103,8 @@ fn low_point(cell: &Cell, group: usize, places: usize) -> usize
     0
 }
 
-/// The steps of a group where its clock rises to a point from one at which it is 0: those that it has where nothing changes, where
-/// its clock is 0 at that point too.
+/// The steps of a group where its clock rises to a point from one at which it is 0; where the clock is 0 at that point too, those
+/// that it has where nothing changes.
 fn risen_steps(
     cell: &Cell,
     group: usize,

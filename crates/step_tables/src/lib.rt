@@ -1,4 +1,4 @@
-//! The step of a cell's group, tabled: its steps at each change of at most one input. A text is read once for each point, and a state
+//! The steps of a cell's group, tabled. A text is read once for each point of its support and each side of a clock, and a state
 //! table is gone through once for 64 points.
 #![tactic(auto)]
 

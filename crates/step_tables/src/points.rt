@@ -71,7 +71,8 @@ pub fn changed_place(places: usize, before: usize, after: usize) -> Option<usize
     requires places { places ≤ 8 }
     requires before { before < 2 ^ places }
     requires after { after < 2 ^ places }
-    ensures one { IfSome result (λ place. (place < 9) × (point_with places before ≡ turned_point place (point_with places after))) }
+    ensures one { IfSome result (λ place. (place < 9)
+        × (point_with places before ≡ turned_point place (point_with places after))) }
     ensures more { result ≡ None → (place : ℕ) → point_with places before ≢ turned_point place (point_with places after) }
 {
     if before == after {

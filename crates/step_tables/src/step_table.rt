@@ -1,4 +1,4 @@
-//! The step of a group at each change of at most one input.
+//! The steps of a group at changes between points of its support.
 ghost use Rattle.std.specs.Prelude.{◌≡◌, ℕ, ◌≤◌, ◌<◌, ◌^◌, length};
 ghost use Rattle.trit_cubes.specs.Filling.{bit};
 ghost use Rattle.trit_cubes.specs.Sets.{point_of as point_with};
@@ -159,10 +159,12 @@ impl<'a> StepTable<'a> {
         }
     }
 
-    /// The next states at a change of this place of the support to a point; where there is no such place, those where none changes.
+    /// The next states at a change of this place of the support to a point; where there is no such place, those where nothing
+    /// changes.
     fn turned_steps(&self, place: usize, after: &[bool]) -> StateSteps
         requires { length after.now ≡ length (support_at (data_of self.now.cell.now) self.now.group) }
-        ensures { result ≡ steps_between_points (data_of self.now.cell.now) self.now.group (turned_point place after.now) after.now }
+        ensures { result ≡ steps_between_points (data_of self.now.cell.now) self.now.group (turned_point place after.now)
+            after.now }
     {
         let number = number_of(after);
         let before = turned(self.places, place, number);

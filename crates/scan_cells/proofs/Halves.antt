@@ -124,9 +124,12 @@ none_behind f point n before none p h =
       | inr l ↦ first_none f point n none p l h
     ]
 
-pub few_points : (places : ℕ) → places ≤ 20 → 0 + 2 ^ places ≤ 2 ^ 20
-few_points places h =
-    elim (cases_eq places 20) [
-      | inl e ↦ subst (λ n. 0 + 2 ^ n ≤ 2 ^ 20) (sym e) (omega arith)
-      | inr ne ↦ let less = pow_below places 20 (omega (arith, h, ne)) in omega (arith, less)
+pub most_points : (places most : ℕ) → places ≤ most → 2 ^ places ≤ 2 ^ most
+most_points places most h =
+    elim (cases_eq places most) [
+      | inl e ↦ subst (λ n. 2 ^ n ≤ 2 ^ most) (sym e) (omega arith)
+      | inr ne ↦ let less = pow_below places most (omega (arith, h, ne)) in omega (arith, less)
     ]
+
+pub few_points : (places : ℕ) → places ≤ 20 → 0 + 2 ^ places ≤ 2 ^ 20
+few_points places h = let most = most_points places 20 h in omega (arith, most)

@@ -1,5 +1,5 @@
 -- The values of a support's sources, by their weights.
-use Rattle.std.proofs.Common.{◌≡◌, ℕ, zero, suc, ◌+◌, ◌*◌, ◌^◌, ◌<◌, Bool, false, not, nat_eq, List, [], ◌∷◌, ◌++◌, length, map}
+use Rattle.std.proofs.Common.{◌≡◌, ℕ, zero, suc, ◌+◌, ◌*◌, ◌^◌, ◌<◌, false, not, nat_eq, List, [], ◌∷◌, ◌++◌, length, map}
 use Rattle.std.proofs.Common.{take, refl, sym, ap, subst, ◌∙◌, inl, inr, arith, ◌/◌, ◌%◌, slice_index_or}
 use Rattle.std.specs.Prelude.{Option, None, Some, IfSome, position, unwrap_or}
 use Rattle.std.specs.Int.{bit_at}
@@ -66,11 +66,11 @@ steps_weighed of cell h g from places support weights before after same_cell sam
 
 -- an output's value by the weights of its support
 pub output_weighed :
-    (cell : CellData) (k : ℕ) (from places support : List Source) (weights : List ℕ) (point : ℕ) (given : List Bool)
-    → given ≡ weighed weights point → weights ≡ map (weight_of from) support → from ≡ places
-    → output_value_at cell k given ≡ output_value_at cell k (values_at places support point)
-output_weighed cell k from places support weights point given is are same_places =
-    ap (output_value_at cell k) (is ∙ values_weighed from places support weights point are same_places)
+    (of cell : CellData) (h k : ℕ) (from places support : List Source) (weights : List ℕ) (point : ℕ)
+    → of ≡ cell → h ≡ k → weights ≡ map (weight_of from) support → from ≡ places
+    → output_value_at of h (weighed weights point) ≡ output_value_at cell k (values_at places support point)
+output_weighed of cell h k from places support weights point same_cell same_output are same_places =
+    λ i. output_value_at (same_cell i) (same_output i) (values_weighed from places support weights point are same_places i)
 
 -- one source more has its weight
 pub weights_turn :

@@ -45,8 +45,8 @@ pub struct GroupPair<'a> {
     ghost is_view: { of_view.table.cell.now ≡ view.now.cell },
     ghost is_of_cell: { of_cell.table.group ≡ group },
     ghost is_of_view: { of_view.table.group ≡ group },
-    ghost weigh_cell: { of_cell.weights ≡ map (weight_of places) (cell_support (data_of cell.now) group) },
-    ghost weigh_view: { of_view.weights ≡ map (weight_of places) (view_support (view_data view.now) group) },
+    ghost weigh_cell: { of_cell.numbering.weights ≡ map (weight_of places) (cell_support (data_of cell.now) group) },
+    ghost weigh_view: { of_view.numbering.weights ≡ map (weight_of places) (view_support (view_data view.now) group) },
     ghost is_cell_mask: { IsMask (view_data view.now) places (cell_support (data_of cell.now) group) cell_mask },
     ghost is_view_mask: { IsMask (view_data view.now) places (view_support (view_data view.now) group) view_mask },
 }

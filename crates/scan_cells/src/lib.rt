@@ -10,6 +10,8 @@ mod functional;
 mod group_steps;
 mod laws;
 mod masks;
+mod numbering;
+mod output_table;
 mod output_values;
 mod places;
 mod point_steps;

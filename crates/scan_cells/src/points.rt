@@ -81,15 +81,6 @@ pub fn is_inactive_by(view: &View, enable: Option<usize>, point: u32) -> bool
     }
 }
 
-/// Whether the scan enable of a view is inactive at a point over these places.
-#[tactic(auto, unfolding(crate::specs::Places::is_inactive))]
-pub fn is_inactive(view: &View, places: &[Source], point: u32) -> bool
-    requires { length places.now ≤ 20 }
-    ensures { result ≡ is_inactive_at (view_data view.now) places.now point }
-{
-    is_inactive_by(view, enable_place(view, places), point)
-}
-
 /// What the sources of a support weigh in a point, in their order.
 pub type Weights = Few<u32, MOST_OUTPUT_SOURCES>;
 
@@ -105,16 +96,4 @@ pub fn weights_of(places: &[Source], support: &[Source]) -> Weights
         weights.push(source_weight(places, *source));
     }
     weights
-}
-
-/// The values at a point of the places with these weights.
-pub fn values_over(weights: &[u32], point: u32) -> Few<bool, MOST_OUTPUT_SOURCES>
-    requires { length weights.now ≤ 10 }
-    ensures { result ≡ weighed weights.now point }
-{
-    let mut values = Few::new(false);
-    for weight in weights {
-        values.push(point & *weight != 0);
-    }
-    values
 }

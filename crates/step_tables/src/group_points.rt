@@ -6,7 +6,7 @@ ghost use Rattle.cell_machine.specs.CellTrace.{support_at};
 ghost use Rattle.step_tables.specs.GroupPoints.{clock_at as clock_at_point, steps_between as steps_between_points};
 ghost use Rattle.step_tables.specs.GroupPoints.{point_at, points_from, MovesByClock, ArePoints};
 
-use crate::points::{point_count, point_of};
+use crate::points::{MOST_PLACES, point_count, point_of};
 use cell_machine::{Cell, Few, GroupKind, Values, boolean_step};
 use trit_cubes::Trit;
 
@@ -95,7 +95,7 @@ fn low_point(cell: &Cell, group: usize, places: usize) -> usize
         → clock_at_point (data_of cell.now) group (point_with places result) ≡ false }
 {
     for number in 0..point_count(places) {
-        let point = point_of(places, number);
+        let point = point_of::<MOST_PLACES>(places, number);
         if !clock_at(cell, group, point.as_slice()) {
             return number;
         }
@@ -150,14 +150,14 @@ fn points_by(cell: &Cell, group: usize, places: usize, low: usize) -> GroupPoint
     requires moves { MovesByClock (data_of cell.now) group }
     ensures { result ≡ points_from (data_of cell.now) group places low }
 {
-    let low = point_of(places, low);
+    let low = point_of::<MOST_PLACES>(places, low);
     let mut points = Few::new(GroupPoint {
         clock: false,
         held: StateSteps::BLANK,
         risen: StateSteps::BLANK,
     });
     for number in 0..point_count(places) {
-        let point = point_of(places, number);
+        let point = point_of::<MOST_PLACES>(places, number);
         points.push(group_point(cell, group, low.as_slice(), point.as_slice()));
     }
     points

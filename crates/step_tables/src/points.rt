@@ -6,9 +6,12 @@ ghost use Rattle.step_tables.specs.Turned.{turned as turned_point};
 
 use cell_machine::Few;
 
+/// The most places of a group's support.
+pub const MOST_PLACES: usize = 8;
+
 /// So many places of the point with this number, in which place i weighs 2 to the power i.
-pub fn point_of(places: usize, number: usize) -> Few<bool, 8>
-    requires { places ≤ 8 }
+pub fn point_of<const N: usize>(places: usize, number: usize) -> Few<bool, N>
+    requires { places ≤ N }
     ensures { result ≡ point_with places number }
 {
     let mut point = Few::new(false);

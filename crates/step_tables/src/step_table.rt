@@ -13,7 +13,7 @@ use crate::changes::{CHANGES, ChangeWords, change_words};
 use crate::group_points::{GroupPoint, GroupPoints, StateSteps, group_points, steps_between};
 use crate::input_words::{MOST_INPUTS, POINTS};
 use crate::node_words::{TableNode, trit_or_unknown};
-use crate::points::{changed_place, number_of, point_of, turned};
+use crate::points::{MOST_PLACES, changed_place, number_of, point_of, turned};
 use cell_machine::{Cell, GroupKind};
 use statetables::StepWords;
 use trit_cubes::Trit;
@@ -123,8 +123,8 @@ impl<'a> StepTable<'a> {
         ensures { result ≡ steps_between_points (data_of self.now.cell.now) self.now.group (point_with self.now.places before)
             (point_with self.now.places after) }
     {
-        let before = point_of(self.places, before);
-        let after = point_of(self.places, after);
+        let before = point_of::<MOST_PLACES>(self.places, before);
+        let after = point_of::<MOST_PLACES>(self.places, after);
         steps_between(self.cell, self.group, before.as_slice(), after.as_slice())
     }
 

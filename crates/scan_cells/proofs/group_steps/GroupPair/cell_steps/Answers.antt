@@ -15,6 +15,6 @@ returns c =
     let g = self.group in
     let same = c.steps.ensures
     ∙ steps_weighed (data_of self.of_cell.table.cell.now) cell self.of_cell.table.group g self.places (step_places cell view g)
-    (cell_support cell g) self.of_cell.weights c.args.before c.args.after (ap data_of self.is_cell) self.is_of_cell
+    (cell_support cell g) self.of_cell.numbering.weights c.args.before c.args.after (ap data_of self.is_cell) self.is_of_cell
     self.weigh_cell self.are_places in
     record { «zero» = ap (λ (steps : StateSteps). steps.zero) same; one = ap (λ (steps : StateSteps). steps.one) same }

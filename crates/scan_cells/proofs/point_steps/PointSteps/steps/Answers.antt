@@ -9,8 +9,8 @@ use Rattle.scan_cells.proofs.point_steps.PointSteps.steps.Goals as goal
 pub returns : goal.returns
 returns c =
     let self = c.args.self.now in
-    let before : point_of (length self.weights) c.number.result ≡ weighed self.weights c.args.before
-    = ap (point_of (length self.weights)) c.number.ensures.is ∙ numbered self.weights c.args.before in
-    let after : point_of (length self.weights) c.number-2.result ≡ weighed self.weights c.args.after
-    = ap (point_of (length self.weights)) c.number-2.ensures.is ∙ numbered self.weights c.args.after in
+    let before : point_of (length self.numbering.weights) c.number-before.result ≡ weighed self.numbering.weights c.args.before
+    = ap (point_of (length self.numbering.weights)) c.number-before.ensures.is ∙ numbered self.numbering.weights c.args.before in
+    let after : point_of (length self.numbering.weights) c.number-after.result ≡ weighed self.numbering.weights c.args.after
+    = ap (point_of (length self.numbering.weights)) c.number-after.ensures.is ∙ numbered self.numbering.weights c.args.after in
     c.numbered_steps.ensures ∙ (λ i. steps_between (data_of self.table.cell.now) self.table.group (before i) (after i))

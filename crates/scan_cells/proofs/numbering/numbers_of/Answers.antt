@@ -3,7 +3,7 @@ use Rattle.std.specs.List.{range_with_len}
 use Rattle.std.proofs.lemmas.List.FromFn.{length-map-range_with_len, map-range_with_len_more}
 use Rattle.trit_cubes.specs.Filling.{number}
 use Rattle.scan_cells.specs.Weights.{weighed}
-use Rattle.scan_cells.proofs.point_steps.numbers_of.Goals as goal
+use Rattle.scan_cells.proofs.numbering.numbers_of.Goals as goal
 
 pub push-requires : goal.push-requires
 push-requires c =

@@ -1,7 +1,7 @@
 use Rattle.std.proofs.Common.{ap, ◌∙◌}
 use Rattle.scan_cells.specs.Weights.{numbers_of}
 use Rattle.scan_cells.proofs.WeightLemmas.{is_split}
-use Rattle.scan_cells.proofs.point_steps.PointSteps.of.Goals as goal
+use Rattle.scan_cells.proofs.numbering.Numbering.of.Goals as goal
 
 pub invariant_of-result-clause-is_split : goal.invariant_of-result-clause-is_split
 invariant_of-result-clause-is_split c = is_split c.args.places.now c.args.support.now c.weights_of-weights.result c.weights_of-weights.ensures.is

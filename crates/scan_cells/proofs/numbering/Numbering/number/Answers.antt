@@ -5,7 +5,7 @@ use Rattle.std.proofs.lemmas.Nat.{pow_below}
 use Rattle.trit_cubes.specs.Filling.{number}
 use Rattle.trit_cubes.proofs.PointLemmas.{number-below}
 use Rattle.scan_cells.specs.Weights.{weighed, has_weight, numbers_of, IsSplit}
-use Rattle.scan_cells.proofs.point_steps.PointSteps.number.Goals as goal
+use Rattle.scan_cells.proofs.numbering.Numbering.number.Goals as goal
 
 -- one of the numbers that are kept
 kept_number : (weights numbers : List ℕ) (unit k d : ℕ) → numbers ≡ numbers_of weights unit → k < 256
@@ -33,7 +33,7 @@ overflow_add-result c =
     let is = sum_is self.weights c.as_slice-2.result.now c.as_slice-3.result.now c.args.point 0 0 self.is_split
     (c.as_slice-2.ensures ∙ self.are_low) (c.as_slice-3.ensures ∙ self.are_high) c.if-point-ge-TWO_BYTES.false in
     let below = number-small self.weights c.args.point _ is in
-    let most = pow_below (length self.weights) 9 (omega (arith, self.few)) in
+    let most = pow_below (length self.weights) 11 (omega (arith, self.few)) in
     omega (arith, below, most)
 
 pub returns-clause-is : goal.returns-clause-is

@@ -30,7 +30,7 @@ pub fn group_rows<M: StepRows>(
     ensures { IfOk result (λ rows. rows ≡ decisive_rows (M.level_row maker) (M.report_rows maker) (M.edge_row maker)
         (M.keep_row maker) (length (support_at (data_of cell.now) group)) (step_at (data_of cell.now) group)) }
 {
-    let steps = StepTable::of(alloc, cell, group)?;
+    let steps = StepTable::of(cell, group);
     let rows = rows_of_steps(alloc, &steps, maker)?;
     Ok(rows)
 }

@@ -3,6 +3,7 @@ pub mod Counting
 pub mod Outputs
 pub mod Pins
 pub mod Sides
+pub mod Halves
 pub mod ViewEnables
 pub mod ViewReading
 pub mod MaskLemmas

@@ -13,7 +13,7 @@ use Rattle.cell_machine.specs.declared.outputs.Source.{Source}
 use Rattle.cell_machine.specs.declared.outputs.Source.TheVariants as source
 use Rattle.scan_cells.specs.Views.{ViewData}
 use Rattle.scan_cells.specs.Places.{same_source, is_set, value_at, values_at, changed_at, is_idle, is_inactive}
-use Rattle.scan_cells.specs.Masks.{is_in}
+use Rattle.scan_cells.specs.Masks.{is_in, has_enable}
 
 kept_bit : (x y : ℕ) → y ≡ 1 → x < 2 → nat_eq (min x y) 1 ≡ nat_eq x 1
 kept_bit x y e l = ap (λ n. nat_eq n 1) (omega (arith, e, l))
@@ -51,13 +51,13 @@ values_kept places (s ∷ support) point mask h =
     let parts = and_parts (is_in places mask s) (list_all (is_in places mask) support) h in
     λ i. value_kept places s point mask parts.0 i ∷ values_kept places support point mask parts.1 i
 
-idle_kept : (view : ViewData) (point mask : ℕ) (o : Option ℕ) → is_set (unwrap_or o 0) mask ≡ true
+idle_kept : (view : ViewData) (point mask : ℕ) (o : Option ℕ) → option_map_or (λ k. is_set k mask) o true ≡ true
     → option_map_or (is_idle view (bit_and point mask)) o true ≡ option_map_or (is_idle view point) o true
 idle_kept view point mask None h = refl
 idle_kept view point mask (Some k) h = ap (λ b. cond view.active (not b) b) (set_kept k point mask h)
 
 pub inactive_kept :
-    (view : ViewData) (places : List Source) (point mask : ℕ) → is_in places mask (source.Pin view.enable) ≡ true
+    (view : ViewData) (places : List Source) (point mask : ℕ) → has_enable view places mask ≡ true
     → is_inactive view places (bit_and point mask) ≡ is_inactive view places point
 unfolding is_inactive
 inactive_kept view places point mask h = idle_kept view point mask (position (same_source (source.Pin view.enable)) places) h
@@ -144,6 +144,15 @@ set_also k more mask e =
     let small = bit_at-lt more k in
     let most : max (bit_at more k) (bit_at mask k) ≡ 1 = omega (arith, one, small) in
     ap (λ n. nat_eq n 1) (bit_at_or more mask k ∙ most)
+
+place_more : (o : Option ℕ) (mask more : ℕ) → option_map_or (λ k. is_set k mask) o true ≡ true
+    → option_map_or (λ k. is_set k (bit_or mask more)) o true ≡ true
+place_more None mask more h = refl
+place_more (Some k) mask more h = set_more k mask more h
+
+pub enable_more : (view : ViewData) (places : List Source) (mask more : ℕ) → has_enable view places mask ≡ true
+    → has_enable view places (bit_or mask more) ≡ true
+enable_more view places mask more h = place_more (position (same_source (source.Pin view.enable)) places) mask more h
 
 pub in_more : (places : List Source) (mask more : ℕ) (s : Source) → is_in places mask s ≡ true
     → is_in places (bit_or mask more) s ≡ true

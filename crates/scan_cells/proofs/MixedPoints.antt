@@ -1,10 +1,11 @@
 -- Where a cell and its view do not differ at points with 0 at the places of the one or of the other, they do not differ at a
 -- point.
-use Rattle.std.proofs.Common.{◌≡◌, ◌≢◌, ◌⊎◌, ℕ, ◌+◌, ◌<◌, Bool, true, false, bit_and, length, None, refl, sym, ap, subst, ◌∙◌}
-use Rattle.std.proofs.Common.{inl, inr, arith}
+use Rattle.std.proofs.Common.{◌≡◌, ◌≢◌, ◌⊎◌, ℕ, ◌+◌, ◌<◌, Bool, true, false, bit_and, List, length, None, refl, sym, ap, subst}
+use Rattle.std.proofs.Common.{◌∙◌, inl, inr, arith}
 use Rattle.std.specs.List.{range_with_len}
 use Rattle.std.proofs.lemmas.Bool.{cases_eq}
 use Rattle.std.proofs.lemmas.Nat.{and_assoc, and_le_l}
+use Rattle.cell_machine.specs.declared.outputs.Source.{Source}
 use Rattle.cell_machine.specs.CellData.{CellData}
 use Rattle.cell_machine.specs.CellTrace.{step_at, sources_at, output_value_at}
 use Rattle.scan_cells.specs.Views.{ViewData}
@@ -80,15 +81,21 @@ view_kept cell view g before after mask s h =
     let kept = values_kept (step_places cell view g) (view_support view g) in
     λ i. step_at view.cell g (kept before mask h.of_support i) (kept after mask h.of_support i) s
 
+-- a mask over the places by another name
+mask_over : (view : ViewData) (from places support : List Source) (mask : ℕ) → from ≡ places → IsMask view from support mask
+    → IsMask view places support mask
+mask_over view from places support mask e h = subst (λ xs. IsMask view xs support mask) e h
+
 -- the steps of groups
 pub mixed_steps :
-    (cell : CellData) (view : ViewData) (g point a b : ℕ)
-    → IsMask view (step_places cell view g) (cell_support cell g) a
-    → IsMask view (step_places cell view g) (view_support view g) b
+    (cell : CellData) (view : ViewData) (g point a b : ℕ) (from : List Source) → from ≡ step_places cell view g
+    → IsMask view from (cell_support cell g) a → IsMask view from (view_support view g) b
     → bit_and point a ≢ point → bit_and point b ≢ point
     → ((p : ℕ) → p < point → after_difference cell view g p ≡ None) → after_difference cell view g point ≡ None
-mixed_steps cell view g point a b of_cell of_view first second none =
+mixed_steps cell view g point a b from are a_mask b_mask first second none =
     let places = step_places cell view g in
+    let of_cell = mask_over view from places (cell_support cell g) a are a_mask in
+    let of_view = mask_over view from places (view_support view g) b are b_mask in
     let n = length places in
     let idle : (p mask : ℕ) → is_inactive view places p ≡ true → IsMask view places (cell_support cell g) mask
     ⊎ IsMask view places (view_support view g) mask → is_inactive view places (bit_and p mask) ≡ true
@@ -156,16 +163,19 @@ module _ (cell : CellData) (view : ViewData) (g after k : ℕ)
 
 -- the steps of groups at a change from a mixed point
 pub mixed_change :
-    (cell : CellData) (view : ViewData) (g after k a b : ℕ)
-    → IsMask view (step_places cell view g) (cell_support cell g) a
-    → IsMask view (step_places cell view g) (view_support view g) b
+    (cell : CellData) (view : ViewData) (g after k a b : ℕ) (from : List Source) → from ≡ step_places cell view g
+    → IsMask view from (cell_support cell g) a → IsMask view from (view_support view g) b
     → bit_and (changed_at after k) a ≢ changed_at after k → bit_and (changed_at after k) b ≢ changed_at after k
-    → k < length (step_places cell view g)
+    → k < length from
     → ((p : ℕ) → p < after → after_difference cell view g p ≡ None) → change_difference cell view g after after ≡ None
-    → is_inactive view (step_places cell view g) after ≡ true
+    → is_inactive view from after ≡ true
     → change_difference cell view g after (changed_at after k) ≡ None
-mixed_change cell view g after k a b of_cell of_view first second place none same here =
+mixed_change cell view g after k a b from are a_mask b_mask first second inside none same idle =
     let places = step_places cell view g in
+    let of_cell = mask_over view from places (cell_support cell g) a are a_mask in
+    let of_view = mask_over view from places (view_support view g) b are b_mask in
+    let place : k < length places = subst (λ xs. k < length xs) are inside in
+    let here : is_inactive view places after ≡ true = ap (λ xs. is_inactive view xs after) (sym are) ∙ idle in
     let before = changed_at after k in
     let idle_cell : (p : ℕ) → is_inactive view places p ≡ true → is_inactive view places (bit_and p a) ≡ true
     = λ p e. inactive_kept view places p a of_cell.of_enable ∙ e in
@@ -217,13 +227,14 @@ view_output_kept cell view i j point mask h =
     ap (output_value_at view.cell j) (values_kept (output_places cell view i j) (output_support view j) point mask h.of_support)
 
 pub mixed_outputs :
-    (cell : CellData) (view : ViewData) (i j point a b : ℕ)
-    → IsMask view (output_places cell view i j) (sources_at cell i) a
-    → IsMask view (output_places cell view i j) (output_support view j) b
+    (cell : CellData) (view : ViewData) (i j point a b : ℕ) (from : List Source) → from ≡ output_places cell view i j
+    → IsMask view from (sources_at cell i) a → IsMask view from (output_support view j) b
     → bit_and point a ≢ point → bit_and point b ≢ point
     → ((p : ℕ) → p < point → point_difference cell view i j p ≡ None) → point_difference cell view i j point ≡ None
-mixed_outputs cell view i j point a b of_cell of_view first second none =
+mixed_outputs cell view i j point a b from are a_mask b_mask first second none =
     let places = output_places cell view i j in
+    let of_cell = mask_over view from places (sources_at cell i) a are a_mask in
+    let of_view = mask_over view from places (output_support view j) b are b_mask in
     guard (is_inactive view places point) _ (λ here.
     let at_cell = inactive_kept view places point a of_cell.of_enable ∙ here in
     let at_view = inactive_kept view places point b of_view.of_enable ∙ here in

@@ -1,5 +1,5 @@
 -- The values of a support's sources, by their weights.
-use Rattle.std.proofs.Common.{◌≡◌, ℕ, zero, suc, ◌+◌, ◌*◌, ◌^◌, ◌<◌, Bool, false, not, nat_eq, List, [], ◌∷◌, ◌++◌, length, map}
+use Rattle.std.proofs.Common.{◌≡◌, ℕ, zero, suc, ◌+◌, ◌*◌, ◌^◌, ◌<◌, false, not, nat_eq, List, [], ◌∷◌, ◌++◌, length, map}
 use Rattle.std.proofs.Common.{take, refl, sym, ap, subst, ◌∙◌, inl, inr, arith, ◌/◌, ◌%◌, slice_index_or}
 use Rattle.std.specs.Prelude.{Option, None, Some, IfSome, position, unwrap_or}
 use Rattle.std.specs.Int.{bit_at}
@@ -14,7 +14,8 @@ use Rattle.trit_cubes.proofs.PointLemmas.{point_of-number}
 use Rattle.cell_machine.specs.declared.outputs.Source.{Source}
 use Rattle.cell_machine.specs.CellData.{CellData}
 use Rattle.cell_machine.proofs.EachLemmas.{map-take-more}
-use Rattle.cell_machine.specs.CellTrace.{step_at, output_value_at}
+use Rattle.cell_machine.specs.CellTrace.{output_value_at}
+use Rattle.step_tables.specs.GroupPoints.{steps_between}
 use Rattle.scan_cells.specs.Places.{same_source, is_set, value_at, values_at}
 use Rattle.scan_cells.specs.Weights.{weight_of, has_weight, weighed, IsSplit}
 
@@ -53,23 +54,23 @@ pub values_weighed :
 values_weighed from places support weights point are same_places =
     ap (λ ws. weighed ws point) (are ∙ ap (λ ps. map (weight_of ps) support) same_places) ∙ weighed_values places support point
 
--- a step by the weights of a support
-pub step_weighed :
-    (of cell : CellData) (h g : ℕ) (from places support : List Source) (weights : List ℕ) (before after : ℕ) (s : Bool)
+-- the steps by the weights of a support
+pub steps_weighed :
+    (of cell : CellData) (h g : ℕ) (from places support : List Source) (weights : List ℕ) (before after : ℕ)
     → of ≡ cell → h ≡ g → weights ≡ map (weight_of from) support → from ≡ places
-    → step_at of h (weighed weights before) (weighed weights after) s
-    ≡ step_at cell g (values_at places support before) (values_at places support after) s
-step_weighed of cell h g from places support weights before after s same_cell same_group are same_places =
-    λ i. step_at (same_cell i) (same_group i) (values_weighed from places support weights before are same_places i)
-    (values_weighed from places support weights after are same_places i) s
+    → steps_between of h (weighed weights before) (weighed weights after)
+    ≡ steps_between cell g (values_at places support before) (values_at places support after)
+steps_weighed of cell h g from places support weights before after same_cell same_group are same_places =
+    λ i. steps_between (same_cell i) (same_group i) (values_weighed from places support weights before are same_places i)
+    (values_weighed from places support weights after are same_places i)
 
 -- an output's value by the weights of its support
 pub output_weighed :
-    (cell : CellData) (k : ℕ) (from places support : List Source) (weights : List ℕ) (point : ℕ) (given : List Bool)
-    → given ≡ weighed weights point → weights ≡ map (weight_of from) support → from ≡ places
-    → output_value_at cell k given ≡ output_value_at cell k (values_at places support point)
-output_weighed cell k from places support weights point given is are same_places =
-    ap (output_value_at cell k) (is ∙ values_weighed from places support weights point are same_places)
+    (of cell : CellData) (h k : ℕ) (from places support : List Source) (weights : List ℕ) (point : ℕ)
+    → of ≡ cell → h ≡ k → weights ≡ map (weight_of from) support → from ≡ places
+    → output_value_at of h (weighed weights point) ≡ output_value_at cell k (values_at places support point)
+output_weighed of cell h k from places support weights point same_cell same_output are same_places =
+    λ i. output_value_at (same_cell i) (same_output i) (values_weighed from places support weights point are same_places i)
 
 -- one source more has its weight
 pub weights_turn :

@@ -2,7 +2,11 @@
 use Rattle.std.specs.Prelude.{◌≡◌, ℕ, ◌+◌, ◌*◌, ◌/◌, ◌%◌, ◌^◌, ◌==◌, Bool, not, List, map, position, unwrap_or, bit_and}
 use Rattle.std.specs.List.{range_with_len}
 use Rattle.trit_cubes.specs.Filling.{number}
+use Rattle.trit_cubes.specs.Sets.{point_of}
+use Rattle.trit_cubes.specs.declared.trits.Trit.{Trit}
 use Rattle.cell_machine.specs.declared.outputs.Source.{Source}
+use Rattle.cell_machine.specs.CellData.{CellData}
+use Rattle.cell_machine.specs.CellTrace.{output_value_at}
 use Rattle.scan_cells.specs.Places.{same_source}
 
 -- what the place of a source weighs
@@ -16,6 +20,10 @@ has_weight point weight = not (bit_and point weight == 0)
 -- the values at a point of the places with these weights
 abbrev pub weighed : List ℕ → ℕ → List Bool
 weighed weights point = map (has_weight point) weights
+
+-- the values of output i at all points of so many places, in the order of their numbers
+abbrev pub output_values : CellData → ℕ → ℕ → List Trit
+output_values cell i places = map (λ k. output_value_at cell i (point_of places k)) (range_with_len 0 (2 ^ places))
 
 -- the numbers that the first 256 multiples of a point have over the places with these weights
 abbrev pub numbers_of : List ℕ → ℕ → List ℕ

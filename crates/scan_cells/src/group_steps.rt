@@ -12,13 +12,15 @@ ghost use Rattle.scan_cells.specs.Comparison.{difference, state_difference, chan
 ghost use Rattle.scan_cells.specs.Comparison.{group_difference as group_difference_of};
 
 use crate::answers::Difference;
+use crate::by_points::{Compared, first_from};
 use crate::masks::{is_mixed, mask_of};
 use crate::places::places_of;
-use crate::point_steps::{PointSteps, StateSteps};
-use crate::points::{changed_at, enable_place, is_inactive_by, point_count};
+use crate::point_steps::PointSteps;
+use crate::points::{changed_at, enable_place, is_inactive_by};
 use crate::sources::{Sources, in_cell, pin_sources};
 use crate::views::View;
 use cell_machine::Cell;
+use step_tables::StateSteps;
 use trit_cubes::Trit;
 
 /// A state group of a cell and that of its view with the same number, over the places of both supports.
@@ -39,12 +41,12 @@ pub struct GroupPair<'a> {
     ghost is_enable: { enable ≡ position (same_source (source.Pin view.now.enable)) places },
     ghost few_enable: { unwrap_or enable 0 < 20 },
     ghost inside: { group < length cell.now.groups },
-    ghost is_cell: { of_cell.kept.cell.now ≡ cell.now },
-    ghost is_view: { of_view.kept.cell.now ≡ view.now.cell },
-    ghost is_of_cell: { of_cell.kept.group ≡ group },
-    ghost is_of_view: { of_view.kept.group ≡ group },
-    ghost weigh_cell: { of_cell.weights ≡ map (weight_of places) (cell_support (data_of cell.now) group) },
-    ghost weigh_view: { of_view.weights ≡ map (weight_of places) (view_support (view_data view.now) group) },
+    ghost is_cell: { of_cell.table.cell.now ≡ cell.now },
+    ghost is_view: { of_view.table.cell.now ≡ view.now.cell },
+    ghost is_of_cell: { of_cell.table.group ≡ group },
+    ghost is_of_view: { of_view.table.group ≡ group },
+    ghost weigh_cell: { of_cell.numbering.weights ≡ map (weight_of places) (cell_support (data_of cell.now) group) },
+    ghost weigh_view: { of_view.numbering.weights ≡ map (weight_of places) (view_support (view_data view.now) group) },
     ghost is_cell_mask: { IsMask (view_data view.now) places (cell_support (data_of cell.now) group) cell_mask },
     ghost is_view_mask: { IsMask (view_data view.now) places (view_support (view_data view.now) group) view_mask },
 }
@@ -210,29 +212,28 @@ impl<'a> GroupPair<'a> {
         }
     }
 
-    /// The first difference at a point, where there is none at the points before it. Then there is none at a point with 1 at a
-    /// place that the cell's group does not depend on and at one that the view's does not.
-    fn next_difference(&self, after: u32) -> Option<Difference>
-        requires before { (p : ℕ) → p < after
-            → after_difference (data_of self.now.cell.now) (view_data self.now.view.now) self.now.group p ≡ None }
-        ensures { result ≡ after_difference (data_of self.now.cell.now) (view_data self.now.view.now) self.now.group after }
-    {
-        if is_mixed(after, self.cell_mask, self.view_mask) {
-            return None;
-        }
-        self.after_difference(after)
-    }
-
     /// The first difference of the groups.
+    #[tactic(auto, using(crate::proofs::Halves::few_points))]
     fn difference(&self) -> Option<Difference>
         ensures { result ≡ group_difference_of (data_of self.now.cell.now) (view_data self.now.view.now) self.now.group }
     {
-        for after in 0..point_count(self.places.as_slice().len()) {
-            if let Some(difference) = self.next_difference(after) {
-                return Some(difference);
-            }
-        }
-        None
+        first_from(self, 0, self.places.as_slice().len())
+    }
+}
+
+impl<'a> Compared for GroupPair<'a> {
+    ghost use Rattle.cell_machine.specs.CellData.{data_of};
+    ghost use Rattle.scan_cells.specs.Views.{view_data};
+    ghost use Rattle.scan_cells.specs.Comparison.{after_difference};
+
+    ghost at = { λ pair. after_difference (data_of pair.cell.now) (view_data pair.view.now) pair.group };
+
+    fn is_mixed(&self, point: u32) -> bool {
+        is_mixed(point, self.cell_mask, self.view_mask)
+    }
+
+    fn difference_at(&self, point: u32) -> Option<Difference> {
+        self.after_difference(point)
     }
 }
 

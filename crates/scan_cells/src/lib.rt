@@ -3,12 +3,15 @@
 #![tactic(auto)]
 
 mod answers;
+mod by_points;
 mod comparison;
 mod enables;
 mod functional;
 mod group_steps;
 mod laws;
 mod masks;
+mod numbering;
+mod output_table;
 mod output_values;
 mod places;
 mod point_steps;

@@ -1,8 +1,10 @@
 //! The values of an output of a cell beside those of its view's.
-ghost use Rattle.std.specs.Prelude.{◌≡◌, ℕ, ◌<◌, ◌≤◌, None, length, map, IfSome};
+ghost use Rattle.std.specs.Prelude.{◌≡◌, ◌<◌, ◌≤◌, length, map, position, unwrap_or, IfSome};
 ghost use Rattle.cell_machine.specs.CellData.{data_of};
 ghost use Rattle.cell_machine.specs.CellTrace.{sources_at};
 ghost use Rattle.scan_cells.specs.Views.{view_data};
+ghost use Rattle.cell_machine.specs.declared.outputs.Source.TheVariants as source;
+ghost use Rattle.scan_cells.specs.Places.{same_source, is_inactive};
 ghost use Rattle.scan_cells.specs.Masks.{IsMask};
 ghost use Rattle.scan_cells.specs.Weights.{weight_of};
 ghost use Rattle.scan_cells.specs.Comparison.{is_on_pin as is_on_pin_of, output_in_view as output_in_view_of, output_support};
@@ -10,12 +12,14 @@ ghost use Rattle.scan_cells.specs.Comparison.{output_places, cell_output, view_o
 ghost use Rattle.scan_cells.specs.Comparison.{output_difference as output_difference_of};
 
 use crate::answers::Difference;
+use crate::by_points::{Compared, first_from};
 use crate::masks::{is_mixed, mask_of};
+use crate::output_table::OutputTable;
 use crate::places::places_of;
-use crate::points::{Weights, is_inactive, point_count, values_over, weights_of};
+use crate::points::{enable_place, is_inactive_by};
 use crate::sources::{Sources, in_cell, pin_in_cell};
 use crate::views::View;
-use cell_machine::{Cell, OutputPin, output_at};
+use cell_machine::{Cell, OutputPin};
 use trit_cubes::Trit;
 
 /// An output of a cell and one of its view, over the places of both supports.
@@ -25,18 +29,24 @@ pub struct OutputPair<'a> {
     view: &'a View,
     output: usize,
     view_output: usize,
-    cell_weights: Weights,
-    view_weights: Weights,
+    of_cell: OutputTable<'a>,
+    of_view: OutputTable<'a>,
     places: Sources,
+    /// The place of the scan enable.
+    enable: Option<usize>,
     cell_mask: u32,
     view_mask: u32,
     ghost in_cell: { output < length cell.now.outputs },
     ghost in_view: { view_output < length view.now.cell.outputs },
     ghost are_places: { places ≡ output_places (data_of cell.now) (view_data view.now) output view_output },
-    ghost few_of_cell: { length cell_weights ≤ 10 },
-    ghost few_of_view: { length view_weights ≤ 10 },
-    ghost weigh_cell: { cell_weights ≡ map (weight_of places) (sources_at (data_of cell.now) output) },
-    ghost weigh_view: { view_weights ≡ map (weight_of places) (output_support (view_data view.now) view_output) },
+    ghost is_enable: { enable ≡ position (same_source (source.Pin view.now.enable)) places },
+    ghost few_enable: { unwrap_or enable 0 < 20 },
+    ghost is_cell: { of_cell.cell.now ≡ cell.now },
+    ghost is_view: { of_view.cell.now ≡ view.now.cell },
+    ghost is_of_cell: { of_cell.output ≡ output },
+    ghost is_of_view: { of_view.output ≡ view_output },
+    ghost weigh_cell: { of_cell.numbering.weights ≡ map (weight_of places) (sources_at (data_of cell.now) output) },
+    ghost weigh_view: { of_view.numbering.weights ≡ map (weight_of places) (output_support (view_data view.now) view_output) },
     ghost few_places: { length places ≤ 20 },
     ghost is_cell_mask: { IsMask (view_data view.now) places (sources_at (data_of cell.now) output) cell_mask },
     ghost is_view_mask: { IsMask (view_data view.now) places (output_support (view_data view.now) view_output) view_mask },
@@ -62,12 +72,26 @@ impl<'a> OutputPair<'a> {
             view,
             output,
             view_output,
-            cell_weights: weights_of(places.as_slice(), of_cell),
-            view_weights: weights_of(places.as_slice(), of_view.as_slice()),
+            of_cell: OutputTable::of(cell, output, places.as_slice(), of_cell),
+            of_view: OutputTable::of(
+                &view.cell,
+                view_output,
+                places.as_slice(),
+                of_view.as_slice(),
+            ),
+            enable: enable_place(view, places.as_slice()),
             places,
             cell_mask,
             view_mask,
         }
+    }
+
+    /// Whether the scan enable is inactive at a point.
+    #[tactic(auto, unfolding(crate::specs::Places::is_inactive))]
+    fn is_inactive(&self, point: u32) -> bool
+        ensures { result ≡ is_inactive (view_data self.now.view.now) self.now.places point }
+    {
+        is_inactive_by(self.view, self.enable, point)
     }
 
     /// The value of the cell's output at a point.
@@ -76,8 +100,7 @@ impl<'a> OutputPair<'a> {
         ensures { result ≡ cell_output (data_of self.now.cell.now) (view_data self.now.view.now) self.now.output
             self.now.view_output point }
     {
-        let point = values_over(self.cell_weights.as_slice(), point);
-        output_at(self.cell, self.output, point.as_slice())
+        self.of_cell.value(point)
     }
 
     /// The value of the view's output at a point.
@@ -86,8 +109,7 @@ impl<'a> OutputPair<'a> {
         ensures { result ≡ view_output (data_of self.now.cell.now) (view_data self.now.view.now) self.now.output
             self.now.view_output point }
     {
-        let point = values_over(self.view_weights.as_slice(), point);
-        output_at(&self.view.cell, self.view_output, point.as_slice())
+        self.of_view.value(point)
     }
 
     /// The difference of the outputs at a point; none where the scan enable is active.
@@ -95,7 +117,7 @@ impl<'a> OutputPair<'a> {
         ensures { result ≡ point_difference (data_of self.now.cell.now) (view_data self.now.view.now) self.now.output
             self.now.view_output point }
     {
-        if !is_inactive(self.view, self.places.as_slice(), point) {
+        if !self.is_inactive(point) {
             return None;
         }
         let difference = Difference {
@@ -109,31 +131,29 @@ impl<'a> OutputPair<'a> {
         difference.found()
     }
 
-    /// The difference at a point, where there is none at the points before it. Then there is none at a point with 1 at a place
-    /// that the cell's output does not depend on and at one that the view's does not.
-    fn next_difference(&self, point: u32) -> Option<Difference>
-        ensures { ((p : ℕ) → p < point → point_difference (data_of self.now.cell.now) (view_data self.now.view.now)
-            self.now.output self.now.view_output p ≡ None)
-            → result ≡ point_difference (data_of self.now.cell.now) (view_data self.now.view.now) self.now.output
-            self.now.view_output point }
-    {
-        if is_mixed(point, self.cell_mask, self.view_mask) {
-            return None;
-        }
-        self.point_difference(point)
-    }
-
     /// The first difference of the outputs.
+    #[tactic(auto, using(crate::proofs::Halves::few_points))]
     fn difference(&self) -> Option<Difference>
         ensures { result ≡ pair_difference (data_of self.now.cell.now) (view_data self.now.view.now) self.now.output
             self.now.view_output }
     {
-        for point in 0..point_count(self.places.as_slice().len()) {
-            if let Some(difference) = self.next_difference(point) {
-                return Some(difference);
-            }
-        }
-        None
+        first_from(self, 0, self.places.as_slice().len())
+    }
+}
+
+impl<'a> Compared for OutputPair<'a> {
+    ghost use Rattle.cell_machine.specs.CellData.{data_of};
+    ghost use Rattle.scan_cells.specs.Views.{view_data};
+    ghost use Rattle.scan_cells.specs.Comparison.{point_difference};
+
+    ghost at = { λ pair. point_difference (data_of pair.cell.now) (view_data pair.view.now) pair.output pair.view_output };
+
+    fn is_mixed(&self, point: u32) -> bool {
+        is_mixed(point, self.cell_mask, self.view_mask)
+    }
+
+    fn difference_at(&self, point: u32) -> Option<Difference> {
+        self.point_difference(point)
     }
 }
 

@@ -31,14 +31,6 @@ pub fn source_weight(places: &[Source], source: Source) -> u32
     }
 }
 
-/// How many points there are over so many places.
-pub fn point_count(places: usize) -> u32
-    requires { places ≤ 20 }
-    ensures { result ≡ 2 ^ places }
-{
-    1 << places
-}
-
 /// Whether a place of a point is 1.
 #[tactic(auto, unfolding(crate::specs::Places::is_set))]
 fn is_set(k: usize, point: u32) -> bool
@@ -89,15 +81,6 @@ pub fn is_inactive_by(view: &View, enable: Option<usize>, point: u32) -> bool
     }
 }
 
-/// Whether the scan enable of a view is inactive at a point over these places.
-#[tactic(auto, unfolding(crate::specs::Places::is_inactive))]
-pub fn is_inactive(view: &View, places: &[Source], point: u32) -> bool
-    requires { length places.now ≤ 20 }
-    ensures { result ≡ is_inactive_at (view_data view.now) places.now point }
-{
-    is_inactive_by(view, enable_place(view, places), point)
-}
-
 /// What the sources of a support weigh in a point, in their order.
 pub type Weights = Few<u32, MOST_OUTPUT_SOURCES>;
 
@@ -113,16 +96,4 @@ pub fn weights_of(places: &[Source], support: &[Source]) -> Weights
         weights.push(source_weight(places, *source));
     }
     weights
-}
-
-/// The values at a point of the places with these weights.
-pub fn values_over(weights: &[u32], point: u32) -> Few<bool, MOST_OUTPUT_SOURCES>
-    requires { length weights.now ≤ 10 }
-    ensures { result ≡ weighed weights.now point }
-{
-    let mut values = Few::new(false);
-    for weight in weights {
-        values.push(point & *weight != 0);
-    }
-    values
 }

@@ -1,14 +1,15 @@
 //! The test cell of a cell, and what of it is read.
-ghost use Rattle.std.specs.Prelude.{◌≡◌, IfOk, OnOk, [], ◌++◌, ◌∷◌, map, filter, codes};
+ghost use Rattle.std.specs.Prelude.{◌≡◌, IfOk, [], ◌∷◌, map, filter, codes};
 ghost use Rattle.std.specs.Option.{option_copied};
 ghost use Rattle.liberty_groups.specs.declared.tree.Item.{out-Item};
-ghost use Rattle.scan_cells.specs.TestGroup.{test_of as test_of_cell, is_time as is_time_name, is_kept, untimed as untimed_group};
+ghost use Rattle.scan_cells.specs.TestGroup.{test_of as test_of_cell, is_time as is_time_name, untimed as untimed_group};
 ghost use Rattle.scan_cells.specs.TestGroup.{view_group as view_group_of, name_value as name_value_of, untimed_item};
+ghost use Rattle.scan_cells.specs.TestGroup.{is_kept as is_kept_statement};
 ghost use Rattle.cell_attributes.specs.Groups.{inner_groups as inner_groups_of};
 
 use cell_attributes::groups::inner_groups;
 use liberty_groups::{
-    Arguments, Group, Item, Value, Values, copy_arguments, copy_text, copy_values, inner_group,
+    Arguments, Group, Item, Value, Values, copy_arguments, copy_item, copy_text, inner_group,
 };
 use sqlite_items::Items;
 use std::alloc::{AllocError, Global};
@@ -34,43 +35,26 @@ fn is_time(name: &[u8]) -> bool
         || name == b"min_period".as_slice()
 }
 
-/// Adds a copy of a statement, where it is kept.
-fn add_kept(alloc: Global, kept: &mut Items<Item>, item: &Item) -> Result<(), AllocError>
-    ensures { OnOk result (kept.new ≡ kept.old ++ filter (λ item. is_kept (out-Item item)) (item.now ∷ [])) }
+/// Whether a statement of a group of the test cell is kept.
+fn is_kept(item: &Item) -> bool
+    ensures { result ≡ is_kept_statement (out-Item item.now) }
 {
     match item {
-        Item::Simple { name, value, at } => {
-            if !is_time(name.as_slice()) {
-                kept.push(Item::Simple {
-                    name: copy_text(alloc, name.as_slice())?,
-                    value: copy_values(alloc, value.as_slice())?,
-                    at: *at,
-                })?;
-            }
-        }
-        Item::Complex {
-            name,
-            arguments,
-            at,
-        } => {
-            kept.push(Item::Complex {
-                name: copy_text(alloc, name.as_slice())?,
-                arguments: copy_values(alloc, arguments.as_slice())?,
-                at: *at,
-            })?;
-        }
-        Item::Inner(_) => {}
+        Item::Simple { name, .. } => !is_time(name.as_slice()),
+        Item::Complex { .. } => true,
+        Item::Inner(_) => false,
     }
-    Ok(())
 }
 
 /// Copies of the statements that are kept.
 fn copy_kept(alloc: Global, items: &[Item]) -> Result<Items<Item>, AllocError>
-    ensures { IfOk result (λ kept. kept ≡ filter (λ item. is_kept (out-Item item)) items.now) }
+    ensures { IfOk result (λ kept. kept ≡ filter (λ item. is_kept_statement (out-Item item)) items.now) }
 {
     let mut kept = Items::new(alloc);
     for item in items {
-        add_kept(alloc, &mut kept, item)?;
+        if is_kept(item) {
+            kept.push(copy_item(alloc, item)?)?;
+        }
     }
     Ok(kept)
 }
@@ -87,16 +71,23 @@ fn untimed(alloc: Global, group: &Group) -> Result<Group, AllocError>
     })
 }
 
+/// Groups as statements, each with what is kept of it.
+fn untimed_items(alloc: Global, groups: &[&Group]) -> Result<Items<Item>, AllocError>
+    ensures { IfOk result (λ items. items ≡ map untimed_item (map (λ group. group.now) groups.now)) }
+{
+    let mut items = Items::new(alloc);
+    for group in groups {
+        items.push(Item::Inner(untimed(alloc, group)?))?;
+    }
+    Ok(items)
+}
+
 /// The groups of a test cell, each with what is kept of it.
 fn view_items(alloc: Global, test: &Group) -> Result<Items<Item>, AllocError>
     ensures { IfOk result (λ items. items ≡ map untimed_item (inner_groups_of test.now.items)) }
 {
     let groups = inner_groups(alloc, test)?;
-    let mut items = Items::new(alloc);
-    for group in groups.as_slice() {
-        items.push(Item::Inner(untimed(alloc, group)?))?;
-    }
-    Ok(items)
+    untimed_items(alloc, groups.as_slice())
 }
 
 /// The arguments of a group with this name.

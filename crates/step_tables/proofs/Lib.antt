@@ -1,2 +1,4 @@
 pub mod PointLemmas
 pub mod WordLemmas
+pub mod ClockLemmas
+pub mod KeptLemmas

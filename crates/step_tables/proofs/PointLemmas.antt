@@ -1,10 +1,10 @@
 -- Points, and the words of their places.
-use Rattle.std.proofs.Common.{◌≡◌, ◌≢◌, ℕ, zero, suc, ◌+◌, ◌-◌, ◌/◌, ◌%◌, ◌<◌, ◌≤◌, Bool, not, nat_eq, List, []}
+use Rattle.std.proofs.Common.{◌≡◌, ℕ, zero, suc, ◌+◌, ◌-◌, ◌*◌, ◌/◌, ◌%◌, ◌^◌, ◌<◌, ◌≤◌, Bool, nat_eq, List, []}
 use Rattle.std.proofs.Common.{◌∷◌, ◌++◌, length, take, drop, get_or, slice_get, Some, refl, sym, ap, subst, ◌∙◌}
 use Rattle.std.proofs.Common.{arith, append_assoc}
-use Rattle.std.proofs.lemmas.List.{take_more}
 use Rattle.std.proofs.lemmas.Option.{none-some, same_Some}
 use Rattle.trit_cubes.specs.declared.trits.Trit.{Trit}
+use Rattle.trit_cubes.specs.Filling.{bit, number}
 use Rattle.trit_cubes.specs.Sets.{point_of}
 use Rattle.trit_cubes.specs.Resolution.{agreed}
 use Rattle.cell_machine.specs.Machine.{around}
@@ -23,32 +23,6 @@ pub length-turned : (p : ℕ) (point : List Bool) → length (turned p point) �
 length-turned p [] = refl
 length-turned zero (b ∷ point) = refl
 length-turned (suc p) (b ∷ point) = ap suc (length-turned p point)
-
--- a place of a turned point
-pub turned_here :
-    (p i : ℕ) (point : List Bool) (d : Bool) → i < length point → i ≡ p → get_or (turned p point) i d ≡ not (get_or point i d)
-turned_here p i [] d h e = absurd (omega (arith, h))
-turned_here zero zero (b ∷ point) d h e = refl
-turned_here zero (suc i) (b ∷ point) d h e = absurd (omega (arith, e))
-turned_here (suc p) zero (b ∷ point) d h e = absurd (omega (arith, e))
-turned_here (suc p) (suc i) (b ∷ point) d h e = turned_here p i point d (omega (arith, h)) (omega (arith, e))
-
-pub turned_other :
-    (p i : ℕ) (point : List Bool) (d : Bool) → i < length point → i ≢ p → get_or (turned p point) i d ≡ get_or point i d
-turned_other p i [] d h ne = absurd (omega (arith, h))
-turned_other zero zero (b ∷ point) d h ne = absurd (ne refl)
-turned_other zero (suc i) (b ∷ point) d h ne = refl
-turned_other (suc p) zero (b ∷ point) d h ne = refl
-turned_other (suc p) (suc i) (b ∷ point) d h ne = turned_other p i point d (omega (arith, h)) (λ e. ne (ap suc e))
-
--- one more place of it
-pub turned_turn :
-    (p i : ℕ) (point all : List Bool) (b d : Bool) → i < length point → all ≡ take i (turned p point)
-    → b ≡ get_or (turned p point) i d → all ++ b ∷ [] ≡ take (i + 1) (turned p point)
-turned_turn p i point all b d h e at =
-    ap (λ xs. xs ++ b ∷ []) e
-    ∙ ap (λ x. take i (turned p point) ++ x ∷ []) at
-    ∙ sym (take_more (turned p point) i d (subst (λ n. i < n) (sym (length-turned p point)) h))
 
 -- behind its end nothing is turned
 pub turned_past : (p : ℕ) (point : List Bool) → length point ≤ p → turned p point ≡ point
@@ -80,3 +54,28 @@ push_each P [] x h new zero v e = subst (P 0) (same_Some x v e) new
 push_each P [] x h new (suc p) v e = absurd (none-some v e)
 push_each P (y ∷ xs) x h new zero v e = h zero v e
 push_each P (y ∷ xs) x h new (suc p) v e = push_each (λ q. P (suc q)) xs x (λ q w. h (suc q) w) new p v e
+
+-- the number of the places from one on
+pub number_none : (point : List Bool) → number (drop (length point) point) ≡ 0
+number_none [] = refl
+number_none (b ∷ point) = number_none point
+
+pub number_turn : (point : List Bool) (p : ℕ) (d : Bool) → p < length point
+    → bit (get_or point p d) + 2 * number (drop (suc p) point) ≡ number (drop p point)
+number_turn [] p d h = absurd (omega (arith, h))
+number_turn (b ∷ point) zero d h = refl
+number_turn (b ∷ point) (suc p) d h = number_turn point p d (omega (arith, h))
+
+bit_of : (b : ℕ) → b < 2 → bit (nat_eq b 1) ≡ b
+bit_of zero h = refl
+bit_of (suc zero) h = refl
+bit_of (suc (suc b)) h = absurd (omega (arith, h))
+
+-- the number of the point that has a number
+pub number_back : (n k : ℕ) → k < 2 ^ n → number (point_of n k) ≡ k
+number_back zero k h = omega (arith, h)
+number_back (suc n) k h =
+    let one : 2 ^ suc n ≡ 2 ^ n + 2 ^ n = omega arith in
+    let rest = number_back n (k / 2) (omega (arith, h, one)) in
+    let first = bit_of (k % 2) (omega arith) in
+    omega (arith, rest, first)

@@ -1,20 +1,24 @@
 -- Words of places and of names.
 use Rattle.std.proofs.Common.{◌≡◌, ◌≢◌, ℕ, zero, suc, ◌+◌, ◌*◌, ◌-◌, ◌/◌, ◌%◌, ◌^◌, ◌<◌, ◌≤◌, Bool, true, false, not, nat_eq}
 use Rattle.std.proofs.Common.{List, [], ◌∷◌, ◌++◌, length, map, take, drop, get_or, refl, sym, ap, ◌∙◌, arith}
-use Rattle.std.proofs.Common.{subst}
+use Rattle.std.proofs.Common.{subst, inl, inr, w64}
 use Rattle.std.specs.Prelude.{bit_xor, slice_set}
 use Rattle.std.specs.List.{range_with_len}
-use Rattle.std.specs.Int.{bit_at}
-use Rattle.std.proofs.lemmas.Bool.{agree_below, agree_below_at}
+use Rattle.std.specs.Int.{bit_at, trailing_zeros}
+use Rattle.std.proofs.lemmas.Bool.{agree_below, agree_below_at, cases_eq, cases_lt}
+use Rattle.std.proofs.lemmas.Nat.{pow_pos, pow_below, xor_lt}
 use Rattle.std.proofs.lemmas.List.{get_or_past, get_or-replicate, length-set}
-use Rattle.std.proofs.lemmas.Nat.Bits.{bit_at-suc, bit_at_lowest, bit_at_cat_low, bit_at_cat_high, bit_at_xor, bit_at_ones, bit_at-lt}
-use Rattle.std.proofs.lemmas.Nat.Bits.{bit_at-pow_same, bit_at-pow_other}
+use Rattle.std.proofs.lemmas.Nat.Bits.{bit_at-suc, bit_at_lowest, bit_at_cat_low, bit_at_cat_high, bit_at_xor, bit_at_ones}
+use Rattle.std.proofs.lemmas.Nat.Bits.{bit_at-lt, bit_at-pow_same, bit_at-pow_other, bit_at-trailing_zeros, same_from_bits}
+use Rattle.trit_cubes.specs.Filling.{number}
 use Rattle.trit_cubes.specs.Sets.{point_of}
+use Rattle.trit_cubes.proofs.PointLemmas.{length-point_of}
 use Rattle.statetables.specs.Lanes.{lane}
 use Rattle.statetables.proofs.LaneLemmas.{lane_none}
 use Rattle.cell_machine.specs.Values.{no_values, written}
 use Rattle.cell_machine.proofs.GroupSteps.{length-no_values}
 use Rattle.step_tables.specs.Turned.{turned}
+use Rattle.step_tables.proofs.PointLemmas.{turned_past, number_back}
 
 other_bit : (x : ℕ) → x < 2 → nat_eq ((x + 1) % 2) 1 ≡ not (nat_eq x 1)
 other_bit zero h = refl
@@ -121,6 +125,41 @@ turned_point n p before after l is =
     ∙ other_bit (bit_at after p) (bit_at-lt after p))
     (λ i ne. ap (λ x. nat_eq x 1) (bit_at_xor after (2 ^ p) i ∙ ap (λ x. (bit_at after i + x) % 2) (bit_at-pow_other p i ne))
     ∙ same_bit (bit_at after i) (bit_at-lt after i)))
+
+-- two points with numbers that do not differ in one place alone
+pub not_turned :
+    (n place before after : ℕ) → before < 2 ^ n → after < 2 ^ n → before ≢ after
+    → ((p : ℕ) → p < n → bit_xor after (2 ^ p) ≢ before) → point_of n before ≢ turned place (point_of n after)
+not_turned n place before after small few other none e =
+    elim (cases_lt place n) [
+      | inl l ↦
+          let there = turned_point n place (bit_xor after (2 ^ place)) after l refl in
+          none place l (sym (sym (number_back n before small)
+          ∙ (ap number (e ∙ sym there)
+          ∙ number_back n (bit_xor after (2 ^ place)) (xor_lt n after (2 ^ place) few (pow_below place n l)))))
+      | inr g ↦
+          let past = turned_past place (point_of n after) (let long = length-point_of n after in omega (arith, long, g)) in
+          other (sym (number_back n before small) ∙ (ap number (e ∙ past) ∙ number_back n after few))
+    ]
+
+back_turned : (after p : ℕ) → bit_xor (bit_xor after (2 ^ p)) after ≡ 2 ^ p
+back_turned after p = same_from_bits (bit_xor (bit_xor after (2 ^ p)) after) (2 ^ p) (λ i.
+    let whole = bit_at_xor (bit_xor after (2 ^ p)) after i in
+    let part = bit_at_xor after (2 ^ p) i in
+    let small = bit_at-lt after i in
+    let few = bit_at-lt (2 ^ p) i in
+    omega (arith, whole, part, small, few))
+
+-- the place in which two numbers differ that differ in one place alone
+pub place_turned :
+    (before after p : ℕ) → p < 64 → bit_xor after (2 ^ p) ≡ before → trailing_zeros w64 (bit_xor before after) ≡ p
+place_turned before after p h e =
+    let power : bit_xor before after ≡ 2 ^ p = ap (λ b. bit_xor b after) (sym e) ∙ back_turned after p in
+    let lowest = bit_at-trailing_zeros w64 (2 ^ p) (pow_pos p) (pow_below p 64 h) in
+    elim (cases_eq (trailing_zeros w64 (2 ^ p)) p) [
+      | inl is ↦ ap (trailing_zeros w64) power ∙ is
+      | inr ne ↦ absurd (let none = bit_at-pow_other p (trailing_zeros w64 (2 ^ p)) ne in omega (arith, none, lowest.1))
+    ]
 
 length-written : (values : List Bool) (names : List ℕ) (point : List Bool) → length (written values names point) ≡ length values
 length-written values [] point = refl

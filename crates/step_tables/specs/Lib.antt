@@ -1,2 +1,4 @@
 pub mod Turned
 pub mod NodeSteps
+pub mod GroupPoints
+pub mod Kept

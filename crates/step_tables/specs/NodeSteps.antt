@@ -1,6 +1,5 @@
 -- The next states of a node of a state table at the points of its support, 64 at a time.
-use Rattle.std.specs.Prelude.{◌≡◌, ℕ, ◌+◌, ◌*◌, ◌/◌, ◌%◌, ◌<◌, ◌≤◌, ◌^◌, ◌==◌, Bool, List, length, slice_get, Option}
-use Rattle.std.specs.Prelude.{Some, None}
+use Rattle.std.specs.Prelude.{◌≡◌, ℕ, ◌+◌, ◌*◌, ◌/◌, ◌%◌, ◌<◌, ◌^◌, ◌==◌, Bool, List, length, Option, None}
 use Rattle.trit_cubes.specs.Sets.{point_of}
 use Rattle.statetables.specs.declared.table.StateTable.{StateTable}
 use Rattle.statetables.specs.declared.lanes.StepWords.{StepWords}
@@ -29,13 +28,12 @@ next_at table node inputs support p s k =
 pub record TellFrom (next : ℕ → Option Bool) (start : ℕ) (words : StepWords) : Type 0 where
   pub found : (k : ℕ) → k < 64 → found_at k words None ≡ next (start + k)
 
--- words that tell what is found at all points of n places
-pub record TellAll (next : ℕ → Option Bool) (n : ℕ) (words : List StepWords) : Type 0 where
-  pub enough : 2 ^ n ≤ 64 * length words
-  pub each : (block : ℕ) (w : StepWords) → slice_get words block ≡ Some w → TellFrom next (64 * block) w
+-- how many words the points of n places take
+abbrev pub blocks : ℕ → ℕ
+blocks n = (2 ^ n + 63) / 64
 
--- Words that tell what is found at one of the 18 changes to a point, over 64 points: number 18 * b + 2 * p + s is of the change of
--- place p (of none, where there is no such place) from state s to the points from 64 * b on.
+-- Words that tell what is found at one of the 18 changes to a point, over 64 points: number 18 * b + 2 * p + s is of the change
+-- of place p (of none, where there is no such place) from state s to the points from 64 * b on.
 abbrev pub TellChange : StateTable → ℕ → List ℕ → List ℕ → ℕ → StepWords → Type 0
 TellChange table node inputs support j words =
     TellFrom (next_at table node inputs support (j % 18 / 2) (j % 2 == 1)) (64 * (j / 18)) words

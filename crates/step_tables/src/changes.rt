@@ -1,9 +1,9 @@
 //! The step of a node of a state table at each change of at most one place of its support, kept without memory of the heap.
-ghost use Rattle.std.specs.Prelude.{◌≡◌, ℕ, ◌≤◌, ◌<◌, Some, length, slice_get};
+ghost use Rattle.std.specs.Prelude.{◌≡◌, ℕ, ◌*◌, ◌≤◌, ◌<◌, Some, length, slice_get};
 ghost use Rattle.statetables.specs.declared.lanes.StepWords.{StepWords as WordsOf};
-ghost use Rattle.step_tables.specs.NodeSteps.{TellChange};
+ghost use Rattle.step_tables.specs.NodeSteps.{blocks, TellChange};
 
-use crate::node_values::{TableNode, block_words, word_count};
+use crate::node_words::{TableNode, block_words, word_count};
 use cell_machine::Few;
 use statetables::StepWords;
 
@@ -34,7 +34,8 @@ fn word_at(node: TableNode<'_>, number: usize) -> StepWords
 pub fn change_words(node: TableNode<'_>) -> ChangeWords
     requires few { length node.support.now ≤ 8 }
     requires inputs { length node.inputs.now ≤ 64 }
-    ensures { (j : ℕ) (w : WordsOf) → slice_get result j ≡ Some w
+    ensures all { length result ≡ 18 * blocks (length node.entry.support.now) }
+    ensures each { (j : ℕ) (w : WordsOf) → slice_get result j ≡ Some w
         → TellChange node.entry.table.now node.entry.node node.entry.inputs.now node.entry.support.now j w }
 {
     let mut words = Few::new(word_at(node, 0));

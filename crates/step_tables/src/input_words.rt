@@ -1,5 +1,6 @@
 //! The values of the inputs of a state table at 64 points, as words: bit k of a word is the value at point k.
-ghost use Rattle.std.specs.Prelude.{◌≡◌, ℕ, ◌+◌, ◌*◌, ◌≤◌, ◌<◌, Bool, List, not, false, length, map, slice_index_or, if◌then◌else◌};
+ghost use Rattle.std.specs.Prelude.{◌≡◌, ℕ, ◌+◌, ◌*◌, ◌≤◌, ◌<◌, Bool, List, not, false, length, map, slice_index_or};
+ghost use Rattle.std.specs.Prelude.{if◌then◌else◌};
 ghost use Rattle.trit_cubes.specs.Sets.{point_of as point_with};
 ghost use Rattle.statetables.specs.Lanes.{lane, before_at, after_at};
 ghost use Rattle.cell_machine.specs.Values.{no_values, written, picked};

@@ -1,14 +1,14 @@
-//! The step of a cell's group, tabled: its value at each change of at most one input. A state table is gone through once for 64
-//! points.
+//! The steps of a cell's group, tabled. A text is read once for each point of its support and each side of a clock, and a state
+//! table is gone through once for 64 points.
 #![tactic(auto)]
 
 mod changes;
+mod group_points;
 mod input_words;
-mod node_values;
-pub mod points;
+mod node_words;
+mod points;
 mod step_table;
 
-pub use changes::{CHANGES, ChangeWords, change_words};
-pub use input_words::{MOST_INPUTS, POINTS};
-pub use node_values::{TableNode, trit_or_unknown};
-pub use step_table::{StateValues, StepTable};
+pub use group_points::StateSteps;
+pub use points::point_of;
+pub use step_table::StepTable;

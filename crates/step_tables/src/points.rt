@@ -1,14 +1,17 @@
 //! Points of the inputs of a group.
-ghost use Rattle.std.specs.Prelude.{◌≡◌, ◌≤◌, ◌<◌, ◌^◌, false, length, slice_index_or, IfSome};
+ghost use Rattle.std.specs.Prelude.{◌≡◌, ◌≢◌, ℕ, ◌≤◌, ◌<◌, ◌^◌, None, length, IfSome};
 ghost use Rattle.trit_cubes.specs.Filling.{number};
 ghost use Rattle.trit_cubes.specs.Sets.{point_of as point_with};
 ghost use Rattle.step_tables.specs.Turned.{turned as turned_point};
 
 use cell_machine::Few;
 
+/// The most places of a group's support.
+pub const MOST_PLACES: usize = 8;
+
 /// So many places of the point with this number, in which place i weighs 2 to the power i.
-pub fn point_of(places: usize, number: usize) -> Few<bool, 8>
-    requires { places ≤ 8 }
+pub fn point_of<const N: usize>(places: usize, number: usize) -> Few<bool, N>
+    requires { places ≤ N }
     ensures { result ≡ point_with places number }
 {
     let mut point = Few::new(false);
@@ -20,37 +23,27 @@ pub fn point_of(places: usize, number: usize) -> Few<bool, 8>
     point
 }
 
+/// How many points there are over so many places.
+pub fn point_count(places: usize) -> usize
+    requires { places ≤ 8 }
+    ensures is { result ≡ 2 ^ places }
+    ensures few { result ≤ 256 }
+{
+    1 << places
+}
+
 /// The number of a point.
 pub fn number_of(point: &[bool]) -> usize
     requires { length point.now ≤ 8 }
     ensures value { result ≡ number point.now }
     ensures small { result < 2 ^ length point.now }
 {
-    let Some((first, rest)) = point.split_first() else {
-        return 0;
-    };
-    let behind = number_of(rest);
-    usize::from(*first) + 2 * behind
-}
-
-/// Place i of the point that differs in this place alone.
-fn turned_at(place: usize, point: &[bool], i: usize) -> bool
-    requires { i < length point.now }
-    ensures { result ≡ slice_index_or (turned_point place point.now) i false }
-{
-    if i == place { !point[i] } else { point[i] }
-}
-
-/// The point that differs in this place alone; the point itself where it has no such place.
-pub fn turned(place: usize, point: &[bool]) -> Few<bool, 8>
-    requires { length point.now ≤ 8 }
-    ensures { result ≡ turned_point place point.now }
-{
-    let mut all = Few::new(false);
-    for i in 0..point.len() {
-        all.push(turned_at(place, point, i));
+    let mut value = 0;
+    for behind in 0..point.len() {
+        let place = point.len() - 1 - behind;
+        value = 2 * value + usize::from(point[place]);
     }
-    all
+    value
 }
 
 /// What a place of a point weighs in its number.
@@ -61,11 +54,29 @@ fn weight(place: usize) -> usize
     1 << place
 }
 
+/// The number of the point that differs in this place alone; the number itself where there is no such place.
+pub fn turned(places: usize, place: usize, number: usize) -> usize
+    requires places { places ≤ 8 }
+    requires number { number < 2 ^ places }
+    ensures is { point_with places result ≡ turned_point place (point_with places number) }
+    ensures small { result < 2 ^ places }
+{
+    if place < places {
+        number ^ weight(place)
+    } else {
+        number
+    }
+}
+
 /// The place in which the points with these numbers differ over so many places, and the number of places where they are one;
-/// none where they differ otherwise.
+/// none exactly where they differ in more places.
 pub fn changed_place(places: usize, before: usize, after: usize) -> Option<usize>
-    requires { places ≤ 8 }
-    ensures { IfSome result (λ place. (place < 9) × (point_with places before ≡ turned_point place (point_with places after))) }
+    requires places { places ≤ 8 }
+    requires before { before < 2 ^ places }
+    requires after { after < 2 ^ places }
+    ensures one { IfSome result (λ place. (place < 9)
+        × (point_with places before ≡ turned_point place (point_with places after))) }
+    ensures more { result ≡ None → (place : ℕ) → point_with places before ≢ turned_point place (point_with places after) }
 {
     if before == after {
         return Some(places);

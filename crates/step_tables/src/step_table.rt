@@ -1,164 +1,174 @@
-//! The step of a group at each change of at most one input.
-ghost use Rattle.std.specs.Prelude.{◌≡◌, ℕ, ◌≤◌, ◌<◌, suc, length, IfOk, slice_get, slice_index_or, Some};
-ghost use Rattle.trit_cubes.specs.declared.trits.Trit.TheVariants as trit;
-ghost use Rattle.trit_cubes.specs.Sets.{AreValuesOf};
+//! The steps of a group at changes between points of its support.
+ghost use Rattle.std.specs.Prelude.{◌≡◌, ℕ, ◌≤◌, ◌<◌, ◌^◌, length};
+ghost use Rattle.trit_cubes.specs.Filling.{bit};
+ghost use Rattle.trit_cubes.specs.Sets.{point_of as point_with};
 ghost use Rattle.cell_machine.specs.Machine.{forced_at};
 ghost use Rattle.cell_machine.specs.CellData.{data_of};
 ghost use Rattle.cell_machine.specs.CellTrace.{support_at, step_at};
-ghost use Rattle.step_tables.specs.declared.step_table.StateValues.{StateValues as ValuesOf};
-ghost use Rattle.step_tables.specs.Turned.{turned as turned_point, turned_step, both_steps, AreSteps};
+ghost use Rattle.step_tables.specs.Turned.{turned as turned_point, both_steps};
+ghost use Rattle.step_tables.specs.GroupPoints.{steps_between as steps_between_points, ArePoints};
+ghost use Rattle.step_tables.specs.Kept.{TellSteps, IsKept};
 
-use crate::input_words::MOST_INPUTS;
-use crate::node_values::{TableNode, node_values};
-use crate::points::{number_of, turned};
-use cell_machine::{Cell, GroupKind, boolean_step};
-use sqlite_items::Items;
-use std::alloc::{AllocError, Global};
-use trit_cubes::{Trit, values_of};
+use crate::changes::{CHANGES, ChangeWords, change_words};
+use crate::group_points::{GroupPoint, GroupPoints, StateSteps, group_points, steps_between};
+use crate::input_words::{MOST_INPUTS, POINTS};
+use crate::node_words::{TableNode, trit_or_unknown};
+use crate::points::{MOST_PLACES, changed_place, number_of, point_of, turned};
+use cell_machine::{Cell, GroupKind};
+use statetables::StepWords;
+use trit_cubes::Trit;
 
-/// What a step gives from each state, by the numbers of points.
+/// What is kept of a group.
 #[derive(Drop)]
-pub struct StateValues {
-    /// From state 0.
-    pub zero: Items<Trit>,
-    /// From state 1.
-    pub one: Items<Trit>,
+pub enum Kept {
+    /// What a flip-flop or a latch does at changes to each point of its support.
+    Points(GroupPoints),
+    /// The steps of a node of a state table at changes of at most one place.
+    Words(ChangeWords),
+    /// Nothing, of a node of a table with more inputs than a change's words are made for.
+    Nothing,
 }
 
-/// The step of a group of a cell, tabled.
+/// The step of a group of a cell, tabled. It takes no memory of the heap.
 #[derive(Drop)]
 pub struct StepTable<'a> {
     /// The cell.
     pub cell: &'a Cell,
     /// The number of the group.
     pub group: usize,
-    /// For each place of the support the values at its changes, by the points after them, and then those where no place changes.
-    values: Items<StateValues>,
+    /// How many places its support has.
+    pub places: usize,
+    kept: Kept,
     ghost inside: { group < length cell.now.groups },
-    ghost each_place: { length values ≡ suc (length (support_at (data_of cell.now) group)) },
-    ghost are_values: { (p : ℕ) (v : ValuesOf) → slice_get values p ≡ Some v → AreSteps (length (support_at (data_of cell.now) group)) (step_at (data_of cell.now) group) p v },
+    ghost are_places: { places ≡ length (support_at (data_of cell.now) group) },
+    ghost few: { places ≤ 8 },
+    ghost is_kept: { IsKept (data_of cell.now) group places kept },
 }
 
-/// The step of a group at a change of a place to a point.
-fn step_to(cell: &Cell, group: usize, place: usize, state: bool, after: &[bool]) -> Trit
-    requires { group < length cell.now.groups }
-    ensures { length after.now ≡ length (support_at (data_of cell.now) group)
-        → result ≡ turned_step (step_at (data_of cell.now) group) place state after.now }
-{
-    let pins = cell.group(group).support.len();
-    if after.len() != pins {
-        return Trit::Unknown;
-    }
-    let before = turned(place, after);
-    boolean_step(cell, group, before.as_slice(), after, state)
-}
-
-/// The step of a group at changes of a place from a state, by the points after them.
-fn values_from(
-    alloc: Global,
-    cell: &Cell,
-    group: usize,
-    place: usize,
-    state: bool,
-) -> Result<Vec<Trit>, AllocError>
-    requires { group < length cell.now.groups }
-    ensures { IfOk result (λ values. AreValuesOf (length (support_at (data_of cell.now) group))
-        (turned_step (step_at (data_of cell.now) group) place state) values.items) }
+/// What is kept of a group whose support has so many places.
+fn kept_of(cell: &Cell, group: usize, places: usize) -> Kept
+    requires group { group < length cell.now.groups }
+    requires places { places ≡ length (support_at (data_of cell.now) group) }
+    requires few { places ≤ 8 }
+    ensures { IsKept (data_of cell.now) group places result }
 {
     let entry = cell.group(group);
     match &entry.kind {
+        GroupKind::Ff(_) => Kept::Points(group_points(cell, group, places)),
+        GroupKind::Latch(_) => Kept::Points(group_points(cell, group, places)),
+        GroupKind::Table { inputs, .. } if inputs.len() > MOST_INPUTS => Kept::Nothing,
         GroupKind::Table {
             table,
             node,
             inputs,
-        } if inputs.len() <= MOST_INPUTS => node_values(
-            alloc,
-            TableNode {
-                table: table.get(),
-                node: *node,
-                inputs: inputs.as_slice(),
-                support: entry.support.as_slice(),
-            },
-            place,
-            state,
-        ),
-        _ => stepped_values(alloc, cell, group, place, state),
+        } => Kept::Words(change_words(TableNode {
+            table: table.get(),
+            node: *node,
+            inputs: inputs.as_slice(),
+            support: entry.support.as_slice(),
+        })),
     }
 }
 
-/// The same, point by point.
-fn stepped_values(
-    alloc: Global,
-    cell: &Cell,
-    group: usize,
-    place: usize,
-    state: bool,
-) -> Result<Vec<Trit>, AllocError>
-    requires { group < length cell.now.groups }
-    ensures { IfOk result (λ values. AreValuesOf (length (support_at (data_of cell.now) group))
-        (turned_step (step_at (data_of cell.now) group) place state) values.items) }
+/// The number of a state.
+fn state_number(state: bool) -> usize
+    ensures { result ≡ bit state }
 {
-    let pins = cell.group(group).support.len();
-    let values = values_of(
-        alloc,
-        pins,
-        &|after: &[bool]| { step_to(cell, group, place, state, after) },
-    )?;
-    Ok(values)
-}
-
-/// The step of a group at changes of a place.
-fn state_values(
-    alloc: Global,
-    cell: &Cell,
-    group: usize,
-    place: usize,
-) -> Result<StateValues, AllocError>
-    requires { group < length cell.now.groups }
-    ensures { IfOk result (AreSteps (length (support_at (data_of cell.now) group)) (step_at (data_of cell.now) group) place) }
-{
-    let zero = Items::from_vec(values_from(alloc, cell, group, place, false)?);
-    let one = Items::from_vec(values_from(alloc, cell, group, place, true)?);
-    Ok(StateValues { zero, one })
-}
-
-/// The steps of a group at changes of each of its places, and where none changes.
-fn all_values(alloc: Global, cell: &Cell, group: usize) -> Result<Items<StateValues>, AllocError>
-    requires { group < length cell.now.groups }
-    ensures each { IfOk result (λ values. length values ≡ suc (length (support_at (data_of cell.now) group))) }
-    ensures are { IfOk result (λ values. (p : ℕ) (v : ValuesOf) → slice_get values p ≡ Some v
-        → AreSteps (length (support_at (data_of cell.now) group)) (step_at (data_of cell.now) group) p v) }
-{
-    let mut values = Items::new(alloc);
-    for place in 0..cell.group(group).support.len() + 1 {
-        values.push(state_values(alloc, cell, group, place)?)?;
-    }
-    Ok(values)
-}
-
-/// The entry with this number, unknown where there is none.
-fn entry_at(values: &[Trit], number: usize) -> Trit
-    ensures { result ≡ slice_index_or values.now number trit.Unknown }
-{
-    match values.get(number) {
-        Some(value) => *value,
-        None => Trit::Unknown,
-    }
+    if state { 1 } else { 0 }
 }
 
 impl<'a> StepTable<'a> {
     /// The table of the group with this number.
-    pub fn of(alloc: Global, cell: &'a Cell, group: usize) -> Result<StepTable<'a>, AllocError>
+    pub fn of(cell: &'a Cell, group: usize) -> StepTable<'a>
         requires { group < length cell.now.groups }
-        ensures cell { IfOk result (λ table. table.cell.now ≡ cell.now) }
-        ensures group { IfOk result (λ table. table.group ≡ group) }
+        ensures cell { result.cell.now ≡ cell.now }
+        ensures group { result.group ≡ group }
     {
-        let values = all_values(alloc, cell, group)?;
-        Ok(StepTable {
+        let places = cell.group(group).support.len();
+        let kept = kept_of(cell, group, places);
+        StepTable {
             cell,
             group,
-            values,
-        })
+            places,
+            kept,
+        }
+    }
+
+    /// The steps that these points tell.
+    fn moved(&self, points: &[GroupPoint], before: usize, after: usize) -> StateSteps
+        requires points { ArePoints (data_of self.now.cell.now) self.now.group self.now.places points.now }
+        requires before { before < 2 ^ self.now.places }
+        requires after { after < 2 ^ self.now.places }
+        ensures { result ≡ steps_between_points (data_of self.now.cell.now) self.now.group (point_with self.now.places before)
+            (point_with self.now.places after) }
+    {
+        points[after].steps_from(points[before])
+    }
+
+    /// The step from a state that these words tell at a change of this place.
+    fn told(&self, words: &[StepWords], place: usize, after: usize, state: bool) -> Trit
+        requires words { TellSteps (data_of self.now.cell.now) self.now.group self.now.places words.now }
+        requires place { place < 9 }
+        requires after { after < 2 ^ self.now.places }
+        ensures { result ≡ step_at (data_of self.now.cell.now) self.now.group
+            (turned_point place (point_with self.now.places after)) (point_with self.now.places after) state }
+    {
+        let number = CHANGES * (after / POINTS) + 2 * place + state_number(state);
+        let word = words[number];
+        trit_or_unknown(word.at(after % POINTS))
+    }
+
+    /// The steps of the group, which its texts or its table give.
+    fn stepped(&self, before: usize, after: usize) -> StateSteps
+        ensures { result ≡ steps_between_points (data_of self.now.cell.now) self.now.group (point_with self.now.places before)
+            (point_with self.now.places after) }
+    {
+        let before = point_of::<MOST_PLACES>(self.places, before);
+        let after = point_of::<MOST_PLACES>(self.places, after);
+        steps_between(self.cell, self.group, before.as_slice(), after.as_slice())
+    }
+
+    /// The steps that these words tell where at most one place changes, else those that the table gives.
+    fn looked_up(&self, words: &[StepWords], before: usize, after: usize) -> StateSteps
+        requires words { TellSteps (data_of self.now.cell.now) self.now.group self.now.places words.now }
+        requires before { before < 2 ^ self.now.places }
+        requires after { after < 2 ^ self.now.places }
+        ensures { result ≡ steps_between_points (data_of self.now.cell.now) self.now.group (point_with self.now.places before)
+            (point_with self.now.places after) }
+    {
+        match changed_place(self.places, before, after) {
+            Some(place) => StateSteps {
+                zero: self.told(words, place, after, false),
+                one: self.told(words, place, after, true),
+            },
+            None => self.stepped(before, after),
+        }
+    }
+
+    /// The steps of the group at a change between the points with these numbers. Place i of a point weighs 2 to the power i.
+    pub fn steps(&self, before: usize, after: usize) -> StateSteps
+        requires before { before < 2 ^ self.now.places }
+        requires after { after < 2 ^ self.now.places }
+        ensures { result ≡ steps_between_points (data_of self.now.cell.now) self.now.group (point_with self.now.places before)
+            (point_with self.now.places after) }
+    {
+        match &self.kept {
+            Kept::Points(points) => self.moved(points.as_slice(), before, after),
+            Kept::Words(words) => self.looked_up(words.as_slice(), before, after),
+            Kept::Nothing => self.stepped(before, after),
+        }
+    }
+
+    /// The next states at a change of this place of the support to a point; where there is no such place, those where nothing
+    /// changes.
+    fn turned_steps(&self, place: usize, after: &[bool]) -> StateSteps
+        requires { length after.now ≡ length (support_at (data_of self.now.cell.now) self.now.group) }
+        ensures { result ≡ steps_between_points (data_of self.now.cell.now) self.now.group (turned_point place after.now)
+            after.now }
+    {
+        let number = number_of(after);
+        let before = turned(self.places, place, number);
+        self.steps(before, number)
     }
 
     /// The next state at a change of this place of the support to a point, from a state; where the number is that of the
@@ -168,25 +178,18 @@ impl<'a> StepTable<'a> {
         requires after { length after.now ≡ length (support_at (data_of self.now.cell.now) self.now.group) }
         ensures { result ≡ step_at (data_of self.now.cell.now) self.now.group (turned_point place after.now) after.now state }
     {
-        let _few = self.cell.group(self.group).support.len();
-        let values = &self.values.as_slice()[place];
-        let number = number_of(after);
-        if state {
-            entry_at(values.one.as_slice(), number)
-        } else {
-            entry_at(values.zero.as_slice(), number)
-        }
+        let steps = self.turned_steps(place, after);
+        if state { steps.one } else { steps.zero }
     }
 
     /// The next state from both states at a change of this place to a point, unknown where it is not the same.
     fn from_both(&self, place: usize, after: &[bool]) -> Trit
-        requires place { place ≤ length (support_at (data_of self.now.cell.now) self.now.group) }
-        requires after { length after.now ≡ length (support_at (data_of self.now.cell.now) self.now.group) }
+        requires { length after.now ≡ length (support_at (data_of self.now.cell.now) self.now.group) }
         ensures { result ≡ both_steps (step_at (data_of self.now.cell.now) self.now.group) after.now
             (turned_point place after.now) }
     {
-        let zero = self.turned(place, after, false);
-        zero.agreed(self.turned(place, after, true))
+        let steps = self.turned_steps(place, after);
+        steps.zero.agreed(steps.one)
     }
 
     /// The value to which a point forces the state: the next state from both states, and from the point itself and each that

@@ -12,5 +12,5 @@ returns g c =
     c.in_ok-rows.ensures
     ∙ (λ i.
     decisive_rows (g.M.LevelRows.level_row maker) (make.report_rows maker) (make.edge_row maker) (make.keep_row maker)
-    (length (support_at (data_of (c.in_ok-steps.ensures.cell i)) (c.in_ok-steps.ensures.group i)))
-    (step_at (data_of (c.in_ok-steps.ensures.cell i)) (c.in_ok-steps.ensures.group i)))
+    (length (support_at (data_of (c.of-steps.ensures.cell i)) (c.of-steps.ensures.group i)))
+    (step_at (data_of (c.of-steps.ensures.cell i)) (c.of-steps.ensures.group i)))

@@ -5,7 +5,7 @@ use Rattle.step_tables.proofs.PointLemmas.{point_turn}
 use Rattle.step_tables.proofs.points.point_of.Goals as goal
 
 pub loop-place-preserved : goal.loop-place-preserved
-loop-place-preserved c =
+loop-place-preserved g c =
     let b = nat_eq (c.loop-place.rest % 2) 1 in
     let long = length-append c.loop-place.point (b ∷ []) in (
       ap (λ xs. xs ++ point_of (c.args.places - (c.loop-place._place + 1)) (c.loop-place.rest / 2)) c.push.ensures

@@ -1,19 +1,23 @@
-use Rattle.std.proofs.Common.{◌∷◌, [], Bool, false, length, ap, ◌∙◌, arith}
-use Rattle.std.proofs.lemmas.List.{length-append, take_all}
-use Rattle.step_tables.specs.Turned.{turned}
-use Rattle.step_tables.proofs.PointLemmas.{length-turned, turned_turn}
+use Rattle.std.proofs.Common.{sym, ap, arith, subst, ◌<◌, ◌^◌}
+use Rattle.std.specs.Prelude.{bit_xor}
+use Rattle.std.proofs.lemmas.Nat.{pow_below, xor_lt}
+use Rattle.trit_cubes.specs.Sets.{point_of}
+use Rattle.trit_cubes.proofs.PointLemmas.{length-point_of}
+use Rattle.step_tables.proofs.PointLemmas.{turned_past}
+use Rattle.step_tables.proofs.WordLemmas.{turned_point}
 use Rattle.step_tables.proofs.points.turned.Goals as goal
 
-pub loop-i-preserved : goal.loop-i-preserved
-loop-i-preserved c =
-    let b : Bool = c.turned_at.result in
-    let long = length-append c.loop-i.all (b ∷ []) in (
-      c.push.ensures
-          ∙ turned_turn c.args.place c.loop-i.i c.args.point.now c.loop-i.all b false c.loop-i-test.true c.loop-i.invariant.0 c.turned_at.ensures,
-      ap length c.push.ensures ∙ omega (arith, long, c.loop-i.invariant.1),
-    )
+pub returns-then-place-places-clause-is : goal.returns-then-place-places-clause-is
+returns-then-place-places-clause-is c =
+    turned_point c.args.places c.args.place _ c.args.number c.if-place-places.true (ap (bit_xor c.args.number) (sym c.weight.ensures))
 
-pub returns : goal.returns
-returns c =
-    let long = length-turned c.args.place c.args.point.now in
-    c.loop-i.invariant.0 ∙ take_all c.loop-i.i (turned c.args.place c.args.point.now) (omega (arith, long, c.loop-i-test.false, c.loop-i.auto.i-end))
+pub returns-then-place-places-clause-small : goal.returns-then-place-places-clause-small
+returns-then-place-places-clause-small c =
+    subst (λ w. bit_xor c.args.number w < 2 ^ c.args.places) (sym c.weight.ensures)
+    (xor_lt c.args.places c.args.number _ c.requires.number (pow_below c.args.place c.args.places c.if-place-places.true))
+
+pub returns-else-place-places-clause-is : goal.returns-else-place-places-clause-is
+returns-else-place-places-clause-is c =
+    let n = c.args.places in
+    let long = length-point_of n c.args.number in
+    sym (turned_past c.args.place (point_of n c.args.number) (omega (arith, long, c.if-place-places.false)))

@@ -2,7 +2,6 @@ use Rattle.std.proofs.Common.{ap, ◌∙◌}
 use Rattle.cell_machine.specs.CellData.{data_of}
 use Rattle.cell_machine.specs.CellTrace.{sources_at}
 use Rattle.scan_cells.specs.Views.{view_data}
-use Rattle.scan_cells.specs.Weights.{weighed}
 use Rattle.scan_cells.specs.Comparison.{output_places, cell_output}
 use Rattle.scan_cells.proofs.WeightLemmas.{output_weighed}
 use Rattle.scan_cells.proofs.output_values.OutputPair.cell_output.Goals as goal
@@ -13,6 +12,7 @@ returns c =
     let self = c.args.self.now in
     let cell = data_of self.cell.now in
     let view = view_data self.view.now in
-    c.output_at.ensures
-    ∙ output_weighed cell self.output self.places (output_places cell view self.output self.view_output) (sources_at cell self.output) self.cell_weights
-    c.args.point c.as_slice-2.result.now (c.as_slice-2.ensures ∙ (c.values_over-point.ensures ∙ ap (λ ws. weighed ws c.args.point) c.as_slice.ensures)) self.weigh_cell self.are_places
+    c.value.ensures
+    ∙ output_weighed (data_of self.of_cell.cell.now) cell self.of_cell.output self.output self.places
+    (output_places cell view self.output self.view_output) (sources_at cell self.output) self.of_cell.numbering.weights c.args.point
+    (ap data_of self.is_cell) self.is_of_cell self.weigh_cell self.are_places

@@ -1,8 +1,7 @@
 use Rattle.std.proofs.Common.{ap, ◌∙◌}
 use Rattle.cell_machine.specs.CellData.{data_of}
 use Rattle.scan_cells.specs.Views.{view_data}
-use Rattle.scan_cells.specs.Weights.{weighed}
-use Rattle.scan_cells.specs.Comparison.{output_support, output_places, view_output}
+use Rattle.scan_cells.specs.Comparison.{output_places, output_support, view_output}
 use Rattle.scan_cells.proofs.WeightLemmas.{output_weighed}
 use Rattle.scan_cells.proofs.output_values.OutputPair.view_output.Goals as goal
 
@@ -12,6 +11,7 @@ returns c =
     let self = c.args.self.now in
     let cell = data_of self.cell.now in
     let view = view_data self.view.now in
-    c.output_at.ensures
-    ∙ output_weighed view.cell self.view_output self.places (output_places cell view self.output self.view_output) (output_support view self.view_output) self.view_weights
-    c.args.point c.as_slice-2.result.now (c.as_slice-2.ensures ∙ (c.values_over-point.ensures ∙ ap (λ ws. weighed ws c.args.point) c.as_slice.ensures)) self.weigh_view self.are_places
+    c.value.ensures
+    ∙ output_weighed (data_of self.of_view.cell.now) view.cell self.of_view.output self.view_output self.places
+    (output_places cell view self.output self.view_output) (output_support view self.view_output) self.of_view.numbering.weights c.args.point
+    (ap data_of self.is_view) self.is_of_view self.weigh_view self.are_places

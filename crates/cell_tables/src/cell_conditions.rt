@@ -22,31 +22,6 @@ pub fn conditions(alloc: Global, cell: &Cell) -> Result<Vec<&Function>, AllocErr
     Ok(found)
 }
 
-/// What a model of a cell is made from.
-#[derive(Clone, Copy)]
-pub struct ModelSource<'a> {
-    /// Where memory comes from.
-    pub alloc: Global,
-    /// The cell.
-    pub cell: &'a Cell,
-    /// The cell's conditions, as `conditions` finds them.
-    pub conditions: &'a [&'a Function],
-}
-
-impl<'a> ModelSource<'a> {
-    /// The source of a cell's model, where these are the cell's conditions.
-    pub fn new(alloc: Global, cell: &'a Cell, conditions: &'a [&'a Function]) -> ModelSource<'a>
-        ensures cell { result.cell.now ≡ cell.now }
-        ensures conditions { result.conditions.now ≡ conditions.now }
-    {
-        ModelSource {
-            alloc,
-            cell,
-            conditions,
-        }
-    }
-}
-
 /// The number of a condition, from 0: the place of the first one that is the same tree, or their count where none is. Takes
 /// no memory.
 pub fn condition_number(conditions: &[&Function], condition: &Function) -> usize

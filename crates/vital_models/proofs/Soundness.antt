@@ -34,6 +34,7 @@ use Rattle.vital_tables.specs.udp_tables.Conditions.{conditions_of, conditions_b
 use Rattle.cell_machine.specs.CellTrace.{support_at, step_at}
 use Rattle.vital_tables.specs.udp_tables.CellPrimitives.{has_sources}
 use Rattle.cell_tables.proofs.CellParts.{Rules, groups_hold, outputs_hold, checks_hold, arcs_hold}
+use Rattle.cell_tables.proofs.EachBelow.{below-length}
 use Rattle.vital_tables.proofs.udp_tables.CubeLemmas.{below-among}
 use Rattle.vital_models.specs.declared.model.OutValue.TheVariants as value
 use Rattle.vital_models.specs.declared.model.VOutput.{VOutput}
@@ -84,13 +85,6 @@ all-made : {X Y : Type 0} (t : Y → Bool) (g : X → Y) (xs : List X) → ((x :
     → IsTrue (list_all t (map g xs))
 all-made t g [] h = refl
 all-made t g (x ∷ xs) h = and_from (t (g x)) (list_all t (map g xs)) (h x (inl refl)) (all-made t g xs (λ y m. h y (inr m)))
-
-below-length : {X : Type 0} (f : ℕ → X) (n : ℕ) → length (each_below (λ i. f i ∷ []) n) ≡ n
-below-length f zero = refl
-below-length f (suc n) =
-    let rest = below-length f n in
-    let whole = length-append (each_below (λ i. f i ∷ []) n) (f n ∷ []) in
-    omega (arith, rest, whole)
 
 gate-all : (e : VEntity) (is : List ℕ) → IsTrue (list_all (is_condition_number e) is) → IsTrue (is_gate e (all_zero is))
 gate-all e [] h = refl

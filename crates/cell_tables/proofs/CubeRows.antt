@@ -1,6 +1,6 @@
 -- The rows for the cubes of a step are those that decide what it gives.
 use Rattle.std.proofs.Common.{◌≡◌, ℕ, zero, suc, ◌+◌, ◌≤◌, Bool, true, false, not, if◌then◌else◌, List, ◌++◌, map, length, refl}
-use Rattle.std.proofs.Common.{◌∙◌, ap, arith}
+use Rattle.std.proofs.Common.{◌∙◌, ap, arith, Option, Some, None}
 use Rattle.std.specs.Prelude.{filter}
 use Rattle.std.specs.List.{All}
 use Rattle.std.proofs.lemmas.List.{map-append, length-replicate}
@@ -9,9 +9,11 @@ use Rattle.trit_cubes.specs.declared.trits.Trit.{Trit}
 use Rattle.trit_cubes.specs.declared.trits.Trit.TheVariants.{Zero, One, Unknown}
 use Rattle.cell_machine.specs.Machine.{Step}
 use Rattle.udp_tables.specs.Edges.{edge_cubes, is_paired, kept_or_one, compact_edge_rows, each_below, forced_rows, decisive_rows}
+use Rattle.udp_tables.specs.Edges.{change_columns, edge_row_by, keep_row_by}
 use Rattle.udp_tables.proofs.CubeLemmas.{edge-long, below-among}
 use Rattle.cell_tables.specs.declared.cubes.ChangeCube.{ChangeCube}
-use Rattle.cell_tables.specs.Cubes.{giving_cube, keeping_cube, input_cubes, change_cubes, group_cubes, change_row, rows_of_group}
+use Rattle.cell_tables.specs.Cubes.{giving_cube, keeping_cube, input_cubes, change_cubes, group_cubes, row_by, change_row}
+use Rattle.cell_tables.specs.Cubes.{asked_state, rows_of_group}
 use Rattle.cell_tables.proofs.CountLemmas.{all-rows}
 use Rattle.cell_tables.proofs.RowForms.{compact-each}
 
@@ -48,6 +50,19 @@ module _ {R : Type 0} (edge : ℕ → Trit → List Trit → R) (keep : ℕ → 
       → rows_of_group level report edge keep (group_cubes step n) ≡ decisive_rows level report edge keep n step
   group-rows level report step n =
       λ i. forced_rows level n step ++ report (length-replicate n Unknown i) ++ change-rows step n i
+
+-- the row of a cube, in a language
+pub change-row :
+    {E R : Type 0} (place : Trit → E) (symbol : Trit → Trit → E) (row : List E → Trit → Option Trit → R) (change : ChangeCube)
+    → change_row (edge_row_by place symbol row) (keep_row_by place symbol row) change
+    ≡ row (change_columns place symbol change.place change.cube) (asked_state change.cube change.gives) change.gives
+change-row place symbol row change = by change.gives
+  where
+    by : (gives : Option Trit)
+        → row_by (edge_row_by place symbol row) (keep_row_by place symbol row) change.place change.cube gives
+        ≡ row (change_columns place symbol change.place change.cube) (asked_state change.cube gives) gives
+    by None = refl
+    by (Some value) = refl
 
 -- the cube of a change has places for the values of its input, for the other inputs and for the state
 pub changes-wide : (step : Step) (n : ℕ)

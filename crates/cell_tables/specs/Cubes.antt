@@ -5,7 +5,7 @@ use Rattle.trit_cubes.specs.declared.trits.Trit.{Trit}
 use Rattle.trit_cubes.specs.declared.trits.Trit.TheVariants.{Zero, One, Unknown}
 use Rattle.trit_cubes.specs.Sets.{gives}
 use Rattle.trit_cubes.specs.Prime.{prime_list}
-use Rattle.cell_machine.specs.Machine.{Step, forced_at}
+use Rattle.cell_machine.specs.Machine.{Step, forced_at, last}
 use Rattle.cell_machine.specs.CellData.{CellData}
 use Rattle.cell_machine.specs.CellTrace.{support_at, step_at}
 use Rattle.udp_tables.specs.Tables.{value_rows, or_row}
@@ -72,6 +72,11 @@ row_by edge keep p cube (Some value) = edge p value cube
 
 abbrev pub change_row : {R : Type 0} → (ℕ → Trit → List Trit → R) → (ℕ → List Trit → R) → ChangeCube → R
 change_row edge keep change = row_by edge keep change.place change.cube change.gives
+
+-- the state that the row of a cube asks for, any where it is unknown: that of the cube, and any where the row keeps the state
+abbrev pub asked_state : List Trit → Option Trit → Trit
+asked_state cube None = Unknown
+asked_state cube (Some value) = last Unknown cube
 
 -- the rows of a step's cubes: those that force the state, the rows of a check that reports, and then those of the changes
 abbrev pub rows_of_group :

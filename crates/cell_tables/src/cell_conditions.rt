@@ -13,7 +13,7 @@ use std::alloc::{AllocError, Global};
 
 /// The conditions of a cell by first use, checks before arcs, equal trees once. An arc without condition uses, at its
 /// place, those of all arcs of its two pins in their order. `AllocError` comes only where memory is wanting.
-pub fn conditions(alloc: Global, cell: &Cell) -> Result<Vec<&Function>, AllocError>
+pub(crate) fn conditions(alloc: Global, cell: &Cell) -> Result<Vec<&Function>, AllocError>
     ensures { IfOk result (λ found. map (λ condition. condition.now) found.items ≡ conditions_of (data_of cell.now)) }
 {
     let mut found = Vec::new(alloc);

@@ -16,7 +16,7 @@ use bool_functions::Function;
 use cell_machine::{Cell, OutputPin};
 use sqlite_items::Items;
 use std::alloc::AllocError;
-use udp_tables::{CombinationalUdpRows, Part, SequentialUdpRows, Udp, UdpRow};
+use udp_tables::{Part, Udp, UdpRow, UdpRows};
 
 /// The primitive of a group, of which the cell has one with this number from 0. Its inputs are the pins of the group's
 /// support, and last the notifier exactly where the cell has checks. `AllocError` comes only where memory is wanting.
@@ -40,8 +40,8 @@ fn sequential_rows(from: &ModelSource, group: usize) -> Result<Items<UdpRow>, Al
     ensures { IfOk result (λ rows. rows ≡ compact_rows (has_notifier (data_of from.now.cell.now))
         (length (support_at (data_of from.now.cell.now) group)) (step_at (data_of from.now.cell.now) group)) }
 {
-    let maker = SequentialUdpRows {
-        notifier: !from.cell.checks.is_empty(),
+    let maker = UdpRows {
+        notifier: has_notifier(from.cell),
     };
     let decisive = group_rows(from, group, maker)?;
     let free = &from.group_cubes(group).forced.free;
@@ -55,11 +55,14 @@ fn group_inputs(cell: &Cell, group: usize) -> usize
     ensures { result ≡ group_inputs (data_of cell.now) group }
 {
     let pins = cell.group(group).support.len();
-    if cell.checks.is_empty() {
-        pins
-    } else {
-        pins + 1
-    }
+    if has_notifier(cell) { pins + 1 } else { pins }
+}
+
+/// Whether the primitives of groups have a notifier: the cell has checks.
+fn has_notifier(cell: &Cell) -> bool
+    ensures { result ≡ has_notifier (data_of cell.now) }
+{
+    !cell.checks.is_empty()
 }
 
 /// The primitive of an output or a condition that the cell has, of an output one that depends on anything. Its inputs are
@@ -73,7 +76,7 @@ pub fn part_udp(from: &ModelSource, part: Part) -> Result<Udp, AllocError>
         output: output_name(from.alloc)?,
         inputs: input_names(from.alloc, from.part_cubes(part).free.len())?,
         sequential: false,
-        rows: part_rows(from, part, CombinationalUdpRows)?,
+        rows: part_rows(from, part, UdpRows { notifier: false })?,
     })
 }
 

@@ -10,7 +10,7 @@ use crate::port_names::{input_names, output_name};
 use bool_functions::Function;
 use sqlite_items::Items;
 use std::alloc::{AllocError, Global};
-use udp_tables::{CombinationalUdpRows, Udp, UdpRow};
+use udp_tables::{Udp, UdpRow, UdpRows};
 
 /// The primitive of a function of `names` names: its ports are `q` and `i1`, `i2` and so on, input k standing for the name
 /// with the number k - 1. Its rows are the primes of the points at which the function is 1, then of those at which it is
@@ -47,7 +47,7 @@ fn function_rows(
 {
     let values = value_table(alloc, function, names)?;
     let cubes = table_cubes(alloc, names, &values)?;
-    let rows = rows_of_function(alloc, &cubes, CombinationalUdpRows)?;
+    let rows = rows_of_function(alloc, &cubes, UdpRows { notifier: false })?;
     Ok(rows)
 }
 

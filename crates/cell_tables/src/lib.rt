@@ -19,7 +19,7 @@ mod port_names;
 mod step_rows;
 mod timing_checks;
 
-pub use cell_conditions::{condition_number, conditions};
+pub use cell_conditions::condition_number;
 pub use cell_primitives::{part_udp, sequential_udp};
 pub use cubes::{CellCubes, ChangeCube, FunctionCubes, GroupCubes};
 pub use generation::function_udp;

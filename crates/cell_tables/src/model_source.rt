@@ -30,7 +30,7 @@ pub struct ModelSource<'a> {
     pub alloc: Global,
     /// The cell.
     pub cell: &'a Cell,
-    /// The cell's conditions, as `conditions` finds them.
+    /// The cell's conditions, in the order of their numbers.
     pub conditions: &'a [&'a Function],
     /// The cubes of the cell's groups, conditions and outputs.
     cubes: &'a CellCubes,

@@ -1,7 +1,7 @@
 -- The entity of a cell is sound.
 use Rattle.std.proofs.Common.{◌≡◌, ℕ, zero, suc, ◌+◌, ◌<◌, Bool, true, false, ◌&&◌, All, List, [], ◌∷◌, length, map, inl, inr}
 use Rattle.std.proofs.Common.{refl, sym, ap, ◌∙◌, subst, arith, IsTrue, Option, Some, None, option_map, slice_get, slice_index_or}
-use Rattle.std.proofs.Common.{nat_eq, nat_lt, nat_le, length-append, if◌then◌else◌}
+use Rattle.std.proofs.Common.{nat_eq, nat_lt, nat_le, if◌then◌else◌}
 use Rattle.std.specs.Prelude.{filter}
 use Rattle.std.specs.List.{list_all}
 use Rattle.std.specs.Option.{option_map_or}
@@ -28,7 +28,6 @@ use Rattle.cell_machine.specs.CellRules as rule
 use Rattle.cell_machine.specs.CellRules.{is_input_pin, output_pins_from, is_support, is_ascending, is_group, are_groups_from}
 use Rattle.cell_machine.specs.CellRules.{is_source, is_output_of, is_any_edge, are_opposite, is_check, is_arc}
 use Rattle.cell_machine.proofs.RuleLemmas.{check_parts}
-use Rattle.vital_tables.specs.udp_tables.Edges.{each_below}
 use Rattle.cell_machine.specs.CellData.{CellData}
 use Rattle.vital_tables.specs.udp_tables.Conditions.{conditions_of, conditions_beside, conditions_by, condition_list}
 use Rattle.cell_machine.specs.CellTrace.{support_at, step_at}

@@ -1,8 +1,8 @@
-use Rattle.std.proofs.Common.{not, map, replicate, ap, ◌∙◌}
+use Rattle.std.proofs.Common.{not, map, ap, ◌∙◌}
 use Rattle.trit_cubes.specs.Sets.{has}
 use Rattle.trit_cubes.specs.Prime.{prime_list}
-use Rattle.udp_tables.specs.Generated.{level_row, tree_value}
-use Rattle.cell_tables.specs.Cubes.{function_cubes, rows_of_function}
+use Rattle.udp_tables.specs.Generated.{level_row}
+use Rattle.cell_tables.specs.Cubes.{rows_of_function}
 use Rattle.cell_tables.proofs.GenerationLemmas.{ones-table, zeros-table}
 use Rattle.cell_tables.proofs.generation.function_rows.Goals as goal
 

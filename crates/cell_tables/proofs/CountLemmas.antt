@@ -178,5 +178,5 @@ compact-fit checks n step row m =
     ++ each_below (compact_edge_rows (edge_row checks) (keep_row checks) step n) n) row
     (state-fits checks n Unknown (replicate n Unknown) (length-replicate n Unknown)) (rows-fit checks n step) m
 
-pub all-rows : (P : UdpRow → Type 0) (rows : List UdpRow) → ((row : UdpRow) → Among row rows → P row) → All P rows
+pub all-rows : {R : Type 0} (P : R → Type 0) (rows : List R) → ((row : R) → Among row rows → P row) → All P rows
 all-rows P rows h k d l = h _ (contains-among _ rows (Contains-get_or rows k d l))

@@ -16,3 +16,6 @@ pub mod ConditionUses
 pub mod OutputLemmas
 pub mod CellParts
 pub mod RowLemmas
+pub mod EachBelow
+pub mod PartLemmas
+pub mod CubeRows

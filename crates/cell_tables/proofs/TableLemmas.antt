@@ -1,6 +1,6 @@
 -- Tables of rows: what the first row that matches gives, and the rows of cubes.
 use Rattle.std.proofs.Common.{◌≡◌, ◌≢◌, ℕ, zero, suc, Bool, true, false, cond, ◌||◌, IsTrue, List, [], ◌∷◌, ◌++◌, map, length}
-use Rattle.std.proofs.Common.{replicate, refl, sym, ◌∙◌, ap, arith, append-nil, slice_index_or, ◌+◌}
+use Rattle.std.proofs.Common.{replicate, refl, sym, ◌∙◌, ap, arith, append-nil, slice_index_or}
 use Rattle.std.specs.List.{All, list_all}
 use Rattle.std.proofs.lemmas.List.{length_push, length-map, length-replicate}
 use Rattle.std.proofs.lemmas.List.Elements.{All-append, All-map, All-cons, Contains-get_or}

@@ -13,38 +13,13 @@ use std::alloc::{AllocError, Global};
 
 /// The conditions of a cell by first use, checks before arcs, equal trees once. An arc without condition uses, at its
 /// place, those of all arcs of its two pins in their order. `AllocError` comes only where memory is wanting.
-pub fn conditions(alloc: Global, cell: &Cell) -> Result<Vec<&Function>, AllocError>
+pub(crate) fn conditions(alloc: Global, cell: &Cell) -> Result<Vec<&Function>, AllocError>
     ensures { IfOk result (λ found. map (λ condition. condition.now) found.items ≡ conditions_of (data_of cell.now)) }
 {
     let mut found = Vec::new(alloc);
     add_of_checks(&mut found, cell)?;
     add_of_arcs(&mut found, cell.arcs.as_slice())?;
     Ok(found)
-}
-
-/// What a model of a cell is made from.
-#[derive(Clone, Copy)]
-pub struct ModelSource<'a> {
-    /// Where memory comes from.
-    pub alloc: Global,
-    /// The cell.
-    pub cell: &'a Cell,
-    /// The cell's conditions, as `conditions` finds them.
-    pub conditions: &'a [&'a Function],
-}
-
-impl<'a> ModelSource<'a> {
-    /// The source of a cell's model, where these are the cell's conditions.
-    pub fn new(alloc: Global, cell: &'a Cell, conditions: &'a [&'a Function]) -> ModelSource<'a>
-        ensures cell { result.cell.now ≡ cell.now }
-        ensures conditions { result.conditions.now ≡ conditions.now }
-    {
-        ModelSource {
-            alloc,
-            cell,
-            conditions,
-        }
-    }
 }
 
 /// The number of a condition, from 0: the place of the first one that is the same tree, or their count where none is. Takes

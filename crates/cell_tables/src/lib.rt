@@ -2,22 +2,29 @@
 #![tactic(auto)]
 
 mod cell_conditions;
+mod cell_cubes;
 mod cell_primitives;
 mod cell_values;
-mod change_rows;
-mod combinational_rows;
+mod change_cubes;
+mod cubes;
+mod function_cubes;
 mod generation;
-mod groups;
+mod group_cubes;
 pub mod laws;
 mod level_rows;
+mod model_source;
+mod part_cubes;
 mod points;
 mod port_names;
+mod step_rows;
 mod timing_checks;
 
-pub use cell_conditions::{ModelSource, condition_number, conditions};
-pub use cell_primitives::{combinational_udp, part_udp, sequential_udp};
-pub use combinational_rows::part_rows;
+pub use cell_conditions::condition_number;
+pub use cell_primitives::{part_udp, sequential_udp};
+pub use cubes::{CellCubes, ChangeCube, FunctionCubes, GroupCubes};
 pub use generation::function_udp;
-pub use groups::group_rows;
+pub use level_rows::part_rows;
+pub use model_source::{ModelParts, ModelSource};
 pub use points::forced_at;
+pub use step_rows::group_rows;
 pub use timing_checks::checks_of;

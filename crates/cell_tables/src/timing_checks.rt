@@ -1,10 +1,10 @@
 //! The timing checks of a cell's models, from the cell's.
 ghost use Rattle.std.specs.Prelude.{◌≡◌, ◌≤◌, map, length, option_map, IfOk};
 ghost use Rattle.cell_machine.specs.CellData.{data_of};
-ghost use Rattle.udp_tables.specs.Conditions.{conditions_of};
 ghost use Rattle.udp_tables.specs.TimingChecks.{number_behind, check_behind};
 
-use crate::cell_conditions::{ModelSource, condition_number};
+use crate::cell_conditions::condition_number;
+use crate::model_source::ModelSource;
 use bool_functions::Function;
 use cell_machine::Check;
 use sqlite_items::Items;
@@ -28,8 +28,7 @@ fn number_behind(
 
 /// The timing check of a cell's check, where so many other things, no more than its groups, are numbered before its conditions.
 fn check_behind(before: usize, from: &ModelSource, check: &Check) -> TimingCheck
-    requires few { before ≤ length from.now.cell.now.groups }
-    requires all { map (λ f. f.now) from.now.conditions.now ≡ conditions_of (data_of from.now.cell.now) }
+    requires { before ≤ length from.now.cell.now.groups }
     ensures { result ≡ check_behind before (data_of from.now.cell.now) check.now }
 {
     let pins = from.cell.pins.as_slice();
@@ -45,8 +44,7 @@ fn check_behind(before: usize, from: &ModelSource, check: &Check) -> TimingCheck
 /// The timing checks of a cell's model, in order, where so many other things, no more than its groups, are numbered before its
 /// conditions. `AllocError` comes only where memory is wanting.
 pub fn checks_of(before: usize, from: &ModelSource) -> Result<Items<TimingCheck>, AllocError>
-    requires few { before ≤ length from.now.cell.now.groups }
-    requires all { map (λ f. f.now) from.now.conditions.now ≡ conditions_of (data_of from.now.cell.now) }
+    requires { before ≤ length from.now.cell.now.groups }
     ensures { IfOk result (λ checks. checks ≡ map (check_behind before (data_of from.now.cell.now)) from.now.cell.now.checks) }
 {
     let mut checks = Items::new(from.alloc);

@@ -4,6 +4,10 @@ use Rattle.text_io.specs.Desk.{DeskState}
 use Rattle.run_outcome.specs.Written.{in_verilog, in_vital, wrote_all, Writes}
 use Rattle.run_outcome.proofs.WrittenLaws.{wrote_all-nothing, all_stops, all_goes_on}
 use Rattle.three_state_cells.specs.DrivenCells.{DrivenData, may_float}
+use Rattle.cell_machine.specs.declared.cells.Cell.{Cell}
+use Rattle.cell_machine.specs.CellData.{data_of}
+use Rattle.specify_blocks.specs.Generated.{module_of}
+use Rattle.verilog_writer.specs.Model.{module_text}
 use Rattle.generated_drivers.specs.Generated.{verilog_driver_of, vital_driver_of}
 use Rattle.verilog_drivers.specs.DriverText as verilog
 use Rattle.vhdl_drivers.specs.DriverText as vhdl
@@ -18,6 +22,14 @@ verilog_on old now new a b r e w = all_goes_on old now new (in_verilog a) (in_ve
 pub verilog_first : {S T E F : Type 0} (old new : DeskState) (a b : List ℕ) (y : E) (r : Result T F)
     → Writes {T = S} {E = E} old new (in_verilog a) (Err y) → IsErr r → Writes old new (in_verilog (a ++ b)) r
 verilog_first old new a b y r w e = all_stops old new (in_verilog a) (in_verilog b) y r w e
+
+-- the text of the module of a core, by another name of the core
+pub verilog_of_core :
+    {T E : Type 0} (old new : DeskState) (core other : Cell) (b : List ℕ) (r : Result T E)
+    → core ≡ other → Writes old new (in_verilog (module_text (module_of (data_of core)) ++ b)) r
+    → Writes old new (in_verilog (module_text (module_of (data_of other)) ++ b)) r
+verilog_of_core old new core other b r same w =
+    subst (λ c. Writes old new (in_verilog (module_text (module_of (data_of c)) ++ b)) r) same w
 
 pub vital_on : {T E : Type 0} (old now new : DeskState) (a b : List ℕ) (r : Result T E)
     → now ≡ wrote_all old (in_vital a) → Writes now new (in_vital b) r → Writes old new (in_vital (a ++ b)) r

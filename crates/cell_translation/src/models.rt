@@ -15,7 +15,6 @@ ghost use Rattle.run_outcome.specs.Written.{Writes, in_verilog, in_vital};
 ghost use Rattle.cell_translation.specs.Cells.{ModelsAreBound, core_entity_name, verilog_drivers_text, model_text};
 ghost use Rattle.cell_translation.specs.Cells.{vital_drivers_text, vital_text, models_written};
 
-use cell_machine::Cell;
 use driver_models::DriverModel;
 use generated_drivers::{verilog_driver, vital_driver};
 use specify_blocks::{VModule, verilog_model};
@@ -27,7 +26,7 @@ use verilog_writer::write_model;
 use vhdl_drivers::write_driver as write_vital_driver;
 use vhdl_tokens::numbered_name;
 use vhdl_writer::write_entity;
-use vital_models::{VEntity, vital_model};
+use vital_models::{ModelParts, ModelSource, VEntity, vital_model};
 
 /// Whether some outputs of a cell may float.
 pub(crate) fn may_float(cell: &DrivenCell) -> bool
@@ -47,12 +46,13 @@ fn put_module<D: Desk>(desk: &mut D, model: &VModule) -> Result<(), Stop>
 }
 
 /// Writes the Verilog module of a core.
-fn write_module<D: Desk>(alloc: Global, desk: &mut D, core: &Cell) -> Result<(), Stop>
+fn write_module<D: Desk>(desk: &mut D, core: &ModelSource) -> Result<(), Stop>
     requires { IsTrue (is_bound (D.state desk.old) (Output VerilogText)) }
-    ensures text { Writes (D.state desk.old) (D.state desk.new) (in_verilog (module_text (module_of (data_of core.now)))) result }
+    ensures text { Writes (D.state desk.old) (D.state desk.new)
+        (in_verilog (module_text (module_of (data_of core.now.cell.now)))) result }
     ensures cause { StopsWithCause (D.faults desk.old) (D.faults desk.new) result }
 {
-    let model = verilog_model(alloc, core)?;
+    let model = verilog_model(core)?;
     put_module(desk, &model)
 }
 
@@ -84,14 +84,15 @@ fn write_verilog_drivers<D: Desk>(
     put_verilog_driver(desk, &model)
 }
 
-/// Writes the Verilog model of a cell: the module of its core, and its drivers behind it.
-fn write_verilog<D: Desk>(alloc: Global, desk: &mut D, cell: &DrivenCell) -> Result<(), Stop>
-    requires { IsTrue (is_bound (D.state desk.old) (Output VerilogText)) }
+/// Writes the Verilog model of a cell, which has this core: the module of its core, and its drivers behind it.
+fn write_verilog<D: Desk>(desk: &mut D, cell: &DrivenCell, core: &ModelSource) -> Result<(), Stop>
+    requires bound { IsTrue (is_bound (D.state desk.old) (Output VerilogText)) }
+    requires core { core.now.cell.now ≡ cell.now.core }
     ensures text { Writes (D.state desk.old) (D.state desk.new) (in_verilog (model_text (driven_data_of cell.now))) result }
     ensures cause { StopsWithCause (D.faults desk.old) (D.faults desk.new) result }
 {
-    write_module(alloc, desk, &cell.core)?;
-    write_verilog_drivers(alloc, desk, cell)
+    write_module(desk, core)?;
+    write_verilog_drivers(core.alloc, desk, cell)
 }
 
 /// Writes a VHDL entity.
@@ -105,39 +106,35 @@ fn put_entity<D: Desk>(desk: &mut D, model: &VEntity) -> Result<(), Stop>
 }
 
 /// Writes the entity of a core, with this name.
-fn write_entity_of<D: Desk>(
-    alloc: Global,
-    desk: &mut D,
-    core: &Cell,
-    entity: &[u8],
-) -> Result<(), Stop>
+fn write_entity_of<D: Desk>(desk: &mut D, core: &ModelSource, entity: &[u8]) -> Result<(), Stop>
     requires { IsTrue (is_bound (D.state desk.old) (Output VitalText)) }
-    ensures text { Writes (D.state desk.old) (D.state desk.new) (in_vital (entity_text (entity_of (data_of core.now) entity.now)))
-        result }
+    ensures text { Writes (D.state desk.old) (D.state desk.new)
+        (in_vital (entity_text (entity_of (data_of core.now.cell.now) entity.now))) result }
     ensures cause { StopsWithCause (D.faults desk.old) (D.faults desk.new) result }
 {
-    let model = vital_model(alloc, core, entity)?;
+    let model = vital_model(core, entity)?;
     put_entity(desk, &model)
 }
 
-/// Writes the entity of the core of a cell whose VHDL model has this name.
+/// Writes the entity of the core of a cell, which is this, whose VHDL model has this name.
 fn write_core_entity<D: Desk>(
-    alloc: Global,
     desk: &mut D,
     cell: &DrivenCell,
+    core: &ModelSource,
     entity: &[u8],
 ) -> Result<(), Stop>
-    requires { IsTrue (is_bound (D.state desk.old) (Output VitalText)) }
+    requires bound { IsTrue (is_bound (D.state desk.old) (Output VitalText)) }
+    requires core { core.now.cell.now ≡ cell.now.core }
     ensures text { Writes (D.state desk.old) (D.state desk.new)
         (in_vital (entity_text (entity_of (data_of cell.now.core) (core_entity_name entity.now (driven_data_of cell.now)))))
         result }
     ensures cause { StopsWithCause (D.faults desk.old) (D.faults desk.new) result }
 {
     if may_float(cell) {
-        let core = numbered_name(alloc, b"cell", cell.core.number)?;
-        write_entity_of(alloc, desk, &cell.core, core.as_slice())
+        let name = numbered_name(core.alloc, b"cell", cell.core.number)?;
+        write_entity_of(desk, core, name.as_slice())
     } else {
-        write_entity_of(alloc, desk, &cell.core, entity)
+        write_entity_of(desk, core, entity)
     }
 }
 
@@ -170,24 +167,41 @@ fn write_vital_drivers<D: Desk>(
     put_vital_driver(desk, &model)
 }
 
-/// Writes the VHDL model of a cell, with this name: the entity of its core, and its drivers behind it.
+/// Writes the VHDL model of a cell, which has this core, with this name: the entity of its core, and its drivers behind it.
 fn write_vital<D: Desk>(
-    alloc: Global,
     desk: &mut D,
     cell: &DrivenCell,
+    core: &ModelSource,
     entity: &[u8],
 ) -> Result<(), Stop>
-    requires { IsTrue (is_bound (D.state desk.old) (Output VitalText)) }
+    requires bound { IsTrue (is_bound (D.state desk.old) (Output VitalText)) }
+    requires core { core.now.cell.now ≡ cell.now.core }
     ensures text { Writes (D.state desk.old) (D.state desk.new) (in_vital (vital_text entity.now (driven_data_of cell.now)))
         result }
     ensures cause { StopsWithCause (D.faults desk.old) (D.faults desk.new) result }
 {
-    write_core_entity(alloc, desk, cell, entity)?;
-    write_vital_drivers(alloc, desk, cell, entity)
+    write_core_entity(desk, cell, core, entity)?;
+    write_vital_drivers(core.alloc, desk, cell, entity)
 }
 
-/// Writes both models of a cell, the Verilog model and then the VHDL model with this name.
+/// Writes both models of a cell, which has this core, the Verilog model and then the VHDL model with this name.
 #[tactic(auto, unfolding(crate::specs::Cells::models_written))]
+fn write_both<D: Desk>(
+    desk: &mut D,
+    cell: &DrivenCell,
+    core: &ModelSource,
+    entity: &[u8],
+) -> Result<(), Stop>
+    requires bound { ModelsAreBound (D.state desk.old) }
+    requires core { core.now.cell.now ≡ cell.now.core }
+    ensures text { Writes (D.state desk.old) (D.state desk.new) (models_written entity.now (driven_data_of cell.now)) result }
+    ensures cause { StopsWithCause (D.faults desk.old) (D.faults desk.new) result }
+{
+    write_verilog(desk, cell, core)?;
+    write_vital(desk, cell, core, entity)
+}
+
+/// Writes both models of a cell, the VHDL model with this name.
 pub(crate) fn write_models<D: Desk>(
     alloc: Global,
     desk: &mut D,
@@ -198,6 +212,6 @@ pub(crate) fn write_models<D: Desk>(
     ensures text { Writes (D.state desk.old) (D.state desk.new) (models_written entity.now (driven_data_of cell.now)) result }
     ensures cause { StopsWithCause (D.faults desk.old) (D.faults desk.new) result }
 {
-    write_verilog(alloc, desk, cell)?;
-    write_vital(alloc, desk, cell, entity)
+    let parts = ModelParts::of(alloc, &cell.core)?;
+    write_both(desk, cell, &parts.source(), entity)
 }

@@ -16,7 +16,7 @@ use text_io::OutSlot;
 use udp_tables::ModelFault;
 use vhdl_reader::read_entities;
 use vhdl_writer::write_entity;
-use vital_models::{VEntity, vital_model};
+use vital_models::{ModelParts, VEntity, vital_model};
 use written_entities::written_entities_read_back;
 
 /// The VHDL text of an entity and of its architecture.
@@ -54,6 +54,7 @@ pub fn entity_read_back(alloc: Global, cell: &Cell, name: &[u8]) -> Result<VEnti
 {
     cell_is_numbered(cell);
     entity_is_well_formed();
-    let entity = vital_model(alloc, cell, name)?;
+    let parts = ModelParts::of(alloc, cell)?;
+    let entity = vital_model(&parts.source(), name)?;
     read_back_entity(alloc, &entity)
 }

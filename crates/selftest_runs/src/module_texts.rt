@@ -16,6 +16,7 @@ use udp_tables::ModelFault;
 use verilog_grammar::modules::{VModule, verilog_model};
 use verilog_reader::read_models;
 use verilog_writer::{write_model, write_prelude};
+use vital_models::ModelParts;
 use written_modules::written_modules_read_back;
 
 /// The Verilog text of a module: the first line, and the module behind its primitives.
@@ -53,6 +54,7 @@ pub fn module_read_back(alloc: Global, cell: &Cell) -> Result<VModule, AllocErro
 {
     cell_is_numbered(cell);
     modules_are_well_formed();
-    let model = verilog_model(alloc, cell)?;
+    let parts = ModelParts::of(alloc, cell)?;
+    let model = verilog_model(&parts.source())?;
     read_back_module(alloc, &model)
 }

@@ -3,24 +3,12 @@ use Rattle.std.proofs.Common.{◌≡◌, ℕ, zero, suc, ◌+◌, ◌<◌, ◌�
 use Rattle.std.proofs.Common.{subst, arith, Some, slice_get, nat_lt, append_assoc, length-append, decimal}
 use Rattle.std.proofs.lemmas.Bool.{ltb-true, ltb-false}
 use Rattle.udp_tables.specs.PortNames.{input_name, input_names}
-use Rattle.udp_tables.specs.Edges.{each_below}
 use Rattle.cell_machine.specs.CellData.{CellData}
 use Rattle.udp_tables.specs.CellPrimitives.{group_primitive, condition_primitive}
+pub use Rattle.cell_tables.proofs.EachBelow.{get-left, get-right, below-length, below-get}
 use Rattle.specify_blocks.specs.Names.{numbered}
 use Rattle.specify_blocks.specs.Generated.{condition_count, group_primitives, condition_primitives, output_primitives}
 use Rattle.specify_blocks.specs.Generated.{primitives_of}
-
-pub get-left : {X : Type 0} (xs ys : List X) (i : ℕ) → i < length xs → slice_get (xs ++ ys) i ≡ slice_get xs i
-get-left [] ys i h = absurd (omega arith)
-get-left (x ∷ xs) ys zero h = refl
-get-left (x ∷ xs) ys (suc i) h = get-left xs ys i (omega arith)
-
-pub get-right : {X : Type 0} (xs ys : List X) (n i : ℕ) → length xs ≡ n → slice_get (xs ++ ys) (n + i) ≡ slice_get ys i
-get-right [] ys n i e = let same : n + i ≡ i = omega arith in ap (slice_get ys) same
-get-right (x ∷ xs) ys zero i e = absurd (omega arith)
-get-right (x ∷ xs) ys (suc n) i e =
-    let moved : suc n + i ≡ suc (n + i) = omega arith in
-    ap (slice_get (x ∷ (xs ++ ys))) moved ∙ get-right xs ys n i (omega arith)
 
 pub numbered-length : (word : List ℕ) (n : ℕ) → length (numbered word n) ≡ n
 numbered-length word zero = refl
@@ -35,45 +23,6 @@ inputs-length (suc n) =
     let rest = inputs-length n in
     let whole = length-append (input_names n) (input_name (suc n) ∷ []) in
     omega (arith, rest, whole)
-
--- one entry for each number
-module _ {X : Type 0} (f : ℕ → X) where
-  pub below-length : (n : ℕ) → length (each_below (λ i. f i ∷ []) n) ≡ n
-  below-length zero = refl
-  below-length (suc n) =
-      let rest = below-length n in
-      let whole = length-append (each_below (λ i. f i ∷ []) n) (f n ∷ []) in
-      omega (arith, rest, whole)
-
-  pub below-get : (n i : ℕ) → i < n → slice_get (each_below (λ i. f i ∷ []) n) i ≡ Some (f i)
-  below-get zero i h = absurd (omega arith)
-  below-get (suc n) i h = by (nat_lt i n) refl (λ below. below-get n i below)
-    where
-      by :
-          (b : Bool) → nat_lt i n ≡ b → (i < n → slice_get (each_below (λ i. f i ∷ []) n) i ≡ Some (f i))
-          → slice_get (each_below (λ i. f i ∷ []) n ++ f n ∷ []) i ≡ Some (f i)
-      by true e again =
-          let below : i < n = ltb-true i n e in
-          get-left (each_below (λ i. f i ∷ []) n) (f n ∷ []) i (let long = below-length n in omega (arith, long)) ∙ again below
-      by false e again =
-          let above : n ≤ i = ltb-false i n e in
-          let last : n + 0 ≡ i = omega arith in
-          let same : n ≡ i = omega arith in
-          subst (λ k. slice_get (each_below (λ i. f i ∷ []) n ++ f n ∷ []) k ≡ Some (f i)) last
-          (get-right (each_below (λ i. f i ∷ []) n) (f n ∷ []) n 0 (below-length n) ∙ ap (λ k. Some (f k)) same)
-
-  -- one entry more
-  pub below-more :
-      (n : ℕ) (start now next : List X) (x : X)
-      → now ≡ start ++ each_below (λ i. f i ∷ []) n → next ≡ now ++ x ∷ [] → x ≡ f n
-      → next ≡ start ++ each_below (λ i. f i ∷ []) (n + 1)
-  below-more n start now next x before item same =
-      let more : suc n ≡ n + 1 = omega arith in
-      item
-      ∙ ap (λ y. now ++ y ∷ []) same
-      ∙ ap (λ l. l ++ f n ∷ []) before
-      ∙ append_assoc start (each_below (λ i. f i ∷ []) n) (f n ∷ [])
-      ∙ ap (λ m. start ++ each_below (λ i. f i ∷ []) m) more
 
 pub group_primitive-at : (cell : CellData) (g : ℕ) → g < length cell.groups
     → slice_get (primitives_of cell) g ≡ Some (group_primitive cell g)

@@ -11,27 +11,26 @@ use crate::ports::verilog_ports;
 use crate::primitives::primitives_of;
 use crate::timing::{module_checks, paths_of};
 use cell_machine::Cell;
-use cell_tables::{ModelSource, conditions};
+use cell_tables::ModelSource;
 use sqlite_items::Items;
 use std::alloc::{AllocError, Global};
 
 /// The Verilog module of a cell, with its primitives: one for each group, condition and output, a path for each arc, and the
 /// checks. Names that Verilog does not keep are replaced. What it answers is sound.
-pub fn verilog_model(alloc: Global, cell: &Cell) -> Result<VModule, AllocError>
-    ensures { IfOk result (λ model. model ≡ module_of (data_of cell.now)) }
+pub fn verilog_model(from: &ModelSource) -> Result<VModule, AllocError>
+    ensures { IfOk result (λ model. model ≡ module_of (data_of from.now.cell.now)) }
 {
-    let conditions = conditions(alloc, cell)?;
-    let from = ModelSource::new(alloc, cell, &conditions);
+    let ModelSource { alloc, cell, .. } = *from;
     let ports = all_made(
         module_name(alloc, cell.number, cell.name.as_slice()),
         verilog_ports(alloc, cell.pins.as_slice()),
     );
     let nets = all_made(
-        wires_of(alloc, cell, conditions.len()),
+        wires_of(alloc, cell, from.conditions.len()),
         notifier_of(alloc, cell),
     );
-    let tables = all_made(primitives_of(&from), instances_of(&from));
-    let timing = all_made(paths_of(&from), module_checks(&from));
+    let tables = all_made(primitives_of(from), instances_of(from));
+    let timing = all_made(paths_of(from), module_checks(from));
     let (outside, inside) = all_made(all_made(ports, nets), all_made(tables, timing))?;
     let ((name, ports), (wires, notifier)) = outside;
     let ((udps, instances), (paths, checks)) = inside;

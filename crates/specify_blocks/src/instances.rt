@@ -2,7 +2,6 @@
 ghost use Rattle.std.specs.Prelude.{◌≡◌, ◌≤◌, ◌<◌, ◌^◌, ◌++◌, map, IfOk, OnOk};
 ghost use Rattle.bool_functions.specs.Tree.{name_bound};
 ghost use Rattle.cell_machine.specs.CellData.{data_of};
-ghost use Rattle.udp_tables.specs.Conditions.{conditions_of};
 ghost use Rattle.udp_tables.specs.CellPrimitives.{has_sources};
 ghost use Rattle.specify_blocks.specs.Generated.{each_from, group_instance, condition_wire, condition_instance, output_instance};
 ghost use Rattle.specify_blocks.specs.Generated.{output_instances, instances_of};
@@ -17,13 +16,13 @@ use std::alloc::{AllocError, Global};
 
 /// The instances of a cell's module, by its groups, conditions and outputs.
 pub(crate) fn instances_of(from: &ModelSource) -> Result<Items<Instance>, AllocError>
-    requires { map (λ f. f.now) from.now.conditions.now ≡ conditions_of (data_of from.now.cell.now) }
     ensures { IfOk result (λ instances. instances ≡ instances_of (data_of from.now.cell.now)) }
 {
     let ModelSource {
         alloc,
         cell,
         conditions,
+        ..
     } = *from;
     let mut instances = Items::new(alloc);
     add_groups(alloc, &mut instances, cell)?;

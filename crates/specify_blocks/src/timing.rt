@@ -15,7 +15,6 @@ use udp_tables::{TimingCheck, port_number};
 
 /// The paths of a cell's module: one for each arc, in order.
 pub(crate) fn paths_of(from: &ModelSource) -> Result<Items<VPath>, AllocError>
-    requires { map (λ f. f.now) from.now.conditions.now ≡ conditions_of (data_of from.now.cell.now) }
     ensures { IfOk result (λ paths. paths ≡ map (path_of (data_of from.now.cell.now)) from.now.cell.now.arcs) }
 {
     let mut paths = Items::new(from.alloc);
@@ -27,7 +26,6 @@ pub(crate) fn paths_of(from: &ModelSource) -> Result<Items<VPath>, AllocError>
 
 /// The timing checks of a cell's module, in order. The wires of its states stand before those of its conditions.
 pub(crate) fn module_checks(from: &ModelSource) -> Result<Items<TimingCheck>, AllocError>
-    requires { map (λ f. f.now) from.now.conditions.now ≡ conditions_of (data_of from.now.cell.now) }
     ensures { IfOk result (λ checks. checks ≡ map (check_of (data_of from.now.cell.now)) from.now.cell.now.checks) }
 {
     checks_of(from.cell.groups.len(), from)

@@ -13,7 +13,6 @@ use Rattle.std.proofs.lemmas.List.{drop_more}
 use Rattle.std.proofs.lemmas.List.Sorted.{searched}
 use Rattle.std.proofs.lemmas.Option.{get_or_from_slice_get}
 use Rattle.trit_cubes.specs.declared.trits.Trit.{Trit}
-use Rattle.trit_cubes.specs.declared.trits.Trit.TheVariants.{Zero, One, Unknown}
 use Rattle.udp_tables.specs.Edges.{same_cube, with_last}
 use Rattle.udp_tables.specs.Pairs.{digit, number_of, AreNumbers}
 use Rattle.udp_tables.proofs.PairLemmas.{same_cube-is, same_cube-self}

@@ -9,7 +9,6 @@ use Rattle.std.proofs.lemmas.Nat.{and_le_l}
 use Rattle.trit_cubes.specs.declared.trits.Trit.{Trit}
 use Rattle.trit_cubes.proofs.WordLemmas.{and-blocks}
 use Rattle.udp_tables.specs.declared.table.Level.{Level}
-use Rattle.udp_tables.specs.declared.table.Level.TheVariants as level
 use Rattle.udp_tables.specs.declared.table.Entry.{Entry}
 use Rattle.udp_tables.specs.declared.table.Entry.TheVariants as entry
 use Rattle.udp_tables.specs.Tables.{columns_match}

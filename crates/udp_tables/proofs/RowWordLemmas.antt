@@ -5,9 +5,7 @@ use Rattle.std.proofs.lemmas.Bool.{cases_Bool, false≢true, and_parts, eq-eqb}
 use Rattle.std.proofs.lemmas.List.{length-map}
 use Rattle.trit_cubes.specs.declared.trits.Trit.{Trit}
 use Rattle.trit_cubes.proofs.WordLemmas.{and-blocks}
-use Rattle.trit_cubes.specs.declared.trits.Trit.TheVariants.{Zero, One, Unknown}
 use Rattle.udp_tables.specs.declared.table.Level.{Level}
-use Rattle.udp_tables.specs.declared.table.Level.TheVariants as level
 use Rattle.udp_tables.specs.declared.row_words.RowWords.{RowWords}
 use Rattle.udp_tables.specs.Tables.{columns_match}
 use Rattle.udp_tables.specs.Primitive.{level_matches}

@@ -1,6 +1,6 @@
 -- The rows of a function and of a step in any language, from the primes of the points at which it gives 1 and 0.
 use Rattle.std.specs.Prelude.{ℕ, zero, suc, Bool, true, false, not, ◌&&◌, ◌||◌, List, [], ◌∷◌, ◌++◌, map, filter, replicate}
-use Rattle.std.specs.Prelude.{if◌then◌else◌}
+use Rattle.std.specs.Prelude.{if◌then◌else◌, Option, Some, None}
 use Rattle.std.specs.List.{list_any}
 use Rattle.trit_cubes.specs.declared.trits.Trit.{Trit}
 use Rattle.trit_cubes.specs.declared.trits.Trit.TheVariants.{Zero, One, Unknown}
@@ -89,3 +89,18 @@ abbrev pub change_columns : {E : Type 0} → (Trit → E) → (Trit → Trit →
 change_columns place change p [] = []
 change_columns place change p (old ∷ []) = []
 change_columns place change p (old ∷ new ∷ rest) = insert p (change old new) (map place (init rest))
+
+-- The row of the points of a cube, in a language that has a symbol for each place and makes rows of levels from symbols.
+abbrev pub level_row_by : {E R : Type 0} → (Trit → E) → (List E → Trit → R) → Trit → List Trit → R
+level_row_by place row value cube = row (map place cube) value
+
+-- The row of the cube of a change, in a language that has a symbol for each place and for the values before and after, and makes
+-- rows from symbols, from the state that they ask for and from what they give: it asks for the state of the cube.
+abbrev pub edge_row_by :
+    {E R : Type 0} → (Trit → E) → (Trit → Trit → E) → (List E → Trit → Option Trit → R) → ℕ → Trit → List Trit → R
+edge_row_by place change row p value cube = row (change_columns place change p cube) (last Unknown cube) (Some value)
+
+-- the row that keeps the state there, whatever it is
+abbrev pub keep_row_by :
+    {E R : Type 0} → (Trit → E) → (Trit → Trit → E) → (List E → Trit → Option Trit → R) → ℕ → List Trit → R
+keep_row_by place change row p cube = row (change_columns place change p cube) Unknown None

@@ -1,7 +1,7 @@
 -- The tables of sequential primitives: what they mean, by IEEE 1364-2005, clause 8, and the rows that this project writes
 -- for a step.
 use Rattle.std.specs.Prelude.{◌≡◌, ◌≤◌, ℕ, count_by, Bool, true, false, not, ◌&&◌, All, List, [], ◌∷◌, ◌++◌, map, length}
-use Rattle.std.specs.Prelude.{replicate}
+use Rattle.std.specs.Prelude.{replicate, Option, Some, None}
 use Rattle.std.specs.List.{list_all}
 use Rattle.trit_cubes.specs.declared.trits.Trit.{Trit}
 use Rattle.trit_cubes.specs.declared.trits.Trit.TheVariants as trit
@@ -78,10 +78,19 @@ abbrev pub noted : {X : Type 0} → Bool → X → List X → List X
 noted false note xs = xs
 noted true note xs = xs ++ note ∷ []
 
+-- the row of these entries, whatever the notifier is
+abbrev pub symbols_row : Bool → List Entry → Level → Next → UdpRow
+symbols_row checks entries state following =
+    record { inputs = noted checks (entry.Level level.Any) entries; state = state; next = following }
+
+-- what a row has in its last column that gives this value, or keeps the state where there is none
+abbrev pub next_after : Option Trit → Next
+next_after None = next.Keep
+next_after (Some value) = next_to value
+
 -- the row that gives this value on the points of a cube, whatever the state and the notifier are
 abbrev pub state_row : Bool → Trit → List Trit → UdpRow
-state_row checks value cube =
-    record { inputs = noted checks (entry.Level level.Any) (map level_entry cube); state = level.Any; next = next_to value }
+state_row checks value cube = symbols_row checks (map level_entry cube) level.Any (next_to value)
 
 -- the row by which each change of the notifier makes the state unknown, unless a row of levels decides
 abbrev pub notifier_rows : Bool → ℕ → List UdpRow
@@ -96,8 +105,7 @@ edge_inputs = change_columns level_entry edge_entry
 
 -- the row of the cube of a change that asks for this state and gives this next one
 abbrev pub change_row : Bool → ℕ → List Trit → Level → Next → UdpRow
-change_row checks p cube state following =
-    record { inputs = noted checks (entry.Level level.Any) (edge_inputs p cube); state = state; next = following }
+change_row checks p cube state following = symbols_row checks (edge_inputs p cube) state following
 
 -- the row that gives this value on the points of the cube of a change
 abbrev pub edge_row : Bool → ℕ → Trit → List Trit → UdpRow

@@ -5,6 +5,7 @@ ghost use Rattle.udp_tables.specs.Edges.{change_columns};
 ghost use Rattle.udp_tables.specs.Generated.{level_entry, next_to};
 ghost use Rattle.udp_tables.specs.Sequential.{level_symbol, edge_entry};
 
+use crate::row_makers::StepRows;
 use crate::table::{Entry, Level, Next};
 use std::alloc::{AllocError, Global};
 use trit_cubes::{Cube, Trit};
@@ -22,19 +23,6 @@ pub trait PlaceSymbol: Copy {
         ensures { result ≡ of_place place };
 }
 
-/// A symbol that may stand for a change as well.
-pub trait ChangeSymbol: PlaceSymbol {
-    ghost use Rattle.std.specs.Prelude.{◌≡◌};
-    ghost use Rattle.trit_cubes.specs.declared.trits.Trit.{Trit};
-
-    /// The symbol for a change from the value of one place to that of another one, each free where it is unknown.
-    ghost of_change: { Trit → Trit → Self };
-
-    /// The symbol for a change from the value of one place to that of another one, each free where it is unknown.
-    fn of_change(old: Trit, new: Trit) -> Self
-        ensures { result ≡ of_change old new };
-}
-
 /// The symbols for the places of a cube. There is room for one more. `AllocError` comes only where memory is wanting.
 pub fn cube_symbols<S: PlaceSymbol>(alloc: Global, cube: &Cube) -> Result<Vec<S>, AllocError>
     ensures { IfOk result (λ symbols. symbols.items ≡ map S.of_place cube.now) }
@@ -48,15 +36,15 @@ pub fn cube_symbols<S: PlaceSymbol>(alloc: Global, cube: &Cube) -> Result<Vec<S>
 
 /// The symbols of the inputs for the cube of a change of the one at `place`. The cube's places are the value before, the value
 /// after, the other inputs and the state. `AllocError` comes only where memory is wanting.
-pub fn change_symbols<S: ChangeSymbol>(
+pub fn change_symbols<M: StepRows>(
     alloc: Global,
     place: usize,
     cube: &Cube,
-) -> Result<Vec<S>, AllocError>
+) -> Result<Vec<M::Symbol>, AllocError>
     requires { place + 3 ≤ length cube.now }
-    ensures { IfOk result (λ symbols. symbols.items ≡ change_columns S.of_place S.of_change place cube.now) }
+    ensures { IfOk result (λ symbols. symbols.items ≡ change_columns M.Symbol.of_place M.of_change place cube.now) }
 {
-    let change = S::of_change(cube.place(0), cube.place(1));
+    let change = M::of_change(cube.place(0), cube.place(1));
     let mut symbols = other_symbols(alloc, cube)?;
     symbols.insert(place, change)?;
     Ok(symbols)
@@ -86,19 +74,18 @@ impl PlaceSymbol for Entry {
     }
 }
 
-impl ChangeSymbol for Entry {
-    ghost of_change = { edge_entry };
-
-    fn of_change(old: Trit, new: Trit) -> Entry {
-        match old {
-            Trit::Zero => Entry::Pair(Level::Zero, Level::from(new)),
-            Trit::One => Entry::Pair(Level::One, Level::from(new)),
-            Trit::Unknown => match new {
-                Trit::Zero => Entry::Pair(Level::Any, Level::Zero),
-                Trit::One => Entry::Pair(Level::Any, Level::One),
-                Trit::Unknown => Entry::Star,
-            },
-        }
+/// The entry for a change from the value of one place to that of another one, each free where it is unknown.
+pub(crate) fn edge_entry(old: Trit, new: Trit) -> Entry
+    ensures { result ≡ edge_entry old new }
+{
+    match old {
+        Trit::Zero => Entry::Pair(Level::Zero, Level::from(new)),
+        Trit::One => Entry::Pair(Level::One, Level::from(new)),
+        Trit::Unknown => match new {
+            Trit::Zero => Entry::Pair(Level::Any, Level::Zero),
+            Trit::One => Entry::Pair(Level::Any, Level::One),
+            Trit::Unknown => Entry::Star,
+        },
     }
 }
 

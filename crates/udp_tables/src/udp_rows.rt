@@ -1,52 +1,47 @@
-//! The rows of primitives, made from cubes. (IEEE 1364-2005, clause 8.)
-ghost use Rattle.std.specs.Prelude.{◌≡◌, ◌+◌, ◌≤◌, ◌++◌, length, IfOk, OnOk};
-ghost use Rattle.udp_tables.specs.Generated.{level_row};
-ghost use Rattle.udp_tables.specs.Sequential.{noted, state_row, notifier_rows, edge_row, keep_row};
+//! The rows of primitives. (IEEE 1364-2005, clause 8.)
+ghost use Rattle.std.specs.Prelude.{◌≡◌, ◌≤◌, ◌++◌, IfOk, OnOk};
+ghost use Rattle.udp_tables.specs.declared.table.Level.TheVariants as level;
+ghost use Rattle.udp_tables.specs.Generated.{next_to};
+ghost use Rattle.udp_tables.specs.Sequential.{level_symbol, edge_entry, noted, next_after, symbols_row, notifier_rows};
 
 use crate::row_makers::{LevelRows, StepRows};
-use crate::symbols::{change_symbols, cube_symbols};
+use crate::symbols::{cube_symbols, edge_entry};
 use crate::table::{Entry, Level, Next, UdpRow};
 use sqlite_items::Items;
 use std::alloc::{AllocError, Global};
 use trit_cubes::{Cube, Trit};
 
-/// What makes the rows of primitives without a state.
+/// What makes the rows of primitives, whose last input is a notifier or not.
 #[derive(Clone, Copy)]
-pub struct CombinationalUdpRows;
-
-/// What makes the rows of primitives with a state, whose last input is a notifier or not.
-#[derive(Clone, Copy)]
-pub struct SequentialUdpRows {
+pub struct UdpRows {
     /// Whether the last input is a notifier.
     pub notifier: bool,
 }
 
-impl LevelRows for CombinationalUdpRows {
+impl LevelRows for UdpRows {
+    type Symbol = Entry;
+
     type Row = UdpRow;
 
-    ghost level_row = { λ _. level_row };
+    ghost level_row = { λ rows symbols value. symbols_row rows.notifier symbols level.Any (next_to value) };
 
-    fn level_row(self, alloc: Global, value: Trit, cube: &Cube) -> Result<UdpRow, AllocError> {
-        level_row(alloc, value, cube)
+    fn level_row(self, symbols: Vec<Entry>, value: Trit) -> Result<UdpRow, AllocError>
+        ensures { IfOk result (λ row. row ≡ symbols_row self.notifier symbols.items level.Any (next_to value)) }
+    {
+        symbols_row(self.notifier, symbols, Level::Any, Next::from(value))
     }
 }
 
-impl LevelRows for SequentialUdpRows {
-    type Row = UdpRow;
+impl StepRows for UdpRows {
+    ghost of_change = { edge_entry };
 
-    ghost level_row = { λ rows. state_row rows.notifier };
-
-    fn level_row(self, alloc: Global, value: Trit, cube: &Cube) -> Result<UdpRow, AllocError> {
-        state_row(alloc, self.notifier, value, cube)
-    }
-}
-
-impl StepRows for SequentialUdpRows {
     ghost report_rows = { λ rows. notifier_rows rows.notifier };
 
-    ghost edge_row = { λ rows. edge_row rows.notifier };
+    ghost change_row = { λ rows symbols state gives. symbols_row rows.notifier symbols (level_symbol state) (next_after gives) };
 
-    ghost keep_row = { λ rows. keep_row rows.notifier };
+    fn of_change(old: Trit, new: Trit) -> Entry {
+        edge_entry(old, new)
+    }
 
     fn add_report_rows(
         self,
@@ -57,31 +52,31 @@ impl StepRows for SequentialUdpRows {
         add_notifier_row(alloc, rows, self.notifier, inputs)
     }
 
-    fn edge_row(
+    fn change_row(
         self,
-        alloc: Global,
-        place: usize,
-        value: Trit,
-        cube: &Cube,
-    ) -> Result<UdpRow, AllocError> {
-        edge_row(alloc, self.notifier, place, value, cube)
-    }
-
-    fn keep_row(self, alloc: Global, place: usize, cube: &Cube) -> Result<UdpRow, AllocError> {
-        keep_row(alloc, self.notifier, place, cube)
+        symbols: Vec<Entry>,
+        state: Trit,
+        gives: Option<Trit>,
+    ) -> Result<UdpRow, AllocError>
+        ensures { IfOk result (λ row. row ≡ symbols_row self.notifier symbols.items (level_symbol state) (next_after gives)) }
+    {
+        symbols_row(
+            self.notifier,
+            symbols,
+            Level::from(state),
+            next_after(gives),
+        )
     }
 }
 
-/// The row of levels that gives this value.
-fn level_row(alloc: Global, value: Trit, cube: &Cube) -> Result<UdpRow, AllocError>
-    ensures { IfOk result (λ row. row ≡ level_row value cube.now) }
+/// What a row has in its last column that gives this value, or keeps the state where there is none.
+fn next_after(gives: Option<Trit>) -> Next
+    ensures { result ≡ next_after gives }
 {
-    let inputs = cube_symbols(alloc, cube)?;
-    Ok(UdpRow {
-        inputs: Items::from_vec(inputs),
-        state: Level::Any,
-        next: Next::from(value),
-    })
+    match gives {
+        Some(value) => Next::from(value),
+        None => Next::Keep,
+    }
 }
 
 /// The entries with that of the notifier last, where there is one.
@@ -95,16 +90,20 @@ fn noted(entries: Vec<Entry>, notifier: bool, note: Entry) -> Result<Vec<Entry>,
     Ok(entries)
 }
 
-/// The row of levels that gives this value, whatever the notifier and the state are.
-fn state_row(alloc: Global, notifier: bool, value: Trit, cube: &Cube) -> Result<UdpRow, AllocError>
-    ensures { IfOk result (λ row. row ≡ state_row notifier value cube.now) }
+/// The row of these entries, whatever the notifier is.
+fn symbols_row(
+    notifier: bool,
+    entries: Vec<Entry>,
+    state: Level,
+    next: Next,
+) -> Result<UdpRow, AllocError>
+    ensures { IfOk result (λ row. row ≡ symbols_row notifier entries.items state next) }
 {
-    let entries = cube_symbols(alloc, cube)?;
     let inputs = noted(entries, notifier, Entry::Level(Level::Any))?;
     Ok(UdpRow {
         inputs: Items::from_vec(inputs),
-        state: Level::Any,
-        next: Next::from(value),
+        state,
+        next,
     })
 }
 
@@ -128,39 +127,4 @@ fn add_notifier_row(
         })?;
     }
     Ok(())
-}
-
-/// The row that gives this value on the points of the cube of a change.
-fn edge_row(
-    alloc: Global,
-    notifier: bool,
-    place: usize,
-    value: Trit,
-    cube: &Cube,
-) -> Result<UdpRow, AllocError>
-    requires { place + 3 ≤ length cube.now }
-    ensures { IfOk result (λ row. row ≡ edge_row notifier place value cube.now) }
-{
-    let entries = change_symbols(alloc, place, cube)?;
-    let inputs = noted(entries, notifier, Entry::Level(Level::Any))?;
-    let state = Level::from(cube.place(cube.len() - 1));
-    Ok(UdpRow {
-        inputs: Items::from_vec(inputs),
-        state,
-        next: Next::from(value),
-    })
-}
-
-/// The row that keeps the state there, whatever it is.
-fn keep_row(alloc: Global, notifier: bool, place: usize, cube: &Cube) -> Result<UdpRow, AllocError>
-    requires { place + 3 ≤ length cube.now }
-    ensures { IfOk result (λ row. row ≡ keep_row notifier place cube.now) }
-{
-    let entries = change_symbols(alloc, place, cube)?;
-    let inputs = noted(entries, notifier, Entry::Level(Level::Any))?;
-    Ok(UdpRow {
-        inputs: Items::from_vec(inputs),
-        state: Level::Any,
-        next: Next::Keep,
-    })
 }

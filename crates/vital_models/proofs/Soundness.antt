@@ -1,7 +1,7 @@
 -- The entity of a cell is sound.
 use Rattle.std.proofs.Common.{◌≡◌, ℕ, zero, suc, ◌+◌, ◌<◌, Bool, true, false, ◌&&◌, All, List, [], ◌∷◌, length, map, inl, inr}
 use Rattle.std.proofs.Common.{refl, sym, ap, ◌∙◌, subst, arith, IsTrue, Option, Some, None, option_map, slice_get, slice_index_or}
-use Rattle.std.proofs.Common.{nat_eq, nat_lt, nat_le, length-append, if◌then◌else◌}
+use Rattle.std.proofs.Common.{nat_eq, nat_lt, nat_le, if◌then◌else◌}
 use Rattle.std.specs.Prelude.{filter}
 use Rattle.std.specs.List.{list_all}
 use Rattle.std.specs.Option.{option_map_or}
@@ -28,12 +28,12 @@ use Rattle.cell_machine.specs.CellRules as rule
 use Rattle.cell_machine.specs.CellRules.{is_input_pin, output_pins_from, is_support, is_ascending, is_group, are_groups_from}
 use Rattle.cell_machine.specs.CellRules.{is_source, is_output_of, is_any_edge, are_opposite, is_check, is_arc}
 use Rattle.cell_machine.proofs.RuleLemmas.{check_parts}
-use Rattle.vital_tables.specs.udp_tables.Edges.{each_below}
 use Rattle.cell_machine.specs.CellData.{CellData}
 use Rattle.vital_tables.specs.udp_tables.Conditions.{conditions_of, conditions_beside, conditions_by, condition_list}
 use Rattle.cell_machine.specs.CellTrace.{support_at, step_at}
 use Rattle.vital_tables.specs.udp_tables.CellPrimitives.{has_sources}
 use Rattle.cell_tables.proofs.CellParts.{Rules, groups_hold, outputs_hold, checks_hold, arcs_hold}
+use Rattle.cell_tables.proofs.EachBelow.{below-length}
 use Rattle.vital_tables.proofs.udp_tables.CubeLemmas.{below-among}
 use Rattle.vital_models.specs.declared.model.OutValue.TheVariants as value
 use Rattle.vital_models.specs.declared.model.VOutput.{VOutput}
@@ -84,13 +84,6 @@ all-made : {X Y : Type 0} (t : Y → Bool) (g : X → Y) (xs : List X) → ((x :
     → IsTrue (list_all t (map g xs))
 all-made t g [] h = refl
 all-made t g (x ∷ xs) h = and_from (t (g x)) (list_all t (map g xs)) (h x (inl refl)) (all-made t g xs (λ y m. h y (inr m)))
-
-below-length : {X : Type 0} (f : ℕ → X) (n : ℕ) → length (each_below (λ i. f i ∷ []) n) ≡ n
-below-length f zero = refl
-below-length f (suc n) =
-    let rest = below-length f n in
-    let whole = length-append (each_below (λ i. f i ∷ []) n) (f n ∷ []) in
-    omega (arith, rest, whole)
 
 gate-all : (e : VEntity) (is : List ℕ) → IsTrue (list_all (is_condition_number e) is) → IsTrue (is_gate e (all_zero is))
 gate-all e [] h = refl

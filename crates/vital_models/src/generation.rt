@@ -12,8 +12,8 @@ use crate::ports::vital_ports;
 use crate::tables::{condition_table, has_violation, output_table, state_table};
 use crate::timing::{entity_checks, paths_to};
 use bool_functions::Function;
-use cell_machine::{Cell, OutputPin, Pin, Source, Values};
-use cell_tables::{ModelSource, conditions};
+use cell_machine::{OutputPin, Pin, Source, Values};
+use cell_tables::ModelSource;
 use sqlite_items::Items;
 use std::alloc::{AllocError, Global};
 use vital_tables::primitives::port_number;
@@ -21,17 +21,16 @@ use vital_tables::primitives::port_number;
 /// The entity of a cell, with this name: a state for each group, a truth table for each condition and for each output that
 /// depends on something, a path for each arc, and the checks. What it answers is sound. `AllocError` comes only where memory is
 /// wanting.
-pub fn vital_model(alloc: Global, cell: &Cell, name: &[u8]) -> Result<VEntity, AllocError>
-    ensures { IfOk result (λ entity. entity ≡ entity_of (data_of cell.now) name.now) }
+pub fn vital_model(from: &ModelSource, name: &[u8]) -> Result<VEntity, AllocError>
+    ensures { IfOk result (λ entity. entity ≡ entity_of (data_of from.now.cell.now) name.now) }
 {
-    let conditions = conditions(alloc, cell)?;
-    let from = ModelSource::new(alloc, cell, &conditions);
+    let ModelSource { alloc, cell, .. } = *from;
     let ports = all_made(
         Items::from_slice(alloc, name),
         vital_ports(alloc, cell.pins.as_slice(), name),
     );
-    let tables = all_made(states_of(alloc, cell), conditions_of(&from));
-    let ends = all_made(outputs_of(&from), entity_checks(&from));
+    let tables = all_made(states_of(from), conditions_of(from));
+    let ends = all_made(outputs_of(from), entity_checks(from));
     let ((name, ports), (tables, ends)) = all_made(ports, all_made(tables, ends))?;
     let (states, conditions) = tables;
     let (outputs, checks) = ends;
@@ -56,24 +55,25 @@ fn all_made<A: Drop, B: Drop>(
 }
 
 /// The states of the groups.
-fn states_of(alloc: Global, cell: &Cell) -> Result<Items<VState>, AllocError>
-    ensures { IfOk result (λ states. states ≡ states_of (data_of cell.now)) }
+fn states_of(from: &ModelSource) -> Result<Items<VState>, AllocError>
+    ensures { IfOk result (λ states. states ≡ states_of (data_of from.now.cell.now)) }
 {
-    let mut states = Items::new(alloc);
-    for group in 0..cell.groups.len() {
-        states.push(state_of(alloc, cell, group)?)?;
+    let mut states = Items::new(from.alloc);
+    for group in 0..from.cell.groups.len() {
+        states.push(state_of(from, group)?)?;
     }
     Ok(states)
 }
 
 /// The state of a group, with its table.
-fn state_of(alloc: Global, cell: &Cell, group: usize) -> Result<VState, AllocError>
-    requires { group < length cell.now.groups }
-    ensures { IfOk result (λ state. state ≡ state_of (data_of cell.now) group) }
+fn state_of(from: &ModelSource, group: usize) -> Result<VState, AllocError>
+    requires { group < length from.now.cell.now.groups }
+    ensures { IfOk result (λ state. state ≡ state_of (data_of from.now.cell.now) group) }
 {
+    let ModelSource { alloc, cell, .. } = *from;
     let support = cell.group(group).support.as_slice();
     Ok(VState {
-        table: state_table(alloc, cell, group)?,
+        table: state_table(from, group)?,
         violation: has_violation(cell),
         inputs: ports_at(alloc, cell.pins.as_slice(), support)?,
     })
@@ -92,7 +92,6 @@ fn ports_at(alloc: Global, pins: &[Pin], support: &[usize]) -> Result<Items<usiz
 
 /// The truth tables of the cell's conditions.
 fn conditions_of(from: &ModelSource) -> Result<Items<VTruth>, AllocError>
-    requires { map (λ f. f.now) from.now.conditions.now ≡ conditions_of (data_of from.now.cell.now) }
     ensures { IfOk result (λ truths. truths ≡ map (condition_of from.now.cell.now.pins)
         (map (λ f. f.now) from.now.conditions.now)) }
 {
@@ -110,7 +109,6 @@ fn condition_of(
     number: usize,
     condition: &Function,
 ) -> Result<VTruth, AllocError>
-    requires all { map (λ f. f.now) from.now.conditions.now ≡ conditions_of (data_of from.now.cell.now) }
     requires number { number < length (conditions_of (data_of from.now.cell.now)) }
     requires is { condition_tree (data_of from.now.cell.now) number ≡ condition.now }
     ensures { IfOk result (λ truth. truth ≡ condition_of from.now.cell.now.pins condition.now) }
@@ -124,7 +122,6 @@ fn condition_of(
 
 /// What drives the output pins.
 fn outputs_of(from: &ModelSource) -> Result<Items<VOutput>, AllocError>
-    requires { map (λ f. f.now) from.now.conditions.now ≡ conditions_of (data_of from.now.cell.now) }
     ensures { IfOk result (λ outputs. outputs ≡ map (output_of (data_of from.now.cell.now)) from.now.cell.now.outputs) }
 {
     let mut outputs = Items::new(from.alloc);
@@ -137,7 +134,6 @@ fn outputs_of(from: &ModelSource) -> Result<Items<VOutput>, AllocError>
 
 /// What drives the output pin with this number among the outputs.
 fn output_of(from: &ModelSource, number: usize, output: &OutputPin) -> Result<VOutput, AllocError>
-    requires all { map (λ f. f.now) from.now.conditions.now ≡ conditions_of (data_of from.now.cell.now) }
     requires is { slice_get from.now.cell.now.outputs number ≡ Some output.now }
     requires bounded { name_bound output.now.function ≤ 96 }
     ensures { IfOk result (λ made. made ≡ output_of (data_of from.now.cell.now) output.now) }
@@ -151,7 +147,6 @@ fn output_of(from: &ModelSource, number: usize, output: &OutputPin) -> Result<VO
 
 /// The value of the output with this number: a constant where it depends on nothing, else a table.
 fn value_of(from: &ModelSource, number: usize, output: &OutputPin) -> Result<OutValue, AllocError>
-    requires all { map (λ f. f.now) from.now.conditions.now ≡ conditions_of (data_of from.now.cell.now) }
     requires is { slice_get from.now.cell.now.outputs number ≡ Some output.now }
     requires bounded { name_bound output.now.function ≤ 96 }
     ensures { IfOk result (λ value. value ≡ value_of_output (data_of from.now.cell.now) output.now) }

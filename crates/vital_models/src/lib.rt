@@ -10,6 +10,7 @@ mod ports;
 mod tables;
 mod timing;
 
+pub use cell_tables::{ModelParts, ModelSource};
 pub use generation::vital_model;
 pub use model::{HGate, HPath, OutValue, VEntity, VOutput, VState, VTruth};
 pub use names::{driver_name, entity_name};

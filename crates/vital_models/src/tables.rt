@@ -1,5 +1,5 @@
 //! The tables of a cell: of its groups, conditions and outputs.
-ghost use Rattle.std.specs.Prelude.{◌≡◌, ◌<◌, map, length, slice_get, Some, IfOk};
+ghost use Rattle.std.specs.Prelude.{◌≡◌, ◌<◌, length, slice_get, Some, IfOk};
 ghost use Rattle.cell_machine.specs.CellData.{data_of};
 ghost use Rattle.vital_tables.specs.udp_tables.Conditions.{conditions_of};
 ghost use Rattle.vital_tables.specs.udp_tables.CellPrimitives.{condition_tree};
@@ -7,7 +7,7 @@ ghost use Rattle.vital_models.specs.Generated.{has_violation, state_table, condi
 
 use cell_machine::{Cell, OutputPin};
 use cell_tables::{ModelSource, group_rows, part_rows};
-use std::alloc::{AllocError, Global};
+use std::alloc::AllocError;
 use vital_tables::primitives::Part;
 use vital_tables::{StateTableRows, TruthTable, TruthTableRows, VStateTable, state_rows};
 
@@ -19,26 +19,21 @@ pub(crate) fn has_violation(cell: &Cell) -> bool
 }
 
 /// The state table of a group over its support.
-pub(crate) fn state_table(
-    alloc: Global,
-    cell: &Cell,
-    group: usize,
-) -> Result<VStateTable, AllocError>
-    requires { group < length cell.now.groups }
-    ensures { IfOk result (λ table. table ≡ state_table (data_of cell.now) group) }
+pub(crate) fn state_table(from: &ModelSource, group: usize) -> Result<VStateTable, AllocError>
+    requires { group < length from.now.cell.now.groups }
+    ensures { IfOk result (λ table. table ≡ state_table (data_of from.now.cell.now) group) }
 {
-    let violation = has_violation(cell);
-    let pins = cell.group(group).support.len();
-    let decisive = group_rows(alloc, cell, group, StateTableRows { violation })?;
+    let violation = has_violation(from.cell);
+    let pins = from.cell.group(group).support.len();
+    let decisive = group_rows(from, group, StateTableRows { violation })?;
     Ok(VStateTable {
-        rows: state_rows(alloc, violation, pins, decisive)?,
+        rows: state_rows(from.alloc, violation, pins, decisive)?,
     })
 }
 
 /// The truth table of a condition, which the cell has with this number, over the pins that it names.
 pub(crate) fn condition_table(from: &ModelSource, number: usize) -> Result<TruthTable, AllocError>
-    requires all { map (λ f. f.now) from.now.conditions.now ≡ conditions_of (data_of from.now.cell.now) }
-    requires number { number < length (conditions_of (data_of from.now.cell.now)) }
+    requires { number < length (conditions_of (data_of from.now.cell.now)) }
     ensures { IfOk result (λ table. table ≡ condition_table (condition_tree (data_of from.now.cell.now) number)) }
 {
     let rows = part_rows(from, Part::Condition(number), TruthTableRows)?;
@@ -51,7 +46,6 @@ pub(crate) fn output_table(
     number: usize,
     output: &OutputPin,
 ) -> Result<TruthTable, AllocError>
-    requires all { map (λ f. f.now) from.now.conditions.now ≡ conditions_of (data_of from.now.cell.now) }
     requires is { slice_get from.now.cell.now.outputs number ≡ Some output.now }
     requires some { 0 < length output.now.support }
     ensures { IfOk result (λ table. table ≡ output_table (data_of from.now.cell.now) output.now) }

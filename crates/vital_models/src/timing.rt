@@ -2,7 +2,7 @@
 ghost use Rattle.std.specs.Prelude.{◌≡◌, nat_eq, map, filter, IfOk};
 ghost use Rattle.cell_machine.specs.declared.arcs.Arc.{Arc};
 ghost use Rattle.cell_machine.specs.CellData.{data_of};
-ghost use Rattle.vital_tables.specs.udp_tables.Conditions.{conditions_of, conditions_beside};
+ghost use Rattle.vital_tables.specs.udp_tables.Conditions.{conditions_beside};
 ghost use Rattle.vital_models.specs.Generated.{place_of, all_zero, gate_by, path_of, paths_to, check_of};
 
 use crate::model::{HGate, HPath};
@@ -15,7 +15,6 @@ use vital_tables::primitives::{TimingCheck, port_number};
 
 /// The paths of a cell's entity to an output pin: one for each arc that ends there.
 pub(crate) fn paths_to(from: &ModelSource, pin: usize) -> Result<Items<HPath>, AllocError>
-    requires { map (λ f. f.now) from.now.conditions.now ≡ conditions_of (data_of from.now.cell.now) }
     ensures { IfOk result (λ paths. paths ≡ paths_to (data_of from.now.cell.now) pin) }
 {
     let mut paths = Items::new(from.alloc);
@@ -29,7 +28,6 @@ pub(crate) fn paths_to(from: &ModelSource, pin: usize) -> Result<Items<HPath>, A
 
 /// The timing checks of a cell's entity, in order.
 pub(crate) fn entity_checks(from: &ModelSource) -> Result<Items<TimingCheck>, AllocError>
-    requires { map (λ f. f.now) from.now.conditions.now ≡ conditions_of (data_of from.now.cell.now) }
     ensures { IfOk result (λ checks. checks ≡ map (check_of (data_of from.now.cell.now)) from.now.cell.now.checks) }
 {
     checks_of(0, from)
@@ -44,7 +42,6 @@ fn ends_at(arc: &Arc, pin: usize) -> bool
 
 /// The path of an arc.
 fn path_of(from: &ModelSource, arc: &Arc) -> Result<HPath, AllocError>
-    requires { map (λ f. f.now) from.now.conditions.now ≡ conditions_of (data_of from.now.cell.now) }
     ensures { IfOk result (λ path. path ≡ path_of (data_of from.now.cell.now) arc.now) }
 {
     Ok(HPath {
@@ -57,7 +54,6 @@ fn path_of(from: &ModelSource, arc: &Arc) -> Result<HPath, AllocError>
 
 /// When the path of an arc counts.
 fn gate_of(from: &ModelSource, arc: &Arc) -> Result<HGate, AllocError>
-    requires { map (λ f. f.now) from.now.conditions.now ≡ conditions_of (data_of from.now.cell.now) }
     ensures { IfOk result (λ gate. gate ≡ gate_by (data_of from.now.cell.now) arc.now arc.now.condition) }
 {
     match &arc.condition {
@@ -82,7 +78,6 @@ fn all_zero(conditions: Items<usize>) -> HGate
 
 /// The numbers of the conditions of all arcs that have the two pins of an arc.
 fn places_beside(from: &ModelSource, arc: &Arc) -> Result<Items<usize>, AllocError>
-    requires { map (λ f. f.now) from.now.conditions.now ≡ conditions_of (data_of from.now.cell.now) }
     ensures { IfOk result (λ places. places ≡ map (place_of (data_of from.now.cell.now))
         (conditions_beside from.now.cell.now.arcs arc.now)) }
 {
@@ -99,7 +94,6 @@ fn places_beside(from: &ModelSource, arc: &Arc) -> Result<Items<usize>, AllocErr
 
 /// The number of a condition of the cell.
 fn place_of(from: &ModelSource, condition: &Function) -> usize
-    requires { map (λ f. f.now) from.now.conditions.now ≡ conditions_of (data_of from.now.cell.now) }
     ensures { result ≡ place_of (data_of from.now.cell.now) condition.now }
 {
     condition_number(from.conditions, condition)

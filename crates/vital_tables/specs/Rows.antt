@@ -1,5 +1,5 @@
 -- The rows that this project writes for a function and for a step, from the primes of the points at which it gives 1 and 0.
-use Rattle.std.specs.Prelude.{ℕ, Bool, true, false, List, [], ◌∷◌, ◌++◌, map, replicate}
+use Rattle.std.specs.Prelude.{ℕ, Bool, true, false, List, [], ◌∷◌, ◌++◌, map, replicate, Option, Some, None}
 use Rattle.trit_cubes.specs.declared.trits.Trit.{Trit}
 use Rattle.trit_cubes.specs.declared.trits.Trit.TheVariants as trit
 use Rattle.udp_tables.specs.cell_machine.Machine.{Step, last}
@@ -64,14 +64,19 @@ steady_row checks n =
       result = next.Keep;
     }
 
+-- the row of these symbols of the pins, whatever the violation is
+abbrev pub symbols_row : Bool → List VSymbol → Trits → VNext → VStateRow
+symbols_row checks symbols state following =
+    record { inputs = violated checks (symbol.Level trits.Any) symbols; state = state; result = following }
+
+-- the result of a row that gives this value, or keeps the state where there is none
+abbrev pub next_after : Option Trit → VNext
+next_after None = next.Keep
+next_after (Some value) = next_to value
+
 -- the row that gives this value on the points of a cube, whatever the violation and the state are
 abbrev pub level_row : Bool → Trit → List Trit → VStateRow
-level_row checks value cube =
-    record {
-      inputs = violated checks (symbol.Level trits.Any) (map level_symbol cube);
-      state = trits.Any;
-      result = next_to value;
-    }
+level_row checks value cube = symbols_row checks (map level_symbol cube) trits.Any (next_to value)
 
 -- the row by which a violation makes the state unknown, unless a row before it decides
 abbrev pub violation_rows : Bool → ℕ → List VStateRow
@@ -90,21 +95,11 @@ edge_columns = change_columns level_symbol edge_symbol
 
 -- the row that gives this value on the points of the cube of a change, whatever the violation is
 abbrev pub edge_row : Bool → ℕ → Trit → List Trit → VStateRow
-edge_row checks p value cube =
-    record {
-      inputs = violated checks (symbol.Level trits.Any) (edge_columns p cube);
-      state = level_of (last trit.Unknown cube);
-      result = next_to value;
-    }
+edge_row checks p value cube = symbols_row checks (edge_columns p cube) (level_of (last trit.Unknown cube)) (next_to value)
 
 -- the row that keeps the state there, whatever it is
 abbrev pub keep_row : Bool → ℕ → List Trit → VStateRow
-keep_row checks p cube =
-    record {
-      inputs = violated checks (symbol.Level trits.Any) (edge_columns p cube);
-      state = trits.Any;
-      result = next.Keep;
-    }
+keep_row checks p cube = symbols_row checks (edge_columns p cube) trits.Any next.Keep
 
 -- the last row: where no other one matches, the state becomes unknown
 abbrev pub closing_row : Bool → ℕ → VStateRow

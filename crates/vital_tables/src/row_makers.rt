@@ -1,12 +1,14 @@
-//! The rows of VITAL's tables, made from cubes.
-ghost use Rattle.std.specs.Prelude.{◌≡◌, ◌+◌, ◌≤◌, ◌++◌, length, IfOk, OnOk};
-ghost use Rattle.vital_tables.specs.Rows.{truth_row, violated, level_row, violation_rows, edge_row, keep_row};
+//! The rows of VITAL's tables.
+ghost use Rattle.std.specs.Prelude.{◌≡◌, ◌≤◌, ◌++◌, IfOk, OnOk};
+ghost use Rattle.vital_tables.specs.declared.table.Trits.TheVariants as trits;
+ghost use Rattle.vital_tables.specs.Rows.{level_of, edge_symbol, next_to, violated, next_after, symbols_row, violation_rows};
 
+use crate::symbols::edge_symbol;
 use crate::table::{Trits, TruthRow, VNext, VStateRow, VSymbol};
 use sqlite_items::Items;
 use std::alloc::{AllocError, Global};
 use trit_cubes::{Cube, Trit};
-use udp_tables::{LevelRows, PlaceSymbol, StepRows, change_symbols, cube_symbols};
+use udp_tables::{LevelRows, PlaceSymbol, StepRows, cube_symbols};
 
 /// What makes the rows of truth tables.
 #[derive(Clone, Copy)]
@@ -20,31 +22,46 @@ pub struct StateTableRows {
 }
 
 impl LevelRows for TruthTableRows {
+    type Symbol = Trits;
+
     type Row = TruthRow;
 
-    ghost level_row = { λ _. truth_row };
+    ghost level_row = { λ _ symbols value. record { inputs = symbols; result = value } };
 
-    fn level_row(self, alloc: Global, value: Trit, cube: &Cube) -> Result<TruthRow, AllocError> {
-        truth_row(alloc, value, cube)
+    fn level_row(self, symbols: Vec<Trits>, value: Trit) -> Result<TruthRow, AllocError>
+        ensures { IfOk result (λ row. row ≡ record { inputs = symbols.items; result = value }) }
+    {
+        Ok(TruthRow {
+            inputs: Items::from_vec(symbols),
+            result: value,
+        })
     }
 }
 
 impl LevelRows for StateTableRows {
+    type Symbol = VSymbol;
+
     type Row = VStateRow;
 
-    ghost level_row = { λ rows. level_row rows.violation };
+    ghost level_row = { λ rows symbols value. symbols_row rows.violation symbols trits.Any (next_to value) };
 
-    fn level_row(self, alloc: Global, value: Trit, cube: &Cube) -> Result<VStateRow, AllocError> {
-        level_row(alloc, self.violation, value, cube)
+    fn level_row(self, symbols: Vec<VSymbol>, value: Trit) -> Result<VStateRow, AllocError>
+        ensures { IfOk result (λ row. row ≡ symbols_row self.violation symbols.items trits.Any (next_to value)) }
+    {
+        symbols_row(self.violation, symbols, Trits::Any, VNext::from(value))
     }
 }
 
 impl StepRows for StateTableRows {
+    ghost of_change = { edge_symbol };
+
     ghost report_rows = { λ rows. violation_rows rows.violation };
 
-    ghost edge_row = { λ rows. edge_row rows.violation };
+    ghost change_row = { λ rows symbols state gives. symbols_row rows.violation symbols (level_of state) (next_after gives) };
 
-    ghost keep_row = { λ rows. keep_row rows.violation };
+    fn of_change(old: Trit, new: Trit) -> VSymbol {
+        edge_symbol(old, new)
+    }
 
     fn add_report_rows(
         self,
@@ -55,30 +72,31 @@ impl StepRows for StateTableRows {
         add_violation_row(alloc, rows, self.violation, inputs)
     }
 
-    fn edge_row(
+    fn change_row(
         self,
-        alloc: Global,
-        place: usize,
-        value: Trit,
-        cube: &Cube,
-    ) -> Result<VStateRow, AllocError> {
-        edge_row(alloc, self.violation, place, value, cube)
-    }
-
-    fn keep_row(self, alloc: Global, place: usize, cube: &Cube) -> Result<VStateRow, AllocError> {
-        keep_row(alloc, self.violation, place, cube)
+        symbols: Vec<VSymbol>,
+        state: Trit,
+        gives: Option<Trit>,
+    ) -> Result<VStateRow, AllocError>
+        ensures { IfOk result (λ row. row ≡ symbols_row self.violation symbols.items (level_of state) (next_after gives)) }
+    {
+        symbols_row(
+            self.violation,
+            symbols,
+            Trits::of_place(state),
+            next_after(gives),
+        )
     }
 }
 
-/// The row of a truth table that gives this value on the points of a cube.
-fn truth_row(alloc: Global, value: Trit, cube: &Cube) -> Result<TruthRow, AllocError>
-    ensures { IfOk result (λ row. row ≡ truth_row value cube.now) }
+/// The result of a row that gives this value, or keeps the state where there is none.
+fn next_after(gives: Option<Trit>) -> VNext
+    ensures { result ≡ next_after gives }
 {
-    let inputs = cube_symbols(alloc, cube)?;
-    Ok(TruthRow {
-        inputs: Items::from_vec(inputs),
-        result: value,
-    })
+    match gives {
+        Some(value) => VNext::from(value),
+        None => VNext::Keep,
+    }
 }
 
 /// The columns, with that of the violation first where there is one.
@@ -96,21 +114,20 @@ fn violated(
     Ok(symbols)
 }
 
-/// The row of levels that gives this value, whatever the violation and the state are.
-fn level_row(
-    alloc: Global,
+/// The row of these symbols of the pins, whatever the violation is.
+fn symbols_row(
     violation: bool,
-    value: Trit,
-    cube: &Cube,
+    symbols: Vec<VSymbol>,
+    state: Trits,
+    next: VNext,
 ) -> Result<VStateRow, AllocError>
-    ensures { IfOk result (λ row. row ≡ level_row violation value cube.now) }
+    ensures { IfOk result (λ row. row ≡ symbols_row violation symbols.items state next) }
 {
-    let symbols = cube_symbols(alloc, cube)?;
     let inputs = violated(symbols, violation, VSymbol::Level(Trits::Any))?;
     Ok(VStateRow {
         inputs: Items::from_vec(inputs),
-        state: Trits::Any,
-        result: VNext::from(value),
+        state,
+        result: next,
     })
 }
 
@@ -134,44 +151,4 @@ fn add_violation_row(
         })?;
     }
     Ok(())
-}
-
-/// The row that gives this value on the points of the cube of a change.
-fn edge_row(
-    alloc: Global,
-    violation: bool,
-    place: usize,
-    value: Trit,
-    cube: &Cube,
-) -> Result<VStateRow, AllocError>
-    requires { place + 3 ≤ length cube.now }
-    ensures { IfOk result (λ row. row ≡ edge_row violation place value cube.now) }
-{
-    let symbols = change_symbols(alloc, place, cube)?;
-    let inputs = violated(symbols, violation, VSymbol::Level(Trits::Any))?;
-    let state = Trits::of_place(cube.place(cube.len() - 1));
-    Ok(VStateRow {
-        inputs: Items::from_vec(inputs),
-        state,
-        result: VNext::from(value),
-    })
-}
-
-/// The row that keeps the state there, whatever it is.
-fn keep_row(
-    alloc: Global,
-    violation: bool,
-    place: usize,
-    cube: &Cube,
-) -> Result<VStateRow, AllocError>
-    requires { place + 3 ≤ length cube.now }
-    ensures { IfOk result (λ row. row ≡ keep_row violation place cube.now) }
-{
-    let symbols = change_symbols(alloc, place, cube)?;
-    let inputs = violated(symbols, violation, VSymbol::Level(Trits::Any))?;
-    Ok(VStateRow {
-        inputs: Items::from_vec(inputs),
-        state: Trits::Any,
-        result: VNext::Keep,
-    })
 }

@@ -1,10 +1,10 @@
 //! The symbols of VITAL's tables for the places of a cube.
 ghost use Rattle.std.specs.Prelude.{◌≡◌};
-ghost use Rattle.vital_tables.specs.Rows.{next_to};
+ghost use Rattle.vital_tables.specs.Rows.{edge_symbol, next_to};
 
 use crate::table::{Trits, VNext, VSymbol};
 use trit_cubes::Trit;
-use udp_tables::{ChangeSymbol, PlaceSymbol};
+use udp_tables::PlaceSymbol;
 
 impl PlaceSymbol for Trits {
     ghost use Rattle.vital_tables.specs.Rows.{level_of};
@@ -30,21 +30,18 @@ impl PlaceSymbol for VSymbol {
     }
 }
 
-impl ChangeSymbol for VSymbol {
-    ghost use Rattle.vital_tables.specs.Rows.{edge_symbol};
-
-    ghost of_change = { edge_symbol };
-
-    fn of_change(old: Trit, new: Trit) -> VSymbol {
-        match (old, new) {
-            (Trit::Zero, Trit::One) => VSymbol::Rise,
-            (Trit::Zero, Trit::Zero | Trit::Unknown) => VSymbol::From0,
-            (Trit::One, Trit::Zero) => VSymbol::Fall,
-            (Trit::One, Trit::One | Trit::Unknown) => VSymbol::From1,
-            (Trit::Unknown, Trit::Zero) => VSymbol::To0,
-            (Trit::Unknown, Trit::One) => VSymbol::To1,
-            (Trit::Unknown, Trit::Unknown) => VSymbol::Change,
-        }
+/// The symbol for a change from the value of one place to that of another one, each free where it is unknown.
+pub(crate) fn edge_symbol(old: Trit, new: Trit) -> VSymbol
+    ensures { result ≡ edge_symbol old new }
+{
+    match (old, new) {
+        (Trit::Zero, Trit::One) => VSymbol::Rise,
+        (Trit::Zero, Trit::Zero | Trit::Unknown) => VSymbol::From0,
+        (Trit::One, Trit::Zero) => VSymbol::Fall,
+        (Trit::One, Trit::One | Trit::Unknown) => VSymbol::From1,
+        (Trit::Unknown, Trit::Zero) => VSymbol::To0,
+        (Trit::Unknown, Trit::One) => VSymbol::To1,
+        (Trit::Unknown, Trit::Unknown) => VSymbol::Change,
     }
 }
 

@@ -16,7 +16,7 @@ use std::alloc::{AllocError, Global};
 use std::test::Fail;
 use stimulus::first_difference;
 use table_interpreters::{VerilogSim, VitalSim};
-use vital_models::{VEntity, vital_model};
+use vital_models::{ModelParts, VEntity, vital_model};
 
 /// The first cell of a library in picoseconds.
 pub fn first_cell(alloc: Global, text: &str) -> Result<Cell, Fail> {
@@ -30,7 +30,8 @@ pub fn first_cell(alloc: Global, text: &str) -> Result<Cell, Fail> {
 fn sound_module(alloc: Global, cell: &Cell) -> Result<VModule, Fail>
     ensures { IfOk result (λ model. IsSoundModule model) }
 {
-    let model = verilog_model(alloc, cell)?;
+    let parts = ModelParts::of(alloc, cell)?;
+    let model = verilog_model(&parts.source())?;
     Ok(model)
 }
 
@@ -38,7 +39,8 @@ fn sound_module(alloc: Global, cell: &Cell) -> Result<VModule, Fail>
 fn sound_entity(alloc: Global, cell: &Cell) -> Result<VEntity, Fail>
     ensures { IfOk result (λ entity. IsSoundEntity entity) }
 {
-    let entity = vital_model(alloc, cell, cell.name.as_slice())?;
+    let parts = ModelParts::of(alloc, cell)?;
+    let entity = vital_model(&parts.source(), cell.name.as_slice())?;
     Ok(entity)
 }
 

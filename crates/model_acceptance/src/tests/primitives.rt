@@ -6,7 +6,7 @@ ghost use Rattle.udp_tables.specs.CellPrimitives.{IsPart};
 use super::alike::first_cell;
 use bool_functions::Names;
 use cell_machine::Cell;
-use cell_tables::{combinational_udp, sequential_udp};
+use cell_tables::{ModelParts, part_udp, sequential_udp};
 use std::alloc::Global;
 use std::test::Fail;
 use udp_tables::{Entry, Level, Next, Part, UdpRow};
@@ -73,7 +73,8 @@ fn has_state(alloc: Global, cell: &Cell, wanted: &[Row<'_>]) -> Result<bool, Fai
     if cell.groups.is_empty() {
         return Ok(false);
     }
-    let udp = sequential_udp(alloc, cell, 0)?;
+    let parts = ModelParts::of(alloc, cell)?;
+    let udp = sequential_udp(&parts.source(), 0)?;
     Ok(udp.sequential && are_rows(udp.rows.as_slice(), wanted))
 }
 
@@ -92,7 +93,8 @@ fn has_output(alloc: Global, cell: &Cell, wanted: &[Row<'_>]) -> Result<bool, Fa
     if !has_sources(cell) {
         return Ok(false);
     }
-    let udp = combinational_udp(alloc, cell, Part::Output(0))?;
+    let parts = ModelParts::of(alloc, cell)?;
+    let udp = part_udp(&parts.source(), Part::Output(0))?;
     Ok(!udp.sequential && are_rows(udp.rows.as_slice(), wanted))
 }
 

@@ -6,7 +6,7 @@ use Rattle.cell_translation.proofs.ModelTexts.{vital_on, vital_first}
 use Rattle.cell_translation.proofs.models.write_vital.Goals as goal
 
 pub write_vital_drivers-requires : goal.write_vital_drivers-requires
-write_vital_drivers-requires g c = still_bound_all _ _ _ (Output VitalText) c.in_ok-write_core_entity.ensures.text.whole c.requires
+write_vital_drivers-requires g c = still_bound_all _ _ _ (Output VitalText) c.in_ok-write_core_entity.ensures.text.whole c.requires.bound
 
 pub returns-in_err-write_core_entity-clause-text : goal.returns-in_err-write_core_entity-clause-text
 unfolding vital_text

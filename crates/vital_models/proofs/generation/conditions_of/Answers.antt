@@ -19,9 +19,8 @@ pub condition_of-requires : goal.condition_of-requires
 condition_of-requires c =
     let trees = conditions_of (data_of c.args.from.now.cell.now) in
     let within : c.loop-i.i < length trees
-    = omega (arith, c.loop-i-test.true, ap length c.requires, length-map c.args.from.now.conditions.now (λ f. f.now)) in
+    = omega (arith, c.loop-i-test.true, ap length c.args.from.now.are_conditions, length-map c.args.from.now.conditions.now (λ f. f.now)) in
     record {
-      all = c.requires;
       number = within;
-      is = condition-item c.args.from.now.conditions.now (λ f. f.now) trees c.loop-i.i c.index-conditions-i.result node.Zero c.requires within c.index-conditions-i.is;
+      is = condition-item c.args.from.now.conditions.now (λ f. f.now) trees c.loop-i.i c.index-conditions-i.result node.Zero c.args.from.now.are_conditions within c.index-conditions-i.is;
     }

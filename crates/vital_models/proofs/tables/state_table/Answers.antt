@@ -10,7 +10,7 @@ use Rattle.vital_models.proofs.tables.state_table.Goals as goal
 
 pub returns : goal.returns
 returns c =
-    let cell = data_of c.args.cell.now in
+    let cell = data_of c.args.from.now.cell.now in
     let g = c.args.group in
     let n = length (support_at cell g) in
     let step = step_at cell g in

@@ -1,0 +1,19 @@
+use Rattle.std.proofs.Common.{◌≡◌, ◌+◌, suc, length, ◌∙◌, subst, rules, arith}
+use Rattle.trit_cubes.specs.Sets.{AreValuesOf}
+use Rattle.cell_machine.specs.Machine.{edge_value}
+use Rattle.cell_machine.specs.CellData.{data_of}
+use Rattle.cell_machine.specs.CellTrace.{step_at, support_at}
+use Rattle.cell_tables.proofs.GroupPlaces.{pins-counted}
+use Rattle.cell_tables.proofs.change_cubes.change_values.Goals as goal
+
+pub returns : goal.returns
+returns c =
+    let cell = data_of c.args.steps.now.cell.now in
+    let f = edge_value (step_at cell c.args.steps.now.group) c.args.place in
+    let pins : c.len-pins.result ≡ length (support_at cell c.args.steps.now.group) = pins-counted cell c.args.steps.now.group _ _ c.len-pins.ensures c.group.ensures.is in
+    let places : c.len-pins.result + 2 ≡ suc (suc (length (support_at cell c.args.steps.now.group))) = omega (arith, pins) in
+    let values = c.in_ok-values.ensures.values f
+    (record {
+      at_point = λ p long t says. let wide : length p ≡ suc (suc (length (support_at cell c.args.steps.now.group))) = long ∙ places in search rules;
+    }) in
+    subst (λ n. AreValuesOf n f c.in_ok-values.values.items) places values

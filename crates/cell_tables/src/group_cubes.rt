@@ -1,0 +1,75 @@
+//! The cubes of a group's step.
+ghost use Rattle.std.specs.Prelude.{◌≡◌, ◌<◌, length, IfOk};
+ghost use Rattle.trit_cubes.specs.Sets.{AreValuesOf};
+ghost use Rattle.cell_machine.specs.Machine.{forced_at};
+ghost use Rattle.cell_machine.specs.CellData.{data_of};
+ghost use Rattle.cell_machine.specs.CellTrace.{support_at, step_at};
+ghost use Rattle.cell_tables.specs.Cubes.{function_cubes, change_cubes, cubes_of_group};
+
+use crate::change_cubes::add_cubes_of_input;
+use crate::cubes::{ChangeCube, FunctionCubes, GroupCubes};
+use crate::function_cubes::function_cubes;
+use crate::points::forced_to;
+use cell_machine::Cell;
+use sqlite_items::Items;
+use std::alloc::{AllocError, Global};
+use step_tables::StepTable;
+use trit_cubes::{Trit, values_of};
+
+/// The cubes of a group.
+pub(crate) fn group_cubes(
+    alloc: Global,
+    cell: &Cell,
+    group: usize,
+) -> Result<GroupCubes, AllocError>
+    requires { group < length cell.now.groups }
+    ensures { IfOk result (λ cubes. cubes ≡ cubes_of_group (data_of cell.now) group) }
+{
+    let steps = StepTable::of(cell, group);
+    let cubes = cubes_of_steps(alloc, &steps)?;
+    Ok(cubes)
+}
+
+/// The cubes of a group by its steps.
+fn cubes_of_steps(alloc: Global, steps: &StepTable<'_>) -> Result<GroupCubes, AllocError>
+    ensures { IfOk result (λ cubes. cubes ≡ cubes_of_group (data_of steps.now.cell.now) steps.now.group) }
+{
+    Ok(GroupCubes {
+        forced: forced_cubes(alloc, steps)?,
+        changes: change_cubes(alloc, steps)?,
+    })
+}
+
+/// The cubes of the points that force the state of a group.
+fn forced_cubes(alloc: Global, steps: &StepTable<'_>) -> Result<FunctionCubes, AllocError>
+    ensures { IfOk result (λ cubes. cubes ≡ function_cubes
+        (length (support_at (data_of steps.now.cell.now) steps.now.group))
+        (forced_at (step_at (data_of steps.now.cell.now) steps.now.group))) }
+{
+    let places = steps.cell.group(steps.group).support.len();
+    let values = forced_values(alloc, steps)?;
+    let cubes = function_cubes(alloc, places, &values)?;
+    Ok(cubes)
+}
+
+/// The values to which the points force the state of a group.
+fn forced_values(alloc: Global, steps: &StepTable<'_>) -> Result<Vec<Trit>, AllocError>
+    ensures { IfOk result (λ values. AreValuesOf (length (support_at (data_of steps.now.cell.now) steps.now.group))
+        (forced_at (step_at (data_of steps.now.cell.now) steps.now.group)) values.items) }
+{
+    let pins = steps.cell.group(steps.group).support.len();
+    let values = values_of(alloc, pins, &|point: &[bool]| { forced_to(steps, point) })?;
+    Ok(values)
+}
+
+/// The cubes of the changes of each input.
+fn change_cubes(alloc: Global, steps: &StepTable<'_>) -> Result<Items<ChangeCube>, AllocError>
+    ensures { IfOk result (λ cubes. cubes ≡ change_cubes (step_at (data_of steps.now.cell.now) steps.now.group)
+        (length (support_at (data_of steps.now.cell.now) steps.now.group))) }
+{
+    let mut cubes = Items::new(alloc);
+    for place in 0..steps.cell.group(steps.group).support.len() {
+        add_cubes_of_input(alloc, &mut cubes, steps, place)?;
+    }
+    Ok(cubes)
+}

@@ -10,6 +10,8 @@ pub mod TimingFacts
 pub mod RuleLemmas
 pub mod LeastLemmas
 pub mod ArcDelays
+pub mod EntryPlaces
+pub mod PairArcs
 pub mod KeptValues
 pub mod Tables
 pub mod EachLemmas

@@ -14,6 +14,8 @@ pub mod Inputs
 pub mod CellData
 pub mod CellTrace
 pub mod KeptConditions
+pub mod Places
+pub mod ArcPlaces
 pub mod OutputTables
 pub mod StepTables
 pub mod ArcDelay

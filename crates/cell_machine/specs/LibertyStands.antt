@@ -9,7 +9,7 @@ use Rattle.cell_machine.specs.CellData.{CellData}
 use Rattle.cell_machine.specs.History.{inputs_after}
 use Rattle.cell_machine.specs.Times.{times_after}
 use Rattle.cell_machine.specs.CellTrace.{inputs_of, check_names, arc_names, reports_of, states_after, output_after, delay_after}
-use Rattle.cell_machine.specs.KeptConditions.{arc_inputs, AreKept}
+use Rattle.cell_machine.specs.KeptConditions.{AreConditions}
 pub use Rattle.cell_machine.specs.Sized.{cell_machine_sized}
 
 -- what an output shows after a history
@@ -18,15 +18,14 @@ shown_after cell h output = record { value = output_after cell h output; delay =
 
 -- The simulator of a cell stands after a history: its fields are what the machine gives there, and the values of
 -- conditions that it keeps are those there.
-pub record Stands (cell : CellData) (names_of_checks names_of_arcs inputs_of_arcs : List (List ℕ)) (inputs : List Trit)
+pub record Stands (cell : CellData) (names_of_checks names_of_arcs : List (List ℕ)) (inputs : List Trit)
     (times : List Times) (states : List Trit) (reports : List Bool) (shown : List Shown) (kept : List (Option Trit))
     (h : List Change) : Type 0 where
   pub check_names_are : names_of_checks ≡ check_names cell
   pub arc_names_are : names_of_arcs ≡ arc_names cell
-  pub arc_inputs_are : inputs_of_arcs ≡ arc_inputs cell
   pub inputs_are : inputs ≡ inputs_after (inputs_of cell) h
   pub times_are : times ≡ times_after (inputs_of cell) h
   pub states_are : states ≡ states_after cell h
   pub reports_are : reports ≡ reports_of cell h
   pub shown_are : shown ≡ map (shown_after cell h) cell.outputs
-  pub kept_are : AreKept cell.pins inputs cell.arcs kept
+  pub kept_are : AreConditions cell.pins inputs cell.arcs kept

@@ -4,8 +4,11 @@ ghost use Rattle.trit_cubes.specs.declared.trits.Trit.TheVariants.{Unknown};
 ghost use Rattle.cell_machine.specs.Inputs.{input_number};
 ghost use Rattle.cell_machine.specs.Times.{no_times};
 ghost use Rattle.cell_machine.specs.CellData.{data_of};
+ghost use Rattle.cell_machine.specs.CellTrace.{arc_names};
+ghost use Rattle.cell_machine.specs.ArcPlaces.{AreArcPlaces};
 ghost use Rattle.cell_machine.specs.CellStarts.{IsCellStart};
 
+use crate::arc_places::ArcPlaces;
 use crate::cells::Cell;
 use crate::condition_names::{arc_inputs, arc_names, check_names};
 use crate::group_tables::step_tables;
@@ -24,8 +27,8 @@ pub struct CellStart {
     pub check_names: Items<Items<usize>>,
     /// For each arc the pins that its condition names.
     pub arc_names: Items<Items<usize>>,
-    /// For each arc the inputs that its condition names, by their numbers.
-    pub arc_inputs: Items<Items<usize>>,
+    /// The numbers of the arcs by inputs and outputs.
+    pub places: ArcPlaces,
     /// For each output the values of its function at all points of its support.
     pub outputs: Items<Items<Trit>>,
     /// For each group and each place of its support the values of the group's step at all points.
@@ -42,7 +45,7 @@ impl CellStart {
     {
         let check_names = check_names(alloc, cell)?;
         let arc_names = arc_names(alloc, cell)?;
-        let arc_inputs = arc_inputs(alloc, cell, arc_names.as_slice())?;
+        let places = arc_places(alloc, cell, arc_names.as_slice())?;
         let outputs = output_tables(alloc, cell)?;
         let steps = step_tables(alloc, cell)?;
         let values = StartValues::of(alloc, cell)?;
@@ -56,12 +59,21 @@ impl CellStart {
         Ok(CellStart {
             check_names,
             arc_names,
-            arc_inputs,
+            places,
             outputs,
             steps,
             shown,
         })
     }
+}
+
+/// The numbers of a cell's arcs by inputs and outputs, of the pins that their conditions name.
+fn arc_places(alloc: Global, cell: &Cell, names: &[Items<usize>]) -> Result<ArcPlaces, AllocError>
+    requires { names.now ≡ arc_names (data_of cell.now) }
+    ensures { IfOk result (AreArcPlaces (data_of cell.now)) }
+{
+    let inputs = arc_inputs(alloc, cell, names)?;
+    ArcPlaces::of(alloc, cell, inputs.as_slice())
 }
 
 /// What a cell's simulator keeps beside what its outputs show, before any change.

@@ -2,6 +2,7 @@
 //! that may be unknown.
 #![tactic(auto)]
 
+mod arc_places;
 mod arcs;
 mod cell_start;
 mod cells;
@@ -36,6 +37,7 @@ mod tabled;
 mod times;
 mod values;
 
+pub use arc_places::ArcPlaces;
 pub use arcs::Arc;
 pub use cell_start::CellStart;
 pub use cells::Cell;

@@ -4,6 +4,7 @@ ghost use Rattle.cell_machine.specs.Report.{any_true};
 ghost use Rattle.cell_machine.specs.CellData.{data_of};
 ghost use Rattle.cell_machine.specs.CellTrace.{inputs_of, cell_machine_of};
 ghost use Rattle.cell_machine.specs.CellStarts.{IsCellStart};
+ghost use Rattle.cell_machine.specs.ArcPlaces.{AreArcPlaces};
 ghost use Rattle.cell_machine.specs.OutputTables.{AreOutputTables};
 ghost use Rattle.cell_machine.specs.StepTables.{AreStepTables};
 ghost use Rattle.cell_machine.specs.LibertyStands.{Stands, cell_machine_sized};
@@ -11,6 +12,7 @@ ghost use Rattle.cell_machine.specs.LibertyStands.{Stands, cell_machine_sized};
 use crate::cell_start::{CellStart, StartValues};
 use crate::cells::Cell;
 use crate::changes::Change;
+use crate::entries::entry;
 use crate::kept_conditions::forget;
 use crate::reports::report_all;
 use crate::shared::Shared;
@@ -36,6 +38,7 @@ pub struct LibertySim<'a> {
     shown: Items<Shown>,
     kept: Items<Option<Trit>>,
     ghost tabled_outputs: { AreOutputTables (data_of cell.now) known.outputs },
+    ghost placed_arcs: { AreArcPlaces (data_of cell.now) known.places },
     ghost tabled_steps: { AreStepTables (data_of cell.now) known.steps },
     ghost each_input: { length inputs ≡ inputs_of (data_of cell.now) },
     ghost each_time: { length times ≡ inputs_of (data_of cell.now) },
@@ -82,8 +85,8 @@ impl<'a> LibertySim<'a> {
 impl<'a> CellSim for LibertySim<'a> {
     ghost machine = { λ s. cell_machine_of (data_of s.cell.now) };
 
-    ghost stands = { λ s h. Stands (data_of s.cell.now) s.known.check_names s.known.arc_names s.known.arc_inputs s.inputs s.times
-        s.states s.reports s.shown s.kept h };
+    ghost stands = { λ s h. Stands (data_of s.cell.now) s.known.check_names s.known.arc_names s.inputs s.times s.states
+        s.reports s.shown s.kept h };
 
     fn sizes(&self) -> Sizes {
         Sizes {
@@ -120,13 +123,14 @@ impl<'a> CellSim for LibertySim<'a> {
         let steps = &self.known.get().steps;
         change_states(self.cell, steps, &seen, &mut self.states);
         self.times.set(pin, times);
-        let named = self.known.get().arc_inputs.as_slice();
-        forget(named, pin, &mut self.kept);
+        let places = &self.known.get().places;
+        forget(entry(&places.naming, pin).as_slice(), &mut self.kept);
         let arcs = self.known.get().arc_names.as_slice();
         let states = self.states.as_slice();
         let seen = ShownChange {
             outputs: &self.known.get().outputs,
             names: arcs,
+            places: entry(&places.between, pin),
             inputs,
             states,
             change,

@@ -1,7 +1,6 @@
-use Rattle.std.proofs.Common.{length, map, refl, ap, ◌∙◌}
+use Rattle.std.proofs.Common.{length, refl}
 use Rattle.cell_machine.specs.CellData.{data_of}
 use Rattle.cell_machine.specs.Inputs.{input_number}
-use Rattle.cell_machine.proofs.KeptValues.{named_inputs}
 use Rattle.cell_machine.proofs.Standing.{start-shown}
 use Rattle.cell_machine.proofs.cell_start.CellStart.of.Goals as goal
 
@@ -14,9 +13,7 @@ returns c =
     record {
       check_names_are = c.in_ok-check_names.ensures;
       arc_names_are = c.in_ok-arc_names.ensures;
-      arc_inputs_are =
-          c.in_ok-arc_inputs.ensures
-          ∙ (ap (map (map (input_number cell.pins))) (c.as_slice.ensures ∙ c.in_ok-arc_names.ensures) ∙ named_inputs cell.pins cell.arcs);
+      places_are = c.in_ok-places.ensures;
       outputs_are = c.in_ok-outputs.ensures;
       steps_are = c.in_ok-steps.ensures;
       shown_are =

@@ -102,14 +102,14 @@ entries-get xs (place ∷ places) (suc j) below inside =
 
 -- an entry that passes the test has its number among them
 
-eqb-self : (n : ℕ) → eqb n n ≡ true
+pub eqb-self : (n : ℕ) → eqb n n ≡ true
 eqb-self n = grind (arith, nat_tests)
 
 has-later : (k i : ℕ) (b : Bool) (places : List ℕ) → has places i ≡ true → has (cond b (k ∷ places) places) i ≡ true
 has-later k i true places h = ap (λ c. eqb k i || c) h ∙ or-true (eqb k i)
 has-later k i false places h = h
 
-has-from :
+pub has-from :
     {X : Type 0} (t : X → Bool) (k : ℕ) (xs : List X) (j : ℕ) (x : X)
     → slice_get xs j ≡ Some x → t x ≡ true → has (places_from t k xs) (k + j) ≡ true
 has-from t k [] j x e p = absurd cc
@@ -133,3 +133,8 @@ not-placed t xs j x e none =
       | true ↦ λ p. sym (has-from t 0 xs j x e p) ∙ (ap (has (places_from t 0 xs)) (sym here) ∙ none)
       | false ↦ λ p. refl
     ] refl
+
+-- the first number, where there is one
+pub take-first : (places : List ℕ) (first : ℕ) → slice_get places 0 ≡ Some first → take 1 places ≡ first ∷ []
+take-first [] first e = absurd cc
+take-first (place ∷ places) first e = let same : place ≡ first = cc in ap (λ m. m ∷ []) same

@@ -111,7 +111,7 @@ values-stay pins v (name ∷ names) input to e =
     let rest = values-stay pins v names input to parts.1 in
     λ i. here i ∷ rest i
 
-condition-stays :
+pub condition-stays :
     (pins : List Pin) (v : List Trit) (condition : Option Node) (input : ℕ) (to : Trit)
     → has (condition_inputs pins condition) input ≡ false
     → arc_condition pins (set v input to) condition ≡ arc_condition pins v condition
@@ -120,7 +120,7 @@ condition-stays pins v (Some f) input to e =
     ap (res (condition_at (support_of f) f)) (values-stay pins v (support_of f) input to e)
 
 -- what is kept of the conditions that do not name an input that changes
-unless-some :
+pub unless-some :
     {V : Type 0} (b : Bool) (k : Option V) (value : V) → kept_unless b k ≡ Some value → (b ≡ false) × (k ≡ Some value)
 unless-some true k value e = absurd cc
 unless-some false k value e = (refl, e)

@@ -12,6 +12,7 @@ pub mod LeastLemmas
 pub mod ArcDelays
 pub mod EntryPlaces
 pub mod PairArcs
+pub mod KeptPairs
 pub mod KeptValues
 pub mod Tables
 pub mod EachLemmas

@@ -1,7 +1,7 @@
 -- The arcs of one pair of pins decide which of them are active.
 use Rattle.std.proofs.Common.{◌≡◌, ℕ, Bool, true, false, not, ◌&&◌, ◌||◌, cond, List, [], ◌∷◌, map, refl, sym, ap, ◌∙◌, Option, Some, None}
-use Rattle.std.proofs.Common.{nat_eq}
-use Rattle.std.specs.Prelude.{filter}
+use Rattle.std.proofs.Common.{nat_eq, slice_get, if◌then◌else◌}
+use Rattle.std.specs.Prelude.{filter, unwrap_or}
 use Rattle.std.specs.List.{list_all}
 use Rattle.std.proofs.lemmas.Bool.{and_parts, eqb-true}
 use Rattle.trit_cubes.specs.declared.trits.Trit.{Trit}
@@ -11,6 +11,7 @@ use Rattle.cell_machine.specs.declared.pins.Pin.{Pin}
 use Rattle.cell_machine.specs.declared.arcs.Arc.{Arc}
 use Rattle.cell_machine.specs.CellData.{CellData}
 use Rattle.cell_machine.specs.Inputs.{input_number}
+use Rattle.cell_machine.specs.Edges.{is_rise}
 use Rattle.cell_machine.specs.Delay.{Path, least, active_delays, least_delay}
 use Rattle.cell_machine.specs.Places.{entries_at}
 use Rattle.cell_machine.specs.ArcDelay.{least_delays, delay_by}
@@ -115,3 +116,15 @@ pair-delay cell v input pin places a b are =
     delay_by a b (record { rise = least (active_delays Zero One paths); fall = least (active_delays One Zero paths) }))
     (paths-pair cell.pins v input pin cell.arcs cell.arcs)
     ∙ by-edge a b (paths_between cell.pins cell.arcs v input pin)
+
+-- two pins without an arc
+no-delay : (b : Bool) (delay : Option ℕ) → delay ≡ None → unwrap_or (if b then delay else delay) 0 ≡ 0
+no-delay true delay e = ap (λ o. unwrap_or o 0) e
+no-delay false delay e = ap (λ o. unwrap_or o 0) e
+
+pub pair-none :
+    (cell : CellData) (v : List Trit) (input pin : ℕ) (places : List ℕ) (a b : Trit)
+    → slice_get places 0 ≡ None → places ≡ arcs_between cell input pin
+    → 0 ≡ least_delay a b (paths_between cell.pins cell.arcs v input pin)
+pair-none cell v input pin [] a b e are = sym (no-delay (is_rise a b) None refl) ∙ pair-delay cell v input pin [] a b are
+pair-none cell v input pin (place ∷ places) a b e are = absurd cc

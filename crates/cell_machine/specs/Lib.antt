@@ -16,6 +16,7 @@ pub mod CellTrace
 pub mod KeptConditions
 pub mod Places
 pub mod ArcPlaces
+pub mod KeptArcs
 pub mod OutputTables
 pub mod StepTables
 pub mod ArcDelay

@@ -12,6 +12,7 @@ use crate::arc_places::ArcPlaces;
 use crate::cells::Cell;
 use crate::condition_names::{arc_inputs, arc_names, check_names};
 use crate::group_tables::step_tables;
+use crate::kept_arcs::KeptArcs;
 use crate::output_tables::output_tables;
 use crate::pin_values::input_number;
 use crate::shown::{Shown, show_start};
@@ -83,12 +84,12 @@ pub(crate) struct StartValues {
     pub times: Items<Times>,
     pub states: Items<Trit>,
     pub reports: Items<bool>,
-    pub kept: Items<Option<Trit>>,
+    pub kept: KeptArcs,
 }
 
 impl StartValues {
-    /// Those of a cell: all inputs and all states are unknown, there was no event, no check reports, and no
-    /// condition's value is kept.
+    /// Those of a cell: all inputs and all states are unknown, there was no event, no check reports, and
+    /// nothing is kept of the arcs.
     pub(crate) fn of(alloc: Global, cell: &Cell) -> Result<StartValues, AllocError>
         ensures inputs { IfOk result (λ start. start.inputs ≡ replicate (input_number cell.now.pins (length cell.now.pins))
             Unknown) }
@@ -96,14 +97,17 @@ impl StartValues {
             no_times) }
         ensures states { IfOk result (λ start. start.states ≡ replicate (length cell.now.groups) Unknown) }
         ensures reports { IfOk result (λ start. start.reports ≡ replicate (length cell.now.checks) false) }
-        ensures kept { IfOk result (λ start. start.kept ≡ replicate (length cell.now.arcs) None) }
+        ensures kept { IfOk result (λ start. start.kept ≡ record {
+          conditions = replicate (length cell.now.arcs) None;
+          delays = replicate (length cell.now.arcs) None;
+        }) }
     {
         let count = input_number(cell.pins.as_slice(), cell.pins.len());
         let inputs = vec![in alloc; Trit::Unknown; count]?;
         let times = vec![in alloc; Times::none(); count]?;
         let states = vec![in alloc; Trit::Unknown; cell.groups.len()]?;
         let reports = vec![in alloc; false; cell.checks.len()]?;
-        let kept = nothing_kept(alloc, cell.arcs.len())?;
+        let kept = KeptArcs::none(alloc, cell.arcs.len())?;
         Ok(StartValues {
             inputs: Items::from_vec(inputs),
             times: Items::from_vec(times),
@@ -112,12 +116,4 @@ impl StartValues {
             kept,
         })
     }
-}
-
-/// Nothing of so many values.
-fn nothing_kept(alloc: Global, count: usize) -> Result<Items<Option<Trit>>, AllocError>
-    ensures { IfOk result (λ kept. kept ≡ replicate count None) }
-{
-    let kept = vec![in alloc; None; count]?;
-    Ok(Items::from_vec(kept))
 }

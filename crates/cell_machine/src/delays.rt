@@ -10,10 +10,12 @@ ghost use Rattle.cell_machine.specs.CellData.{data_of};
 ghost use Rattle.cell_machine.specs.CellTrace.{arc_names, is_active, paths_between, is_quiet};
 ghost use Rattle.cell_machine.specs.Outputs.{is_zero};
 ghost use Rattle.cell_machine.specs.KeptConditions.{AreConditions};
+ghost use Rattle.cell_machine.specs.KeptArcs.{IsPair, AreKeptArcs};
 
 use crate::arcs::Arc;
 use crate::cells::Cell;
 use crate::edges::is_rise;
+use crate::kept_arcs::KeptArcs;
 use crate::kept_conditions::kept_condition;
 use sqlite_items::Items;
 use trit_cubes::Trit;
@@ -199,23 +201,51 @@ fn least_delays(
     best
 }
 
+/// The same, of two pins whose first arc has the number `first`. They are found where none are kept, and then kept.
+fn kept_delays(
+    cell: &Cell,
+    names: &[Items<usize>],
+    places: &[usize],
+    first: usize,
+    inputs: &[Trit],
+    kept: &mut KeptArcs,
+) -> Delays
+    requires names { names.now ≡ arc_names (data_of cell.now) }
+    requires pair { IsPair (data_of cell.now) places.now }
+    requires first { slice_get places.now 0 ≡ Some first }
+    requires inside { first < length cell.now.arcs }
+    requires kept { AreKeptArcs (data_of cell.now) inputs.now kept.old }
+    ensures delays { result ≡ least_delays_of cell.now.pins (entries_at cell.now.arcs places.now) inputs.now }
+    ensures kept { AreKeptArcs (data_of cell.now) inputs.now kept.new }
+{
+    if let Some(delays) = kept.delays.as_slice()[first] {
+        return delays;
+    }
+    let delays = least_delays(cell, names, places, inputs, &mut kept.conditions);
+    kept.delays.set(first, Some(delays));
+    delays
+}
+
 /// The delay of a change of an output from one value to another: the least over the active arcs with these numbers, 0 where none
-/// is active. `names` are those of the arcs' conditions, and `kept` what is kept of their values.
+/// is active. `names` are those of the arcs' conditions, and `kept` what is kept of the arcs.
 pub fn least_delay(
     cell: &Cell,
     names: &[Items<usize>],
     places: &[usize],
     inputs: &[Trit],
-    kept: &mut Items<Option<Trit>>,
+    kept: &mut KeptArcs,
     from: Trit,
     to: Trit,
 ) -> u64
     requires names { names.now ≡ arc_names (data_of cell.now) }
-    requires below { AreBelow (length cell.now.arcs) places.now }
-    requires kept { AreConditions cell.now.pins inputs.now cell.now.arcs kept.old }
+    requires pair { IsPair (data_of cell.now) places.now }
+    requires kept { AreKeptArcs (data_of cell.now) inputs.now kept.old }
     ensures delay { (input pin : ℕ) → places.now ≡ arcs_between (data_of cell.now) input pin
         → result ≡ least_delay from to (paths_between cell.now.pins cell.now.arcs inputs.now input pin) }
-    ensures kept { AreConditions cell.now.pins inputs.now cell.now.arcs kept.new }
+    ensures kept { AreKeptArcs (data_of cell.now) inputs.now kept.new }
 {
-    least_delays(cell, names, places, inputs, kept).of(from, to)
+    match places.first() {
+        Some(first) => kept_delays(cell, names, places, *first, inputs, kept).of(from, to),
+        None => 0,
+    }
 }

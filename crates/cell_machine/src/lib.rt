@@ -18,6 +18,7 @@ mod fillings;
 mod group_steps;
 mod group_tables;
 mod groups;
+mod kept_arcs;
 mod kept_conditions;
 mod laws;
 pub mod least;
@@ -50,6 +51,7 @@ pub use evaluation::output_at;
 pub use few::Few;
 pub use group_steps::{boolean_step, forced};
 pub use groups::{Both, Clocked, Gated, GroupKind, StateGroup};
+pub use kept_arcs::KeptArcs;
 pub use laws::{
     fewer_unknowns_keep_outputs, forced_is_step, fronts_have_fronts, last_line_is_of_history,
     report_is_whole_list, same_value_changes_nothing, times_decide_reports,

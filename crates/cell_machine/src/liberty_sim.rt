@@ -13,6 +13,7 @@ use crate::cell_start::{CellStart, StartValues};
 use crate::cells::Cell;
 use crate::changes::Change;
 use crate::entries::entry;
+use crate::kept_arcs::KeptArcs;
 use crate::kept_conditions::forget;
 use crate::reports::report_all;
 use crate::shared::Shared;
@@ -25,8 +26,8 @@ use std::alloc::{AllocError, Global};
 use trit_cubes::Trit;
 
 /// A cell run by its own machine. It keeps the values of the inputs, the states and what the outputs show, and for each
-/// input the times of its last change, of its last possible rise and of its last possible fall. Of the conditions of the arcs
-/// it keeps the values until an input changes that they name.
+/// input the times of its last change, of its last possible rise and of its last possible fall. Of the arcs it
+/// keeps the values of their conditions and the least delays of two pins until an input changes on which they hang.
 #[derive(Drop)]
 pub struct LibertySim<'a> {
     cell: &'a Cell,
@@ -36,7 +37,7 @@ pub struct LibertySim<'a> {
     states: Items<Trit>,
     reports: Items<bool>,
     shown: Items<Shown>,
-    kept: Items<Option<Trit>>,
+    kept: KeptArcs,
     ghost tabled_outputs: { AreOutputTables (data_of cell.now) known.outputs },
     ghost placed_arcs: { AreArcPlaces (data_of cell.now) known.places },
     ghost tabled_steps: { AreStepTables (data_of cell.now) known.steps },
@@ -124,7 +125,10 @@ impl<'a> CellSim for LibertySim<'a> {
         change_states(self.cell, steps, &seen, &mut self.states);
         self.times.set(pin, times);
         let places = &self.known.get().places;
-        forget(entry(&places.naming, pin).as_slice(), &mut self.kept);
+        let naming = entry(&places.naming, pin).as_slice();
+        forget(naming, &mut self.kept.conditions);
+        let firsts = entry(&places.firsts, pin).as_slice();
+        forget(firsts, &mut self.kept.delays);
         let arcs = self.known.get().arc_names.as_slice();
         let states = self.states.as_slice();
         let seen = ShownChange {

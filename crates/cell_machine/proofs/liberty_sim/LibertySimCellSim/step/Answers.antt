@@ -8,9 +8,11 @@ use Rattle.cell_machine.specs.Times.{no_times, stamped}
 use Rattle.cell_machine.specs.Places.{AreBelow}
 use Rattle.cell_machine.specs.CellData.{data_of}
 use Rattle.cell_machine.specs.CellTrace.{inputs_of}
-use Rattle.cell_machine.specs.KeptConditions.{AreConditions, kept_unless, arc_inputs}
+use Rattle.cell_machine.specs.KeptConditions.{kept_unless, arc_inputs}
+use Rattle.cell_machine.specs.KeptArcs.{AreKeptArcs}
+use Rattle.cell_machine.proofs.KeptPairs.{delays_changed, firsts-below}
 use Rattle.cell_machine.specs.Names.{has}
-use Rattle.cell_machine.specs.ArcPlaces.{arcs_naming, arcs_from}
+use Rattle.cell_machine.specs.ArcPlaces.{arcs_naming, arcs_from, firsts_naming}
 use Rattle.cell_machine.proofs.RuleLemmas.{checks_hold}
 use Rattle.cell_machine.proofs.EntryPlaces.{places-below}
 use Rattle.cell_machine.proofs.KeptValues.{kept_changed, range-at}
@@ -51,6 +53,14 @@ pub entry-requires-2 : goal.entry-requires-2
 entry-requires-2 c =
     let sim = c.args.self.now in
     let cell = data_of sim.cell.now in
+    let long = ap length sim.placed_arcs.firsts_are ∙ length-map-range_with_len (firsts_naming cell) 0 (inputs_of cell) in
+    let inside : c.args.pin < length sim.known.places.firsts = omega (arith, c.requires.pin, long) in
+    subst (λ (k : CellStart). c.args.pin < length k.places.firsts) (sym c.get-3.ensures) inside
+
+pub entry-requires-3 : goal.entry-requires-3
+entry-requires-3 c =
+    let sim = c.args.self.now in
+    let cell = data_of sim.cell.now in
     let long = ap length sim.placed_arcs.between_are ∙ length-map-range_with_len (arcs_from cell) 0 (inputs_of cell) in
     let inside : c.args.pin < length sim.known.places.between = omega (arith, c.requires.pin, long) in
     subst (λ (k : CellStart). c.args.pin < length k.places.between) (sym c.get-3.ensures) inside
@@ -61,16 +71,28 @@ forget-requires c =
     let cell = data_of sim.cell.now in
     let stood = c.requires.time.1.0 in
     let entry = subst (λ (k : CellStart). slice_get k.places.naming c.args.pin ≡ Some c.entry.result.now) c.get-3.ensures c.entry.ensures.is in
-    let named = c.as_slice-4.ensures ∙ range-at (arcs_naming cell) (inputs_of cell) c.args.pin sim.known.places.naming _ sim.placed_arcs.naming_are entry in
-    let long : length sim.kept ≡ length (arc_inputs cell) = stood.kept_are.0 ∙ sym (length-map cell.arcs _) in
-    subst (AreBelow (length sim.kept)) (sym named)
+    let named =
+    c.as_slice-naming.ensures ∙ range-at (arcs_naming cell) (inputs_of cell) c.args.pin sim.known.places.naming _ sim.placed_arcs.naming_are entry in
+    let long : length sim.kept.conditions ≡ length (arc_inputs cell) = stood.kept_are.conditions_are.0 ∙ sym (length-map cell.arcs _) in
+    subst (AreBelow (length sim.kept.conditions)) (sym named)
     (subst (λ n. AreBelow n (arcs_naming cell c.args.pin)) (sym long) (places-below (λ inputs. has inputs c.args.pin) (arc_inputs cell)))
+
+pub forget-requires-2 : goal.forget-requires-2
+forget-requires-2 c =
+    let sim = c.args.self.now in
+    let cell = data_of sim.cell.now in
+    let stood = c.requires.time.1.0 in
+    let entry = subst (λ (k : CellStart). slice_get k.places.firsts c.args.pin ≡ Some c.entry-2.result.now) c.get-3.ensures c.entry-2.ensures.is in
+    let named =
+    c.as_slice-firsts.ensures ∙ range-at (firsts_naming cell) (inputs_of cell) c.args.pin sim.known.places.firsts _ sim.placed_arcs.firsts_are entry in
+    subst (AreBelow (length sim.kept.delays)) (sym named)
+    (subst (λ n. AreBelow n (firsts_naming cell c.args.pin)) (sym stood.kept_are.delays_are.0) (firsts-below cell c.args.pin))
 
 pub show_all-requires-clause-places : goal.show_all-requires-clause-places
 show_all-requires-clause-places c =
     let sim = c.args.self.now in
     let cell = data_of sim.cell.now in
-    let entry = subst (λ (k : CellStart). slice_get k.places.between c.args.pin ≡ Some c.entry-2.result.now) c.get-3.ensures c.entry-2.ensures.is in
+    let entry = subst (λ (k : CellStart). slice_get k.places.between c.args.pin ≡ Some c.entry-3.result.now) c.get-3.ensures c.entry-3.ensures.is in
     range-at (arcs_from cell) (inputs_of cell) c.args.pin sim.known.places.between _ sim.placed_arcs.between_are entry
 
 pub show_all-requires-clause-kept : goal.show_all-requires-clause-kept
@@ -78,13 +100,21 @@ show_all-requires-clause-kept c =
     let sim = c.args.self.now in
     let cell = data_of sim.cell.now in
     let stood = c.requires.time.1.0 in
-    let entry = subst (λ (k : CellStart). slice_get k.places.naming c.args.pin ≡ Some c.entry.result.now) c.get-3.ensures c.entry.ensures.is in
-    let named = c.as_slice-4.ensures ∙ range-at (arcs_naming cell) (inputs_of cell) c.args.pin sim.known.places.naming _ sim.placed_arcs.naming_are entry in
+    let naming = subst (λ (k : CellStart). slice_get k.places.naming c.args.pin ≡ Some c.entry.result.now) c.get-3.ensures c.entry.ensures.is in
+    let named =
+    c.as_slice-naming.ensures ∙ range-at (arcs_naming cell) (inputs_of cell) c.args.pin sim.known.places.naming _ sim.placed_arcs.naming_are naming in
+    let firsts = subst (λ (k : CellStart). slice_get k.places.firsts c.args.pin ≡ Some c.entry-2.result.now) c.get-3.ensures c.entry-2.ensures.is in
+    let first =
+    c.as_slice-firsts.ensures ∙ range-at (firsts_naming cell) (inputs_of cell) c.args.pin sim.known.places.firsts _ sim.placed_arcs.firsts_are firsts in
     let inputs : c.as_slice-inputs.result.now ≡ set sim.inputs c.args.pin c.args.to = c.as_slice-inputs.ensures ∙ c.set.ensures in
-    let kept =
-    kept_changed cell sim.inputs sim.kept c.forget.new.kept c.args.pin c.args.to stood.kept_are
-    (λ i. c.forget.ensures.each i ∙ ap (λ (is : List ℕ). kept_unless (has is i) (get_or sim.kept i None)) named) c.forget.ensures.len in
-    subst (λ v. AreConditions sim.cell.now.pins v sim.cell.now.arcs c.forget.new.kept) (sym inputs) kept
+    let conditions =
+    kept_changed cell sim.inputs sim.kept.conditions c.forget.new.kept c.args.pin c.args.to stood.kept_are.conditions_are
+    (λ i. c.forget.ensures.each i ∙ ap (λ (is : List ℕ). kept_unless (has is i) (get_or sim.kept.conditions i None)) named) c.forget.ensures.len in
+    let delays =
+    delays_changed cell sim.inputs sim.kept.delays c.forget-2.new.kept c.args.pin c.args.to stood.kept_are.delays_are
+    (λ i. c.forget-2.ensures.each i ∙ ap (λ (is : List ℕ). kept_unless (has is i) (get_or sim.kept.delays i None)) first) c.forget-2.ensures.len in
+    subst (λ v. AreKeptArcs cell v (record { conditions = c.forget.new.kept; delays = c.forget-2.new.kept })) (sym inputs)
+    (record { conditions_are = conditions; delays_are = delays })
 
 pub invariant_of-self : goal.invariant_of-self
 invariant_of-self c =

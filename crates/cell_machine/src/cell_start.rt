@@ -1,11 +1,13 @@
 //! A cell before any change.
-ghost use Rattle.std.specs.Prelude.{◌≡◌, false, length, replicate, IfOk, None};
+ghost use Rattle.std.specs.Prelude.{◌≡◌, [], false, length, map, replicate, IfOk, None};
 ghost use Rattle.trit_cubes.specs.declared.trits.Trit.TheVariants.{Unknown};
 ghost use Rattle.cell_machine.specs.Inputs.{input_number};
 ghost use Rattle.cell_machine.specs.Times.{no_times};
 ghost use Rattle.cell_machine.specs.CellData.{data_of};
 ghost use Rattle.cell_machine.specs.CellTrace.{arc_names};
 ghost use Rattle.cell_machine.specs.ArcPlaces.{AreArcPlaces};
+ghost use Rattle.cell_machine.specs.OutputTables.{AreOutputTables};
+ghost use Rattle.cell_machine.specs.LibertyStands.{shown_after};
 ghost use Rattle.cell_machine.specs.CellStarts.{IsCellStart};
 
 use crate::arc_places::ArcPlaces;
@@ -46,17 +48,10 @@ impl CellStart {
     {
         let check_names = check_names(alloc, cell)?;
         let arc_names = arc_names(alloc, cell)?;
-        let places = arc_places(alloc, cell, arc_names.as_slice())?;
         let outputs = output_tables(alloc, cell)?;
         let steps = step_tables(alloc, cell)?;
-        let values = StartValues::of(alloc, cell)?;
-        let shown = show_start(
-            alloc,
-            cell,
-            &outputs,
-            values.inputs.as_slice(),
-            values.states.as_slice(),
-        )?;
+        let shown = first_shown(alloc, cell, &outputs)?;
+        let places = arc_places(alloc, cell, arc_names.as_slice())?;
         Ok(CellStart {
             check_names,
             arc_names,
@@ -66,6 +61,25 @@ impl CellStart {
             shown,
         })
     }
+}
+
+/// What a cell's outputs show before any change. `outputs` are the values of their functions at all points.
+fn first_shown(
+    alloc: Global,
+    cell: &Cell,
+    outputs: &Items<Items<Trit>>,
+) -> Result<Items<Shown>, AllocError>
+    requires { AreOutputTables (data_of cell.now) outputs.now }
+    ensures { IfOk result (λ shown. shown ≡ map (shown_after (data_of cell.now) []) cell.now.outputs) }
+{
+    let values = StartValues::of(alloc, cell)?;
+    show_start(
+        alloc,
+        cell,
+        outputs,
+        values.inputs.as_slice(),
+        values.states.as_slice(),
+    )
 }
 
 /// The numbers of a cell's arcs by inputs and outputs, of the pins that their conditions name.

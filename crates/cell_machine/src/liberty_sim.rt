@@ -68,11 +68,12 @@ impl<'a> LibertySim<'a> {
         ensures machine { IfOk result (λ sim. ⟦<LibertySim<'a> as CellSim>⟧.machine sim ≡ cell_machine_of (data_of cell.now)) }
         ensures stands { IfOk result (λ sim. ⟦<LibertySim<'a> as CellSim>⟧.stands sim []) }
     {
-        let values = StartValues::of(alloc, cell)?;
         let shown = Items::from_slice(alloc, known.get().shown.as_slice())?;
+        let known = known.again()?;
+        let values = StartValues::of(alloc, cell)?;
         Ok(LibertySim {
             cell,
-            known: known.again()?,
+            known,
             inputs: values.inputs,
             times: values.times,
             states: values.states,

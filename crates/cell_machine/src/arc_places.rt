@@ -59,6 +59,13 @@ fn add_where(places: &mut Items<usize>, passes: bool, place: usize) -> Result<()
     Ok(())
 }
 
+/// Whether this input is among these.
+fn names_input(inputs: &[usize], input: usize) -> bool
+    ensures { result ≡ has inputs.now input }
+{
+    inputs.iter().any(|named| *named == input)
+}
+
 /// The numbers of those lists that hold an input.
 fn naming(alloc: Global, named: &[Items<usize>], input: usize) -> Result<Items<usize>, AllocError>
     ensures { IfOk result (λ places. places ≡ places_from (λ inputs. has inputs input) 0 named.now) }
@@ -68,13 +75,6 @@ fn naming(alloc: Global, named: &[Items<usize>], input: usize) -> Result<Items<u
         add_where(&mut places, names_input(named[i].as_slice(), input), i)?;
     }
     Ok(places)
-}
-
-/// Whether this input is among these.
-fn names_input(inputs: &[usize], input: usize) -> bool
-    ensures { result ≡ has inputs.now input }
-{
-    inputs.iter().any(|named| *named == input)
 }
 
 /// The same for each input.

@@ -1,19 +1,14 @@
 -- The least delay of arcs, arc by arc.
-use Rattle.std.proofs.Common.{◌≡◌, ℕ, min, true, false, ◌&&◌, List, [], ◌∷◌, map, refl, sym, ap, ◌∙◌, Option, Some, None, arith}
+use Rattle.std.proofs.Common.{◌≡◌, ℕ, true, false, List, [], ◌∷◌, map, refl, sym, ap, ◌∙◌, Option, Some, None, arith}
 use Rattle.std.proofs.Common.{add-one, zero, suc, ◌+◌, ◌<◌, length, drop, slice_get, cond, if◌then◌else◌}
 use Rattle.std.specs.Prelude.{filter}
 use Rattle.trit_cubes.specs.declared.trits.Trit.{Trit}
 use Rattle.cell_machine.specs.declared.pins.Pin.{Pin}
 use Rattle.cell_machine.specs.declared.arcs.Arc.{Arc}
-use Rattle.cell_machine.specs.Delay.{Path, lesser, least, path_delay, active_delays}
-use Rattle.cell_machine.specs.CellTrace.{is_active, is_between, path_of}
-use Rattle.cell_machine.specs.ArcDelay.{arc_delay}
+use Rattle.cell_machine.specs.Delay.{Path, lesser, least, path_delay}
+use Rattle.cell_machine.specs.CellTrace.{is_active, path_of}
+use Rattle.cell_machine.specs.ArcDelay.{arc_delay, least_of}
 use Rattle.cell_machine.proofs.LeastLemmas.{lesser_assoc}
-
--- the least over the arcs in this list; the arcs in the first list decide which are active
-abbrev pub least_of : List Pin → List Arc → List Trit → ℕ → ℕ → Trit → Trit → List Arc → Option ℕ
-least_of pins arcs v input output a b rest =
-    least (active_delays a b (map (path_of pins arcs v) (filter (is_between pins input output) rest)))
 
 pub drop-at : {X : Type 0} (xs : List X) (i : ℕ) (x : X) → slice_get xs i ≡ Some x → drop i xs ≡ x ∷ drop (suc i) xs
 drop-at [] i x e = absurd cc
@@ -27,46 +22,26 @@ some_at (x ∷ xs) zero h = (x, refl)
 some_at (x ∷ xs) (suc i) h = some_at xs i (omega arith)
 
 -- one arc and the rest
-pub least_of-first :
-    (pins : List Pin) (arcs : List Arc) (v : List Trit) (input output : ℕ) (a b : Trit) (arc : Arc) (rest : List Arc)
-    → least_of pins arcs v input output a b (arc ∷ rest)
-    ≡ lesser (arc_delay pins arcs v input output a b arc) (least_of pins arcs v input output a b rest)
-least_of-first pins arcs v input output a b arc rest =
-    let others : List Arc = filter (is_between pins input output) rest in
-    let least_rest : Option ℕ = least_of pins arcs v input output a b rest in
+least_of-first :
+    (pins : List Pin) (arcs : List Arc) (v : List Trit) (a b : Trit) (arc : Arc) (rest : List Arc)
+    → least_of pins arcs v a b (arc ∷ rest) ≡ lesser (arc_delay pins arcs v a b arc) (least_of pins arcs v a b rest)
+least_of-first pins arcs v a b arc rest =
     let own : Path = path_of pins arcs v arc in
-    let paths : List Path = filter (λ (path : Path). path.active) (map (path_of pins arcs v) others) in
-    elim (is_between pins input output arc) as (λ m.
-    least (active_delays a b (map (path_of pins arcs v) (cond m (arc ∷ others) others)))
-    ≡ lesser (if m && is_active pins arcs v arc arc.condition then Some (path_delay a b own) else None) least_rest) [
-      | true ↦ elim (is_active pins arcs v arc arc.condition) as (λ m.
-          least (map (path_delay a b) (cond m (own ∷ paths) paths))
-          ≡ lesser (if m then Some (path_delay a b own) else None) least_rest) [ true ↦ refl | false ↦ refl ]
-      | false ↦ refl
-    ]
+    let paths : List Path = filter (λ (path : Path). path.active) (map (path_of pins arcs v) rest) in
+    elim (is_active pins arcs v arc arc.condition) as (λ m.
+    least (map (path_delay a b) (cond m (own ∷ paths) paths))
+    ≡ lesser (if m then Some (path_delay a b own) else None) (least_of pins arcs v a b rest)) [ true ↦ refl | false ↦ refl ]
 
 -- one more arc of a list
 pub least_of-more :
-    (pins : List Pin) (arcs : List Arc) (v : List Trit) (input output : ℕ) (a b : Trit) (rest : List Arc) (i : ℕ) (arc : Arc)
-    (best more : Option ℕ)
-    → slice_get rest i ≡ Some arc → more ≡ arc_delay pins arcs v input output a b arc
-    → lesser (lesser best more) (least_of pins arcs v input output a b (drop (i + 1) rest))
-    ≡ lesser best (least_of pins arcs v input output a b (drop i rest))
-least_of-more pins arcs v input output a b rest i arc best more e is =
-    let tail : Option ℕ = least_of pins arcs v input output a b (drop (suc i) rest) in
+    (pins : List Pin) (arcs : List Arc) (v : List Trit) (a b : Trit) (rest : List Arc) (i : ℕ) (arc : Arc) (best more : Option ℕ)
+    → slice_get rest i ≡ Some arc → more ≡ arc_delay pins arcs v a b arc
+    → lesser (lesser best more) (least_of pins arcs v a b (drop (i + 1) rest))
+    ≡ lesser best (least_of pins arcs v a b (drop i rest))
+least_of-more pins arcs v a b rest i arc best more e is =
+    let tail : Option ℕ = least_of pins arcs v a b (drop (suc i) rest) in
     rw add-one
     (lesser_assoc best more tail
     ∙ ap (λ m. lesser best (lesser m tail)) is
-    ∙ ap (lesser best) (sym (least_of-first pins arcs v input output a b arc (drop (suc i) rest)))
-    ∙ ap (λ xs. lesser best (least_of pins arcs v input output a b xs)) (sym (drop-at rest i arc e)))
-
-pub least_of-step :
-    (pins : List Pin) (arcs : List Arc) (v : List Trit) (input output : ℕ) (a b : Trit) (rest : List Arc) (i : ℕ)
-    (best more : Option ℕ)
-    → i < length rest
-    → ((arc : Arc) → slice_get rest i ≡ Some arc → more ≡ arc_delay pins arcs v input output a b arc)
-    → lesser (lesser best more) (least_of pins arcs v input output a b (drop (i + 1) rest))
-    ≡ lesser best (least_of pins arcs v input output a b (drop i rest))
-least_of-step pins arcs v input output a b rest i best more inside is =
-    let here = some_at rest i inside in
-    least_of-more pins arcs v input output a b rest i here.0 best more here.1 (is here.0 here.1)
+    ∙ ap (lesser best) (sym (least_of-first pins arcs v a b arc (drop (suc i) rest)))
+    ∙ ap (λ xs. lesser best (least_of pins arcs v a b xs)) (sym (drop-at rest i arc e)))

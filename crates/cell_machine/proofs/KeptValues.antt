@@ -1,10 +1,14 @@
--- Values of conditions that are kept.
-use Rattle.std.proofs.Common.{◌≡◌, ℕ, zero, suc, ◌+◌, ◌<◌, ◌==◌, Bool, true, false, not, ◌&&◌, List, [], ◌∷◌, length, map}
-use Rattle.std.proofs.Common.{replicate, get_or, set, drop, add-one, subst, refl, sym, ap, ◌∙◌, Option, Some, None, slice_get}
-use Rattle.std.specs.Prelude.{IfSome}
+-- Values that are kept of entries.
+use Rattle.std.proofs.Common.{◌≡◌, ℕ, zero, suc, ◌+◌, ◌<◌, ◌==◌, eqb, Bool, true, false, not, ◌&&◌, ◌||◌, List, [], ◌∷◌, length, map}
+use Rattle.std.proofs.Common.{replicate, get_or, set, drop, add-one, subst, refl, sym, ap, ◌∙◌, Option, Some, None, slice_get, arith}
 use Rattle.std.specs.List.{list_all}
-use Rattle.std.proofs.lemmas.Bool.{or_parts, eqb-false}
-use Rattle.std.proofs.lemmas.List.{get_or-set_other}
+use Rattle.std.specs.Prelude.{option_map}
+use Rattle.std.proofs.lemmas.List.{length-set}
+use Rattle.std.proofs.lemmas.Bool.{or_parts, eqb-true, eqb-false}
+use Rattle.std.proofs.lemmas.List.{get_or-set_same, get_or-set_other, drop_more, length-replicate}
+use Rattle.std.specs.List.{range_with_len}
+use Rattle.std.proofs.lemmas.List.FromFn.{length-map-range_with_len, get_or-map-range_with_len}
+use Rattle.std.proofs.lemmas.Option.{slice_get-map, slice_get_within, get_or_from_slice_get}
 use Rattle.trit_cubes.specs.declared.trits.Trit.{Trit}
 use Rattle.trit_cubes.specs.declared.trits.Trit.TheVariants.{Unknown}
 use Rattle.trit_cubes.specs.Resolution.{res}
@@ -12,51 +16,88 @@ use Rattle.bool_functions.specs.declared.tree.Node.{Node}
 use Rattle.bool_functions.specs.Support.{support_of}
 use Rattle.cell_machine.specs.declared.pins.Pin.{Pin}
 use Rattle.cell_machine.specs.declared.arcs.Arc.{Arc}
-use Rattle.cell_machine.specs.Each.{each}
+use Rattle.cell_machine.specs.CellData.{CellData}
 use Rattle.cell_machine.specs.Names.{has}
 use Rattle.cell_machine.specs.Inputs.{input_number, pin_values}
 use Rattle.cell_machine.specs.Outputs.{condition_at, is_zero}
 use Rattle.cell_machine.specs.CellTrace.{condition_names, is_off, is_active}
+use Rattle.cell_machine.specs.KeptConditions.{arc_condition, condition_inputs, arc_inputs, AreKept, AreConditions, kept_unless}
+use Rattle.cell_machine.specs.ArcPlaces.{arcs_naming}
 use Rattle.cell_machine.proofs.ArcDelays.{some_at, drop-at}
-use Rattle.cell_machine.specs.KeptConditions.{arc_condition, condition_inputs, AreKept, kept_unless, kept_beyond}
+use Rattle.cell_machine.proofs.EachLemmas.{get_or-default}
+use Rattle.cell_machine.proofs.EntryPlaces.{not-placed}
 
 -- at the start nothing is kept
-pub kept_none : (pins : List Pin) (v : List Trit) (arcs : List Arc) → AreKept pins v arcs (replicate (length arcs) None)
-kept_none pins v [] = tt
-kept_none pins v (arc ∷ arcs) = (tt, kept_none pins v arcs)
+none-at : {V : Type 0} (k : Option V) (n i : ℕ) → k ≡ None → get_or (replicate n k) i None ≡ None
+none-at k zero i e = refl
+none-at k (suc n) zero e = e
+none-at k (suc n) (suc i) e = none-at k n i e
 
-pub kept_length : (pins : List Pin) (v : List Trit) (arcs : List Arc) (kept : List (Option Trit)) → AreKept pins v arcs kept
-    → length kept ≡ length arcs
-kept_length pins v [] [] h = refl
-kept_length pins v [] (k ∷ kept) h = absurd h
-kept_length pins v (arc ∷ arcs) [] h = absurd h
-kept_length pins v (arc ∷ arcs) (k ∷ kept) h = ap suc (kept_length pins v arcs kept h.1)
+pub kept_none : {V : Type 0} (is_right : ℕ → V → Type 0) (n : ℕ) → AreKept is_right n (replicate n None)
+kept_none is_right n = (length-replicate n None, λ i value e. absurd (none-some value (sym (none-at None n i refl) ∙ e)))
+  where
+    none-some : {V : Type 0} (value : V) → None ≡ Some value → ⊥
+    none-some value e = cc
 
 -- a value that is kept
 pub kept_at :
-    (pins : List Pin) (v : List Trit) (arcs : List Arc) (kept : List (Option Trit)) (i : ℕ) (d : Option Trit) (arc : Arc)
-    (value : Trit)
-    → AreKept pins v arcs kept → slice_get arcs i ≡ Some arc → get_or kept i d ≡ Some value
-    → value ≡ arc_condition pins v arc.condition
-kept_at pins v [] kept i d arc value h e k = absurd cc
-kept_at pins v (x ∷ arcs) [] i d arc value h e k = absurd h
-kept_at pins v (x ∷ arcs) (Some y ∷ kept) zero d arc value h e k =
-    let same : x ≡ arc = cc in
-    let is : y ≡ value = cc in
-    sym is ∙ (h.0 ∙ ap (λ (a : Arc). arc_condition pins v a.condition) same)
-kept_at pins v (x ∷ arcs) (None ∷ kept) zero d arc value h e k = absurd cc
-kept_at pins v (x ∷ arcs) (y ∷ kept) (suc i) d arc value h e k = kept_at pins v arcs kept i d arc value h.1 e k
+    {V : Type 0} (is_right : ℕ → V → Type 0) (n : ℕ) (kept : List (Option V)) (i : ℕ) (d : Option V) (value : V)
+    → AreKept is_right n kept → i < n → get_or kept i d ≡ Some value → is_right i value
+kept_at is_right n kept i d value h inside e =
+    h.1 i value (get_or-default kept i None d (omega (arith, inside, h.0)) ∙ e)
 
 -- a value is made and kept
+
+set-at :
+    {V : Type 0} (is_right : ℕ → V → Type 0) (n : ℕ) (kept : List (Option V)) (i j : ℕ) (value other : V) (same : Bool)
+    → AreKept is_right n kept → i < n → is_right i value → eqb j i ≡ same → get_or (set kept i (Some value)) j None ≡ Some other
+    → is_right j other
+set-at is_right n kept i j value other true h inside is e o =
+    let at = eqb-true j i e in
+    let within : i < length kept = omega (arith, inside, h.0) in
+    let found : Some value ≡ Some other
+    = sym (get_or-set_same kept i (Some value) None within) ∙ ap (λ m. get_or (set kept i (Some value)) m None) (sym at) ∙ o in
+    let equal : value ≡ other = cc in
+    subst (λ m. is_right m other) (sym at) (subst (is_right i) equal is)
+set-at is_right n kept i j value other false h inside is e o =
+    h.1 j other (sym (get_or-set_other kept i j (Some value) None (eqb-false j i e)) ∙ o)
+
 pub kept_set :
-    (pins : List Pin) (v : List Trit) (arcs : List Arc) (kept : List (Option Trit)) (i : ℕ) (arc : Arc) (value : Trit)
-    → AreKept pins v arcs kept → slice_get arcs i ≡ Some arc → value ≡ arc_condition pins v arc.condition
-    → AreKept pins v arcs (set kept i (Some value))
-kept_set pins v [] kept i arc value h e k = absurd cc
-kept_set pins v (x ∷ arcs) [] i arc value h e k = absurd h
-kept_set pins v (x ∷ arcs) (y ∷ kept) zero arc value h e k =
-    let same : arc ≡ x = cc in (k ∙ ap (λ (a : Arc). arc_condition pins v a.condition) same, h.1)
-kept_set pins v (x ∷ arcs) (y ∷ kept) (suc i) arc value h e k = (h.0, kept_set pins v arcs kept i arc value h.1 e k)
+    {V : Type 0} (is_right : ℕ → V → Type 0) (n : ℕ) (kept : List (Option V)) (i : ℕ) (value : V) (next : List (Option V))
+    → AreKept is_right n kept → i < n → is_right i value → next ≡ set kept i (Some value) → AreKept is_right n next
+kept_set is_right n kept i value next h inside is written =
+    subst (AreKept is_right n) (sym written)
+    (length-set kept i (Some value) ∙ h.0, λ j other o. set-at is_right n kept i j value other (eqb j i) h inside is refl o)
+
+-- what is kept at some places is forgotten
+
+gone : {V : Type 0} (kept : List (Option V)) (i : ℕ) → get_or (set kept i None) i None ≡ None
+gone [] i = refl
+gone (k ∷ kept) zero = refl
+gone (k ∷ kept) (suc i) = gone kept i
+
+unless-none : {V : Type 0} (b : Bool) (k : Option V) → k ≡ None → kept_unless b k ≡ None
+unless-none true k e = refl
+unless-none false k e = e
+
+forget-at :
+    {V : Type 0} (kept : List (Option V)) (place i : ℕ) (rest same : Bool)
+    → eqb place i ≡ same
+    → kept_unless rest (get_or (set kept place None) i None) ≡ kept_unless (same || rest) (get_or kept i None)
+forget-at kept place i rest true e =
+    let at = eqb-true place i e in
+    unless-none rest (get_or (set kept place None) i None) (ap (λ m. get_or (set kept m None) i None) at ∙ gone kept i)
+forget-at kept place i rest false e =
+    ap (kept_unless rest) (get_or-set_other kept place i None None (λ same. eqb-false place i e (sym same)))
+
+pub forget_more :
+    {V : Type 0} (kept next : List (Option V)) (places : List ℕ) (j : ℕ) (d i : ℕ)
+    → j < length places → next ≡ set kept (get_or places j d) None
+    → kept_unless (has (drop (j + 1) places) i) (get_or next i None) ≡ kept_unless (has (drop j places) i) (get_or kept i None)
+forget_more kept next places j d i inside written =
+    ap (λ ks. kept_unless (has (drop (j + 1) places) i) (get_or ks i None)) written
+    ∙ forget-at kept (get_or places j d) i (has (drop (j + 1) places) i) (eqb (get_or places j d) i) refl
+    ∙ ap (λ (is : List ℕ). kept_unless (has is i) (get_or kept i None)) (sym (drop_more places j d inside))
 
 -- an input that is not named may change
 
@@ -70,7 +111,7 @@ values-stay pins v (name ∷ names) input to e =
     let rest = values-stay pins v names input to parts.1 in
     λ i. here i ∷ rest i
 
-condition-stays :
+pub condition-stays :
     (pins : List Pin) (v : List Trit) (condition : Option Node) (input : ℕ) (to : Trit)
     → has (condition_inputs pins condition) input ≡ false
     → arc_condition pins (set v input to) condition ≡ arc_condition pins v condition
@@ -78,27 +119,37 @@ condition-stays pins v None input to e = refl
 condition-stays pins v (Some f) input to e =
     ap (res (condition_at (support_of f) f)) (values-stay pins v (support_of f) input to e)
 
-kept-stays :
-    (pins : List Pin) (v : List Trit) (condition : Option Node) (k : Option Trit) (input : ℕ) (to : Trit) (b : Bool)
-    → has (condition_inputs pins condition) input ≡ b → IfSome k (λ value. value ≡ arc_condition pins v condition)
-    → IfSome (kept_unless b k) (λ value. value ≡ arc_condition pins (set v input to) condition)
-kept-stays pins v condition k input to true e h = tt
-kept-stays pins v condition None input to false e h = tt
-kept-stays pins v condition (Some value) input to false e h = h ∙ sym (condition-stays pins v condition input to e)
+-- what is kept of the conditions that do not name an input that changes
+pub unless-some :
+    {V : Type 0} (b : Bool) (k : Option V) (value : V) → kept_unless b k ≡ Some value → (b ≡ false) × (k ≡ Some value)
+unless-some true k value e = absurd cc
+unless-some false k value e = (refl, e)
 
 pub kept_changed :
-    (pins : List Pin) (v : List Trit) (arcs : List Arc) (kept : List (Option Trit)) (input : ℕ) (to : Trit)
-    → AreKept pins v arcs kept
-    → AreKept pins (set v input to) arcs
-    (each (kept_beyond input) (map (λ (arc : Arc). condition_inputs pins arc.condition) arcs) kept)
-kept_changed pins v [] [] input to h = tt
-kept_changed pins v [] (k ∷ kept) input to h = absurd h
-kept_changed pins v (arc ∷ arcs) [] input to h = absurd h
-kept_changed pins v (arc ∷ arcs) (k ∷ kept) input to h = (
-  kept-stays pins v arc.condition k input to (has (condition_inputs pins arc.condition) input) refl h.0,
-  kept_changed pins v
-      arcs kept input to h.1,
+    (cell : CellData) (v : List Trit) (kept next : List (Option Trit)) (input : ℕ) (to : Trit)
+    → AreConditions cell.pins v cell.arcs kept
+    → ((i : ℕ) → get_or next i None ≡ kept_unless (has (arcs_naming cell input) i) (get_or kept i None))
+    → length next ≡ length kept
+    → AreConditions cell.pins (set v input to) cell.arcs next
+kept_changed cell v kept next input to h are long = (
+  long ∙ h.0,
+  λ i value e arc at.
+      let left = unless-some (has (arcs_naming cell input) i) (get_or kept i None) value (sym (are i) ∙ e) in
+      let inputs : slice_get (arc_inputs cell) i ≡ Some (condition_inputs cell.pins arc.condition)
+      = slice_get-map (λ (arc : Arc). condition_inputs cell.pins arc.condition) cell.arcs i
+      ∙ ap (option_map (λ (arc : Arc). condition_inputs cell.pins arc.condition)) at in
+      let unnamed = not-placed (λ inputs. has inputs input) (arc_inputs cell) i (condition_inputs cell.pins arc.condition) inputs left.0 in
+      h.1 i value left.1 arc at ∙ sym (condition-stays cell.pins v arc.condition input to unnamed),
 )
+
+-- an entry of what is made for each number
+pub range-at :
+    {X : Type 0} (f : ℕ → X) (n i : ℕ) (made : List X) (x : X)
+    → made ≡ map f (range_with_len 0 n) → slice_get made i ≡ Some x → x ≡ f i
+range-at f n i made x are found =
+    let here : 0 + i ≡ i = omega arith in
+    let within : i < n = omega (arith, slice_get_within made i x found, ap length are, length-map-range_with_len f 0 n) in
+    sym (get_or_from_slice_get made i x x found) ∙ ap (λ xs. get_or xs i x) are ∙ get_or-map-range_with_len f 0 n i i x within here
 
 -- the inputs of the pins that conditions name
 pub named_inputs :

@@ -10,6 +10,9 @@ pub mod TimingFacts
 pub mod RuleLemmas
 pub mod LeastLemmas
 pub mod ArcDelays
+pub mod EntryPlaces
+pub mod PairArcs
+pub mod KeptPairs
 pub mod KeptValues
 pub mod Tables
 pub mod EachLemmas

@@ -1,6 +1,6 @@
 -- The fields of a cell's simulator at the start and after a change.
 use Rattle.std.proofs.Common.{◌≡◌, ℕ, ◌+◌, Bool, true, false, not, List, [], ◌∷◌, length, map, replicate, get_or, set, refl, sym}
-use Rattle.std.proofs.Common.{ap, subst, ◌∙◌, IsTrue, Option, None, if◌then◌else◌}
+use Rattle.std.proofs.Common.{ap, subst, ◌∙◌, IsTrue, None, if◌then◌else◌}
 use Rattle.std.specs.Prelude.{count_by}
 use Rattle.std.specs.List.{list_all}
 use Rattle.std.proofs.lemmas.Bool.{and_parts}
@@ -26,7 +26,9 @@ use Rattle.cell_machine.specs.Each.{each}
 use Rattle.cell_machine.specs.CellTrace.{inputs_of, input_check, input_checks, reports_of, named_from, named_groups, NamedGroup}
 use Rattle.cell_machine.specs.CellTrace.{state_step, state_after, states_after}
 use Rattle.cell_machine.specs.ShownOutputs.{shown_first, shown_step}
-use Rattle.cell_machine.specs.KeptConditions.{AreKept}
+use Rattle.cell_machine.specs.KeptConditions.{IsCondition}
+use Rattle.cell_machine.specs.declared.kept_arcs.KeptArcs.{KeptArcs}
+use Rattle.cell_machine.specs.KeptArcs.{AreDelaysAt, AreKeptArcs}
 use Rattle.cell_machine.specs.LibertyStands.{shown_after, Stands}
 use Rattle.cell_machine.specs.CellStarts.{IsCellStart}
 use Rattle.cell_machine.proofs.RuleLemmas.{check_parts}
@@ -61,19 +63,19 @@ start-shown cell count inputs states shown n i s o =
 -- Before any change.
 pub start-stands :
     (cell : CellData) (known : CellStart) (count : ℕ) (inputs : List Trit) (times : List Times)
-    (states : List Trit) (reports : List Bool) (shown : List Shown) (kept : List (Option Trit))
+    (states : List Trit) (reports : List Bool) (shown : List Shown) (kept : KeptArcs)
     → IsCellStart cell known
     → count ≡ input_number cell.pins (length cell.pins)
     → inputs ≡ replicate count Unknown → times ≡ replicate count no_times
     → states ≡ replicate (length cell.groups) Unknown → reports ≡ replicate (length cell.checks) false
-    → shown ≡ known.shown → kept ≡ replicate (length cell.arcs) None
-    → Stands cell known.check_names known.arc_names known.arc_inputs inputs times states reports shown kept []
+    → shown ≡ known.shown → kept
+    ≡ record { conditions = replicate (length cell.arcs) None; delays = replicate (length cell.arcs) None }
+    → Stands cell known.check_names known.arc_names inputs times states reports shown kept []
 start-stands cell known count inputs times states reports shown kept k n i t s r o e =
     let all : count ≡ inputs_of cell = n ∙ ap (count_by is_input_at) (take-length cell.pins) in
     record {
       check_names_are = k.check_names_are;
       arc_names_are = k.arc_names_are;
-      arc_inputs_are = k.arc_inputs_are;
       inputs_are = i ∙ ap (λ k. replicate k Unknown) all;
       times_are = t ∙ ap (λ k. replicate k no_times) all;
       states_are = s ∙ states-start cell (length cell.pins) cell.groups;
@@ -81,7 +83,12 @@ start-stands cell known count inputs times states reports shown kept k n i t s r
           r ∙ ap (λ k. replicate k false) (sym (length-map cell.checks (input_check cell.pins)))
           ∙ sym (map-constant false (input_checks cell));
       shown_are = o ∙ k.shown_are;
-      kept_are = subst (AreKept cell.pins inputs cell.arcs) (sym e) (kept_none cell.pins inputs cell.arcs);
+      kept_are =
+          subst (AreKeptArcs cell inputs) (sym e)
+          (record {
+            conditions_are = kept_none (IsCondition cell.pins inputs cell.arcs) (length cell.arcs);
+            delays_are = kept_none (AreDelaysAt cell inputs) (length cell.arcs);
+          });
     }
 
 -- the reports by the kept times are the reports of the history
@@ -112,13 +119,13 @@ states-change cell h c groups false f = refl
 
 -- After a change.
 pub change-stands :
-    (cell : CellData) (names_of_checks names_of_arcs inputs_of_arcs : List (List ℕ)) (inputs : List Trit) (times : List Times)
-    (states : List Trit) (reports : List Bool) (shown : List Shown) (kept : List (Option Trit)) (h : List Change) (c : Change)
+    (cell : CellData) (names_of_checks names_of_arcs : List (List ℕ)) (inputs : List Trit) (times : List Times)
+    (states : List Trit) (reports : List Bool) (shown : List Shown) (kept : KeptArcs) (h : List Change) (c : Change)
     (from' : Trit)
     (inputs' : List Trit) (times' : List Times) (states' : List Trit) (reports' : List Bool) (shown' : List Shown)
-    (kept' : List (Option Trit))
+    (kept' : KeptArcs)
     → IsTrue (list_all (is_check cell.pins) cell.checks)
-    → Stands cell names_of_checks names_of_arcs inputs_of_arcs inputs times states reports shown kept h
+    → Stands cell names_of_checks names_of_arcs inputs times states reports shown kept h
     → from' ≡ get_or inputs c.pin Unknown
     → inputs' ≡ set inputs c.pin c.to
     → times' ≡ set times c.pin (stamped c.at from' c.to (get_or times c.pin no_times))
@@ -128,9 +135,9 @@ pub change-stands :
     then each (λ g s. state_step (any_true reports') cell.pins g inputs' from' c s) (named_groups cell) states else states)
     → shown'
     ≡ each (λ o s. shown_step cell.pins cell.groups cell.arcs inputs' states' c o s.value) cell.outputs shown
-    → AreKept cell.pins inputs' cell.arcs kept'
-    → Stands cell names_of_checks names_of_arcs inputs_of_arcs inputs' times' states' reports' shown' kept' (c ∷ h)
-change-stands cell ncs nas ias inputs times states reports shown kept h c from' inputs' times' states' reports' shown' kept' holds
+    → AreKeptArcs cell inputs' kept'
+    → Stands cell names_of_checks names_of_arcs inputs' times' states' reports' shown' kept' (c ∷ h)
+change-stands cell ncs nas inputs times states reports shown kept h c from' inputs' times' states' reports' shown' kept' holds
     st f i t r s o k =
     let n : ℕ = inputs_of cell in
     let fs : from' ≡ value_before (inputs_after n h) c = f ∙ ap (λ v. get_or v c.pin Unknown) st.inputs_are in
@@ -153,7 +160,6 @@ change-stands cell ncs nas ias inputs times states reports shown kept h c from' 
     record {
       check_names_are = st.check_names_are;
       arc_names_are = st.arc_names_are;
-      arc_inputs_are = st.arc_inputs_are;
       inputs_are = is;
       times_are = ts;
       states_are = ss;

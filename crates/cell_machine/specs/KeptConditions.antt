@@ -1,5 +1,5 @@
 -- Values of the conditions of arcs that are kept as long as no input changes that they name.
-use Rattle.std.specs.Prelude.{◌≡◌, ℕ, Bool, true, false, ⊤, List, [], ◌∷◌, map, Option, Some, None, IfSome}
+use Rattle.std.specs.Prelude.{◌≡◌, ℕ, Bool, true, false, List, length, map, Option, Some, None, slice_get, slice_index_or}
 use Rattle.trit_cubes.specs.declared.trits.Trit.{Trit}
 use Rattle.trit_cubes.specs.declared.trits.Trit.TheVariants.{Zero}
 use Rattle.bool_functions.specs.declared.tree.Node.{Node}
@@ -7,7 +7,6 @@ use Rattle.cell_machine.specs.declared.pins.Pin.{Pin}
 use Rattle.cell_machine.specs.declared.arcs.Arc.{Arc}
 use Rattle.cell_machine.specs.CellData.{CellData}
 use Rattle.cell_machine.specs.Inputs.{input_number}
-use Rattle.cell_machine.specs.Names.{has}
 use Rattle.cell_machine.specs.CellTrace.{condition_value, condition_names}
 
 -- the value of the condition of an arc; an arc without one counts as one whose condition is 0
@@ -23,17 +22,20 @@ condition_inputs pins condition = map (input_number pins) (condition_names condi
 abbrev pub arc_inputs : CellData → List (List ℕ)
 arc_inputs cell = map (λ (arc : Arc). condition_inputs cell.pins arc.condition) cell.arcs
 
--- each value that is kept is that of its arc's condition at these values of the inputs
-abbrev pub AreKept : List Pin → List Trit → List Arc → List (Option Trit) → Type 0
-AreKept pins v [] [] = ⊤
-AreKept pins v (arc ∷ arcs) (k ∷ kept) = IfSome k (λ value. value ≡ arc_condition pins v arc.condition) × AreKept pins v arcs kept
-AreKept pins v [] (k ∷ kept) = ⊥
-AreKept pins v (arc ∷ arcs) [] = ⊥
+-- this is the value of the condition of the arc with a number
+abbrev pub IsCondition : List Pin → List Trit → List Arc → ℕ → Trit → Type 0
+IsCondition pins v arcs i value = (arc : Arc) → slice_get arcs i ≡ Some arc → value ≡ arc_condition pins v arc.condition
 
--- what is kept of a condition over these inputs when an input changes: nothing where it is one of them
-abbrev pub kept_unless : Bool → Option Trit → Option Trit
+-- what is kept of so many entries: each value that is kept is right for the number of its entry
+abbrev pub AreKept : {V : Type 0} → (ℕ → V → Type 0) → ℕ → List (Option V) → Type 0
+AreKept {V} is_right count kept =
+    (length kept ≡ count) × ((i : ℕ) (value : V) → slice_index_or kept i None ≡ Some value → is_right i value)
+
+-- values of the conditions of arcs that are kept at these values of the inputs
+abbrev pub AreConditions : List Pin → List Trit → List Arc → List (Option Trit) → Type 0
+AreConditions pins v arcs kept = AreKept (IsCondition pins v arcs) (length arcs) kept
+
+-- what is kept of an entry that is forgotten, or not
+abbrev pub kept_unless : {V : Type 0} → Bool → Option V → Option V
 kept_unless true k = None
 kept_unless false k = k
-
-abbrev pub kept_beyond : ℕ → List ℕ → Option Trit → Option Trit
-kept_beyond input inputs k = kept_unless (has inputs input) k

@@ -14,6 +14,9 @@ pub mod Inputs
 pub mod CellData
 pub mod CellTrace
 pub mod KeptConditions
+pub mod Places
+pub mod ArcPlaces
+pub mod KeptArcs
 pub mod OutputTables
 pub mod StepTables
 pub mod ArcDelay

@@ -1,14 +1,20 @@
 //! A cell before any change.
-ghost use Rattle.std.specs.Prelude.{◌≡◌, false, length, replicate, IfOk, None};
+ghost use Rattle.std.specs.Prelude.{◌≡◌, [], false, length, map, replicate, IfOk, None};
 ghost use Rattle.trit_cubes.specs.declared.trits.Trit.TheVariants.{Unknown};
 ghost use Rattle.cell_machine.specs.Inputs.{input_number};
 ghost use Rattle.cell_machine.specs.Times.{no_times};
 ghost use Rattle.cell_machine.specs.CellData.{data_of};
+ghost use Rattle.cell_machine.specs.CellTrace.{arc_names};
+ghost use Rattle.cell_machine.specs.ArcPlaces.{AreArcPlaces};
+ghost use Rattle.cell_machine.specs.OutputTables.{AreOutputTables};
+ghost use Rattle.cell_machine.specs.LibertyStands.{shown_after};
 ghost use Rattle.cell_machine.specs.CellStarts.{IsCellStart};
 
+use crate::arc_places::ArcPlaces;
 use crate::cells::Cell;
 use crate::condition_names::{arc_inputs, arc_names, check_names};
 use crate::group_tables::step_tables;
+use crate::kept_arcs::KeptArcs;
 use crate::output_tables::output_tables;
 use crate::pin_values::input_number;
 use crate::shown::{Shown, show_start};
@@ -24,8 +30,8 @@ pub struct CellStart {
     pub check_names: Items<Items<usize>>,
     /// For each arc the pins that its condition names.
     pub arc_names: Items<Items<usize>>,
-    /// For each arc the inputs that its condition names, by their numbers.
-    pub arc_inputs: Items<Items<usize>>,
+    /// The numbers of the arcs by inputs and outputs.
+    pub places: ArcPlaces,
     /// For each output the values of its function at all points of its support.
     pub outputs: Items<Items<Trit>>,
     /// For each group and each place of its support the values of the group's step at all points.
@@ -42,26 +48,47 @@ impl CellStart {
     {
         let check_names = check_names(alloc, cell)?;
         let arc_names = arc_names(alloc, cell)?;
-        let arc_inputs = arc_inputs(alloc, cell, arc_names.as_slice())?;
         let outputs = output_tables(alloc, cell)?;
         let steps = step_tables(alloc, cell)?;
-        let values = StartValues::of(alloc, cell)?;
-        let shown = show_start(
-            alloc,
-            cell,
-            &outputs,
-            values.inputs.as_slice(),
-            values.states.as_slice(),
-        )?;
+        let shown = first_shown(alloc, cell, &outputs)?;
+        let places = arc_places(alloc, cell, arc_names.as_slice())?;
         Ok(CellStart {
             check_names,
             arc_names,
-            arc_inputs,
+            places,
             outputs,
             steps,
             shown,
         })
     }
+}
+
+/// What a cell's outputs show before any change. `outputs` are the values of their functions at all points.
+fn first_shown(
+    alloc: Global,
+    cell: &Cell,
+    outputs: &Items<Items<Trit>>,
+) -> Result<Items<Shown>, AllocError>
+    requires { AreOutputTables (data_of cell.now) outputs.now }
+    ensures { IfOk result (λ shown. shown ≡ map (shown_after (data_of cell.now) []) cell.now.outputs) }
+{
+    let values = StartValues::of(alloc, cell)?;
+    show_start(
+        alloc,
+        cell,
+        outputs,
+        values.inputs.as_slice(),
+        values.states.as_slice(),
+    )
+}
+
+/// The numbers of a cell's arcs by inputs and outputs, of the pins that their conditions name.
+fn arc_places(alloc: Global, cell: &Cell, names: &[Items<usize>]) -> Result<ArcPlaces, AllocError>
+    requires { names.now ≡ arc_names (data_of cell.now) }
+    ensures { IfOk result (AreArcPlaces (data_of cell.now)) }
+{
+    let inputs = arc_inputs(alloc, cell, names)?;
+    ArcPlaces::of(alloc, cell, inputs.as_slice())
 }
 
 /// What a cell's simulator keeps beside what its outputs show, before any change.
@@ -71,12 +98,12 @@ pub(crate) struct StartValues {
     pub times: Items<Times>,
     pub states: Items<Trit>,
     pub reports: Items<bool>,
-    pub kept: Items<Option<Trit>>,
+    pub kept: KeptArcs,
 }
 
 impl StartValues {
-    /// Those of a cell: all inputs and all states are unknown, there was no event, no check reports, and no
-    /// condition's value is kept.
+    /// Those of a cell: all inputs and all states are unknown, there was no event, no check reports, and
+    /// nothing is kept of the arcs.
     pub(crate) fn of(alloc: Global, cell: &Cell) -> Result<StartValues, AllocError>
         ensures inputs { IfOk result (λ start. start.inputs ≡ replicate (input_number cell.now.pins (length cell.now.pins))
             Unknown) }
@@ -84,14 +111,17 @@ impl StartValues {
             no_times) }
         ensures states { IfOk result (λ start. start.states ≡ replicate (length cell.now.groups) Unknown) }
         ensures reports { IfOk result (λ start. start.reports ≡ replicate (length cell.now.checks) false) }
-        ensures kept { IfOk result (λ start. start.kept ≡ replicate (length cell.now.arcs) None) }
+        ensures kept { IfOk result (λ start. start.kept ≡ record {
+          conditions = replicate (length cell.now.arcs) None;
+          delays = replicate (length cell.now.arcs) None;
+        }) }
     {
         let count = input_number(cell.pins.as_slice(), cell.pins.len());
         let inputs = vec![in alloc; Trit::Unknown; count]?;
         let times = vec![in alloc; Times::none(); count]?;
         let states = vec![in alloc; Trit::Unknown; cell.groups.len()]?;
         let reports = vec![in alloc; false; cell.checks.len()]?;
-        let kept = nothing_kept(alloc, cell.arcs.len())?;
+        let kept = KeptArcs::none(alloc, cell.arcs.len())?;
         Ok(StartValues {
             inputs: Items::from_vec(inputs),
             times: Items::from_vec(times),
@@ -100,12 +130,4 @@ impl StartValues {
             kept,
         })
     }
-}
-
-/// Nothing of so many values.
-fn nothing_kept(alloc: Global, count: usize) -> Result<Items<Option<Trit>>, AllocError>
-    ensures { IfOk result (λ kept. kept ≡ replicate count None) }
-{
-    let kept = vec![in alloc; None; count]?;
-    Ok(Items::from_vec(kept))
 }

@@ -1,12 +1,12 @@
 //! The values of the conditions of arcs, kept as long as no input changes that they name.
-ghost use Rattle.std.specs.Prelude.{◌≡◌, ◌<◌, length, slice_get, Some};
+ghost use Rattle.std.specs.Prelude.{◌≡◌, ◌<◌, ℕ, length, slice_get, slice_index_or, Some, None};
 ghost use Rattle.cell_machine.specs.declared.arcs.Arc.{Arc as ArcOf};
-ghost use Rattle.cell_machine.specs.Each.{each};
 ghost use Rattle.cell_machine.specs.Names.{has};
+ghost use Rattle.cell_machine.specs.Places.{AreBelow};
 ghost use Rattle.cell_machine.specs.Values.{IsBounded};
 ghost use Rattle.cell_machine.specs.CellData.{data_of};
 ghost use Rattle.cell_machine.specs.CellTrace.{condition_names, arc_names};
-ghost use Rattle.cell_machine.specs.KeptConditions.{arc_condition as arc_condition_of, AreKept, kept_beyond as kept_beyond_of};
+ghost use Rattle.cell_machine.specs.KeptConditions.{arc_condition as arc_condition_of, AreConditions, kept_unless};
 
 use crate::cells::Cell;
 use crate::evaluation::condition_value;
@@ -16,7 +16,6 @@ use sqlite_items::Items;
 use trit_cubes::Trit;
 
 /// The value of the condition of the arc with this number, 0 where it has none. It is made where none is kept, and then kept.
-#[tactic(auto, using(crate::proofs::KeptValues::kept_length, crate::proofs::KeptValues::kept_at, crate::proofs::KeptValues::kept_set))]
 pub fn kept_condition(
     cell: &Cell,
     names: &[Items<usize>],
@@ -26,10 +25,10 @@ pub fn kept_condition(
 ) -> Trit
     requires names { names.now ≡ arc_names (data_of cell.now) }
     requires inside { i < length cell.now.arcs }
-    requires kept { AreKept cell.now.pins inputs.now cell.now.arcs kept.old }
+    requires kept { AreConditions cell.now.pins inputs.now cell.now.arcs kept.old }
     ensures value { (arc : ArcOf) → slice_get cell.now.arcs i ≡ Some arc
         → result ≡ arc_condition_of cell.now.pins inputs.now arc.condition }
-    ensures kept { AreKept cell.now.pins inputs.now cell.now.arcs kept.new }
+    ensures kept { AreConditions cell.now.pins inputs.now cell.now.arcs kept.new }
 {
     if let Some(value) = kept.as_slice()[i] {
         return value;
@@ -57,32 +56,13 @@ fn arc_condition(
     }
 }
 
-/// Forgets what is kept of the conditions that name an input, which changes. For each condition there are the numbers of the
-/// inputs that it names.
-pub fn forget(named: &[Items<usize>], input: usize, kept: &mut Items<Option<Trit>>)
-    requires { length kept.old ≡ length named.now }
-    ensures { kept.new ≡ each (kept_beyond_of input) named.now kept.old }
+/// Forgets what is kept of the entries with these numbers.
+pub fn forget<T: Copy>(places: &[usize], kept: &mut Items<Option<T>>)
+    requires { AreBelow (length kept.old) places.now }
+    ensures each { (i : ℕ) → slice_index_or kept.new i None ≡ kept_unless (has places.now i) (slice_index_or kept.old i None) }
+    ensures len { length kept.new ≡ length kept.old }
 {
-    for i in 0..kept.len() {
-        let value = kept_beyond(input, named[i].as_slice(), kept.as_slice()[i]);
-        kept.set(i, value);
+    for i in 0..places.len() {
+        kept.set(places[i], None);
     }
-}
-
-/// What is kept of a condition that names these inputs when this one changes.
-fn kept_beyond(input: usize, inputs: &[usize], kept: Option<Trit>) -> Option<Trit>
-    ensures { result ≡ kept_beyond_of input inputs.now kept }
-{
-    if names_input(inputs, input) {
-        None
-    } else {
-        kept
-    }
-}
-
-/// Whether this input is among these.
-fn names_input(inputs: &[usize], input: usize) -> bool
-    ensures { result ≡ has inputs.now input }
-{
-    inputs.iter().any(|named| *named == input)
 }

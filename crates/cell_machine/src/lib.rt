@@ -2,6 +2,7 @@
 //! that may be unknown.
 #![tactic(auto)]
 
+mod arc_places;
 mod arcs;
 mod cell_start;
 mod cells;
@@ -17,6 +18,7 @@ mod fillings;
 mod group_steps;
 mod group_tables;
 mod groups;
+mod kept_arcs;
 mod kept_conditions;
 mod laws;
 pub mod least;
@@ -36,6 +38,7 @@ mod tabled;
 mod times;
 mod values;
 
+pub use arc_places::ArcPlaces;
 pub use arcs::Arc;
 pub use cell_start::CellStart;
 pub use cells::Cell;
@@ -49,6 +52,7 @@ pub use few::Few;
 pub use group_steps::{boolean_step, forced};
 pub use group_tables::change_value;
 pub use groups::{Both, Clocked, Gated, GroupKind, StateGroup};
+pub use kept_arcs::KeptArcs;
 pub use laws::{
     fewer_unknowns_keep_outputs, forced_is_step, fronts_have_fronts, last_line_is_of_history,
     report_is_whole_list, same_value_changes_nothing, times_decide_reports,

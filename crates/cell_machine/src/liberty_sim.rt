@@ -4,6 +4,7 @@ ghost use Rattle.cell_machine.specs.Report.{any_true};
 ghost use Rattle.cell_machine.specs.CellData.{data_of};
 ghost use Rattle.cell_machine.specs.CellTrace.{inputs_of, cell_machine_of};
 ghost use Rattle.cell_machine.specs.CellStarts.{IsCellStart};
+ghost use Rattle.cell_machine.specs.ArcPlaces.{AreArcPlaces};
 ghost use Rattle.cell_machine.specs.OutputTables.{AreOutputTables};
 ghost use Rattle.cell_machine.specs.StepTables.{AreStepTables};
 ghost use Rattle.cell_machine.specs.LibertyStands.{Stands, cell_machine_sized};
@@ -11,6 +12,8 @@ ghost use Rattle.cell_machine.specs.LibertyStands.{Stands, cell_machine_sized};
 use crate::cell_start::{CellStart, StartValues};
 use crate::cells::Cell;
 use crate::changes::Change;
+use crate::entries::entry;
+use crate::kept_arcs::KeptArcs;
 use crate::kept_conditions::forget;
 use crate::reports::report_all;
 use crate::shared::Shared;
@@ -23,8 +26,8 @@ use std::alloc::{AllocError, Global};
 use trit_cubes::Trit;
 
 /// A cell run by its own machine. It keeps the values of the inputs, the states and what the outputs show, and for each
-/// input the times of its last change, of its last possible rise and of its last possible fall. Of the conditions of the arcs
-/// it keeps the values until an input changes that they name.
+/// input the times of its last change, of its last possible rise and of its last possible fall. Of the arcs it
+/// keeps the values of their conditions and the least delays of two pins until an input changes on which they hang.
 #[derive(Drop)]
 pub struct LibertySim<'a> {
     cell: &'a Cell,
@@ -34,8 +37,9 @@ pub struct LibertySim<'a> {
     states: Items<Trit>,
     reports: Items<bool>,
     shown: Items<Shown>,
-    kept: Items<Option<Trit>>,
+    kept: KeptArcs,
     ghost tabled_outputs: { AreOutputTables (data_of cell.now) known.outputs },
+    ghost placed_arcs: { AreArcPlaces (data_of cell.now) known.places },
     ghost tabled_steps: { AreStepTables (data_of cell.now) known.steps },
     ghost each_input: { length inputs ≡ inputs_of (data_of cell.now) },
     ghost each_time: { length times ≡ inputs_of (data_of cell.now) },
@@ -64,11 +68,12 @@ impl<'a> LibertySim<'a> {
         ensures machine { IfOk result (λ sim. ⟦<LibertySim<'a> as CellSim>⟧.machine sim ≡ cell_machine_of (data_of cell.now)) }
         ensures stands { IfOk result (λ sim. ⟦<LibertySim<'a> as CellSim>⟧.stands sim []) }
     {
-        let values = StartValues::of(alloc, cell)?;
         let shown = Items::from_slice(alloc, known.get().shown.as_slice())?;
+        let known = known.again()?;
+        let values = StartValues::of(alloc, cell)?;
         Ok(LibertySim {
             cell,
-            known: known.again()?,
+            known,
             inputs: values.inputs,
             times: values.times,
             states: values.states,
@@ -82,8 +87,8 @@ impl<'a> LibertySim<'a> {
 impl<'a> CellSim for LibertySim<'a> {
     ghost machine = { λ s. cell_machine_of (data_of s.cell.now) };
 
-    ghost stands = { λ s h. Stands (data_of s.cell.now) s.known.check_names s.known.arc_names s.known.arc_inputs s.inputs s.times
-        s.states s.reports s.shown s.kept h };
+    ghost stands = { λ s h. Stands (data_of s.cell.now) s.known.check_names s.known.arc_names s.inputs s.times s.states
+        s.reports s.shown s.kept h };
 
     fn sizes(&self) -> Sizes {
         Sizes {
@@ -120,13 +125,17 @@ impl<'a> CellSim for LibertySim<'a> {
         let steps = &self.known.get().steps;
         change_states(self.cell, steps, &seen, &mut self.states);
         self.times.set(pin, times);
-        let named = self.known.get().arc_inputs.as_slice();
-        forget(named, pin, &mut self.kept);
+        let places = &self.known.get().places;
+        let naming = entry(&places.naming, pin).as_slice();
+        forget(naming, &mut self.kept.conditions);
+        let firsts = entry(&places.firsts, pin).as_slice();
+        forget(firsts, &mut self.kept.delays);
         let arcs = self.known.get().arc_names.as_slice();
         let states = self.states.as_slice();
         let seen = ShownChange {
             outputs: &self.known.get().outputs,
             names: arcs,
+            places: entry(&places.between, pin),
             inputs,
             states,
             change,

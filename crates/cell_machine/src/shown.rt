@@ -3,14 +3,17 @@ ghost use Rattle.std.specs.Prelude.{◌≡◌, ◌<◌, length, map, slice_get, 
 ghost use Rattle.cell_machine.specs.declared.outputs.OutputPin.{OutputPin as OutputPinOf};
 ghost use Rattle.cell_machine.specs.Each.{each};
 ghost use Rattle.cell_machine.specs.CellData.{data_of};
-ghost use Rattle.cell_machine.specs.CellTrace.{arc_names};
-ghost use Rattle.cell_machine.specs.KeptConditions.{AreKept};
+ghost use Rattle.cell_machine.specs.CellTrace.{inputs_of, arc_names};
+ghost use Rattle.cell_machine.specs.ArcPlaces.{arcs_from};
+ghost use Rattle.cell_machine.specs.KeptArcs.{AreKeptArcs};
 ghost use Rattle.cell_machine.specs.OutputTables.{AreOutputTables};
 ghost use Rattle.cell_machine.specs.ShownOutputs.{shown_first, shown_step};
 
 use crate::cells::Cell;
 use crate::changes::Change;
-use crate::delays::{OutputChange, least_delay};
+use crate::delays::least_delay;
+use crate::entries::entry;
+use crate::kept_arcs::KeptArcs;
 use crate::output_tables::output_value;
 use sqlite_items::Items;
 use std::alloc::{AllocError, Global};
@@ -32,6 +35,8 @@ pub struct ShownChange<'a> {
     pub outputs: &'a Items<Items<Trit>>,
     /// For each arc the pins that its condition names.
     pub names: &'a [Items<usize>],
+    /// For each output the numbers of the arcs that lead to it from the changed input.
+    pub places: &'a Items<Items<usize>>,
     /// The values of the inputs after it.
     pub inputs: &'a [Trit],
     /// The states after it.
@@ -41,52 +46,43 @@ pub struct ShownChange<'a> {
 }
 
 /// What one output shows after a change, where it showed the value `was` before.
-fn shown_step(
-    cell: &Cell,
-    seen: &ShownChange,
-    i: usize,
-    was: Trit,
-    kept: &mut Items<Option<Trit>>,
-) -> Shown
+fn shown_step(cell: &Cell, seen: &ShownChange, i: usize, was: Trit, kept: &mut KeptArcs) -> Shown
     requires outputs { AreOutputTables (data_of cell.now) seen.now.outputs.now }
     requires names { seen.now.names.now ≡ arc_names (data_of cell.now) }
+    requires pin { seen.now.change.pin < inputs_of (data_of cell.now) }
+    requires places { seen.now.places.now ≡ arcs_from (data_of cell.now) seen.now.change.pin }
     requires inside { i < length cell.now.outputs }
-    requires kept { AreKept cell.now.pins seen.now.inputs.now cell.now.arcs kept.old }
+    requires kept { AreKeptArcs (data_of cell.now) seen.now.inputs.now kept.old }
     ensures shown { (output : OutputPinOf) → slice_get cell.now.outputs i ≡ Some output
         → result ≡ shown_step cell.now.pins cell.now.groups cell.now.arcs seen.now.inputs.now seen.now.states.now seen.now.change
         output was }
-    ensures kept { AreKept cell.now.pins seen.now.inputs.now cell.now.arcs kept.new }
+    ensures kept { AreKeptArcs (data_of cell.now) seen.now.inputs.now kept.new }
 {
     let value = output_value(cell, seen.outputs, i, seen.inputs, seen.states);
     if was == value {
         return Shown { value, delay: None };
     }
-    let change = OutputChange {
-        input: seen.change.pin,
-        pin: cell.output_pin(i).pin,
-        from: was,
-        to: value,
-    };
-    let delay = Some(least_delay(cell, seen.names, seen.inputs, kept, &change));
-    Shown { value, delay }
+    let places = entry(seen.places, i).as_slice();
+    let delay = least_delay(cell, seen.names, places, seen.inputs, kept, was, value);
+    Shown {
+        value,
+        delay: Some(delay),
+    }
 }
 
 /// Takes what the outputs show over a change.
-pub fn show_all(
-    cell: &Cell,
-    seen: &ShownChange,
-    kept: &mut Items<Option<Trit>>,
-    shown: &mut Items<Shown>,
-)
+pub fn show_all(cell: &Cell, seen: &ShownChange, kept: &mut KeptArcs, shown: &mut Items<Shown>)
     requires outputs { AreOutputTables (data_of cell.now) seen.now.outputs.now }
     requires names { seen.now.names.now ≡ arc_names (data_of cell.now) }
-    requires kept { AreKept cell.now.pins seen.now.inputs.now cell.now.arcs kept.old }
+    requires pin { seen.now.change.pin < inputs_of (data_of cell.now) }
+    requires places { seen.now.places.now ≡ arcs_from (data_of cell.now) seen.now.change.pin }
+    requires kept { AreKeptArcs (data_of cell.now) seen.now.inputs.now kept.old }
     requires one_each { length shown.old ≡ length cell.now.outputs }
     ensures stepped { shown.new ≡ each
         (λ o s. shown_step cell.now.pins cell.now.groups cell.now.arcs seen.now.inputs.now seen.now.states.now seen.now.change o
         s.value) cell.now.outputs shown.old }
     ensures len { length shown.new ≡ length shown.old }
-    ensures kept { AreKept cell.now.pins seen.now.inputs.now cell.now.arcs kept.new }
+    ensures kept { AreKeptArcs (data_of cell.now) seen.now.inputs.now kept.new }
 {
     for i in 0..shown.len() {
         let was = shown.as_slice()[i].value;

@@ -1,16 +1,21 @@
-use Rattle.std.proofs.Common.{◌<◌, ◌∙◌, length, arith}
-use Rattle.cell_machine.proofs.ArcDelays.{least_of-step}
+use Rattle.std.proofs.Common.{◌∙◌, ap, sym}
+use Rattle.std.specs.Prelude.{option_copied}
+use Rattle.cell_machine.specs.CellData.{data_of}
+use Rattle.cell_machine.specs.ArcDelay.{delay_by}
+use Rattle.cell_machine.proofs.PairArcs.{pair-delay, pair-none}
+use Rattle.cell_machine.proofs.KeptPairs.{pair-first}
 use Rattle.cell_machine.proofs.delays.least_delay.Goals as goal
 
-pub loop-i-preserved : goal.loop-i-preserved
-loop-i-preserved c =
-    let cell = c.args.cell.now in
-    let change = c.args.change.now in
-    let inside : c.loop-i.i < length cell.arcs = omega (arith, c.len-i-end.ensures) in
-    record {
-      least = rw c.lesser-best.ensures
-          (least_of-step cell.pins cell.arcs c.args.inputs.now change.input change.pin change.from change.to cell.arcs c.loop-i.i
-          c.loop-i.best c.arc_delay.result inside c.arc_delay.ensures.delay
-          ∙ c.loop-i.invariant.least);
-      kept = c.arc_delay.ensures.kept;
-    }
+pub kept_delays-requires-clause-inside : goal.kept_delays-requires-clause-inside
+kept_delays-requires-clause-inside c =
+    pair-first (data_of c.args.cell.now) c.args.places.now _ c.requires.pair (sym c.first.ensures.value ∙ ap option_copied c.in-Some.is)
+
+pub returns-in-Some-clause-delay : goal.returns-in-Some-clause-delay
+returns-in-Some-clause-delay c = λ input pin are.
+    c.of.ensures ∙ ap (delay_by c.args.from c.args.to) c.kept_delays.ensures.delays
+    ∙ pair-delay (data_of c.args.cell.now) c.args.inputs.now input pin c.args.places.now c.args.from c.args.to are
+
+pub returns-in-None-clause-delay : goal.returns-in-None-clause-delay
+returns-in-None-clause-delay c = λ input pin are.
+    pair-none (data_of c.args.cell.now) c.args.inputs.now input pin c.args.places.now c.args.from c.args.to
+    (sym c.first.ensures.value ∙ ap option_copied c.in-None.is) are

@@ -1,6 +1,7 @@
 use Rattle.std.proofs.Common.{◌≡◌, ◌++◌, take, drop, length}
 use Rattle.cell_machine.specs.Each.{each}
-use Rattle.cell_machine.specs.KeptConditions.{AreKept}
+use Rattle.cell_machine.specs.KeptArcs.{AreKeptArcs}
+use Rattle.cell_machine.specs.CellData.{data_of}
 use Rattle.cell_machine.specs.ShownOutputs.{shown_step}
 use Rattle.cell_machine.proofs.shown.show_all.Given as goal
 
@@ -14,5 +15,5 @@ invariant-loop-i l = record {
       ≡ each (λ o s. shown_step l.cell.pins l.cell.groups l.cell.arcs l.seen.inputs.now l.seen.states.now l.seen.change o s.value) l.cell.outputs
       l.initial.shown;
   len : length l.shown ≡ length l.initial.shown;
-  kept : AreKept l.cell.pins l.seen.inputs.now l.cell.arcs l.kept;
+  kept : AreKeptArcs (data_of l.cell) l.seen.inputs.now l.kept;
 }

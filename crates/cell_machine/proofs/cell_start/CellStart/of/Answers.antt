@@ -1,25 +1,11 @@
-use Rattle.std.proofs.Common.{length, map, refl, ap, ◌∙◌}
-use Rattle.cell_machine.specs.CellData.{data_of}
-use Rattle.cell_machine.specs.Inputs.{input_number}
-use Rattle.cell_machine.proofs.KeptValues.{named_inputs}
-use Rattle.cell_machine.proofs.Standing.{start-shown}
 use Rattle.cell_machine.proofs.cell_start.CellStart.of.Goals as goal
 
 pub returns : goal.returns
-returns c =
-    let cell = c.args.cell.now in
-    let values = c.in_ok-values.values in
-    let made = c.in_ok-values.ensures in
-    let shown = rw (c.as_slice-2.ensures, c.as_slice-3.ensures) at c.in_ok-shown.ensures in
-    record {
-      check_names_are = c.in_ok-check_names.ensures;
-      arc_names_are = c.in_ok-arc_names.ensures;
-      arc_inputs_are =
-          c.in_ok-arc_inputs.ensures
-          ∙ (ap (map (map (input_number cell.pins))) (c.as_slice.ensures ∙ c.in_ok-arc_names.ensures) ∙ named_inputs cell.pins cell.arcs);
-      outputs_are = c.in_ok-outputs.ensures;
-      steps_are = c.in_ok-steps.ensures;
-      shown_are =
-          start-shown (data_of cell) (input_number cell.pins (length cell.pins)) values.inputs values.states c.in_ok-shown.shown refl made.inputs made.states
-          shown;
-    }
+returns c = record {
+  check_names_are = c.in_ok-check_names.ensures;
+  arc_names_are = c.in_ok-arc_names.ensures;
+  places_are = c.in_ok-places.ensures;
+  outputs_are = c.in_ok-outputs.ensures;
+  steps_are = c.in_ok-steps.ensures;
+  shown_are = c.in_ok-shown.ensures;
+}

@@ -1,5 +1,6 @@
-use Rattle.std.proofs.Common.{◌∙◌, ap, replicate, false, None}
+use Rattle.std.proofs.Common.{ℕ, ◌∙◌, ap, replicate, false, None}
 use Rattle.trit_cubes.specs.declared.trits.Trit.TheVariants.{Unknown}
+use Rattle.cell_machine.specs.declared.kept_arcs.KeptArcs.{KeptArcs}
 use Rattle.cell_machine.specs.Times.{no_times}
 use Rattle.cell_machine.proofs.cell_start.StartValues.of.Goals as goal
 
@@ -21,4 +22,6 @@ pub returns-clause-reports : goal.returns-clause-reports
 returns-clause-reports c = c.from_vec-4.ensures ∙ c.in_ok-reports.ensures.items_if_clones_equal (λ y e. e) ∙ ap (λ n. replicate n false) c.len-3.ensures
 
 pub returns-clause-kept : goal.returns-clause-kept
-returns-clause-kept c = c.in_ok-kept.ensures ∙ ap (λ n. replicate n None) c.len-4.ensures
+returns-clause-kept c =
+    let nothing : ℕ → KeptArcs = λ n. record { conditions = replicate n None; delays = replicate n None } in
+    c.in_ok-kept.ensures ∙ ap nothing c.len-4.ensures

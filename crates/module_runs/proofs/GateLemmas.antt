@@ -6,7 +6,6 @@ use Rattle.std.specs.List.{list_all}
 use Rattle.std.specs.Option.{option_map_or}
 use Rattle.trit_cubes.specs.declared.trits.Trit.{Trit}
 use Rattle.trit_cubes.specs.declared.trits.Trit.TheVariants.{Unknown}
-use Rattle.cell_machine.specs.Delay.{Path}
 use Rattle.cell_machine.specs.Inputs.{numbered_value}
 use Rattle.cell_machine.specs.Outputs.{is_zero}
 use Rattle.udp_tables.specs.declared.table.Udp.{Udp}
@@ -19,7 +18,7 @@ use Rattle.specify_blocks.specs.declared.model.Instance.{Instance}
 use Rattle.specify_blocks.specs.declared.model.Instance.TheVariants as instance
 use Rattle.specify_blocks.specs.declared.model.VModule.{VModule}
 use Rattle.specify_blocks.specs.Nets.{has_state}
-use Rattle.model_traces.specs.NetValues.{driver, table_value, primitive_value, instance_value, value_from, net_value}
+use Rattle.model_traces.specs.NetValues.{driver, table_value, primitive_value, instance_value, value_from}
 use Rattle.model_traces.specs.PathDelays.{same_ports, is_off, is_quiet, is_active, path_at, is_between, paths_between}
 use Rattle.module_runs.specs.declared.gates.Gates.{Gates}
 use Rattle.module_runs.specs.Gates.{IsDriven, IsGate, AreGates, gate_zero, gate_zeros}
@@ -82,7 +81,7 @@ module _ (m : VModule) (gates : Gates) (v s w t : List Trit)
   driven-same : (k : ℕ) (o : Option Instance)
       → slice_get m.instances k ≡ o
       → ((x : Instance) → o ≡ Some x → IsDriven m gates k x)
-      → gates.stateless ≡ true
+      → gates.stateful ≡ false
       → is_zero (option_map_or (instance_value m v s (slice_index_or s k Unknown)) o Unknown)
       ≡ is_zero (option_map_or (instance_value m w t (slice_index_or t k Unknown)) o Unknown)
   driven-same k None e driven steady = refl
@@ -96,13 +95,13 @@ module _ (m : VModule) (gates : Gates) (v s w t : List Trit)
 
   driver-same : (d : Option ℕ)
       → ((k : ℕ) (x : Instance) → d ≡ Some k → slice_get m.instances k ≡ Some x → IsDriven m gates k x)
-      → gates.stateless ≡ true → is_zero (value_from m v s d) ≡ is_zero (value_from m w t d)
+      → gates.stateful ≡ false → is_zero (value_from m v s d) ≡ is_zero (value_from m w t d)
   driver-same None driven steady = refl
   driver-same (Some k) driven steady =
       driven-same k (slice_get m.instances k) refl (λ x e. driven k x refl e) steady
 
   off-same : (path : VPath) (g : Gate)
-      → path.gate ≡ g → IsGate m gates path → gates.stateless ≡ true → is_off m v s g ≡ is_off m w t g
+      → path.gate ≡ g → IsGate m gates path → gates.stateful ≡ false → is_off m v s g ≡ is_off m w t g
   off-same path gate.Always is driven steady = refl
   off-same path (gate.If wire) is driven steady =
       driver-same (driver m.instances (net.Wire wire)) (λ k x d e. driven wire k x is d e) steady
@@ -129,7 +128,7 @@ map-filter-same f g p (x ∷ xs) same =
     one-same f g x (filter p xs) (p x) (same zero x refl) (map-filter-same f g p xs (λ k y e. same (suc k) y e))
 
 -- The paths are active where they were while each gate stays 0 or not 0.
-module _ (m : VModule) (gates : Gates) (v s w t : List Trit) (are : AreGates m gates) (steady : gates.stateless ≡ true)
+module _ (m : VModule) (gates : Gates) (v s w t : List Trit) (are : AreGates m gates) (steady : gates.stateful ≡ false)
     (same : gate_zeros gates.places (kept_values m v s) ≡ gate_zeros gates.places (kept_values m w t)) where
   path-off : (i : ℕ) (path : VPath) → slice_get m.paths i ≡ Some path → is_off m v s path.gate ≡ is_off m w t path.gate
   path-off i path e = off-same m gates v s w t same path path.gate refl (are i path e) steady

@@ -12,11 +12,11 @@ use Rattle.specify_blocks.specs.Nets.{has_state}
 use Rattle.model_traces.specs.NetValues.{driver}
 use Rattle.module_runs.specs.declared.gates.Gates.{Gates}
 
--- The instance that drives the net of an `if` path, where there is one, is known to drive a gate; where the gates are stateless,
--- it has no state.
+-- The instance that drives the net of an `if` path, where there is one, is known to drive a gate; where no gate is known to
+-- be stateful, it has no state.
 pub record IsDriven (m : VModule) (gates : Gates) (place : ℕ) (x : Instance) : Type 0 where
   pub marked : slice_get gates.places place ≡ Some true
-  pub steady : gates.stateless ≡ true → has_state m.udps x ≡ false
+  pub steady : gates.stateful ≡ false → has_state m.udps x ≡ false
 
 abbrev pub IsGate : VModule → Gates → VPath → Type 0
 IsGate m gates path =

@@ -1,5 +1,5 @@
 //! The gates of a module's paths: the wires by which `if` paths are active, and the instances that drive them.
-ghost use Rattle.std.specs.Prelude.{◌≡◌, ◌<◌, true, false, length, slice_get, slice_index_or, Some, replicate, IfOk};
+ghost use Rattle.std.specs.Prelude.{◌≡◌, ◌<◌, false, length, slice_get, slice_index_or, Some, replicate, IfOk};
 ghost use Rattle.specify_blocks.specs.declared.model.VPath.{VPath as VPathOf};
 ghost use Rattle.specify_blocks.specs.declared.model.Instance.{Instance as InstanceOf};
 ghost use Rattle.specify_blocks.specs.Nets.{has_state};
@@ -19,8 +19,8 @@ use trit_cubes::Trit;
 pub struct Gates {
     /// For each instance whether it drives a gate.
     pub places: Items<bool>,
-    /// Whether none of these has a state.
-    pub stateless: bool,
+    /// Whether one of these has a state.
+    pub stateful: bool,
 }
 
 impl Gates {
@@ -32,7 +32,7 @@ impl Gates {
         let places = no_gates(alloc, model.instances.len())?;
         let mut gates = Gates {
             places,
-            stateless: true,
+            stateful: false,
         };
         let paths = model.paths.as_slice();
         for i in 0..paths.len() {
@@ -57,7 +57,7 @@ impl Gates {
             return;
         };
         put(&mut self.places, place, true);
-        self.stateless = is_stateless(model, place, self.stateless);
+        self.stateful = is_stateful(model, place, self.stateful);
     }
 }
 
@@ -69,15 +69,15 @@ fn no_gates(alloc: Global, count: usize) -> Result<Items<bool>, AllocError>
     Ok(Items::from_vec(places))
 }
 
-/// Whether those before have no state, and the instance at this place has none.
-fn is_stateless(model: &VModule, place: usize, before: bool) -> bool
-    ensures before { result ≡ true → before ≡ true }
-    ensures own { (x : InstanceOf) → slice_get model.now.instances place ≡ Some x → result ≡ true
+/// Whether one of those before has a state, or the instance at this place has one.
+fn is_stateful(model: &VModule, place: usize, before: bool) -> bool
+    ensures before { result ≡ false → before ≡ false }
+    ensures own { (x : InstanceOf) → slice_get model.now.instances place ≡ Some x → result ≡ false
         → has_state model.now.udps x ≡ false }
 {
     let instances = model.instances.as_slice();
     match at(instances, place) {
-        Some(instance) => before && !has_state(model.udps.as_slice(), instance),
+        Some(instance) => before || has_state(model.udps.as_slice(), instance),
         None => before,
     }
 }

@@ -1,4 +1,4 @@
-use Rattle.std.proofs.Common.{◌≡◌, List, ap, sym, subst, ◌∙◌, length, set}
+use Rattle.std.proofs.Common.{List, ap, sym, subst, ◌∙◌, length, set}
 use Rattle.trit_cubes.specs.declared.trits.Trit.{Trit}
 use Rattle.model_traces.specs.declared.turns.Turned.TheVariants as turned
 use Rattle.model_traces.specs.declared.module_run.ModuleRun.{ModuleRun}

@@ -1,4 +1,4 @@
-use Rattle.std.proofs.Common.{◌≡◌, ℕ, ◌<◌, length, Some, slice_get, ap, sym, subst, ◌∙◌, List, arith}
+use Rattle.std.proofs.Common.{◌≡◌, ◌<◌, Some, slice_get, ap, subst, ◌∙◌, List, arith}
 use Rattle.std.proofs.lemmas.Option.{slice_get_within, get_or_from_slice_get}
 use borrow.Author.Count.{below_more}
 use Rattle.specify_blocks.specs.declared.model.VPath.{VPath}

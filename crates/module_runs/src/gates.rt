@@ -100,6 +100,9 @@ pub(crate) fn is_gate_changed_at(
     ensures { result ≡ false → (before ≡ false)
         × (gate_zero (slice_index_or places.now place false) was ≡ gate_zero (slice_index_or places.now place false) now) }
 {
+    if was == now {
+        return before;
+    }
     let gate = is_gate(places, place);
     before || gate_zero(gate, was) != gate_zero(gate, now)
 }

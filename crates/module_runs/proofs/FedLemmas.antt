@@ -1,18 +1,14 @@
 -- The places of the instances that a change feeds, and that it steps those alone.
 use Rattle.std.proofs.Common.{◌≡◌, ℕ, zero, suc, ◌+◌, ◌<◌, ◌≤◌, Bool, true, false, ◌&&◌, ◌||◌, cond, List, [], ◌∷◌, ◌++◌, length}
 use Rattle.std.proofs.Common.{get_or, set, take, drop, map, refl, ap, sym, ◌∙◌, Option, Some, None, slice_get, nat_eq, position}
-use Rattle.std.proofs.Common.{arith, add-one, length-take-le, length-drop, if◌then◌else◌, inl, inr, ◌⊎◌}
+use Rattle.std.proofs.Common.{arith, if◌then◌else◌, inl, inr, ◌⊎◌}
 use Rattle.std.specs.List.{list_any, position_from}
 use Rattle.std.specs.Option.{option_map_or}
 use Rattle.std.proofs.lemmas.Bool.{or_parts, and_parts, ne_eqb, eqb-true}
-use Rattle.std.proofs.lemmas.List.{append-nil, take_more, length-set, set-get_or, drop_all}
+use Rattle.std.proofs.lemmas.List.{set-get_or, drop_all}
 use Rattle.std.proofs.lemmas.List.Sums.{sum_by-cons}
-use Rattle.std.proofs.lemmas.Option.{slice_get_within}
 use Rattle.trit_cubes.specs.declared.trits.Trit.{Trit}
 use Rattle.trit_cubes.specs.declared.trits.Trit.TheVariants.{Zero}
-use Rattle.cell_machine.specs.Each.{each}
-use Rattle.cell_machine.proofs.ArcDelays.{drop-at}
-use Rattle.cell_machine.proofs.EachLemmas.{each-step, each-done}
 use Rattle.udp_tables.specs.declared.models.VPort.{VPort}
 use Rattle.udp_tables.specs.declared.table.Udp.{Udp}
 use Rattle.udp_tables.specs.Ports.{is_input_port}
@@ -27,7 +23,6 @@ use Rattle.model_traces.specs.declared.turns.Turn.{Turn}
 use Rattle.model_traces.specs.PortNumbers.{is_input, input_count, input_number}
 use Rattle.model_traces.specs.Primitives.{is_turned, entry_value, next_at, primitive_next, next_state, next_states}
 use Rattle.model_traces.proofs.PlaceLemmas.{position-from}
-use Rattle.run_parts.specs.Places.{places_from}
 use Rattle.run_parts.proofs.PlaceLemmas.{places-more, places-within, stepped, stepped-from, none-any, none-placed, once-added}
 use Rattle.run_parts.proofs.PlaceLemmas.{stays}
 use Rattle.module_runs.specs.FedInstances.{nets_of, is_fed, fed_places}

@@ -1,7 +1,7 @@
 -- The kept values of the instances, found anew where a change feeds them.
-use Rattle.std.proofs.Common.{◌≡◌, ℕ, zero, suc, ◌+◌, ◌<◌, Bool, true, false, ◌&&◌, ◌||◌, cond, List, [], ◌∷◌, ◌++◌, append_assoc}
-use Rattle.std.proofs.Common.{length, get_or, set, take, drop, map, refl, ap, sym, ◌∙◌, Option, None, Some, slice_get}
-use Rattle.std.proofs.Common.{slice_index_or, nat_eq, add-one, if◌then◌else◌, IsTrue, arith}
+use Rattle.std.proofs.Common.{◌≡◌, ℕ, true, false, ◌&&◌, List, [], ◌∷◌}
+use Rattle.std.proofs.Common.{length, set, map, refl, ap, sym, ◌∙◌, slice_get}
+use Rattle.std.proofs.Common.{nat_eq, if◌then◌else◌, IsTrue}
 use Rattle.std.specs.List.{list_any, list_all}
 use Rattle.std.specs.Option.{option_map_or}
 use Rattle.std.proofs.lemmas.Bool.{or_parts, and_parts, eqb-false}
@@ -20,7 +20,7 @@ use Rattle.model_traces.specs.PortNumbers.{input_number}
 use Rattle.model_traces.specs.Primitives.{is_turned}
 use Rattle.model_traces.specs.NetValues.{source_value}
 use Rattle.module_runs.specs.Wiring.{is_readable, reads_inputs, is_wired}
-use Rattle.module_runs.specs.FedInstances.{nets_of, is_fed, fed_places}
+use Rattle.module_runs.specs.FedInstances.{is_fed, fed_places}
 use Rattle.module_runs.specs.KeptValues.{kept_value, kept_values, is_wire, reads_state, state_places}
 use Rattle.run_parts.specs.Places.{FindsAnew}
 use Rattle.module_runs.proofs.WiringLemmas.{wired-reads}

@@ -4,3 +4,4 @@ pub mod ModuleSteps
 pub mod WiringLemmas
 pub mod FedLemmas
 pub mod KeptLemmas
+pub mod GateLemmas

@@ -1,8 +1,7 @@
 -- The fields of a module's simulator at the start and after a change.
 use Rattle.std.proofs.Common.{◌≡◌, ℕ, suc, ◌+◌, Bool, true, false, List, [], ◌∷◌, ◌++◌, append_assoc, length, map, replicate}
-use Rattle.std.proofs.Common.{drop, refl, sym, ap, ◌∙◌, add-one, Some, slice_get, if◌then◌else◌}
+use Rattle.std.proofs.Common.{drop, refl, sym, ap, ◌∙◌, add-one, Some, slice_get}
 use Rattle.cell_machine.specs.declared.changes.Change.{Change}
-use Rattle.cell_machine.specs.History.{is_event}
 use Rattle.std.proofs.lemmas.List.{map-append}
 use Rattle.std.proofs.lemmas.Simd.{map-map}
 use Rattle.cell_machine.proofs.ArcDelays.{drop-at}
@@ -11,7 +10,7 @@ use Rattle.specify_blocks.specs.declared.model.VModule.{VModule}
 use Rattle.model_traces.specs.declared.module_run.ModuleRun.{ModuleRun}
 use Rattle.run_parts.specs.declared.shown.ShownPort.{ShownPort}
 use Rattle.model_traces.specs.PortNumbers.{output_by, outputs_from, output_ports}
-use Rattle.model_traces.specs.ModuleRun.{start_run, shaken, reports_at, happened, run_step, step_reports, run_after}
+use Rattle.model_traces.specs.ModuleRun.{start_run, shaken, run_step, step_reports, run_after}
 use Rattle.module_runs.specs.ShownPorts.{shown_first, shown_step}
 use Rattle.module_runs.specs.ModuleStands.{shown_after, Stands}
 

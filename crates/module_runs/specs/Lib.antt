@@ -8,5 +8,6 @@ pub mod QuietPorts
 pub mod Wiring
 pub mod OutputPaths
 pub mod Keys
+pub mod Gates
 pub mod ModuleIndexed
 pub mod ShownPorts

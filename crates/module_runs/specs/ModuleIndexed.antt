@@ -7,12 +7,14 @@ use Rattle.run_parts.specs.InputNumbers.{input_numbers}
 use Rattle.module_runs.specs.NetDrivers.{AreDrivers}
 use Rattle.module_runs.specs.OutputPaths.{AreByOutput}
 use Rattle.module_runs.specs.FedLists.{AreFed}
+use Rattle.module_runs.specs.Gates.{AreGates}
 
--- these are the keys of its tables, the numbers of its ports among the inputs, the drivers of its nets, the paths to its ports
--- and the instances that changes feed
+-- these are the keys of its tables, the numbers of its ports among the inputs, the drivers of its nets, the paths to its ports,
+-- the instances that changes feed and the gates of its paths
 pub record IsModuleIndex (m : VModule) (index : ModuleIndex) : Type 0 where
   pub keyed : index.keys ≡ map udp_keys m.udps
   pub numbered : index.numbers ≡ input_numbers m.ports
   pub driven : AreDrivers m.instances index.drivers
   pub by_output : AreByOutput m.paths index.paths
   pub feeding : AreFed m.ports m.instances index.fed
+  pub gated : AreGates m index.gates

@@ -3,12 +3,14 @@ ghost use Rattle.std.specs.Prelude.{◌≡◌, ◌<◌, true, length, drop};
 ghost use Rattle.std.specs.List.{list_all};
 ghost use Rattle.cell_machine.specs.Delay.{least_delay};
 ghost use Rattle.model_traces.specs.PathDelays.{is_off, is_quiet, is_active, is_between, paths_between, path_at, delay_at};
+ghost use Rattle.run_parts.specs.KeptDelays.{AreKept};
 ghost use Rattle.run_parts.specs.LeastPath.{path_delay_of};
+ghost use Rattle.module_runs.specs.OutputPaths.{output_paths};
 ghost use Rattle.module_runs.specs.QuietPorts.{IsKnown};
 
 use crate::module_values::{ModuleValues, net_value};
 use cell_machine::lesser;
-use run_parts::{OutputChange, input_number};
+use run_parts::{KeptDelays, OutputChange, delay_place, input_number};
 use specify_blocks::{Gate, VNet, VPath};
 use trit_cubes::Trit;
 
@@ -117,7 +119,7 @@ fn path_delay(
 }
 
 /// The delay of a change of an output: the least over the active paths from the input to it, 0 where none is active.
-fn least_delay(values: &ModuleValues, change: OutputChange) -> u64
+fn found_delay(values: &ModuleValues, change: OutputChange) -> u64
     ensures { result ≡ least_delay change.from change.to
         (paths_between values.now.tables.model.now values.now.inputs.now values.now.states.now change.input change.port) }
 {
@@ -130,14 +132,37 @@ fn least_delay(values: &ModuleValues, change: OutputChange) -> u64
     best.unwrap_or(0)
 }
 
+/// The same as it is kept, else found and kept.
+fn least_delay(values: &ModuleValues, change: OutputChange, kept: &mut KeptDelays) -> u64
+    requires kept { AreKept (output_paths values.now.tables.model.now values.now.inputs.now values.now.states.now) kept.old }
+    ensures delay { result ≡ least_delay change.from change.to
+        (paths_between values.now.tables.model.now values.now.inputs.now values.now.states.now change.input change.port) }
+    ensures kept { AreKept (output_paths values.now.tables.model.now values.now.inputs.now values.now.states.now) kept.new }
+{
+    let places = values.tables.index.places.as_slice();
+    let place = delay_place(places, change.port, change.input);
+    if let Some(delay) = kept.known(place, change.port, change) {
+        return delay;
+    }
+    let delay = found_delay(values, change);
+    kept.keep(place, change.port, change, delay);
+    delay
+}
+
 /// The delay of an output, there where it changes.
-pub(crate) fn delay_at(values: &ModuleValues, change: OutputChange) -> Option<u64>
-    ensures { result ≡ delay_at values.now.tables.model.now values.now.inputs.now values.now.states.now change.input change.port
-        change.from change.to }
+pub(crate) fn delay_at(
+    values: &ModuleValues,
+    change: OutputChange,
+    kept: &mut KeptDelays,
+) -> Option<u64>
+    requires kept { AreKept (output_paths values.now.tables.model.now values.now.inputs.now values.now.states.now) kept.old }
+    ensures delay { result ≡ delay_at values.now.tables.model.now values.now.inputs.now values.now.states.now change.input
+        change.port change.from change.to }
+    ensures kept { AreKept (output_paths values.now.tables.model.now values.now.inputs.now values.now.states.now) kept.new }
 {
     if change.from == change.to {
         None
     } else {
-        Some(least_delay(values, change))
+        Some(least_delay(values, change, kept))
     }
 }

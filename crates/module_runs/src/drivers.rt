@@ -2,9 +2,11 @@
 ghost use Rattle.std.specs.Prelude.{◌≡◌, ℕ, Option, None, Some, slice_get, slice_set, cond, replicate, IfOk};
 ghost use Rattle.specify_blocks.specs.declared.model.VNet.{VNet};
 ghost use Rattle.specify_blocks.specs.Nets.{same_net};
+ghost use Rattle.model_traces.specs.NetValues.{driver};
 ghost use Rattle.module_runs.specs.NetDrivers.{known_driver, IsKnown, AreDrivers};
 
-use specify_blocks::{VModule, VNet};
+use run_parts::put;
+use specify_blocks::{Instance, VModule, VNet};
 use sqlite_items::{Items, at};
 use std::alloc::{AllocError, Global};
 
@@ -32,8 +34,19 @@ impl Drivers {
         Ok(drivers)
     }
 
+    /// The place of the instance that drives a net, where there is one.
+    pub(crate) fn driver(&self, instances: &[Instance], net: VNet) -> Option<usize>
+        requires { AreDrivers instances.now self.now }
+        ensures { result ≡ driver instances.now net }
+    {
+        match self.known(net) {
+            Some(place) => place,
+            None => first_driver(instances, net),
+        }
+    }
+
     /// What is known of the driver of a net, where it is a port or a wire of the module.
-    pub(crate) fn known(&self, net: VNet) -> Option<Option<usize>>
+    fn known(&self, net: VNet) -> Option<Option<usize>>
         ensures { result ≡ known_driver self.now net }
     {
         match net {
@@ -49,8 +62,8 @@ impl Drivers {
             → IsKnown self.new n (cond (same_net net n) (Some place) later) }
     {
         match net {
-            VNet::Port(port) => put(&mut self.ports, port, place),
-            VNet::Wire(wire) => put(&mut self.wires, wire, place),
+            VNet::Port(port) => put(&mut self.ports, port, Some(place)),
+            VNet::Wire(wire) => put(&mut self.wires, wire, Some(place)),
             VNet::Notifier => {}
         }
     }
@@ -74,11 +87,11 @@ fn place_at(places: &[Option<usize>], number: usize) -> Option<Option<usize>>
     }
 }
 
-/// Sets the entry with this number, where there is one.
-fn put(places: &mut Items<Option<usize>>, number: usize, place: usize)
-    ensures { places.new ≡ slice_set places.old number (Some place) }
+/// The place of the first instance that drives a net, where there is one. No net of a sound module is looked for so.
+fn first_driver(instances: &[Instance], net: VNet) -> Option<usize>
+    ensures { result ≡ driver instances.now net }
 {
-    if number < places.len() {
-        places.set(number, Some(place));
-    }
+    instances
+        .iter()
+        .position(|instance| instance.net_driven().is_same(net))
 }

@@ -1,10 +1,12 @@
 //! What the instances without a state drive, kept from one change to the next and found anew where a change feeds them. `room`
 //! has place for the values of the nets that feed one instance.
-ghost use Rattle.std.specs.Prelude.{◌≡◌, ◌<◌, All, length, map, take, IsTrue, IfOk};
+ghost use Rattle.std.specs.Prelude.{◌≡◌, ◌<◌, All, false, length, map, take, IsTrue, IfOk};
 ghost use Rattle.module_runs.specs.Wiring.{is_wired};
+ghost use Rattle.module_runs.specs.Gates.{gate_zeros};
 ghost use Rattle.module_runs.specs.KeptValues.{kept_value, kept_values};
 ghost use Rattle.run_parts.specs.Places.{FindsAnew};
 
+use crate::gates::is_gate_changed_at;
 use crate::module_states::ModuleStates;
 use crate::module_tables::ModuleTables;
 use crate::net_values::instance_value;
@@ -51,24 +53,30 @@ pub(crate) fn first_kept(
     find_all(alloc, &values, room)
 }
 
-/// Finds anew what the instances at these places drive.
+/// Finds anew what the instances at these places drive. It answers whether a gate changed between 0 and not 0.
 pub(crate) fn find_anew(
     values: &ModuleStates,
     places: &[usize],
     kept: &mut Items<Trit>,
     room: &mut Items<Trit>,
-)
+) -> bool
     requires wired { IsTrue (is_wired (length room.old) values.now.tables.model.now) }
     requires inside { All (λ place. place < length values.now.tables.model.now.instances) places.now }
     requires one_each { length kept.old ≡ length values.now.tables.model.now.instances }
     ensures anew { FindsAnew (kept_value values.now.tables.model.now values.now.inputs.now values.now.states.now)
         values.now.tables.model.now.instances places.now kept.old kept.new }
+    ensures still { result ≡ false → gate_zeros values.now.tables.index.now.gates.places kept.new
+        ≡ gate_zeros values.now.tables.index.now.gates.places kept.old }
     ensures room { length room.new ≡ length room.old }
 {
+    let gates = values.tables.index.gates.places.as_slice();
+    let mut changed = false;
     for j in 0..places.len() {
         let i = places[j];
         let instance = instance_at(values.tables.model, i);
         let value = instance_value(values, Trit::Unknown, instance, room);
+        changed = is_gate_changed_at(gates, i, changed, kept.as_slice()[i], value);
         kept.set(i, value);
     }
+    changed
 }

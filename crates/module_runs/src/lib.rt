@@ -6,6 +6,7 @@ mod conditions;
 mod delays;
 mod drivers;
 mod fed_instances;
+mod gates;
 mod kept_values;
 mod module_index;
 mod module_run;

@@ -1,9 +1,10 @@
 //! Where the parts of a module are found.
 use crate::drivers::Drivers;
 use crate::fed_instances::FedInstances;
+use crate::gates::Gates;
 use crate::output_paths::paths_by_output;
 use crate::row_keys::keys_of_all;
-use run_parts::{Ports, input_numbers};
+use run_parts::{DelayPlaces, Ports, input_count, input_numbers};
 use specify_blocks::{VModule, VPath};
 use sqlite_items::Items;
 use std::alloc::{AllocError, Global};
@@ -22,6 +23,10 @@ pub struct ModuleIndex {
     pub paths: Items<Items<VPath>>,
     /// The instances that changes feed.
     pub fed: FedInstances,
+    /// The gates of the paths.
+    pub gates: Gates,
+    /// For each port the places where the delays of the paths to it are kept.
+    pub places: Items<DelayPlaces>,
 }
 
 impl ModuleIndex {
@@ -41,12 +46,32 @@ impl ModuleIndex {
             numbers: numbers.as_slice(),
         };
         let fed = FedInstances::of(alloc, &ports, model.instances.as_slice())?;
+        let gates = Gates::of(alloc, model, &drivers)?;
+        let places = delay_places(alloc, model, paths.as_slice())?;
         Ok(ModuleIndex {
             keys,
             numbers,
             drivers,
             paths,
             fed,
+            gates,
+            places,
         })
     }
+}
+
+/// For each port of a module the places where the delays of the paths to it are kept.
+fn delay_places(
+    alloc: Global,
+    model: &VModule,
+    paths: &[Items<VPath>],
+) -> Result<Items<DelayPlaces>, AllocError> {
+    let inputs = input_count(model.ports.as_slice());
+    let mut all = Items::new(alloc);
+    let mut last = DelayPlaces::none();
+    for to_port in paths {
+        last = last.behind(inputs, to_port.len());
+        all.push(last)?;
+    }
+    Ok(all)
 }

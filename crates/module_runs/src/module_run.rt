@@ -2,6 +2,7 @@
 ghost use Rattle.std.specs.Prelude.{◌≡◌, ◌<◌, false, List, [], ◌∷◌, length, IsTrue, IfOk};
 ghost use Rattle.trit_cubes.specs.declared.trits.Trit.{Trit};
 ghost use Rattle.module_runs.specs.Wiring.{is_wired};
+ghost use Rattle.module_runs.specs.Gates.{gate_zeros};
 ghost use Rattle.module_runs.specs.KeptValues.{kept_values};
 ghost use Rattle.module_runs.specs.ModuleStands.{IsReady};
 ghost use Rattle.cell_machine.specs.History.{value_before};
@@ -10,6 +11,7 @@ ghost use Rattle.model_traces.specs.PortNumbers.{input_count};
 ghost use Rattle.model_traces.specs.ModuleRun.{start_run, toggled, entered, kept as times_kept, notified, shaken, reports_by};
 ghost use Rattle.model_traces.specs.ModuleRun.{reports_at, happened, step_reports, run_step, HasEach};
 
+use crate::gates::either;
 use crate::kept_values::find_anew;
 use crate::module_states::ModuleStates;
 use crate::module_tables::ModuleTables;
@@ -85,17 +87,20 @@ fn turn_states(
     )
 }
 
-/// What states feed is found anew. Before, what is kept was so for the same inputs.
+/// What states feed is found anew. Before, what is kept was so for the same inputs. It answers whether a gate
+/// changed between 0 and not 0.
 fn find_fed_by_states(
     run: &ModuleRun,
     kept: &mut Items<Trit>,
     tables: &ModuleTables,
     room: &mut Items<Trit>,
-)
+) -> bool
     requires wired { IsTrue (is_wired (length room.old) tables.now.model.now) }
     requires one_each { length kept.old ≡ length tables.now.model.now.instances }
     ensures current { (before : List Trit) → kept.old ≡ kept_values tables.now.model.now run.now.inputs before
         → kept.new ≡ kept_values tables.now.model.now run.now.inputs run.now.states }
+    ensures still { result ≡ false → gate_zeros tables.now.index.now.gates.places kept.new
+        ≡ gate_zeros tables.now.index.now.gates.places kept.old }
     ensures len { length room.new ≡ length room.old }
 {
     let values = ModuleStates {
@@ -103,30 +108,35 @@ fn find_fed_by_states(
         inputs: run.inputs.as_slice(),
         states: run.states.as_slice(),
     };
-    find_anew(&values, tables.fed_by_states(), kept, room);
+    find_anew(&values, tables.fed_by_states(), kept, room)
 }
 
-/// What states feed is found anew where some state changed.
+/// The same where some state changed.
 fn find_fed_where_changed(
     changed: bool,
     run: &ModuleRun,
     kept: &mut Items<Trit>,
     tables: &ModuleTables,
     room: &mut Items<Trit>,
-)
+) -> bool
     requires wired { IsTrue (is_wired (length room.old) tables.now.model.now) }
     requires one_each { length kept.old ≡ length tables.now.model.now.instances }
     requires still { changed ≡ false → kept.old ≡ kept_values tables.now.model.now run.now.inputs run.now.states }
     ensures current { (before : List Trit) → kept.old ≡ kept_values tables.now.model.now run.now.inputs before
         → kept.new ≡ kept_values tables.now.model.now run.now.inputs run.now.states }
+    ensures still { result ≡ false → gate_zeros tables.now.index.now.gates.places kept.new
+        ≡ gate_zeros tables.now.index.now.gates.places kept.old }
     ensures len { length room.new ≡ length room.old }
 {
     if changed {
-        find_fed_by_states(run, kept, tables, room);
+        find_fed_by_states(run, kept, tables, room)
+    } else {
+        false
     }
 }
 
 /// The input takes its value, what it feeds is found anew, and the primitives with a state that it feeds take their next states.
+/// It answers whether a gate changed between 0 and not 0.
 fn change_input(
     run: &mut ModuleRun,
     kept: &mut Items<Trit>,
@@ -134,7 +144,7 @@ fn change_input(
     change: Change,
     from: Trit,
     room: &mut Items<Trit>,
-)
+) -> bool
     requires wired { IsTrue (is_wired (length room.old) tables.now.model.now) }
     requires one_each { HasEach tables.now.model.now run.old }
     requires current { kept.old ≡ kept_values tables.now.model.now run.old.inputs run.old.states }
@@ -143,6 +153,8 @@ fn change_input(
     ensures stepped { run.new ≡ entered tables.now.model.now run.old change }
     ensures one_each { HasEach tables.now.model.now run.new }
     ensures current { kept.new ≡ kept_values tables.now.model.now run.new.inputs run.new.states }
+    ensures still { result ≡ false → gate_zeros tables.now.index.now.gates.places kept.new
+        ≡ gate_zeros tables.now.index.now.gates.places kept.old }
     ensures len { length room.new ≡ length room.old }
 {
     run.inputs.set(change.pin, change.to);
@@ -152,9 +164,10 @@ fn change_input(
         inputs: run.inputs.as_slice(),
         states: run.states.as_slice(),
     };
-    find_anew(&values, tables.fed_by(what), kept, room);
+    let by_input = find_anew(&values, tables.fed_by(what), kept, room);
     let changed = turn_states(run, tables, Turn { what, from }, room);
-    find_fed_where_changed(changed, run, kept, tables, room);
+    let by_states = find_fed_where_changed(changed, run, kept, tables, room);
+    either(by_input, by_states)
 }
 
 /// The register of the checks changes once.
@@ -174,14 +187,15 @@ fn toggle_notifier(run: &mut ModuleRun, tables: &ModuleTables, room: &mut Items<
     turn_states(run, tables, turn, room);
 }
 
-/// The register changes where a check reported, and what states feed is found anew.
+/// The register changes where a check reported, and what states feed is found anew. It answers whether a gate changed
+/// between 0 and not 0.
 fn toggle_where_reported(
     run: &mut ModuleRun,
     kept: &mut Items<Trit>,
     tables: &ModuleTables,
     reported: bool,
     room: &mut Items<Trit>,
-)
+) -> bool
     requires wired { IsTrue (is_wired (length room.old) tables.now.model.now) }
     requires one_each { HasEach tables.now.model.now run.old }
     requires current { kept.old ≡ kept_values tables.now.model.now run.old.inputs run.old.states }
@@ -189,23 +203,25 @@ fn toggle_where_reported(
     ensures one_each { HasEach tables.now.model.now run.new }
     ensures current { kept.new ≡ kept_values tables.now.model.now run.new.inputs run.new.states }
     ensures inputs { run.new.inputs ≡ run.old.inputs }
+    ensures still { result ≡ false → gate_zeros tables.now.index.now.gates.places kept.new
+        ≡ gate_zeros tables.now.index.now.gates.places kept.old }
     ensures len { length room.new ≡ length room.old }
 {
     if !reported {
-        return;
+        return false;
     }
     toggle_notifier(run, tables, room);
-    find_fed_by_states(run, kept, tables, room);
+    find_fed_by_states(run, kept, tables, room)
 }
 
-/// The register changes once for each report.
+/// The register changes once for each report. It answers whether a gate changed between 0 and not 0.
 fn toggle_for_each(
     run: &mut ModuleRun,
     kept: &mut Items<Trit>,
     tables: &ModuleTables,
     reports: &[bool],
     room: &mut Items<Trit>,
-)
+) -> bool
     requires wired { IsTrue (is_wired (length room.old) tables.now.model.now) }
     requires one_each { HasEach tables.now.model.now run.old }
     requires current { kept.old ≡ kept_values tables.now.model.now run.old.inputs run.old.states }
@@ -213,11 +229,16 @@ fn toggle_for_each(
     ensures one_each { HasEach tables.now.model.now run.new }
     ensures current { kept.new ≡ kept_values tables.now.model.now run.new.inputs run.new.states }
     ensures inputs { run.new.inputs ≡ run.old.inputs }
+    ensures still { result ≡ false → gate_zeros tables.now.index.now.gates.places kept.new
+        ≡ gate_zeros tables.now.index.now.gates.places kept.old }
     ensures len { length room.new ≡ length room.old }
 {
+    let mut changed = false;
     for i in 0..reports.len() {
-        toggle_where_reported(run, kept, tables, reports[i], room);
+        let turned = toggle_where_reported(run, kept, tables, reports[i], room);
+        changed = either(changed, turned);
     }
+    changed
 }
 
 /// Writes which checks report at a change, and takes the times that they keep over it.
@@ -254,7 +275,7 @@ fn compare_checks(
     stamp_all(&seen, checks, &mut run.stamps);
 }
 
-/// Takes the run over an event, and writes which checks report.
+/// Takes the run over an event, and writes which checks report. It answers whether a gate changed between 0 and not 0.
 fn step_event(
     run: &mut ModuleRun,
     kept: &mut Items<Trit>,
@@ -263,20 +284,24 @@ fn step_event(
     from: Trit,
     reports: &mut Items<bool>,
     room: &mut Items<Trit>,
-)
+) -> bool
     requires ready { IsReady tables.now.model.now run.old kept.old reports.old (length room.old) }
     requires inside { change.pin < length run.old.inputs }
     requires from { from ≡ value_before run.old.inputs change }
     ensures stepped { run.new ≡ happened tables.now.model.now run.old change }
     ensures reports { reports.new ≡ reports_at tables.now.model.now run.old change }
+    ensures still { result ≡ false → gate_zeros tables.now.index.now.gates.places kept.new
+        ≡ gate_zeros tables.now.index.now.gates.places kept.old }
     ensures ready { IsReady tables.now.model.now run.new kept.new reports.new (length room.new) }
 {
-    change_input(run, kept, tables, change, from, room);
+    let by_input = change_input(run, kept, tables, change, from, room);
     compare_checks(run, kept.as_slice(), tables, change, from, reports);
-    toggle_for_each(run, kept, tables, reports.as_slice(), room);
+    let by_reports = toggle_for_each(run, kept, tables, reports.as_slice(), room);
+    either(by_input, by_reports)
 }
 
 /// Takes the run over a change of an input, and writes which checks report. `kept` has what each instance without a state drives.
+/// It answers whether a gate changed between 0 and not 0.
 pub(crate) fn step_run(
     run: &mut ModuleRun,
     kept: &mut Items<Trit>,
@@ -284,17 +309,20 @@ pub(crate) fn step_run(
     change: Change,
     reports: &mut Items<bool>,
     room: &mut Items<Trit>,
-)
+) -> bool
     requires ready { IsReady tables.now.model.now run.old kept.old reports.old (length room.old) }
     requires inside { change.pin < length run.old.inputs }
     ensures stepped { run.new ≡ run_step tables.now.model.now run.old change }
     ensures reports { reports.new ≡ step_reports tables.now.model.now run.old change }
+    ensures still { result ≡ false → gate_zeros tables.now.index.now.gates.places kept.new
+        ≡ gate_zeros tables.now.index.now.gates.places kept.old }
     ensures ready { IsReady tables.now.model.now run.new kept.new reports.new (length room.new) }
 {
     let from = run.inputs.as_slice()[change.pin];
     if from == change.to {
         clear(reports);
+        false
     } else {
-        step_event(run, kept, tables, change, from, reports, room);
+        step_event(run, kept, tables, change, from, reports, room)
     }
 }

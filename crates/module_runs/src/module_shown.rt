@@ -1,21 +1,30 @@
 //! What the outputs of a module show after a change of an input.
 ghost use Rattle.std.specs.Prelude.{◌≡◌, ◌<◌, ◌++◌, length, map, IsTrue, IfOk, OnOk};
 ghost use Rattle.model_traces.specs.PortNumbers.{output_by, output_ports};
+ghost use Rattle.run_parts.specs.KeptDelays.{AreKept};
+ghost use Rattle.module_runs.specs.OutputPaths.{output_paths};
 ghost use Rattle.module_runs.specs.KeptValues.{kept_values};
 ghost use Rattle.module_runs.specs.ShownPorts.{shown_first, shown_step};
 
 use crate::delays::delay_at;
 use crate::module_tables::ModuleTables;
 use crate::module_values::{ModuleValues, net_value};
-use run_parts::{OutputChange, ShownPort};
+use run_parts::{KeptDelays, OutputChange, ShownPort};
 use specify_blocks::VNet;
 use sqlite_items::Items;
 use std::alloc::{AllocError, Global};
 use trit_cubes::Trit;
 
 /// What one output shows after a change of an input.
-fn shown_step(values: &ModuleValues, input: usize, was: ShownPort) -> ShownPort
-    ensures { result ≡ shown_step values.now.tables.model.now values.now.inputs.now values.now.states.now input was }
+fn shown_step(
+    values: &ModuleValues,
+    input: usize,
+    was: ShownPort,
+    delays: &mut KeptDelays,
+) -> ShownPort
+    requires kept { AreKept (output_paths values.now.tables.model.now values.now.inputs.now values.now.states.now) delays.old }
+    ensures shown { result ≡ shown_step values.now.tables.model.now values.now.inputs.now values.now.states.now input was }
+    ensures kept { AreKept (output_paths values.now.tables.model.now values.now.inputs.now values.now.states.now) delays.new }
 {
     let port = was.port;
     let value = net_value(values, VNet::Port(port));
@@ -25,19 +34,26 @@ fn shown_step(values: &ModuleValues, input: usize, was: ShownPort) -> ShownPort
         from: was.value,
         to: value,
     };
-    let delay = delay_at(values, change);
+    let delay = delay_at(values, change, delays);
     ShownPort { port, value, delay }
 }
 
 /// Takes what the outputs show over a change of an input. The values are those after it.
-pub(crate) fn show_all(values: &ModuleValues, input: usize, shown: &mut Items<ShownPort>)
+pub(crate) fn show_all(
+    values: &ModuleValues,
+    input: usize,
+    shown: &mut Items<ShownPort>,
+    delays: &mut KeptDelays,
+)
+    requires kept { AreKept (output_paths values.now.tables.model.now values.now.inputs.now values.now.states.now) delays.old }
     ensures stepped { shown.new ≡ map (shown_step values.now.tables.model.now values.now.inputs.now values.now.states.now input)
         shown.old }
     ensures len { length shown.new ≡ length shown.old }
+    ensures kept { AreKept (output_paths values.now.tables.model.now values.now.inputs.now values.now.states.now) delays.new }
 {
     for i in 0..shown.len() {
         let was = shown.as_slice()[i];
-        let now = shown_step(values, input, was);
+        let now = shown_step(values, input, was, delays);
         shown.set(i, now);
     }
 }

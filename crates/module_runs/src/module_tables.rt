@@ -10,7 +10,7 @@ ghost use Rattle.module_runs.specs.KeptValues.{state_places};
 use crate::module_index::ModuleIndex;
 use model_traces::Turned;
 use run_parts::Ports;
-use specify_blocks::{Instance, VModule, VNet, VPath};
+use specify_blocks::{VModule, VNet, VPath};
 use sqlite_items::at;
 use udp_tables::RowKey;
 
@@ -95,18 +95,7 @@ impl<'a> ModuleTables<'a> {
     pub(crate) fn driver(&self, net: VNet) -> Option<usize>
         ensures { result ≡ driver self.now.model.now.instances net }
     {
-        match self.index.drivers.known(net) {
-            Some(place) => place,
-            None => first_driver(self.model.instances.as_slice(), net),
-        }
+        let instances = self.model.instances.as_slice();
+        self.index.drivers.driver(instances, net)
     }
-}
-
-/// The place of the first instance that drives a net, where there is one. No net of a sound module is looked for so.
-fn first_driver(instances: &[Instance], net: VNet) -> Option<usize>
-    ensures { result ≡ driver instances.now net }
-{
-    instances
-        .iter()
-        .position(|instance| instance.net_driven().is_same(net))
 }

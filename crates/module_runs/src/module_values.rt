@@ -26,7 +26,7 @@ pub struct ModuleValues<'a> {
 }
 
 /// Whether an instance has a state.
-fn has_state(udps: &[Udp], instance: &Instance) -> bool
+pub(crate) fn has_state(udps: &[Udp], instance: &Instance) -> bool
     ensures { result ≡ has_state udps.now instance.now }
 {
     match instance {

@@ -1,11 +1,14 @@
 //! The simulator of a Verilog module.
 ghost use Rattle.std.specs.Prelude.{◌≡◌, [], length, IfOk};
+ghost use Rattle.run_parts.specs.KeptDelays.{AreKept};
+ghost use Rattle.module_runs.specs.OutputPaths.{output_paths};
 ghost use Rattle.specify_blocks.specs.Sound.{IsSound};
 ghost use Rattle.model_traces.specs.PortNumbers.{output_ports};
 ghost use Rattle.module_runs.specs.ModuleIndexed.{IsModuleIndex};
 ghost use Rattle.module_runs.specs.ModuleStarts.{IsModuleStart};
 ghost use Rattle.module_runs.specs.ModuleStands.{IsReady, Stands, module_machine, module_sized};
 
+use crate::gates::either;
 use crate::module_run::{start_run, step_run};
 use crate::module_shown::show_all;
 use crate::module_start::ModuleStart;
@@ -14,7 +17,7 @@ use crate::module_values::ModuleValues;
 use crate::wiring::most_nets;
 use cell_machine::{CellSim, Change, Shared, Sizes};
 use model_traces::ModuleRun;
-use run_parts::{ShownPort, no_reports, unknown_values};
+use run_parts::{KeptDelays, ShownPort, no_reports, unknown_values};
 use specify_blocks::VModule;
 use sqlite_items::Items;
 use std::alloc::{AllocError, Global};
@@ -27,11 +30,13 @@ pub struct VerilogSim<'a> {
     known: Shared<ModuleStart>,
     run: ModuleRun,
     kept: Items<Trit>,
+    delays: KeptDelays,
     reports: Items<bool>,
     shown: Items<ShownPort>,
     room: Items<Trit>,
     ghost indexed: { IsModuleIndex model.now known.index },
     ghost ready: { IsReady model.now run kept reports (length room) },
+    ghost delays_kept: { AreKept (output_paths model.now run.inputs run.states) delays },
     ghost each_output: { length shown ≡ length (output_ports model.now.ports) },
 }
 
@@ -60,6 +65,7 @@ impl<'a> VerilogSim<'a> {
         let room = unknown_values(alloc, most_nets(model))?;
         let run = start_run(alloc, model)?;
         let kept = Items::from_slice(alloc, known.get().kept.as_slice())?;
+        let delays = KeptDelays::none(alloc, known.get().index.places.as_slice())?;
         let reports = no_reports(alloc, model.checks.len())?;
         let shown = Items::from_slice(alloc, known.get().shown.as_slice())?;
         Ok(VerilogSim {
@@ -67,6 +73,7 @@ impl<'a> VerilogSim<'a> {
             known: known.again()?,
             run,
             kept,
+            delays,
             reports,
             shown,
             room,
@@ -92,7 +99,7 @@ impl<'a> CellSim for VerilogSim<'a> {
             model: self.model,
             index: &self.known.get().index,
         };
-        step_run(
+        let changed = step_run(
             &mut self.run,
             &mut self.kept,
             &tables,
@@ -100,13 +107,15 @@ impl<'a> CellSim for VerilogSim<'a> {
             &mut self.reports,
             &mut self.room,
         );
+        let stateful = tables.index.gates.stateful;
+        self.delays.forget_where(either(changed, stateful));
         let values = ModuleValues {
             tables,
             inputs: self.run.inputs.as_slice(),
             states: self.run.states.as_slice(),
             kept: self.kept.as_slice(),
         };
-        show_all(&values, pin, &mut self.shown);
+        show_all(&values, pin, &mut self.shown, &mut self.delays);
     }
 
     fn shown(&self, place: usize) -> cell_machine::Shown {

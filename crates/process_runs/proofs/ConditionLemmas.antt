@@ -1,5 +1,5 @@
 -- The conditions that an input feeds, and that the others keep their values at a change of it.
-use Rattle.std.proofs.Common.{◌≡◌, ℕ, zero, suc, Bool, true, false, ◌||◌, cond, List, [], ◌∷◌, ◌++◌, length, set, map, refl, ap}
+use Rattle.std.proofs.Common.{◌≡◌, ℕ, zero, suc, true, false, ◌||◌, cond, List, [], ◌∷◌, ◌++◌, length, set, map, refl, ap}
 use Rattle.std.proofs.Common.{sym, ◌∙◌, nat_eq, slice_get}
 use Rattle.std.specs.Option.{option_map_or}
 use Rattle.cell_machine.specs.Inputs.{numbered_value}

@@ -5,4 +5,5 @@ pub mod EntitySteps
 pub mod EntityIndexed
 pub mod EntityRooms
 pub mod TableWords
+pub mod NumberedPaths
 pub mod KeptConditions

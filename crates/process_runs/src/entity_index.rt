@@ -1,7 +1,8 @@
 //! What a simulator knows of its entity before any change.
 use crate::entity_words::EntityWords;
 use crate::fed_conditions::fed_conditions;
-use run_parts::{Ports, input_numbers};
+use cell_machine::entry;
+use run_parts::{DelayPlaces, Ports, input_count, input_numbers};
 use sqlite_items::Items;
 use std::alloc::{AllocError, Global};
 use vital_models::VEntity;
@@ -15,6 +16,8 @@ pub struct EntityIndex {
     pub numbers: Items<usize>,
     /// For each input the places of the conditions that it feeds.
     pub fed: Items<Items<usize>>,
+    /// For each output the places where the delays of its paths are kept.
+    pub places: Items<DelayPlaces>,
 }
 
 impl EntityIndex {
@@ -32,10 +35,24 @@ impl EntityIndex {
             numbers: numbers.as_slice(),
         };
         let fed = fed_conditions(alloc, &ports, model.conditions.as_slice())?;
+        let places = delay_places(alloc, model)?;
         Ok(EntityIndex {
             words,
             numbers,
             fed,
+            places,
         })
     }
+}
+
+/// For each output of an entity the places where the delays of its paths are kept.
+fn delay_places(alloc: Global, model: &VEntity) -> Result<Items<DelayPlaces>, AllocError> {
+    let inputs = input_count(model.ports.as_slice());
+    let mut all = Items::new(alloc);
+    let mut last = DelayPlaces::none();
+    for i in 0..model.outputs.len() {
+        last = last.behind(inputs, entry(&model.outputs, i).paths.len());
+        all.push(last)?;
+    }
+    Ok(all)
 }

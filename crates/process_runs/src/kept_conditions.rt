@@ -1,7 +1,8 @@
 //! The values of the conditions of an entity, kept from one change to the next and found anew where an input of theirs changed.
 //! `room` has place for the columns of any table.
-ghost use Rattle.std.specs.Prelude.{◌≡◌, ◌<◌, All, length, map, drop, IfOk, Some, slice_get};
+ghost use Rattle.std.specs.Prelude.{◌≡◌, ◌<◌, All, length, map, drop, false, IfOk, Some, slice_get};
 ghost use Rattle.model_traces.specs.ProcessValues.{truth_value};
+ghost use Rattle.run_parts.specs.KeptDelays.{zeros};
 ghost use Rattle.run_parts.specs.Places.{FindsAnew};
 ghost use Rattle.process_runs.specs.EntityRooms.{IsSound, HasRoom};
 ghost use Rattle.process_runs.specs.KeptConditions.{condition_values};
@@ -9,6 +10,7 @@ ghost use Rattle.process_runs.specs.KeptConditions.{condition_values};
 use crate::entity_tables::EntityTables;
 use crate::process_values::truth_value;
 use cell_machine::entry;
+use run_parts::is_gate_changed;
 use sqlite_items::Items;
 use std::alloc::{AllocError, Global};
 use trit_cubes::Trit;
@@ -57,26 +59,30 @@ pub(crate) fn first_conditions(
     Ok(values)
 }
 
-/// Finds the values of the conditions at these places anew.
+/// Finds the values of the conditions at these places anew. It answers whether one changed between 0 and not 0.
 pub(crate) fn find_anew(
     tables: &EntityTables,
     inputs: &[Trit],
     places: &[usize],
     values: &mut Items<Trit>,
     room: &mut Items<Trit>,
-)
+) -> bool
     requires sound { IsSound tables.now.model.now }
     requires room { HasRoom (length room.old) tables.now.model.now }
     requires inside { All (λ place. place < length tables.now.model.now.conditions) places.now }
     requires one_each { length values.old ≡ length tables.now.model.now.conditions }
     ensures anew { FindsAnew (truth_value tables.now.model.now.ports inputs.now) tables.now.model.now.conditions places.now
         values.old values.new }
+    ensures still { result ≡ false → zeros values.new ≡ zeros values.old }
     ensures room { length room.new ≡ length room.old }
 {
+    let mut changed = false;
     for j in 0..places.len() {
         let i = places[j];
         let truth = entry(&tables.model.conditions, i);
         let value = value_of(tables, inputs, i, truth, room);
+        changed = is_gate_changed(changed, values.as_slice()[i], value);
         values.set(i, value);
     }
+    changed
 }

@@ -1,8 +1,9 @@
 //! How a change of an input takes the run of a process on.
-ghost use Rattle.std.specs.Prelude.{◌≡◌, ◌<◌, length, slice_set, IfOk};
+ghost use Rattle.std.specs.Prelude.{◌≡◌, ◌<◌, false, length, slice_set, IfOk};
 ghost use Rattle.cell_machine.specs.History.{value_before};
 ghost use Rattle.cell_machine.specs.Report.{any_true};
 ghost use Rattle.model_traces.specs.PortNumbers.{input_count};
+ghost use Rattle.run_parts.specs.KeptDelays.{zeros};
 ghost use Rattle.process_runs.specs.EntityRooms.{IsSound, HasRoom};
 ghost use Rattle.process_runs.specs.KeptConditions.{condition_values};
 ghost use Rattle.process_runs.specs.EntitySteps.{HasParts, start_state, violation_by, event_reports, event_step, state_step};
@@ -74,14 +75,15 @@ fn violation_of(reports: &[bool]) -> Trit
     }
 }
 
-/// The input takes its value, and the conditions that it feeds are found anew.
+/// The input takes its value, and the conditions that it feeds are found anew. It answers whether one of these changed between 0
+/// and not 0.
 fn change_input(
     run: &mut ProcessState,
     conditions: &mut Items<Trit>,
     tables: &EntityTables,
     change: Change,
     room: &mut Items<Trit>,
-)
+) -> bool
     requires sound { IsSound tables.now.model.now }
     requires room { HasRoom (length room.old) tables.now.model.now }
     requires current { conditions.old ≡ condition_values tables.now.model.now run.old.inputs }
@@ -96,14 +98,15 @@ fn change_input(
       stamps = run.old.stamps;
     } }
     ensures current { conditions.new ≡ condition_values tables.now.model.now (slice_set run.old.inputs change.pin change.to) }
+    ensures still { result ≡ false → zeros conditions.new ≡ zeros conditions.old }
     ensures room { length room.new ≡ length room.old }
 {
     run.inputs.set(change.pin, change.to);
     let places = tables.fed_by(change.pin);
-    find_anew(tables, run.inputs.as_slice(), places, conditions, room);
+    find_anew(tables, run.inputs.as_slice(), places, conditions, room)
 }
 
-/// Takes the run over an event, and writes which checks report.
+/// Takes the run over an event, and writes which checks report. It answers whether a condition changed between 0 and not 0.
 fn step_event(
     run: &mut ProcessState,
     conditions: &mut Items<Trit>,
@@ -113,16 +116,17 @@ fn step_event(
     reports: &mut Items<bool>,
     earlier: &mut Items<Trit>,
     room: &mut Items<Trit>,
-)
+) -> bool
     requires able { CanTake tables.now.model.now run.old conditions.old reports.old (length earlier.old)
         (length room.old) change.pin }
     requires from { from ≡ value_before run.old.inputs change }
     ensures stepped { run.new ≡ event_step tables.now.model.now run.old change
         (violation_by (any_true (event_reports tables.now.model.now run.old change))) }
     ensures reports { reports.new ≡ event_reports tables.now.model.now run.old change }
+    ensures still { result ≡ false → zeros conditions.new ≡ zeros conditions.old }
     ensures ready { IsReady tables.now.model.now run.new conditions.new reports.new (length earlier.new) (length room.new) }
 {
-    change_input(run, conditions, tables, change, room);
+    let changed = change_input(run, conditions, tables, change, room);
     let values = EntityValues {
         tables: *tables,
         inputs: run.inputs.as_slice(),
@@ -151,9 +155,11 @@ fn step_event(
     run.before.set(change.pin, change.to);
     run.violation = violation;
     stamp_all(&seen, checks, &mut run.stamps);
+    changed
 }
 
-/// Takes the run over a change of an input, and writes which checks report. `conditions` has the value of each condition.
+/// Takes the run over a change of an input, and writes which checks report. `conditions` has the value of each condition. It answers whether one of
+/// these changed between 0 and not 0.
 pub(crate) fn step_run(
     run: &mut ProcessState,
     conditions: &mut Items<Trit>,
@@ -162,18 +168,20 @@ pub(crate) fn step_run(
     reports: &mut Items<bool>,
     earlier: &mut Items<Trit>,
     room: &mut Items<Trit>,
-)
+) -> bool
     requires { CanTake tables.now.model.now run.old conditions.old reports.old (length earlier.old) (length room.old) change.pin }
     ensures stepped { run.new ≡ state_step tables.now.model.now run.old change }
     ensures reports { reports.new ≡ change_reports tables.now.model.now run.old change }
+    ensures still { result ≡ false → zeros conditions.new ≡ zeros conditions.old }
     ensures ready { IsReady tables.now.model.now run.new conditions.new reports.new (length earlier.new) (length room.new) }
 {
     let from = run.inputs.as_slice()[change.pin];
     if from == change.to {
         clear(reports);
+        false
     } else {
         step_event(
             run, conditions, tables, change, from, reports, earlier, room,
-        );
+        )
     }
 }

@@ -1,12 +1,14 @@
 //! What the outputs of an entity show after a change of an input.
-ghost use Rattle.std.specs.Prelude.{◌≡◌, ◌≤◌, length, map, IfOk};
+ghost use Rattle.std.specs.Prelude.{◌≡◌, ◌≤◌, Some, length, map, slice_get, IfOk};
 ghost use Rattle.cell_machine.specs.Each.{each};
-ghost use Rattle.udp_tables.specs.Tables.{AreKept};
+ghost use Rattle.udp_tables.specs.Tables.{AreKept as AreWords};
 ghost use Rattle.vital_models.specs.Sound.{IsOutput, IsSound};
 ghost use Rattle.vital_models.specs.RowWords.{truth_words};
+ghost use Rattle.run_parts.specs.KeptDelays.{AreKept};
 ghost use Rattle.process_runs.specs.EntityRooms.{source_count, HasRoom};
 ghost use Rattle.process_runs.specs.EntitySteps.{output_first, output_step};
 ghost use Rattle.process_runs.specs.KeptConditions.{condition_values};
+ghost use Rattle.process_runs.specs.NumberedPaths.{numbered_paths};
 ghost use Rattle.process_runs.specs.TableWords.{value_rows};
 
 use crate::entity_tables::EntityTables;
@@ -14,29 +16,34 @@ use crate::entity_values::EntityValues;
 use crate::process_delays::least_delay;
 use crate::process_values::output_value;
 use cell_machine::entry;
-use run_parts::{OutputChange, ShownPort};
+use run_parts::{KeptDelays, OutputChange, ShownPort};
 use sqlite_items::Items;
 use std::alloc::{AllocError, Global};
 use trit_cubes::Trit;
 use udp_tables::RowWords;
 use vital_models::VOutput;
 
-/// What one output shows after a change of an input. The rows of its table have these words where they are kept.
+/// What the output with this number shows after a change of an input. The rows of its table have these words where they are kept.
 fn output_step(
     values: &EntityValues,
     input: usize,
+    number: usize,
     output: &VOutput,
     words: &[RowWords],
     was: ShownPort,
+    delays: &mut KeptDelays,
     room: &mut Items<Trit>,
 ) -> ShownPort
     requires sound { IsSound values.now.tables.model.now }
     requires output { IsOutput values.now.tables.model.now output.now }
-    requires words { AreKept truth_words words.now (value_rows output.now.value) }
+    requires is { slice_get values.now.tables.model.now.outputs number ≡ Some output.now }
+    requires words { AreWords truth_words words.now (value_rows output.now.value) }
+    requires kept { AreKept (numbered_paths values.now.tables.model.now values.now.inputs.now) delays.old }
     requires room { HasRoom (length room.old) values.now.tables.model.now }
     requires columns { source_count output.now.value ≤ length room.old }
     ensures shown { result ≡ output_step values.now.tables.model.now values.now.inputs.now values.now.states.now input output.now
         was }
+    ensures kept { AreKept (numbered_paths values.now.tables.model.now values.now.inputs.now) delays.new }
     ensures len { length room.new ≡ length room.old }
 {
     let value = output_value(values, &output.value, words, room);
@@ -49,7 +56,7 @@ fn output_step(
     let delay = if was.value == value {
         None
     } else {
-        Some(least_delay(values, change, output))
+        Some(least_delay(values, number, change, output, delays))
     };
     ShownPort {
         port: output.port,
@@ -63,21 +70,24 @@ pub(crate) fn show_entity(
     values: &EntityValues,
     input: usize,
     shown: &mut Items<ShownPort>,
+    delays: &mut KeptDelays,
     room: &mut Items<Trit>,
 )
     requires sound { IsSound values.now.tables.model.now }
     requires room { HasRoom (length room.old) values.now.tables.model.now }
     requires one_each { length shown.old ≡ length values.now.tables.model.now.outputs }
+    requires kept { AreKept (numbered_paths values.now.tables.model.now values.now.inputs.now) delays.old }
     ensures stepped { shown.new ≡ each (output_step values.now.tables.model.now values.now.inputs.now values.now.states.now input)
         values.now.tables.model.now.outputs shown.old }
     ensures len { length shown.new ≡ length shown.old }
+    ensures kept { AreKept (numbered_paths values.now.tables.model.now values.now.inputs.now) delays.new }
     ensures room { length room.new ≡ length room.old }
 {
     for i in 0..shown.len() {
         let output = entry(&values.tables.model.outputs, i);
         let words = values.tables.output_words(i);
         let was = shown.as_slice()[i];
-        let now = output_step(values, input, output, words, was, room);
+        let now = output_step(values, input, i, output, words, was, delays, room);
         shown.set(i, now);
     }
 }

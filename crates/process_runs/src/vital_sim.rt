@@ -4,6 +4,8 @@ ghost use Rattle.std.proofs.Props.{props};
 ghost use Rattle.process_runs.specs.EntityProps.{value_prop};
 ghost use Rattle.process_runs.specs.EntityIndexed.{IsEntityIndex};
 ghost use Rattle.process_runs.specs.EntityStarts.{IsEntityStart};
+ghost use Rattle.run_parts.specs.KeptDelays.{AreKept};
+ghost use Rattle.process_runs.specs.NumberedPaths.{numbered_paths};
 ghost use Rattle.process_runs.specs.EntityRooms.{IsSound};
 ghost use Rattle.process_runs.specs.EntitySteps.{IsReady, EntityStands, entity_machine, entity_sized};
 
@@ -14,7 +16,7 @@ use crate::process_rooms::most_columns;
 use crate::process_run::{ProcessState, start_state, step_run};
 use crate::process_shown::show_entity;
 use cell_machine::{CellSim, Change, Shared, Sizes};
-use run_parts::{ShownPort, no_reports, unknown_values};
+use run_parts::{KeptDelays, ShownPort, no_reports, unknown_values};
 use sqlite_items::Items;
 use std::alloc::{AllocError, Global};
 use trit_cubes::Trit;
@@ -27,12 +29,14 @@ pub struct VitalSim<'a> {
     known: Shared<EntityStart>,
     run: ProcessState,
     conditions: Items<Trit>,
+    delays: KeptDelays,
     reports: Items<bool>,
     shown: Items<ShownPort>,
     earlier: Items<Trit>,
     room: Items<Trit>,
     ghost indexed: { IsEntityIndex model.now known.index },
     ghost ready: { IsReady model.now run conditions reports (length earlier) (length room) } by { Prim.hlevel (props, value_prop) },
+    ghost kept: { AreKept (numbered_paths model.now run.inputs) delays },
     ghost each_output: { length shown ≡ length model.now.outputs },
 }
 
@@ -64,6 +68,7 @@ impl<'a> VitalSim<'a> {
         let room = unknown_values(alloc, most)?;
         let run = start_state(alloc, model)?;
         let conditions = Items::from_slice(alloc, known.get().conditions.as_slice())?;
+        let delays = KeptDelays::none(alloc, known.get().index.places.as_slice())?;
         let reports = no_reports(alloc, model.checks.len())?;
         let shown = Items::from_slice(alloc, known.get().shown.as_slice())?;
         Ok(VitalSim {
@@ -71,6 +76,7 @@ impl<'a> VitalSim<'a> {
             known: known.again()?,
             run,
             conditions,
+            delays,
             reports,
             shown,
             earlier,
@@ -97,7 +103,7 @@ impl<'a> CellSim for VitalSim<'a> {
             model: self.model,
             index: &self.known.get().index,
         };
-        step_run(
+        let changed = step_run(
             &mut self.run,
             &mut self.conditions,
             &tables,
@@ -106,13 +112,20 @@ impl<'a> CellSim for VitalSim<'a> {
             &mut self.earlier,
             &mut self.room,
         );
+        self.delays.forget_where(changed);
         let values = EntityValues {
             tables,
             inputs: self.run.inputs.as_slice(),
             states: self.run.states.as_slice(),
             conditions: self.conditions.as_slice(),
         };
-        show_entity(&values, pin, &mut self.shown, &mut self.room);
+        show_entity(
+            &values,
+            pin,
+            &mut self.shown,
+            &mut self.delays,
+            &mut self.room,
+        );
     }
 
     fn shown(&self, place: usize) -> cell_machine::Shown {

@@ -4,3 +4,4 @@ pub mod Fronts
 pub mod NumberedListLemmas
 pub mod PlaceLemmas
 pub mod StampLemmas
+pub mod KeptDelayLemmas

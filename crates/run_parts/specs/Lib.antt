@@ -1,4 +1,5 @@
 pub mod InputNumbers
+pub mod KeptDelays
 pub mod LeastPath
 pub mod NumberedLists
 pub mod Places

@@ -4,16 +4,26 @@
 
 mod checks;
 mod conditions;
+mod delay_places;
+mod gate_changes;
+mod kept_delay;
+mod kept_delays;
 mod numbered_lists;
 mod output_change;
 mod ports;
 mod shown;
 mod starts;
+mod written_lists;
 
 pub use checks::{InputChange, clear, compare_all, stamp_all};
 pub use conditions::Conditions;
+pub use delay_places::{DelayPlaces, delay_place};
+pub use gate_changes::is_gate_changed;
+pub use kept_delay::KeptDelay;
+pub use kept_delays::KeptDelays;
 pub use numbered_lists::{add, empty_lists};
 pub use output_change::OutputChange;
 pub use ports::{Ports, input_count, input_number, input_numbers, input_value};
 pub use shown::ShownPort;
 pub use starts::{no_reports, no_times, unknown_values};
+pub use written_lists::put;

@@ -1,4 +1,4 @@
-use Rattle.std.proofs.Common.{◌≡◌, drop, length}
+use Rattle.std.proofs.Common.{◌≡◌, drop}
 use Rattle.std.specs.List.{list_all}
 use Rattle.model_traces.specs.PathDelays.{is_quiet}
 use Rattle.module_runs.proofs.delays.all_are_quiet.Given as goal

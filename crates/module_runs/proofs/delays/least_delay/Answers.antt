@@ -1,35 +1,12 @@
-use Rattle.std.proofs.Common.{◌<◌, ◌∙◌, ap, length, arith, map, refl}
-use Rattle.std.proofs.lemmas.Option.{slice_get-get_or}
-use Rattle.cell_machine.specs.Delay.{least, active_delays}
-use Rattle.model_traces.specs.PathDelays.{is_between, path_at}
-use Rattle.run_parts.proofs.LeastPaths.{least_of-step}
-use Rattle.module_runs.proofs.OutputPathLemmas.{same-between}
+use Rattle.module_runs.specs.OutputPaths.{output_paths}
 use Rattle.module_runs.proofs.delays.least_delay.Goals as goal
 
-pub loop-i-init : goal.loop-i-init
-loop-i-init c =
+pub returns-in-Some-clause-delay : goal.returns-in-Some-clause-delay
+returns-in-Some-clause-delay c =
     let v = c.args.values.now in
-    let m = v.tables.model.now in
-    let change = c.args.change in
-    record {
-      least =
-          ap (λ ps. least (active_delays change.from change.to (map (path_at m v.inputs.now v.states.now) ps)))
-          (same-between m.ports change.input change.port c.paths_to-paths.result.now m.paths c.paths_to-paths.ensures);
-      known = λ quiet path e from' to'. absurd cc;
-    }
+    c.known.ensures (output_paths v.tables.model.now v.inputs.now v.states.now) c.in-Some.delay c.requires.kept c.in-Some.is
 
-pub loop-i-preserved : goal.loop-i-preserved
-loop-i-preserved c =
+pub returns-clause-kept : goal.returns-clause-kept
+returns-clause-kept c =
     let v = c.args.values.now in
-    let m = v.tables.model.now in
-    let change = c.args.change in
-    let inside : c.loop-i.i < length c.paths_to-paths.result.now = omega arith in
-    record {
-      least =
-          rw c.lesser-best.ensures
-          (least_of-step (is_between m.ports change.input change.port) (path_at m v.inputs.now v.states.now) change.from
-          change.to c.paths_to-paths.result.now c.loop-i.i _ c.loop-i.best c.path_delay.result
-          (slice_get-get_or c.paths_to-paths.result.now c.loop-i.i _ inside) c.path_delay.ensures.delay
-          ∙ c.loop-i.invariant.least);
-      known = c.path_delay.ensures.known;
-    }
+    c.keep.ensures (output_paths v.tables.model.now v.inputs.now v.states.now) c.requires.kept c.found_delay-delay.ensures

@@ -2,9 +2,11 @@ use Rattle.std.proofs.Common.{◌<◌, ap, ◌∙◌, length, arith}
 use Rattle.std.proofs.lemmas.List.{length-set}
 use Rattle.std.proofs.lemmas.Option.{slice_get-get_or}
 use Rattle.trit_cubes.specs.declared.trits.Trit.TheVariants.{Unknown}
+use Rattle.module_runs.specs.Gates.{gate_zeros}
 use Rattle.module_runs.specs.KeptValues.{kept_value}
 use Rattle.run_parts.proofs.PlaceLemmas.{step-more}
 use Rattle.run_parts.proofs.PlaceLemmas.{found-anew}
+use Rattle.module_runs.proofs.GateLemmas.{gate-zeros-kept}
 use Rattle.module_runs.proofs.kept_values.find_anew.Goals as goal
 
 pub instance_at-instance-requires : goal.instance_at-instance-requires
@@ -23,6 +25,13 @@ loop-j-preserved c =
           c.instance_value-value.result _ (slice_get-get_or c.args.places.now c.loop-j.j _ inside) c.instance_at-instance.ensures.is
           c.instance_value-value.ensures.value c.set.ensures
           ∙ c.loop-j.invariant.rest;
+      still = λ e.
+          let gates = v.tables.index.now.gates.places in
+          let same = c.is_gate_changed_at-changed.ensures e in
+          ap (gate_zeros gates) c.set.ensures
+          ∙ gate-zeros-kept gates c.loop-j.kept _ _ c.instance_value-value.result
+          (rw (c.as_slice-gates.ensures, c.as_slice.ensures) at same.1)
+          ∙ c.loop-j.invariant.still same.0;
       len = ap length c.set.ensures ∙ length-set c.loop-j.kept _ c.instance_value-value.result ∙ c.loop-j.invariant.len;
       room = c.instance_value-value.ensures.len ∙ c.loop-j.invariant.room;
     }

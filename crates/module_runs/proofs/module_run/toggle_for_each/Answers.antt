@@ -9,11 +9,14 @@ loop-i-preserved c =
     let inside : c.loop-i.i < length reports = omega arith in
     record {
       stepped =
-          shaken-step c.args.tables.now.model.now reports c.loop-i.i _ c.loop-i.run c.toggle_where_reported.new.run
-          (slice_get-get_or reports c.loop-i.i _ inside) c.toggle_where_reported.ensures.stepped
+          shaken-step c.args.tables.now.model.now reports c.loop-i.i _ c.loop-i.run c.toggle_where_reported-turned.new.run
+          (slice_get-get_or reports c.loop-i.i _ inside) c.toggle_where_reported-turned.ensures.stepped
           ∙ c.loop-i.invariant.stepped;
-      one_each = c.toggle_where_reported.ensures.one_each;
-      current = c.toggle_where_reported.ensures.current;
-      inputs = c.toggle_where_reported.ensures.inputs ∙ c.loop-i.invariant.inputs;
-      len = c.toggle_where_reported.ensures.len ∙ c.loop-i.invariant.len;
+      one_each = c.toggle_where_reported-turned.ensures.one_each;
+      current = c.toggle_where_reported-turned.ensures.current;
+      still = λ e.
+          let both = c.either-changed.ensures e in
+          c.toggle_where_reported-turned.ensures.still both.1 ∙ c.loop-i.invariant.still both.0;
+      inputs = c.toggle_where_reported-turned.ensures.inputs ∙ c.loop-i.invariant.inputs;
+      len = c.toggle_where_reported-turned.ensures.len ∙ c.loop-i.invariant.len;
     }

@@ -12,8 +12,9 @@ loop-i-preserved c =
       whole =
           rw (c.set.ensures, add-one)
           (map-step (shown_step v.tables.model.now v.inputs.now v.states.now c.args.input) c.loop-i.shown c.loop-i.i _
-          c.shown_step-now.result many (rw c.as_slice.ensures at c.shown_step-now.ensures)
+          c.shown_step-now.result many (rw c.as_slice.ensures at c.shown_step-now.ensures.shown)
           ∙ c.loop-i.invariant.whole);
+      kept = c.shown_step-now.ensures.kept;
       len = ap length c.set.ensures ∙ length-set c.loop-i.shown c.loop-i.i c.shown_step-now.result ∙ c.loop-i.invariant.len;
     }
 

@@ -1,4 +1,4 @@
-use Rattle.std.proofs.Common.{◌≡◌, ◌++◌, drop, length, map}
+use Rattle.std.proofs.Common.{◌≡◌, ◌++◌, drop, map}
 use Rattle.model_traces.specs.PortNumbers.{outputs_from, output_ports}
 use Rattle.module_runs.specs.ShownPorts.{shown_first}
 use Rattle.module_runs.proofs.module_shown.show_start.Given as goal

@@ -3,6 +3,8 @@ use Rattle.std.proofs.lemmas.List.{length-set}
 use Rattle.std.proofs.lemmas.Option.{slice_get-get_or}
 use Rattle.trit_cubes.specs.declared.trits.Trit.TheVariants.{Unknown}
 use Rattle.model_traces.specs.ProcessValues.{truth_value}
+use Rattle.run_parts.specs.KeptDelays.{zeros}
+use Rattle.run_parts.proofs.KeptDelayLemmas.{zeros-kept}
 use Rattle.run_parts.proofs.PlaceLemmas.{step-more, found-anew}
 use Rattle.process_runs.proofs.kept_conditions.find_anew.Goals as goal
 
@@ -21,6 +23,10 @@ loop-j-preserved c =
           c.value_of-value.result _ (slice_get-get_or c.args.places.now c.loop-j.j _ inside) c.entry-truth.ensures.is
           c.value_of-value.ensures.value c.set.ensures
           ∙ c.loop-j.invariant.rest;
+      still = λ e.
+          let same = c.is_gate_changed-changed.ensures e in
+          ap zeros c.set.ensures ∙ zeros-kept c.loop-j.values _ _ c.value_of-value.result (rw c.as_slice.ensures at same.1)
+          ∙ c.loop-j.invariant.still same.0;
       len = ap length c.set.ensures ∙ length-set c.loop-j.values _ c.value_of-value.result ∙ c.loop-j.invariant.len;
       room = c.value_of-value.ensures.len ∙ c.loop-j.invariant.room;
     }

@@ -3,6 +3,7 @@ use Rattle.std.proofs.lemmas.List.{length-replicate}
 use Rattle.trit_cubes.specs.declared.trits.Trit.TheVariants.{Unknown}
 use Rattle.model_traces.specs.declared.module_run.ModuleRun.{ModuleRun}
 use Rattle.module_runs.specs.Wiring.{is_wired}
+use Rattle.module_runs.specs.OutputPaths.{output_paths}
 use Rattle.module_runs.specs.KeptValues.{kept_values}
 use Rattle.module_runs.specs.declared.module_start.ModuleStart.{ModuleStart}
 use Rattle.module_runs.proofs.ModuleSteps.{start-stands}
@@ -10,7 +11,7 @@ use Rattle.module_runs.proofs.verilog_sim.VerilogSim.start_by.Goals as goal
 
 pub returns-clause-stands : goal.returns-clause-stands
 returns-clause-stands c =
-    let shown = c.in_ok-shown.ensures ∙ c.as_slice-2.ensures ∙ ap (λ (k : ModuleStart). k.shown) c.get-2.ensures ∙ c.requires.known.shown_are in
+    let shown = c.in_ok-shown.ensures ∙ c.as_slice-3.ensures ∙ ap (λ (k : ModuleStart). k.shown) c.get-3.ensures ∙ c.requires.known.shown_are in
     start-stands c.args.model.now c.in_ok-run.run' c.in_ok-reports.reports c.in_ok-shown.shown c.in_ok-run.ensures.run
     (c.in_ok-reports.ensures ∙ ap (λ n. replicate n false) c.len.ensures) shown
 
@@ -28,3 +29,7 @@ invariant_of-result-clause-ready c =
       one_each = c.in_ok-run.ensures.one_each;
       one_report = ap length c.in_ok-reports.ensures ∙ length-replicate c.len.result false ∙ c.len.ensures;
     }
+
+pub invariant_of-result-clause-delays_kept : goal.invariant_of-result-clause-delays_kept
+invariant_of-result-clause-delays_kept c =
+    c.in_ok-delays.ensures (output_paths c.args.model.now c.in_ok-run.run'.inputs c.in_ok-run.run'.states)

@@ -1,4 +1,4 @@
-use Rattle.std.proofs.Common.{◌<◌, [], ap, sym, ◌∙◌, length, arith}
+use Rattle.std.proofs.Common.{◌<◌, [], ap, ◌∙◌, length, arith}
 use Rattle.std.specs.Prelude.{unwrap_or}
 use Rattle.std.proofs.lemmas.Option.{slice_get-get_or}
 use Rattle.process_runs.proofs.entity_tables.EntityTables.fed_by.Goals as goal

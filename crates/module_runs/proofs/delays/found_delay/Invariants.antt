@@ -1,9 +1,9 @@
-use Rattle.std.proofs.Common.{◌≡◌, drop, length}
+use Rattle.std.proofs.Common.{◌≡◌, drop}
 use Rattle.cell_machine.specs.Delay.{lesser}
 use Rattle.model_traces.specs.PathDelays.{is_between, path_at}
 use Rattle.run_parts.specs.LeastPath.{least_of}
 use Rattle.module_runs.specs.QuietPorts.{IsKnown}
-use Rattle.module_runs.proofs.delays.least_delay.Given as goal
+use Rattle.module_runs.proofs.delays.found_delay.Given as goal
 
 -- the best so far and the least of the rest give the least of all
 abbrev pub invariant-loop-i : goal.invariant-loop-i

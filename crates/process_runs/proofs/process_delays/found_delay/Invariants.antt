@@ -2,7 +2,7 @@ use Rattle.std.proofs.Common.{◌≡◌, drop}
 use Rattle.cell_machine.specs.Delay.{lesser}
 use Rattle.model_traces.specs.GatedPaths.{begins_at, path_at}
 use Rattle.run_parts.specs.LeastPath.{least_of}
-use Rattle.process_runs.proofs.process_delays.least_delay.Given as goal
+use Rattle.process_runs.proofs.process_delays.found_delay.Given as goal
 
 -- the best so far and the least of the rest give the least of all
 abbrev pub invariant-loop-i : goal.invariant-loop-i

@@ -5,5 +5,6 @@ pub use Rattle.bank_refusals.specs.Refusals as Refusals
 pub use Rattle.bank_refusals.specs.Alike as Alike
 pub mod Expanded
 pub mod Fixed
+pub mod Runs
 pub mod Gathered
 pub mod Copies

@@ -5,7 +5,7 @@ use Rattle.std.specs.Prelude.{bytes_eq, flat_map}
 use Rattle.std.specs.List.{list_all}
 use Rattle.std.proofs.lemmas.Bool.{and_parts}
 use Rattle.std.proofs.lemmas.List.{map-append}
-use Rattle.std.proofs.lemmas.List.Folds.{list_all-append}
+use Rattle.std.proofs.lemmas.List.Folds.{list_all-append, list_all-map}
 use Rattle.liberty_groups.specs.declared.tree.Value.{Value}
 use Rattle.liberty_groups.specs.declared.tree.Item.{Item, out-Item}
 use Rattle.liberty_groups.specs.declared.tree.Item.TheOpen.{Item-F}
@@ -15,13 +15,12 @@ use Rattle.liberty_groups.specs.declared.tree.Group.{Group}
 use Rattle.liberty_groups.specs.Attributes.{text_of}
 use Rattle.bus_texts.specs.declared.vectors.Vector.{Vector}
 use Rattle.bus_texts.specs.Vectors.{is_called}
-use Rattle.bank_refusals.specs.Members.{is_shared, own_items_as, own_items}
+use Rattle.bank_refusals.specs.Members.{is_shared, inner_pin_as, inner_pin_in, inner_pins, own_items_as, own_items}
 use Rattle.bank_refusals.specs.Faults.{pin_texts}
 use Rattle.bank_refusals.specs.Fixed.{names_none, is_fixed}
 use Rattle.bank_refusals.specs.Alike.{text_stays, group_stays, stays}
 use Rattle.bank_cells.specs.Expanded.{values_if, text_as, text_at, timing_at, pin_item_as, pin_item}
-use Rattle.bank_cells.specs.Runs.{Member, shared_stays, InnerPin, inner_pin, inner_pin_as, inner_pin_in, inner_pins, is_named}
-use Rattle.bank_cells.specs.Runs.{same_of, have_same, items_at}
+use Rattle.bank_cells.specs.Runs.{Member, shared_stays, inner_pin, judged_pins, is_named, same_of, have_same, items_at}
 use Rattle.bank_cells.proofs.FixedLemmas.{values_same, timing_same}
 
 -- A statement that stays becomes the same at each position.
@@ -105,10 +104,10 @@ module _ (vectors : List Vector) (one other : Member) where
   abbrev own_of : Member → Item → List Item
   own_of member item = own_items member.vector member.at member.name item
 
-  abbrev same_in : List InnerPin → Bool
-  same_in pins = list_all (same_of one other) pins
+  abbrev same_in : List Group → Bool
+  same_in pins = list_all (λ pin. same_of one other (inner_pin vectors pin)) pins
 
-  own_here : (y : Item-F Item Group) → same_in (inner_pin_as vectors y) ≡ true
+  own_here : (y : Item-F Item Group) → same_in (inner_pin_as y) ≡ true
       → become one (own_items_as one.vector one.at one.name y) ≡ become other (own_items_as other.vector other.at other.name y)
   own_here (layer.Simple name value offset) e = refl
   own_here (layer.Complex name arguments offset) e = refl
@@ -122,7 +121,7 @@ module _ (vectors : List Vector) (one other : Member) where
       named false true d is e = absurd cc
       named false false d is e = refl
 
-      by : (b : Bool) → same_in (if b then inner_pin vectors group ∷ [] else []) ≡ true
+      by : (b : Bool) → same_in (if b then group ∷ [] else []) ≡ true
           → become one (if b && is_named one (inner_pin vectors group) then group.items else [])
           ≡ become other (if b && is_named other (inner_pin vectors group) then group.items else [])
       by true e =
@@ -130,12 +129,12 @@ module _ (vectors : List Vector) (one other : Member) where
           (list_all (stays vectors) group.items) refl e
       by false e = refl
 
-  own_same : (items : List Item) → same_in (inner_pins vectors items) ≡ true
+  own_same : (items : List Item) → same_in (inner_pins items) ≡ true
       → become one (flat_map (own_of one) items) ≡ become other (flat_map (own_of other) items)
   own_same [] e = refl
   own_same (item ∷ items) e =
-      let both = and_parts (same_in (inner_pin_in vectors item)) (same_in (inner_pins vectors items))
-      (sym (list_all-append (same_of one other) (inner_pin_in vectors item) (inner_pins vectors items)) ∙ e) in
+      let both = and_parts (same_in (inner_pin_in item)) (same_in (inner_pins items))
+      (sym (list_all-append (λ pin. same_of one other (inner_pin vectors pin)) (inner_pin_in item) (inner_pins items)) ∙ e) in
       map-append (pin_item vectors (Some one.at)) (own_of one item) (flat_map (own_of one) items)
       ∙ (ap (λ l. l ++ become one (flat_map (own_of one) items)) (own_here (out-Item item) both.0)
       ∙ (ap (λ l. become other (own_of other item) ++ l) (own_same items both.1)
@@ -144,11 +143,14 @@ module _ (vectors : List Vector) (one other : Member) where
   pub same_items : (group : Group) → have_same vectors group one other ≡ true
       → items_at vectors group one ≡ items_at vectors group other
   same_items group e =
-      let both = and_parts (list_all (shared_stays vectors) group.items) (same_in (inner_pins vectors group.items)) e in
+      let both = and_parts (list_all (shared_stays vectors) group.items)
+      (list_all (same_of one other) (judged_pins vectors group.items)) e in
+      let inner : same_in (inner_pins group.items) ≡ true =
+      sym (list_all-map (same_of one other) (inner_pin vectors) (inner_pins group.items)) ∙ both.1 in
       let shared : List Item = filter is_shared group.items in
       let own : Member → List Item = λ member. flat_map (own_of member) group.items in
       map-append (pin_item vectors (Some one.at)) shared (own one)
       ∙ (ap (λ l. l ++ become one (own one))
       (shared_same vectors one.at group.items both.0 ∙ sym (shared_same vectors other.at group.items both.0))
-      ∙ (ap (λ l. become other shared ++ l) (own_same group.items both.1)
+      ∙ (ap (λ l. become other shared ++ l) (own_same group.items inner)
       ∙ sym (map-append (pin_item vectors (Some other.at)) shared (own other))))

@@ -4,15 +4,12 @@ use Rattle.std.specs.Prelude.{◌≡◌, ℕ, ◌+◌, Bool, true, not, ◌&&◌
 use Rattle.std.specs.Prelude.{if◌then◌else◌}
 use Rattle.std.specs.List.{list_any, list_all}
 use Rattle.liberty_groups.specs.declared.tree.Value.{Value}
-use Rattle.liberty_groups.specs.declared.tree.Item.{Item, out-Item}
-use Rattle.liberty_groups.specs.declared.tree.Item.TheOpen.{Item-F}
-use Rattle.liberty_groups.specs.declared.tree.Item.TheOpen as layer
+use Rattle.liberty_groups.specs.declared.tree.Item.{Item}
 use Rattle.liberty_groups.specs.declared.tree.Item.TheVariants as made
 use Rattle.liberty_groups.specs.declared.tree.Group.{Group, roll-Group}
 use Rattle.bus_texts.specs.declared.vectors.Vector.{Vector}
-use Rattle.bus_texts.specs.Vectors.{is_called}
 use Rattle.bank_refusals.specs.declared.members.Member.{Member as HeldMember}
-use Rattle.bank_refusals.specs.Members.{is_shared, names_member, member_items}
+use Rattle.bank_refusals.specs.Members.{is_shared, names_member, inner_pins, member_items}
 use Rattle.bank_refusals.specs.Alike.{stays}
 use Rattle.bank_cells.specs.declared.inner_pins.InnerPin.{InnerPin as HeldInnerPin}
 use Rattle.bank_cells.specs.declared.runs.Run.{Run as HeldRun}
@@ -56,16 +53,8 @@ shown_inner pin = record { group = pin.group.now; stays = pin.stays }
 abbrev pub inner_pin : List Vector → Group → InnerPin
 inner_pin vectors group = record { group = group; stays = list_all (stays vectors) group.items }
 
-abbrev pub inner_pin_as : List Vector → Item-F Item Group → List InnerPin
-inner_pin_as vectors (layer.Simple name value at) = []
-inner_pin_as vectors (layer.Complex name arguments at) = []
-inner_pin_as vectors (layer.Inner group) = if is_called (codes "pin") group then inner_pin vectors group ∷ [] else []
-
-abbrev pub inner_pin_in : List Vector → Item → List InnerPin
-inner_pin_in vectors item = inner_pin_as vectors (out-Item item)
-
-abbrev pub inner_pins : List Vector → List Item → List InnerPin
-inner_pins vectors items = flat_map (inner_pin_in vectors) items
+abbrev pub judged_pins : List Vector → List Item → List InnerPin
+judged_pins vectors items = map (inner_pin vectors) (inner_pins items)
 
 -- Two members have the same of an inner pin: it names neither, or it names both and becomes the same at each position.
 abbrev pub is_named : Member → InnerPin → Bool
@@ -77,13 +66,14 @@ same_of one other pin = if is_named one pin then is_named other pin && pin.stays
 -- Two members have the same statements, since what each member has becomes the same, and both have the same of each inner pin.
 abbrev pub have_same : List Vector → Group → Member → Member → Bool
 have_same vectors group one other =
-    list_all (shared_stays vectors) group.items && list_all (same_of one other) (inner_pins vectors group.items)
+    list_all (shared_stays vectors) group.items && list_all (same_of one other) (judged_pins vectors group.items)
 
 -- What is held of the statements of a bus or bundle is of one group.
 pub record AreOfOneGroup (statements : Statements) : Type 0 where
   pub shared : map shown_shared statements.shared.items ≡ shared_items statements.vectors.now statements.group.now.items
   pub stay : statements.stay ≡ list_all (shared_stays statements.vectors.now) statements.group.now.items
-  pub inner : map shown_inner statements.inner.items ≡ inner_pins statements.vectors.now statements.group.now.items
+  pub pins : map (λ pin. pin.now) statements.pins.items ≡ inner_pins statements.group.now.items
+  pub inner : map shown_inner statements.inner.items ≡ judged_pins statements.vectors.now statements.group.now.items
 
 -- Neighbours with the same statements: the first of them, and the names of all.
 pub record Run : Type 0 where

@@ -1,10 +1,10 @@
 //! The inner pins of a bus or bundle, and whether what its members have becomes the same at each position.
-ghost use Rattle.std.specs.Prelude.{◌≡◌, ◌++◌, IfOk, OnOk, map};
+ghost use Rattle.std.specs.Prelude.{◌≡◌, IfOk, map};
 ghost use Rattle.std.specs.List.{list_all};
 ghost use Rattle.bank_cells.specs.Runs as spec;
 
 use bank_refusals::{Member, any_names, are_alike, is_shared, stays};
-use bus_texts::{Vectors, is_called};
+use bus_texts::Vectors;
 use liberty_groups::{Group, Item};
 use std::alloc::{AllocError, Global};
 
@@ -16,38 +16,19 @@ pub(crate) struct InnerPin<'a> {
     pub(crate) stays: bool,
 }
 
-/// Adds the inner pin that a statement of a bus or bundle is, if it is one.
-fn add_inner_pin<'a>(
-    alloc: Global,
-    found: &mut Vec<InnerPin<'a>>,
-    vectors: &Vectors,
-    item: &'a Item,
-) -> Result<(), AllocError>
-    ensures { OnOk result
-        (map spec.shown_inner found.new.items
-        ≡ map spec.shown_inner found.old.items ++ spec.inner_pin_in vectors.now item.now) }
-{
-    match item {
-        Item::Inner(group) if is_called(group, b"pin") => {
-            let stays = are_alike(alloc, vectors, group)?;
-            found.push(InnerPin { group, stays })?;
-            Ok(())
-        }
-        _ => Ok(()),
-    }
-}
-
-/// The inner pins of a bus or bundle with these statements.
-pub(crate) fn inner_pins<'a>(
+/// These inner pins, with that.
+pub(crate) fn judged_pins<'a>(
     alloc: Global,
     vectors: &Vectors,
-    items: &'a [Item],
+    pins: &[&'a Group],
 ) -> Result<Vec<InnerPin<'a>>, AllocError>
-    ensures { IfOk result (λ found. map spec.shown_inner found.items ≡ spec.inner_pins vectors.now items.now) }
+    ensures { IfOk result
+        (λ found. map spec.shown_inner found.items ≡ map (spec.inner_pin vectors.now) (map (λ pin. pin.now) pins.now)) }
 {
     let mut found = Vec::new(alloc);
-    for item in items {
-        add_inner_pin(alloc, &mut found, vectors, item)?;
+    for group in pins {
+        let stays = are_alike(alloc, vectors, group)?;
+        found.push(InnerPin { group, stays })?;
     }
     Ok(found)
 }

@@ -1,6 +1,6 @@
 //! The pins of single bits that a cell has when it is expanded.
 ghost use Rattle.std.specs.Prelude.{◌≡◌, ◌++◌, IfOk, OnOk, Some, map};
-ghost use Rattle.bank_refusals.specs.Members.{member_items};
+ghost use Rattle.bank_refusals.specs.Members.{inner_pins, member_items};
 ghost use Rattle.bank_cells.specs.Fixed.{shown_shared, shared_items};
 ghost use Rattle.bank_cells.specs.Expanded as spec;
 
@@ -51,17 +51,19 @@ pub(crate) fn member_pin_items(
     alloc: Global,
     vectors: &Vectors,
     group: &Group,
+    pins: &[&Group],
     shared: &[Shared<'_>],
     member: Member<'_>,
 ) -> Result<Items<Item>, AllocError>
-    requires { map shown_shared shared.now ≡ shared_items vectors.now group.now.items }
+    requires pins { map (λ pin. pin.now) pins.now ≡ inner_pins group.now.items }
+    requires shared { map shown_shared shared.now ≡ shared_items vectors.now group.now.items }
     ensures { IfOk result
         (λ items.
         items
         ≡ map (spec.pin_item vectors.now (Some member.entry.at))
         (member_items group.now member.entry.vector.now member.entry.at member.entry.name.now)) }
 {
-    let own = own_items(alloc, group, member)?;
+    let own = own_items(alloc, pins, member)?;
     let mut items = with_room(alloc, shared.len())?;
     let position = Some(member.at);
     add_shared_at(alloc, &mut items, vectors, member.at, shared)?;

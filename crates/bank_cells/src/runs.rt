@@ -2,10 +2,10 @@
 ghost use Rattle.std.specs.Prelude.{◌≡◌, ◌++◌, IfOk, OnOk, map};
 ghost use Rattle.bank_cells.specs.Runs as spec;
 
-use crate::inner_pins::{InnerPin, all_shared_stay, inner_pins, same_of_all};
+use crate::inner_pins::{InnerPin, all_shared_stay, judged_pins, same_of_all};
 use crate::pins::member_pin_items;
 use crate::shared::{Shared, shared_items};
-use bank_refusals::Member;
+use bank_refusals::{Member, inner_pins};
 use bus_texts::{Vector, Vectors};
 use liberty_groups::{Group, Item, Value, Values, copy_arguments, copy_text};
 use sqlite_items::Items;
@@ -66,6 +66,8 @@ struct Statements<'a> {
     shared: Vec<Shared<'a>>,
     /// The shared ones become the same at each position.
     stay: bool,
+    pins: Vec<&'a Group>,
+    /// The inner pins, with whether their statements become the same at each position.
     inner: Vec<InnerPin<'a>>,
 }
 
@@ -83,12 +85,14 @@ impl<'a> Statements<'a> {
         let items = group.items.as_slice();
         let shared = shared_items(alloc, vectors, items)?;
         let stay = all_shared_stay(alloc, vectors, items)?;
-        let inner = inner_pins(alloc, vectors, items)?;
+        let pins = inner_pins(alloc, items)?;
+        let inner = judged_pins(alloc, vectors, &pins)?;
         Ok(Statements {
             vectors,
             group,
             shared,
             stay,
+            pins,
             inner,
         })
     }
@@ -107,7 +111,15 @@ impl<'a> Statements<'a> {
         requires { spec.AreOfOneGroup self.now }
         ensures { IfOk result (λ pin. pin ≡ spec.run_pin self.now.vectors.now self.now.group.now (spec.shown_run run.now)) }
     {
-        let items = member_pin_items(alloc, self.vectors, self.group, &self.shared, run.first)?;
+        let pins = &self.pins;
+        let items = member_pin_items(
+            alloc,
+            self.vectors,
+            self.group,
+            pins,
+            &self.shared,
+            run.first,
+        )?;
         Ok(Group {
             name: copy_text(alloc, b"pin")?,
             arguments: copy_arguments(alloc, run.names.as_slice())?,

@@ -2,20 +2,20 @@
 use Rattle.std.proofs.Common.{◌≡◌, ℕ, Bool, true, false, not, ◌&&◌, ◌||◌, List, [], ◌∷◌, ◌++◌, map, filter, Some, None}
 use Rattle.std.proofs.Common.{if◌then◌else◌, refl, sym, ap, ◌∙◌, codes}
 use Rattle.std.specs.Prelude.{bytes_eq, flat_map}
-use Rattle.std.specs.List.{list_all}
+use Rattle.std.specs.List.{list_all, cons_option}
 use Rattle.std.proofs.lemmas.Bool.{and_parts}
 use Rattle.std.proofs.lemmas.List.{map-append}
-use Rattle.std.proofs.lemmas.List.Folds.{list_all-append, list_all-map}
+use Rattle.std.proofs.lemmas.List.Folds.{list_all-map}
 use Rattle.liberty_groups.specs.declared.tree.Value.{Value}
 use Rattle.liberty_groups.specs.declared.tree.Item.{Item, out-Item}
 use Rattle.liberty_groups.specs.declared.tree.Item.TheOpen.{Item-F}
 use Rattle.liberty_groups.specs.declared.tree.Item.TheOpen as layer
 use Rattle.liberty_groups.specs.declared.tree.Item.TheVariants as made
 use Rattle.liberty_groups.specs.declared.tree.Group.{Group}
-use Rattle.liberty_groups.specs.Attributes.{text_of}
+use Rattle.liberty_groups.specs.Attributes.{text_of, group_named}
 use Rattle.bus_texts.specs.declared.vectors.Vector.{Vector}
 use Rattle.bus_texts.specs.Vectors.{is_called}
-use Rattle.bank_refusals.specs.Members.{is_shared, inner_pin_as, inner_pin_in, inner_pins, own_items_as, own_items}
+use Rattle.bank_refusals.specs.Members.{is_shared, inner_pins, own_items_as, own_items}
 use Rattle.bank_refusals.specs.Faults.{pin_texts}
 use Rattle.bank_refusals.specs.Fixed.{names_none, is_fixed}
 use Rattle.bank_refusals.specs.Alike.{text_stays, group_stays, stays}
@@ -107,36 +107,41 @@ module _ (vectors : List Vector) (one other : Member) where
   abbrev same_in : List Group → Bool
   same_in pins = list_all (λ pin. same_of one other (inner_pin vectors pin)) pins
 
-  own_here : (y : Item-F Item Group) → same_in (inner_pin_as y) ≡ true
-      → become one (own_items_as one.vector one.at one.name y) ≡ become other (own_items_as other.vector other.at other.name y)
-  own_here (layer.Simple name value offset) e = refl
-  own_here (layer.Complex name arguments offset) e = refl
-  own_here (layer.Inner group) e = by (is_called (codes "pin") group) e
-    where
-      named : (b c d : Bool) → list_all (stays vectors) group.items ≡ d → ((if b then c && d else not c) && true) ≡ true
-          → become one (if b then group.items else []) ≡ become other (if c then group.items else [])
-      named true true true is e = inner_same vectors one.at group.items is ∙ sym (inner_same vectors other.at group.items is)
-      named true true false is e = absurd cc
-      named true false d is e = absurd cc
-      named false true d is e = absurd cc
-      named false false d is e = refl
+  named : (group : Group) (b c d : Bool) → list_all (stays vectors) group.items ≡ d → (if b then c && d else not c) ≡ true
+      → become one (if b then group.items else []) ≡ become other (if c then group.items else [])
+  named group true true true is e = inner_same vectors one.at group.items is ∙ sym (inner_same vectors other.at group.items is)
+  named group true true false is e = absurd cc
+  named group true false d is e = absurd cc
+  named group false true d is e = absurd cc
+  named group false false d is e = refl
 
-      by : (b : Bool) → same_in (if b then group ∷ [] else []) ≡ true
-          → become one (if b && is_named one (inner_pin vectors group) then group.items else [])
-          ≡ become other (if b && is_named other (inner_pin vectors group) then group.items else [])
+  own_here : (y : Item-F Item Group) (pins : List Group)
+      → same_in (cons_option (group_named (codes "pin") y) pins) ≡ true
+      → (become one (own_items_as one.vector one.at one.name y) ≡ become other (own_items_as other.vector other.at other.name y))
+      × (same_in pins ≡ true)
+  own_here (layer.Simple name value offset) pins e = (refl, e)
+  own_here (layer.Complex name arguments offset) pins e = (refl, e)
+  own_here (layer.Inner group) pins e = by (is_called (codes "pin") group) e
+    where
+      by : (b : Bool) → same_in (cons_option (if b then Some group else None) pins) ≡ true
+          → (become one (if b && is_named one (inner_pin vectors group) then group.items else [])
+          ≡ become other (if b && is_named other (inner_pin vectors group) then group.items else []))
+          × (same_in pins ≡ true)
       by true e =
-          named (is_named one (inner_pin vectors group)) (is_named other (inner_pin vectors group))
-          (list_all (stays vectors) group.items) refl e
-      by false e = refl
+          let both = and_parts (same_of one other (inner_pin vectors group)) (same_in pins) e in (
+            named group (is_named one (inner_pin vectors group)) (is_named other (inner_pin vectors group))
+                (list_all (stays vectors) group.items) refl both.0,
+            both.1,
+          )
+      by false e = (refl, e)
 
   own_same : (items : List Item) → same_in (inner_pins items) ≡ true
       → become one (flat_map (own_of one) items) ≡ become other (flat_map (own_of other) items)
   own_same [] e = refl
   own_same (item ∷ items) e =
-      let both = and_parts (same_in (inner_pin_in item)) (same_in (inner_pins items))
-      (sym (list_all-append (λ pin. same_of one other (inner_pin vectors pin)) (inner_pin_in item) (inner_pins items)) ∙ e) in
+      let both = own_here (out-Item item) (inner_pins items) e in
       map-append (pin_item vectors (Some one.at)) (own_of one item) (flat_map (own_of one) items)
-      ∙ (ap (λ l. l ++ become one (flat_map (own_of one) items)) (own_here (out-Item item) both.0)
+      ∙ (ap (λ l. l ++ become one (flat_map (own_of one) items)) both.0
       ∙ (ap (λ l. become other (own_of other item) ++ l) (own_same items both.1)
       ∙ sym (map-append (pin_item vectors (Some other.at)) (own_of other item) (flat_map (own_of other) items))))
 

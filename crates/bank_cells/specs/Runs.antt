@@ -107,8 +107,11 @@ abbrev pub run_pins : List Vector → Group → Run → List Item
 run_pins vectors group run = made.Inner (run_pin vectors group run) ∷ []
 
 -- A member goes on with the neighbours before it, or ends them and is the first of the next ones.
+abbrev pub run_and : Run → Member → Run
+run_and run member = record { first = run.first; names = run.names ++ name_of member ∷ [] }
+
 abbrev pub run_with : Bool → Run → Member → Run
-run_with same run member = if same then record { first = run.first; names = run.names ++ name_of member ∷ [] } else run_of member
+run_with same run member = if same then run_and run member else run_of member
 
 abbrev pub run_after : List Vector → Group → Run → Member → Run
 run_after vectors group run member = run_with (have_same vectors group run.first member) run member

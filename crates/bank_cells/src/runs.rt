@@ -58,6 +58,15 @@ fn run_of<'a>(alloc: Global, first: Member<'a>) -> Result<Run<'a>, AllocError>
     Ok(Run { first, names })
 }
 
+/// Adds a member with the same statements.
+fn add_name(alloc: Global, run: &mut Run<'_>, member: Member<'_>) -> Result<(), AllocError>
+    ensures { OnOk result
+        (spec.shown_run run.new ≡ spec.run_and (spec.shown_run run.old) (spec.shown_member member.entry)) }
+{
+    let name = name_of(alloc, member)?;
+    run.names.push(alloc, name)
+}
+
 /// What the pins of a bus or bundle are made of.
 #[derive(Drop)]
 struct Statements<'a> {
@@ -162,8 +171,7 @@ impl<'a> Statements<'a> {
             ≡ spec.run_after self.now.vectors.now self.now.group.now (spec.shown_run run.old) (spec.shown_member member.entry)) }
     {
         if self.have_same(run.first, member) {
-            run.names.push(alloc, name_of(alloc, member)?)?;
-            return Ok(());
+            return add_name(alloc, run, member);
         }
         self.add_run(alloc, found, run)?;
         *run = run_of(alloc, member)?;

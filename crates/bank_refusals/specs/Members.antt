@@ -1,6 +1,6 @@
 -- The pins that a bus or bundle makes, as they stand (Liberty Reference Manual, `bus` and `bundle` groups, and the `pin` groups
 -- in them).
-use Rattle.std.specs.Prelude.{ℕ, Bool, not, ◌&&◌, List, [], ◌∷◌}
+use Rattle.std.specs.Prelude.{ℕ, Bool, not, ◌&&◌, List, []}
 use Rattle.std.specs.Prelude.{◌++◌, filter, flat_map, codes, bytes_eq, slice_get}
 use Rattle.std.specs.Prelude.{Option, Some, None, if◌then◌else◌}
 use Rattle.std.specs.List.{list_any}
@@ -9,6 +9,7 @@ use Rattle.liberty_groups.specs.declared.tree.Item.{Item, out-Item}
 use Rattle.liberty_groups.specs.declared.tree.Item.TheOpen.{Item-F}
 use Rattle.liberty_groups.specs.declared.tree.Item.TheOpen as layer
 use Rattle.liberty_groups.specs.declared.tree.Group.{Group}
+use Rattle.liberty_groups.specs.Attributes.{groups_named}
 use Rattle.bus_texts.specs.declared.vectors.Vector.{Vector}
 use Rattle.bus_texts.specs.Vectors.{is_called}
 use Rattle.bank_refusals.specs.Ranges.{names_bit}
@@ -31,16 +32,8 @@ abbrev pub is_shared : Item → Bool
 is_shared item = is_shared_as (out-Item item)
 
 -- The inner pins of a bus or bundle with these statements.
-abbrev pub inner_pin_as : Item-F Item Group → List Group
-inner_pin_as (layer.Simple name value at) = []
-inner_pin_as (layer.Complex name arguments at) = []
-inner_pin_as (layer.Inner group) = if is_called (codes "pin") group then group ∷ [] else []
-
-abbrev pub inner_pin_in : Item → List Group
-inner_pin_in item = inner_pin_as (out-Item item)
-
 abbrev pub inner_pins : List Item → List Group
-inner_pins items = flat_map inner_pin_in items
+inner_pins items = groups_named (codes "pin") items
 
 -- The statements of an inner pin that names the member.
 abbrev pub inner_pin_items : Vector → ℕ → List ℕ → Group → List Item

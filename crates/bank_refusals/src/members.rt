@@ -5,7 +5,7 @@ ghost use Rattle.bank_refusals.specs.Members as spec;
 
 use crate::ranges::names_bit;
 use bus_texts::{Vector, is_called};
-use liberty_groups::{Group, Item, Value};
+use liberty_groups::{Group, Item, Value, inner_group};
 use std::alloc::{AllocError, Global};
 
 /// A member of a bus or bundle: its position, and its name.
@@ -78,10 +78,8 @@ pub fn inner_pins<'a>(alloc: Global, items: &'a [Item]) -> Result<Vec<&'a Group>
 {
     let mut found = Vec::new(alloc);
     for item in items {
-        if let Item::Inner(group) = item {
-            if is_called(group, b"pin") {
-                found.push(group)?;
-            }
+        if let Some(pin) = inner_group(item, b"pin") {
+            found.push(pin)?;
         }
     }
     Ok(found)

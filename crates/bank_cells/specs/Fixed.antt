@@ -1,5 +1,5 @@
 -- The statements that each member of a bus or bundle has, with what those become that become the same at each position.
-use Rattle.std.specs.Prelude.{◌≡◌, Bool, ◌&&◌, List, map, filter, codes, ℕ, Option, Some, None, if◌then◌else◌}
+use Rattle.std.specs.Prelude.{◌≡◌, ◌&&◌, List, map, filter, codes, Option, Some, None, if◌then◌else◌}
 use Rattle.std.specs.List.{list_all}
 use Rattle.liberty_groups.specs.declared.tree.Item.{Item, out-Item}
 use Rattle.liberty_groups.specs.declared.tree.Item.TheOpen.{Item-F}

@@ -1,8 +1,7 @@
--- The expanded group of a cell in which the pins of a bus or bundle are one pin group with all their names, where they have the
--- same statements (Liberty Reference Manual, `pin` group: one with several names makes a pin for each).
-use Rattle.std.specs.Prelude.{◌≡◌, ℕ, true, ◌&&◌, List, [], ◌∷◌, map, filter, flat_map, codes, Some, None, Result, Ok, Err}
+-- The expanded group of a cell in which neighbouring pins of a bus or bundle are one pin group with all their names, where they
+-- have the same statements.
+use Rattle.std.specs.Prelude.{◌≡◌, List, [], ◌∷◌, flat_map, Some, None, Result, Ok, Err}
 use Rattle.std.specs.Prelude.{if◌then◌else◌}
-use Rattle.liberty_groups.specs.declared.tree.Value.{Value}
 use Rattle.liberty_groups.specs.declared.tree.Item.{Item, out-Item}
 use Rattle.liberty_groups.specs.declared.tree.Item.TheOpen.{Item-F}
 use Rattle.liberty_groups.specs.declared.tree.Item.TheOpen as layer
@@ -10,38 +9,18 @@ use Rattle.liberty_groups.specs.declared.tree.Item.TheVariants as made
 use Rattle.liberty_groups.specs.declared.tree.Group.{Group, roll-Group}
 use Rattle.bus_texts.specs.declared.bus_types.BusType.{BusType}
 use Rattle.bus_texts.specs.declared.vectors.Vector.{Vector}
-use Rattle.bus_texts.specs.Vectors.{pin_vectors, cell_vectors}
+use Rattle.bus_texts.specs.Vectors.{is_bank, pin_vectors, cell_vectors}
 use Rattle.bank_cells.specs.declared.expansion.BankFault.{BankFault}
 use Rattle.bank_cells.specs.declared.expansion.BankFault.TheVariants.{Refused, Memory}
-use Rattle.bank_refusals.specs.Members.{is_shared}
 use Rattle.bank_refusals.specs.Refusals.{is_pins, has_many, bank_refusal}
-use Rattle.bank_refusals.specs.Alike.{are_alike}
-use Rattle.bank_cells.specs.Expanded.{pin_item, expanded_group}
-
--- One pin group for all members.
-abbrev pub name_value : List ℕ → Value
-name_value name = record { bytes = name; quoted = true }
-
-abbrev pub members_of : List Vector → List (List ℕ)
-members_of several = flat_map (λ (vector : Vector). vector.members) several
-
-abbrev pub gathered_pin : List Vector → Group → List (List ℕ) → Group
-gathered_pin vectors group members =
-    roll-Group (record {
-      name = codes "pin";
-      arguments = map name_value members;
-      items = map (pin_item vectors (Some 0)) (filter is_shared group.items);
-      at = group.at;
-    })
-
-abbrev pub gathered_pins : List Vector → Group → List Vector → List Item
-gathered_pins vectors group several = made.Inner (gathered_pin vectors group (members_of several)) ∷ []
+use Rattle.bank_cells.specs.Expanded.{bank_states, single_group}
+use Rattle.bank_cells.specs.Runs.{members_of, pins_of}
 
 -- What stands in the place of a statement of a cell.
 abbrev pub gathered_group : List BusType → List Vector → Group → List Item
 gathered_group types vectors group =
-    if is_pins group && are_alike vectors group then gathered_pins vectors group (pin_vectors types group)
-    else expanded_group types vectors group
+    if is_pins group then pins_of vectors group (members_of (pin_vectors types group))
+    else (if is_bank group then bank_states vectors group else single_group vectors group)
 
 abbrev pub gathered_as : List BusType → List Vector → Item-F Item Group → List Item
 gathered_as types vectors (layer.Simple name value at) = made.Simple name value at ∷ []

@@ -1,9 +1,8 @@
-pub use Rattle.bank_refusals.specs.Ranges as Ranges
 pub use Rattle.bank_refusals.specs.Members as Members
 pub use Rattle.bank_refusals.specs.Faults as Faults
 pub use Rattle.bank_refusals.specs.Refusals as Refusals
-pub use Rattle.bank_refusals.specs.Alike as Alike
 pub mod Expanded
 pub mod Fixed
+pub mod Runs
 pub mod Gathered
 pub mod Copies

@@ -4,9 +4,11 @@
 mod copies;
 mod expansion;
 mod gathered;
+mod inner_pins;
 mod pins;
 mod rewritten;
 mod room;
+mod runs;
 mod shared;
 mod states;
 mod timings;

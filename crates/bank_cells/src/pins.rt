@@ -1,17 +1,17 @@
 //! The pins of single bits that a cell has when it is expanded.
-ghost use Rattle.std.specs.Prelude.{◌≡◌, ◌++◌, IfOk, OnOk, Some, map, flat_map};
-ghost use Rattle.bank_refusals.specs.Members.{member_items};
+ghost use Rattle.std.specs.Prelude.{◌≡◌, ◌++◌, IfOk, OnOk, Some, map};
+ghost use Rattle.bank_refusals.specs.Members.{inner_pins, member_items};
 ghost use Rattle.bank_cells.specs.Fixed.{shown_shared, shared_items};
 ghost use Rattle.bank_cells.specs.Expanded as spec;
 
 use crate::copies::with_items;
-use crate::rewritten::{one_value, pin_text};
+use crate::rewritten::pin_text;
 use crate::room::with_room;
-use crate::shared::{Shared, add_shared_at, shared_items};
+use crate::shared::{Shared, add_shared_at};
 use crate::timings::timing_at;
 use bank_refusals::{Member, Place, all_items, own_items};
-use bus_texts::{Vector, Vectors, is_called};
-use liberty_groups::{Arguments, Group, Item, copy_bytes, copy_item, copy_text};
+use bus_texts::{Vectors, is_called};
+use liberty_groups::{Group, Item, copy_item};
 use sqlite_items::Items;
 use std::alloc::{AllocError, Global};
 
@@ -47,101 +47,28 @@ fn add_pin_items(
 
 /// The statements of the pin that a bus or bundle makes at a position.
 #[tactic(auto, using(crate::proofs::SharedLemmas::all_of))]
-fn member_pin_items(
+pub(crate) fn member_pin_items(
     alloc: Global,
     vectors: &Vectors,
     group: &Group,
+    pins: &[&Group],
     shared: &[Shared<'_>],
     member: Member<'_>,
 ) -> Result<Items<Item>, AllocError>
-    requires { map shown_shared shared.now ≡ shared_items vectors.now group.now.items }
+    requires pins { map (λ pin. pin.now) pins.now ≡ inner_pins group.now.items }
+    requires shared { map shown_shared shared.now ≡ shared_items vectors.now group.now.items }
     ensures { IfOk result
         (λ items.
         items
         ≡ map (spec.pin_item vectors.now (Some member.entry.at))
         (member_items group.now member.entry.vector.now member.entry.at member.entry.name.now)) }
 {
-    let own = own_items(alloc, group, member)?;
+    let own = own_items(alloc, pins, member)?;
     let mut items = with_room(alloc, shared.len())?;
     let position = Some(member.at);
     add_shared_at(alloc, &mut items, vectors, member.at, shared)?;
     add_pin_items(alloc, &mut items, Place { vectors, position }, &own)?;
     Ok(items)
-}
-
-/// The pin that a bus or bundle makes at a position.
-fn member_pin(
-    alloc: Global,
-    vectors: &Vectors,
-    group: &Group,
-    shared: &[Shared<'_>],
-    member: Member<'_>,
-) -> Result<Group, AllocError>
-    requires { map shown_shared shared.now ≡ shared_items vectors.now group.now.items }
-    ensures { IfOk result
-        (λ pin. pin ≡ spec.member_pin vectors.now group.now member.entry.vector.now member.entry.at member.entry.name.now) }
-{
-    let items = member_pin_items(alloc, vectors, group, shared, member)?;
-    let name = copy_bytes(alloc, member.name)?;
-    Ok(Group {
-        name: copy_text(alloc, b"pin")?,
-        arguments: Arguments::from_values(alloc, one_value(alloc, name, true)?)?,
-        items,
-        at: group.at,
-    })
-}
-
-/// Adds the pins that a bus or bundle of one name makes.
-fn add_vector_pins(
-    alloc: Global,
-    found: &mut Items<Item>,
-    vectors: &Vectors,
-    group: &Group,
-    shared: &[Shared<'_>],
-    vector: &Vector,
-) -> Result<(), AllocError>
-    requires { map shown_shared shared.now ≡ shared_items vectors.now group.now.items }
-    ensures { OnOk result (found.new ≡ found.old ++ spec.vector_pins vectors.now group.now vector.now) }
-{
-    for (at, name) in vector.members.as_slice().iter().enumerate() {
-        let name = name.as_slice();
-        let member = Member { vector, at, name };
-        let pin = member_pin(alloc, vectors, group, shared, member)?;
-        found.push(Item::Inner(pin))?;
-    }
-    Ok(())
-}
-
-/// Adds the pins that buses or bundles make.
-fn add_all_pins(
-    alloc: Global,
-    found: &mut Items<Item>,
-    vectors: &Vectors,
-    group: &Group,
-    shared: &[Shared<'_>],
-    made: &[Vector],
-) -> Result<(), AllocError>
-    requires { map shown_shared shared.now ≡ shared_items vectors.now group.now.items }
-    ensures { OnOk result (found.new ≡ found.old ++ flat_map (spec.vector_pins vectors.now group.now) made.now) }
-{
-    for vector in made {
-        add_vector_pins(alloc, found, vectors, group, shared, vector)?;
-    }
-    Ok(())
-}
-
-/// Adds all pins that a bus or bundle makes.
-pub(crate) fn add_pins(
-    alloc: Global,
-    found: &mut Items<Item>,
-    vectors: &Vectors,
-    group: &Group,
-    made: &[Vector],
-) -> Result<(), AllocError>
-    ensures { OnOk result (found.new ≡ found.old ++ flat_map (spec.vector_pins vectors.now group.now) made.now) }
-{
-    let shared = shared_items(alloc, vectors, group.items.as_slice())?;
-    add_all_pins(alloc, found, vectors, group, &shared, made)
 }
 
 /// A pin of one bit.

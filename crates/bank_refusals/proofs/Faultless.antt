@@ -1,15 +1,17 @@
 -- Texts that name no bus, bundle or variable have no faults, and nor have the members of a bus or bundle that are alike.
 use Rattle.std.proofs.Common.{◌≡◌, ℕ, ◌+◌, Bool, true, false, not, ◌&&◌, ◌||◌, List, [], ◌∷◌, ◌++◌, filter, Option, Some}
-use Rattle.std.proofs.Common.{None, if◌then◌else◌, refl, sym, ap, ◌∙◌, codes, append-nil, append_assoc}
-use Rattle.std.specs.Prelude.{flat_map, is_some, Result, Ok, Err, OnOk}
-use Rattle.std.specs.List.{list_any, list_all, filter_map}
-use Rattle.std.proofs.lemmas.Bool.{and_parts, and_from, or_parts}
+use Rattle.std.proofs.Common.{None, if◌then◌else◌, refl, sym, ap, ◌∙◌, codes, append-nil}
+use Rattle.std.specs.Prelude.{flat_map, is_some, bytes_eq, Result, Ok, Err, OnOk}
+use Rattle.std.specs.List.{list_any, list_all, filter_map, cons_option}
+use Rattle.std.proofs.lemmas.Bool.{and_parts, and_from, or_parts, true≢false}
 use Rattle.std.proofs.lemmas.Grind.{flat_map-append}
+use Rattle.std.proofs.lemmas.List.Elements.{filter_map-append}
+use Rattle.liberty_groups.specs.declared.tree.Value.{Value}
 use Rattle.liberty_groups.specs.declared.tree.Item.{Item, out-Item}
 use Rattle.liberty_groups.specs.declared.tree.Item.TheOpen.{Item-F}
 use Rattle.liberty_groups.specs.declared.tree.Item.TheOpen as layer
 use Rattle.liberty_groups.specs.declared.tree.Group.{Group}
-use Rattle.liberty_groups.specs.Attributes.{Attribute, simple_named, attributes_named, last_or}
+use Rattle.liberty_groups.specs.Attributes.{Attribute, text_of, simple_named, attributes_named, last_or}
 use Rattle.bus_texts.specs.declared.vectors.Vector.{Vector}
 use Rattle.bus_texts.specs.Vectors.{is_called, vector_named}
 use Rattle.bus_texts.specs.Parts.{Part, parts_of}
@@ -18,8 +20,8 @@ use Rattle.bank_refusals.specs.Members.{is_shared, names_member, own_items_as, o
 use Rattle.bank_refusals.specs.Faults.{pin_texts, fault_of, fault_named, text_faults, pins_named, lacks_member, word_fails}
 use Rattle.bank_refusals.specs.Faults.{related_words, related_as, related_text, related_fault, timing_faults, timing_faults_as}
 use Rattle.bank_refusals.specs.Faults.{timing_faults_in, pin_faults}
-use Rattle.bank_refusals.specs.Fixed.{names_none, is_vector_word, relates_none, condition_in, related_in, is_fixed, is_fixed_as}
-use Rattle.bank_refusals.specs.Fixed.{is_fixed_timing, varies}
+use Rattle.bank_refusals.specs.Fixed.{names_none, is_vector_word, relates_none, condition_in, related_in, is_fixed}
+use Rattle.bank_refusals.specs.Fixed.{is_pin_text, may_fail_as, may_fail, varies}
 use Rattle.bank_refusals.specs.Refusals.{along, member_faults, vector_faults}
 use Rattle.bank_refusals.specs.Alike.{text_stays, group_stays, stays, are_alike}
 
@@ -33,6 +35,32 @@ all_also test other also [] e = refl
 all_also test other also (item ∷ items) e =
     let both = and_parts (test item) (list_all test items) e in
     and_from (other item) (list_all other items) (also item both.0) (all_also test other also items both.1)
+
+abbrev text_if : List Value → ℕ → Bool → Option Attribute
+text_if value offset b = if b then Some (record { text = text_of value; at = offset }) else None
+
+not_false : (b : Bool) → not b ≡ false → b ≡ true
+not_false true e = refl
+not_false false e = sym e
+
+or_true : (b : Bool) → (b || true) ≡ true
+or_true true = refl
+or_true false = refl
+
+first_text : (name : List ℕ) → bytes_eq name (codes "function") ≡ true → is_pin_text name ≡ true
+first_text name e =
+    ap (λ b. b || (bytes_eq name (codes "state_function") || bytes_eq name (codes "three_state"))) e
+
+second_text : (name : List ℕ) → bytes_eq name (codes "state_function") ≡ true → is_pin_text name ≡ true
+second_text name e =
+    ap (λ b. bytes_eq name (codes "function") || (b || bytes_eq name (codes "three_state"))) e
+    ∙ or_true (bytes_eq name (codes "function"))
+
+third_text : (name : List ℕ) → bytes_eq name (codes "three_state") ≡ true → is_pin_text name ≡ true
+third_text name e =
+    ap (λ b. bytes_eq name (codes "function") || (bytes_eq name (codes "state_function") || b)) e
+    ∙ (ap (λ b. bytes_eq name (codes "function") || b) (or_true (bytes_eq name (codes "state_function")))
+    ∙ or_true (bytes_eq name (codes "function")))
 
 -- what a call that went well comes to
 pub where_went : {X E A B : Type 0} (result : Result X E) → (A → B) → OnOk result A → OnOk result B
@@ -125,48 +153,89 @@ module _ (vectors : List Vector) (at : ℕ) where
       ∙ related_there (related_text items) (related_counts None items refl e)
 
   -- A statement that varies is the only one with faults.
-  fixed_faultless : (y : Item-F Item Group) → is_fixed_as vectors y ≡ true → timing_faults_as vectors (Some at) y ≡ []
-  fixed_faultless (layer.Simple name value offset) e = refl
-  fixed_faultless (layer.Complex name arguments offset) e = refl
-  fixed_faultless (layer.Inner timing) e =
-      let both = and_parts (is_called (codes "timing") timing) (list_all (is_fixed vectors) timing.items) e in
-      ap (λ b. if b then timing_faults vectors (Some at) timing.items else []) both.0 ∙ timing_there timing.items both.1
+  never_fails : (y : Item-F Item Group) → may_fail_as vectors y ≡ false → timing_faults_as vectors (Some at) y ≡ []
+  never_fails (layer.Simple name value offset) e = refl
+  never_fails (layer.Complex name arguments offset) e = refl
+  never_fails (layer.Inner group) e = by (is_called (codes "timing") group) e
+    where
+      by : (b : Bool) → (b && not (list_all (is_fixed vectors) group.items)) ≡ false
+          → (if b then timing_faults vectors (Some at) group.items else []) ≡ []
+      by true f = timing_there group.items (not_false (list_all (is_fixed vectors) group.items) f)
+      by false f = refl
 
   varying_faults : (items : List Item)
       → flat_map (timing_faults_in vectors (Some at)) (filter (varies vectors) items)
       ≡ flat_map (timing_faults_in vectors (Some at)) (filter is_shared items)
   varying_faults [] = refl
-  varying_faults (item ∷ items) = by (is_shared item) (is_fixed_timing vectors item) refl (varying_faults items)
+  varying_faults (item ∷ items) = by (is_shared item) (may_fail vectors item) refl (varying_faults items)
     where
-      by : (b c : Bool) → is_fixed_timing vectors item ≡ c
+      by : (b c : Bool) → may_fail vectors item ≡ c
           → flat_map (timing_faults_in vectors (Some at)) (filter (varies vectors) items)
           ≡ flat_map (timing_faults_in vectors (Some at)) (filter is_shared items)
           → flat_map (timing_faults_in vectors (Some at))
-          (if b && not c then item ∷ filter (varies vectors) items else filter (varies vectors) items)
+          (if b && c then item ∷ filter (varies vectors) items else filter (varies vectors) items)
           ≡ flat_map (timing_faults_in vectors (Some at)) (if b then item ∷ filter is_shared items else filter is_shared items)
       by false c e rest = rest
-      by true false e rest = ap (λ faults. timing_faults_in vectors (Some at) item ++ faults) rest
-      by true true e rest =
+      by true true e rest = ap (λ faults. timing_faults_in vectors (Some at) item ++ faults) rest
+      by true false e rest =
           rest ∙ sym (ap (λ faults. faults ++ flat_map (timing_faults_in vectors (Some at)) (filter is_shared items))
-          (fixed_faultless (out-Item item) e))
+          (never_fails (out-Item item) e))
+
+  -- the texts among them
+  text_here : (name : List ℕ) → ((other : List ℕ) → bytes_eq other name ≡ true → is_pin_text other ≡ true)
+      → (y : Item-F Item Group) → may_fail_as vectors y ≡ false → simple_named name y ≡ None
+  text_here name is (layer.Simple other value offset) e = by (bytes_eq other name) refl
+    where
+      by : (b : Bool) → bytes_eq other name ≡ b → text_if value offset b ≡ None
+      by true f = absurd (true≢false (sym (is other f) ∙ e))
+      by false f = refl
+  text_here name is (layer.Complex other arguments offset) e = refl
+  text_here name is (layer.Inner group) e = refl
+
+  same_named : (name : List ℕ) → ((other : List ℕ) → bytes_eq other name ≡ true → is_pin_text other ≡ true)
+      → (items : List Item)
+      → attributes_named name (filter (varies vectors) items) ≡ attributes_named name (filter is_shared items)
+  same_named name is [] = refl
+  same_named name is (item ∷ items) = by (is_shared item) (may_fail vectors item) refl (same_named name is items)
+    where
+      by : (b c : Bool) → may_fail vectors item ≡ c
+          → attributes_named name (filter (varies vectors) items) ≡ attributes_named name (filter is_shared items)
+          → attributes_named name (if b && c then item ∷ filter (varies vectors) items else filter (varies vectors) items)
+          ≡ attributes_named name (if b then item ∷ filter is_shared items else filter is_shared items)
+      by false c e rest = rest
+      by true true e rest = ap (cons_option (simple_named name (out-Item item))) rest
+      by true false e rest =
+          rest ∙ sym (ap (λ o. cons_option o (attributes_named name (filter is_shared items)))
+          (text_here name is (out-Item item) e))
+
+  fault_same : (name : List ℕ) → ((other : List ℕ) → bytes_eq other name ≡ true → is_pin_text other ≡ true)
+      → (statements own : List Item)
+      → fault_named vectors (Some at) (filter (varies vectors) statements ++ own) name
+      ≡ fault_named vectors (Some at) (filter is_shared statements ++ own) name
+  fault_same name is statements own =
+      ap (λ l. fault_of vectors (Some at) (last_or None l))
+      (filter_map-append (λ item. simple_named name (out-Item item)) (filter (varies vectors) statements) own
+      ∙ (ap (λ l. l ++ attributes_named name own) (same_named name is statements)
+      ∙ sym (filter_map-append (λ item. simple_named name (out-Item item)) (filter is_shared statements) own)))
+
+  same_faults : (statements own : List Item)
+      → pin_faults vectors (Some at) (filter (varies vectors) statements ++ own)
+      ≡ pin_faults vectors (Some at) (filter is_shared statements ++ own)
+  same_faults statements own i =
+      (fault_same (codes "function") first_text statements own i
+      ++ (fault_same (codes "state_function") second_text statements own i
+      ++ (fault_same (codes "three_state") third_text statements own i ++ [])))
+      ++ (flat_map-append (timing_faults_in vectors (Some at)) (filter (varies vectors) statements) own
+      ∙ (ap (λ l. l ++ flat_map (timing_faults_in vectors (Some at)) own) (varying_faults statements)
+      ∙ sym (flat_map-append (timing_faults_in vectors (Some at)) (filter is_shared statements) own))) i
 
   -- the faults of a member
   pub made_faults :
-      (statements own items timed : List Item) (old texts all : List ℕ) → items ≡ filter is_shared statements ++ own
-      → timed ≡ filter (varies vectors) statements ++ own → texts ≡ old ++ text_faults vectors (Some at) pin_texts items
-      → all ≡ texts ++ flat_map (timing_faults_in vectors (Some at)) timed
+      (statements own items : List Item) (old all : List ℕ) → items ≡ filter (varies vectors) statements ++ own
+      → all ≡ old ++ pin_faults vectors (Some at) items
       → all ≡ old ++ pin_faults vectors (Some at) (filter is_shared statements ++ own)
-  made_faults statements own items timed old texts all are vary said more =
-      let faults : List Item → List ℕ = flat_map (timing_faults_in vectors (Some at)) in
-      let shared : List Item = filter is_shared statements in
-      let same : faults timed ≡ faults (shared ++ own) =
-      ap faults vary
-      ∙ (flat_map-append (timing_faults_in vectors (Some at)) (filter (varies vectors) statements) own
-      ∙ (ap (λ l. l ++ faults own) (varying_faults statements)
-      ∙ sym (flat_map-append (timing_faults_in vectors (Some at)) shared own))) in
-      more
-      ∙ ((λ i. (said ∙ ap (λ l. old ++ text_faults vectors (Some at) pin_texts l) are) i ++ same i)
-      ∙ append_assoc old (text_faults vectors (Some at) pin_texts (shared ++ own)) (faults (shared ++ own)))
+  made_faults statements own items old all are said =
+      said ∙ ap (λ l. old ++ l) (ap (pin_faults vectors (Some at)) are ∙ same_faults statements own)
 
 -- Members that are alike have no statements of their own.
 module _ (vectors : List Vector) (vector : Vector) (at : ℕ) (member : List ℕ) where

@@ -1,6 +1,6 @@
 -- Timing groups of a bus or bundle that become the same at each position, since the names in them that are replaced name no bus,
 -- bundle or variable of a bank.
-use Rattle.std.specs.Prelude.{ℕ, Bool, false, true, not, ◌&&◌, List, codes, Option, Some, None, is_some}
+use Rattle.std.specs.Prelude.{ℕ, Bool, false, true, not, ◌&&◌, ◌||◌, List, codes, bytes_eq, Option, Some, None, is_some}
 use Rattle.std.specs.List.{list_any, list_all}
 use Rattle.liberty_groups.specs.declared.tree.Item.{Item, out-Item}
 use Rattle.liberty_groups.specs.declared.tree.Item.TheOpen.{Item-F}
@@ -36,15 +36,19 @@ related_in item = simple_named (codes "related_pin") (out-Item item)
 abbrev pub is_fixed : List Vector → Item → Bool
 is_fixed vectors item = names_none vectors (condition_in item) && relates_none vectors (related_in item)
 
--- A statement is a timing group that becomes the same at each position.
-abbrev pub is_fixed_as : List Vector → Item-F Item Group → Bool
-is_fixed_as vectors (layer.Simple name value at) = false
-is_fixed_as vectors (layer.Complex name arguments at) = false
-is_fixed_as vectors (layer.Inner group) = is_called (codes "timing") group && list_all (is_fixed vectors) group.items
+-- A statement may be at fault at a position: it is a text of a pin, or a timing group that does not become the same at each.
+abbrev pub is_pin_text : List ℕ → Bool
+is_pin_text name =
+    bytes_eq name (codes "function") || (bytes_eq name (codes "state_function") || bytes_eq name (codes "three_state"))
 
-abbrev pub is_fixed_timing : List Vector → Item → Bool
-is_fixed_timing vectors item = is_fixed_as vectors (out-Item item)
+abbrev pub may_fail_as : List Vector → Item-F Item Group → Bool
+may_fail_as vectors (layer.Simple name value at) = is_pin_text name
+may_fail_as vectors (layer.Complex name arguments at) = false
+may_fail_as vectors (layer.Inner group) = is_called (codes "timing") group && not (list_all (is_fixed vectors) group.items)
 
--- Each member of a bus or bundle has the statement, and it is none of these.
+abbrev pub may_fail : List Vector → Item → Bool
+may_fail vectors item = may_fail_as vectors (out-Item item)
+
+-- Each member of a bus or bundle has the statement, and it is one of these.
 abbrev pub varies : List Vector → Item → Bool
-varies vectors item = is_shared item && not (is_fixed_timing vectors item)
+varies vectors item = is_shared item && may_fail vectors item

@@ -9,6 +9,7 @@ use Rattle.liberty_groups.specs.declared.tree.Item.{Item, out-Item}
 use Rattle.liberty_groups.specs.declared.tree.Item.TheOpen.{Item-F}
 use Rattle.liberty_groups.specs.declared.tree.Item.TheOpen as layer
 use Rattle.liberty_groups.specs.declared.tree.Group.{Group}
+use Rattle.liberty_groups.specs.Attributes.{groups_named}
 use Rattle.bus_texts.specs.declared.vectors.Vector.{Vector}
 use Rattle.bus_texts.specs.Vectors.{is_called}
 use Rattle.bank_refusals.specs.Ranges.{names_bit}
@@ -29,6 +30,10 @@ is_shared_as (layer.Inner group) = not (is_called (codes "pin") group)
 
 abbrev pub is_shared : Item → Bool
 is_shared item = is_shared_as (out-Item item)
+
+-- The inner pins of a bus or bundle with these statements.
+abbrev pub inner_pins : List Item → List Group
+inner_pins items = groups_named (codes "pin") items
 
 -- The statements of an inner pin that names the member.
 abbrev pub inner_pin_items : Vector → ℕ → List ℕ → Group → List Item

@@ -36,7 +36,7 @@ fn group_stays(alloc: Global, vectors: &Vectors, item: &Item) -> Result<bool, Al
 }
 
 /// Whether a statement of a bus or bundle becomes the same for each member.
-fn stays(alloc: Global, vectors: &Vectors, item: &Item) -> Result<bool, AllocError>
+pub fn stays(alloc: Global, vectors: &Vectors, item: &Item) -> Result<bool, AllocError>
     ensures { IfOk result (λ stays. stays ≡ spec.stays vectors.now item.now) }
 {
     let text = text_stays(alloc, vectors, item)?;

@@ -77,18 +77,25 @@ pub fn are_fixed(alloc: Global, vectors: &Vectors, items: &[Item]) -> Result<boo
     Ok(true)
 }
 
-/// Whether a statement is a timing group that becomes the same at each position.
-pub(crate) fn is_fixed_timing(
-    alloc: Global,
-    vectors: &Vectors,
-    item: &Item,
-) -> Result<bool, AllocError>
-    ensures { IfOk result (λ fixed. fixed ≡ spec.is_fixed_timing vectors.now item.now) }
+/// Whether a name is that of a text of a pin.
+fn is_pin_text(name: &[u8]) -> bool
+    ensures { result ≡ spec.is_pin_text name.now }
+{
+    name == b"function".as_slice()
+        || name == b"state_function".as_slice()
+        || name == b"three_state".as_slice()
+}
+
+/// Whether a statement may be at fault at a position: it is a text of a pin, or a timing group that does not become the same at
+/// each.
+pub(crate) fn may_fail(alloc: Global, vectors: &Vectors, item: &Item) -> Result<bool, AllocError>
+    ensures { IfOk result (λ fails. fails ≡ spec.may_fail vectors.now item.now) }
 {
     match item {
+        Item::Simple { name, .. } => Ok(is_pin_text(name.as_slice())),
         Item::Inner(group) if is_called(group, b"timing") => {
-            are_fixed(alloc, vectors, group.items.as_slice())
+            Ok(!are_fixed(alloc, vectors, group.items.as_slice())?)
         }
-        _ => Ok(false),
+        Item::Complex { .. } | Item::Inner(_) => Ok(false),
     }
 }

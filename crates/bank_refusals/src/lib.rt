@@ -12,10 +12,10 @@ mod related;
 mod shared;
 mod widths;
 
-pub use alike::are_alike;
+pub use alike::{are_alike, stays};
 pub use faults::Place;
 pub use fixed::are_fixed;
-pub use members::{Member, all_items, is_shared, own_items};
+pub use members::{Member, all_items, any_names, inner_pins, is_shared, own_items};
 pub use refusal::{BankReason, BankRefusal};
 pub use refusals::{bank_refusal, has_many, is_flip_flop, is_pins};
 pub use related::{pins_named, related_words};

@@ -5,7 +5,7 @@ ghost use Rattle.bank_refusals.specs.Members as spec;
 
 use crate::ranges::names_bit;
 use bus_texts::{Vector, is_called};
-use liberty_groups::{Group, Item, Value};
+use liberty_groups::{Group, Item, Value, inner_group};
 use std::alloc::{AllocError, Global};
 
 /// A member of a bus or bundle: its position, and its name.
@@ -31,7 +31,7 @@ fn names_member(member: Member<'_>, argument: &Value) -> bool
 }
 
 /// Whether one of the arguments of an inner pin names a member.
-fn any_names(member: Member<'_>, arguments: &[Value]) -> bool
+pub fn any_names(member: Member<'_>, arguments: &[Value]) -> bool
     ensures { result ≡ list_any (spec.names_member member.entry.vector.now member.entry.at member.entry.name.now) arguments.now }
 {
     for argument in arguments {
@@ -72,55 +72,52 @@ fn add_all<'a>(found: &mut Vec<&'a Item>, items: &'a [Item]) -> Result<(), Alloc
     Ok(())
 }
 
+/// The inner pins of a bus or bundle with these statements.
+pub fn inner_pins<'a>(alloc: Global, items: &'a [Item]) -> Result<Vec<&'a Group>, AllocError>
+    ensures { IfOk result (λ pins. map (λ pin. pin.now) pins.items ≡ spec.inner_pins items.now) }
+{
+    let mut found = Vec::new(alloc);
+    for item in items {
+        if let Some(pin) = inner_group(item, b"pin") {
+            found.push(pin)?;
+        }
+    }
+    Ok(found)
+}
+
 /// Adds the statements of an inner pin that names a member.
 fn add_inner<'a>(
     found: &mut Vec<&'a Item>,
     member: Member<'_>,
-    group: &'a Group,
+    pin: &'a Group,
 ) -> Result<(), AllocError>
     ensures { OnOk result
         (map (λ item. item.now) found.new.items
         ≡ map (λ item. item.now) found.old.items
-        ++ spec.inner_pin_items member.entry.vector.now member.entry.at member.entry.name.now group.now) }
+        ++ spec.inner_pin_items member.entry.vector.now member.entry.at member.entry.name.now pin.now) }
 {
-    if is_called(group, b"pin") && any_names(member, group.arguments.as_slice()) {
-        add_all(found, group.items.as_slice())
+    if is_called(pin, b"pin") && any_names(member, pin.arguments.as_slice()) {
+        add_all(found, pin.items.as_slice())
     } else {
         Ok(())
     }
 }
 
-/// Adds the statements of all inner pins that name a member.
-fn add_own<'a>(
-    found: &mut Vec<&'a Item>,
-    member: Member<'_>,
-    items: &'a [Item],
-) -> Result<(), AllocError>
-    ensures { OnOk result
-        (map (λ item. item.now) found.new.items
-        ≡ map (λ item. item.now) found.old.items
-        ++ flat_map (spec.own_items member.entry.vector.now member.entry.at member.entry.name.now) items.now) }
-{
-    for item in items {
-        if let Item::Inner(group) = item {
-            add_inner(found, member, group)?;
-        }
-    }
-    Ok(())
-}
-
-/// The statements of all inner pins that name a member.
+/// The statements of those of these inner pins that name a member.
 pub fn own_items<'a>(
     alloc: Global,
-    group: &'a Group,
+    pins: &[&'a Group],
     member: Member<'_>,
 ) -> Result<Vec<&'a Item>, AllocError>
     ensures { IfOk result
         (λ items.
         map (λ item. item.now) items.items
-        ≡ flat_map (spec.own_items member.entry.vector.now member.entry.at member.entry.name.now) group.now.items) }
+        ≡ flat_map (spec.inner_pin_items member.entry.vector.now member.entry.at member.entry.name.now)
+        (map (λ pin. pin.now) pins.now)) }
 {
     let mut found = Vec::new(alloc);
-    add_own(&mut found, member, group.items.as_slice())?;
+    for pin in pins {
+        add_inner(&mut found, member, pin)?;
+    }
     Ok(found)
 }

@@ -1,41 +1,25 @@
-//! The statements that each member of a bus or bundle has.
+//! The statements of a bus or bundle that may be at fault at the position of a member.
 ghost use Rattle.std.specs.Prelude.{◌≡◌, ◌++◌, IfOk, map, filter};
-ghost use Rattle.bank_refusals.specs.Members as members;
 ghost use Rattle.bank_refusals.specs.Fixed as spec;
 
-use crate::fixed::is_fixed_timing;
+use crate::fixed::may_fail;
 use crate::members::is_shared;
 use bus_texts::Vectors;
 use liberty_groups::Item;
 use std::alloc::{AllocError, Global};
 
-/// The statements of a bus or bundle that each of its members has.
-pub(crate) fn shared_items<'a>(
-    alloc: Global,
-    items: &'a [Item],
-) -> Result<Vec<&'a Item>, AllocError>
-    ensures { IfOk result (λ found. map (λ item. item.now) found.items ≡ filter members.is_shared items.now) }
-{
-    let mut found = Vec::new(alloc);
-    for item in items {
-        if is_shared(item) {
-            found.push(item)?;
-        }
-    }
-    Ok(found)
-}
-
-/// Whether each member has a statement, and it is no timing group that becomes the same at each position.
+/// Whether each member has a statement, and it may be at fault.
 fn varies(alloc: Global, vectors: &Vectors, item: &Item) -> Result<bool, AllocError>
     ensures { IfOk result (λ varies. varies ≡ spec.varies vectors.now item.now) }
 {
-    if !is_shared(item) {
-        return Ok(false);
+    if is_shared(item) {
+        may_fail(alloc, vectors, item)
+    } else {
+        Ok(false)
     }
-    Ok(!is_fixed_timing(alloc, vectors, item)?)
 }
 
-/// Those of these statements that are no timing groups which become the same at each position.
+/// Those of these statements that each member has and that may be at fault.
 pub(crate) fn varying_items<'a>(
     alloc: Global,
     vectors: &Vectors,

@@ -2,16 +2,16 @@
 ghost use Rattle.std.specs.Prelude.{◌≡◌, ◌++◌, IfOk, OnOk, map, filter, flat_map};
 ghost use Rattle.bus_texts.specs.Vectors.{positions as positions_of};
 ghost use Rattle.bank_refusals.specs.Faults.{pin_faults, text_faults};
-ghost use Rattle.bank_refusals.specs.Members.{is_shared};
+ghost use Rattle.bank_refusals.specs.Members.{inner_pins as inner_pins_of};
 ghost use Rattle.bank_refusals.specs.Fixed.{varies};
 ghost use Rattle.bank_refusals.specs.Refusals as spec;
 
 use crate::alike::are_alike;
 use crate::faults::{Place, add_ff_texts, add_latch_texts, add_pin_texts};
-use crate::members::{Member, all_items, own_items};
+use crate::members::{Member, all_items, inner_pins, own_items};
 use crate::refusals::{is_flip_flop, is_pins};
 use crate::related::add_all_timing_faults;
-use crate::shared::{joined, shared_items, varying_items};
+use crate::shared::{joined, varying_items};
 use bus_texts::{
     Bank, BusTypes, Vector, Vectors, bank_of, cell_vectors, is_bank, is_called, pin_vectors,
     positions,
@@ -40,11 +40,11 @@ fn add_member_faults(
     found: &mut Vec<usize>,
     vectors: &Vectors,
     group: &Group,
-    shared: &[&Item],
+    pins: &[&Group],
     varying: &[&Item],
     member: Member<'_>,
 ) -> Result<(), AllocError>
-    requires shared { map (λ item. item.now) shared.now ≡ filter is_shared group.now.items }
+    requires pins { map (λ pin. pin.now) pins.now ≡ inner_pins_of group.now.items }
     requires varying { map (λ item. item.now) varying.now ≡ filter (varies vectors.now) group.now.items }
     ensures { OnOk result
         (found.new.items
@@ -53,11 +53,9 @@ fn add_member_faults(
 {
     let position = Some(member.at);
     let place = Place { vectors, position };
-    let own = own_items(alloc, group, member)?;
-    let items = joined(alloc, shared, &own)?;
-    let timed = joined(alloc, varying, &own)?;
-    add_pin_texts(alloc, found, place, &items)?;
-    add_all_timing_faults(alloc, found, place, &timed)
+    let own = own_items(alloc, pins, member)?;
+    let items = joined(alloc, varying, &own)?;
+    add_pin_faults(alloc, found, place, &items)
 }
 
 /// Adds the faults of all members of a bus or bundle of one name.
@@ -66,18 +64,18 @@ fn add_vector_faults(
     found: &mut Vec<usize>,
     vectors: &Vectors,
     group: &Group,
-    shared: &[&Item],
+    pins: &[&Group],
     varying: &[&Item],
     vector: &Vector,
 ) -> Result<(), AllocError>
-    requires shared { map (λ item. item.now) shared.now ≡ filter is_shared group.now.items }
+    requires pins { map (λ pin. pin.now) pins.now ≡ inner_pins_of group.now.items }
     requires varying { map (λ item. item.now) varying.now ≡ filter (varies vectors.now) group.now.items }
     ensures { OnOk result (found.new.items ≡ found.old.items ++ spec.vector_faults vectors.now group.now vector.now) }
 {
     for (at, name) in vector.members.as_slice().iter().enumerate() {
         let name = name.as_slice();
         let member = Member { vector, at, name };
-        add_member_faults(alloc, found, vectors, group, shared, varying, member)?;
+        add_member_faults(alloc, found, vectors, group, pins, varying, member)?;
     }
     Ok(())
 }
@@ -88,16 +86,16 @@ fn add_all_pins_faults(
     found: &mut Vec<usize>,
     vectors: &Vectors,
     group: &Group,
-    shared: &[&Item],
+    pins: &[&Group],
     varying: &[&Item],
     made: &[Vector],
 ) -> Result<(), AllocError>
-    requires shared { map (λ item. item.now) shared.now ≡ filter is_shared group.now.items }
+    requires pins { map (λ pin. pin.now) pins.now ≡ inner_pins_of group.now.items }
     requires varying { map (λ item. item.now) varying.now ≡ filter (varies vectors.now) group.now.items }
     ensures { OnOk result (found.new.items ≡ found.old.items ++ flat_map (spec.vector_faults vectors.now group.now) made.now) }
 {
     for vector in made {
-        add_vector_faults(alloc, found, vectors, group, shared, varying, vector)?;
+        add_vector_faults(alloc, found, vectors, group, pins, varying, vector)?;
     }
     Ok(())
 }
@@ -117,9 +115,9 @@ fn add_pins_faults(
         return Ok(());
     }
     let items = group.items.as_slice();
-    let shared = shared_items(alloc, items)?;
+    let pins = inner_pins(alloc, items)?;
     let varying = varying_items(alloc, vectors, items)?;
-    add_all_pins_faults(alloc, found, vectors, group, &shared, &varying, made)
+    add_all_pins_faults(alloc, found, vectors, group, &pins, &varying, made)
 }
 
 /// Adds the faults of the texts of a state.

@@ -1,0 +1,236 @@
+//! The pin groups of a bus or bundle, of which neighbouring members with the same statements have one together.
+ghost use Rattle.std.specs.Prelude.{◌≡◌, ◌++◌, IfOk, OnOk, map};
+ghost use Rattle.bank_cells.specs.Runs as spec;
+
+use crate::inner_pins::{InnerPin, all_shared_stay, judged_pins, same_of_all};
+use crate::pins::member_pin_items;
+use crate::shared::{Shared, shared_items};
+use bank_refusals::{Member, inner_pins};
+use bus_texts::{Vector, Vectors};
+use liberty_groups::{Group, Item, Value, Values, copy_arguments, copy_text};
+use sqlite_items::Items;
+use std::alloc::{AllocError, Global};
+
+/// Adds the members of a bus or bundle of one name.
+fn add_members<'a>(found: &mut Vec<Member<'a>>, vector: &'a Vector) -> Result<(), AllocError>
+    ensures { OnOk result
+        (map spec.shown_member found.new.items ≡ map spec.shown_member found.old.items ++ spec.members_in vector.now) }
+{
+    for (at, name) in vector.members.as_slice().iter().enumerate() {
+        let name = name.as_slice();
+        found.push(Member { vector, at, name })?;
+    }
+    Ok(())
+}
+
+/// All members of buses or bundles.
+fn members_of(alloc: Global, several: &[Vector]) -> Result<Vec<Member<'_>>, AllocError>
+    ensures { IfOk result (λ found. map spec.shown_member found.items ≡ spec.members_of several.now) }
+{
+    let mut found = Vec::new(alloc);
+    for vector in several {
+        add_members(&mut found, vector)?;
+    }
+    Ok(found)
+}
+
+/// Neighbouring members with the same statements: the first of them, and the names of all.
+#[derive(Drop)]
+struct Run<'a> {
+    first: Member<'a>,
+    names: Values,
+}
+
+/// The name of a member as an argument of a pin group.
+fn name_of(alloc: Global, member: Member<'_>) -> Result<Value, AllocError>
+    ensures { IfOk result (λ value. value ≡ spec.name_of (spec.shown_member member.entry)) }
+{
+    let bytes = copy_text(alloc, member.name)?;
+    let quoted = true;
+    Ok(Value { bytes, quoted })
+}
+
+/// The run of one member.
+fn run_of<'a>(alloc: Global, first: Member<'a>) -> Result<Run<'a>, AllocError>
+    ensures { IfOk result (λ run. spec.shown_run run ≡ spec.run_of (spec.shown_member first.entry)) }
+{
+    let names = Values::one(name_of(alloc, first)?);
+    Ok(Run { first, names })
+}
+
+/// Adds a member with the same statements.
+fn add_name(alloc: Global, run: &mut Run<'_>, member: Member<'_>) -> Result<(), AllocError>
+    ensures { OnOk result
+        (spec.shown_run run.new ≡ spec.run_and (spec.shown_run run.old) (spec.shown_member member.entry)) }
+{
+    let name = name_of(alloc, member)?;
+    run.names.push(alloc, name)
+}
+
+/// What the pins of a bus or bundle are made of.
+#[derive(Drop)]
+struct Statements<'a> {
+    vectors: &'a Vectors,
+    group: &'a Group,
+    shared: Vec<Shared<'a>>,
+    /// The shared ones become the same at each position.
+    stay: bool,
+    pins: Vec<&'a Group>,
+    /// The inner pins, with whether their statements become the same at each position.
+    inner: Vec<InnerPin<'a>>,
+}
+
+impl<'a> Statements<'a> {
+    /// Those of a bus or bundle.
+    fn of_group(
+        alloc: Global,
+        vectors: &'a Vectors,
+        group: &'a Group,
+    ) -> Result<Statements<'a>, AllocError>
+        ensures vectors { IfOk result (λ made. made.vectors.now ≡ vectors.now) }
+        ensures group { IfOk result (λ made. made.group.now ≡ group.now) }
+        ensures all { IfOk result spec.AreOfOneGroup }
+    {
+        let items = group.items.as_slice();
+        let shared = shared_items(alloc, vectors, items)?;
+        let stay = all_shared_stay(alloc, vectors, items)?;
+        let pins = inner_pins(alloc, items)?;
+        let inner = judged_pins(alloc, vectors, &pins)?;
+        Ok(Statements {
+            vectors,
+            group,
+            shared,
+            stay,
+            pins,
+            inner,
+        })
+    }
+
+    /// Whether two members have the same statements.
+    fn have_same(&self, one: Member<'_>, other: Member<'_>) -> bool
+        requires { spec.AreOfOneGroup self.now }
+        ensures { result
+            ≡ spec.have_same self.now.vectors.now self.now.group.now (spec.shown_member one.entry) (spec.shown_member other.entry) }
+    {
+        self.stay && same_of_all(one, other, &self.inner)
+    }
+
+    /// The pin group of neighbours with the same statements.
+    fn run_pin(&self, alloc: Global, run: &Run<'_>) -> Result<Group, AllocError>
+        requires { spec.AreOfOneGroup self.now }
+        ensures { IfOk result (λ pin. pin ≡ spec.run_pin self.now.vectors.now self.now.group.now (spec.shown_run run.now)) }
+    {
+        let pins = &self.pins;
+        let items = member_pin_items(
+            alloc,
+            self.vectors,
+            self.group,
+            pins,
+            &self.shared,
+            run.first,
+        )?;
+        Ok(Group {
+            name: copy_text(alloc, b"pin")?,
+            arguments: copy_arguments(alloc, run.names.as_slice())?,
+            items,
+            at: self.group.at,
+        })
+    }
+
+    /// Adds the pin group of neighbours with the same statements.
+    fn add_run(
+        &self,
+        alloc: Global,
+        found: &mut Items<Item>,
+        run: &Run<'_>,
+    ) -> Result<(), AllocError>
+        requires { spec.AreOfOneGroup self.now }
+        ensures { OnOk result
+            (found.new ≡ found.old ++ spec.run_pins self.now.vectors.now self.now.group.now (spec.shown_run run.now)) }
+    {
+        let pin = self.run_pin(alloc, run)?;
+        found.push(Item::Inner(pin))?;
+        Ok(())
+    }
+
+    /// Goes on to the next member. Where it has other statements than the neighbours before it, their pin group is added.
+    fn add_member(
+        &self,
+        alloc: Global,
+        found: &mut Items<Item>,
+        run: &mut Run<'a>,
+        member: Member<'a>,
+    ) -> Result<(), AllocError>
+        requires { spec.AreOfOneGroup self.now }
+        ensures found { OnOk result
+            (found.new
+            ≡ found.old
+            ++ spec.ended_by self.now.vectors.now self.now.group.now (spec.shown_run run.old) (spec.shown_member member.entry)) }
+        ensures run { OnOk result
+            (spec.shown_run run.new
+            ≡ spec.run_after self.now.vectors.now self.now.group.now (spec.shown_run run.old) (spec.shown_member member.entry)) }
+    {
+        if self.have_same(run.first, member) {
+            return add_name(alloc, run, member);
+        }
+        self.add_run(alloc, found, run)?;
+        *run = run_of(alloc, member)?;
+        Ok(())
+    }
+
+    /// Adds the pin groups of these neighbours and of the members behind them.
+    fn add_rest(
+        &self,
+        alloc: Global,
+        found: &mut Items<Item>,
+        run: &mut Run<'a>,
+        rest: &[Member<'a>],
+    ) -> Result<(), AllocError>
+        requires { spec.AreOfOneGroup self.now }
+        ensures { OnOk result
+            (found.new
+            ≡ found.old
+            ++ spec.pins_from self.now.vectors.now self.now.group.now (spec.shown_run run.old) (map spec.shown_member rest.now)) }
+    {
+        for member in rest {
+            self.add_member(alloc, found, run, *member)?;
+        }
+        self.add_run(alloc, found, run)
+    }
+
+    /// Adds the pin groups of members.
+    fn add_all(
+        &self,
+        alloc: Global,
+        found: &mut Items<Item>,
+        members: &[Member<'a>],
+    ) -> Result<(), AllocError>
+        requires { spec.AreOfOneGroup self.now }
+        ensures { OnOk result
+            (found.new
+            ≡ found.old ++ spec.pins_of self.now.vectors.now self.now.group.now (map spec.shown_member members.now)) }
+    {
+        match members.split_first() {
+            None => Ok(()),
+            Some((first, rest)) => {
+                let mut run = run_of(alloc, *first)?;
+                self.add_rest(alloc, found, &mut run, rest)
+            }
+        }
+    }
+}
+
+/// Adds the pin groups that these buses or bundles make, whose group this is.
+pub(crate) fn add_pins(
+    alloc: Global,
+    found: &mut Items<Item>,
+    vectors: &Vectors,
+    group: &Group,
+    several: &[Vector],
+) -> Result<(), AllocError>
+    ensures { OnOk result (found.new ≡ found.old ++ spec.pins_of vectors.now group.now (spec.members_of several.now)) }
+{
+    let members = members_of(alloc, several)?;
+    let statements = Statements::of_group(alloc, vectors, group)?;
+    statements.add_all(alloc, found, &members)
+}

@@ -4,9 +4,9 @@ use Rattle.liberty_groups.specs.declared.cursor.Cursor.TheInside.{Inside}
 use Rattle.liberty_groups.specs.Lexeme.{Lexeme, lexemes_behind, LieInside}
 
 abbrev pub lexemes_left : Inside → List Lexeme
-lexemes_left c = lexemes_behind c.before c.text.now c.left.now
+lexemes_left c = lexemes_behind c.before c.text.now c.left
 
 -- the tokens lie inside the text, and the offsets of all of it are machine numbers
 pub record IsInside (c : Inside) : Type 0 where
-  pub inside : LieInside c.text.now c.left.now
+  pub inside : LieInside c.text.now c.left
   pub fits : c.before + length c.text.now < 2 ^ 64

@@ -191,6 +191,7 @@ impl Cursor<'_> {
             _ => {}
         }
         self.skip();
+        self.give_back();
         Ok(())
     }
 

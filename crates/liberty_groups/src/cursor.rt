@@ -14,6 +14,8 @@ use std::marker::Model;
 #[derive(Drop)]
 pub struct Cursor<'a> {
     text: &'a [u8],
+    /// The first token that is left, which is asked for several times and unpacked once.
+    next: Option<Token>,
     left: Unread,
     /// How many bytes stand before the part.
     before: usize,
@@ -38,9 +40,11 @@ impl<'a> Cursor<'a> {
         requires { LieInside text.now tokens.items }
         ensures { result ≡ lexemes_of text.now tokens.items }
     {
+        let left = Unread::new(tokens);
         Cursor {
             text,
-            left: Unread::new(tokens),
+            next: left.first(),
+            left,
             before: 0,
         }
     }
@@ -51,9 +55,11 @@ impl<'a> Cursor<'a> {
         requires fits { before + length text.now < 2 ^ 64 }
         ensures { result ≡ lexemes_behind before text.now tokens.items }
     {
+        let left = Unread::new(tokens);
         Cursor {
             text,
-            left: Unread::new(tokens),
+            next: left.first(),
+            left,
             before,
         }
     }
@@ -64,6 +70,7 @@ impl<'a> Cursor<'a> {
     {
         Ok(Cursor {
             text: self.text,
+            next: self.next,
             left: self.left.again(alloc)?,
             before: self.before,
         })
@@ -108,7 +115,7 @@ impl<'a> Cursor<'a> {
     pub fn peek(&self) -> Option<Token>
         ensures { result ≡ next_token self.now }
     {
-        match self.left.first() {
+        match self.next {
             Some(token) => Some(Token {
                 kind: token.kind,
                 at: token.at + self.before,
@@ -133,6 +140,7 @@ impl<'a> Cursor<'a> {
         ensures { self.new ≡ rest self.old }
     {
         self.left.skip();
+        self.next = self.left.first();
     }
 
     /// The bytes of the next token.
@@ -140,7 +148,7 @@ impl<'a> Cursor<'a> {
     pub fn bytes(&self) -> &'a [u8]
         ensures { result.now ≡ next_bytes self.now }
     {
-        match self.left.first() {
+        match self.next {
             Some(token) => &self.text[token.at..token.end],
             None => &[],
         }

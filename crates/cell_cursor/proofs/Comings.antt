@@ -1,9 +1,8 @@
 -- What a reading that stops comes to.
-use Rattle.std.proofs.Common.{◌≡◌, ℕ, Bool, true, false, cond, not, ◌||◌, nat_lt, List, [], ◌∷◌, ◌++◌, Some, None, Result, Ok}
+use Rattle.std.proofs.Common.{◌≡◌, ℕ, Bool, false, not, ◌||◌, nat_lt, List, [], ◌∷◌, ◌++◌, Some, None, Result, Ok}
 use Rattle.std.proofs.Common.{Err, IfOk, refl, sym, ap, subst, ◌∙◌}
 use Rattle.std.proofs.lemmas.List.{append-nil}
-use Rattle.grammar_rules.specs.Rule.{Fits, Misfit}
-use Rattle.grammar_rules.specs.Reading.{Outcome, and_then, marked, judge, read}
+use Rattle.grammar_rules.specs.Reading.{Outcome, and_then, marked, read}
 use Rattle.grammar_rules.proofs.Steps.{rest_of}
 use Rattle.grammar_rules.proofs.Places.{Suffix, suffix}
 use Rattle.liberty_text.specs.declared.token.Token.{Token}
@@ -19,7 +18,7 @@ use Rattle.liberty_groups.specs.declared.reader.Start.TheVariants as start
 use Rattle.liberty_groups.specs.declared.tree.Item.{Item}
 use Rattle.liberty_groups.specs.Answer.{is_last}
 use Rattle.liberty_groups.specs.Lexeme.{Lexeme, next_token, next_bytes, rest}
-use Rattle.liberty_groups.specs.Grammar.{Reads, is_mark, expect, next_start, next_at, statement}
+use Rattle.liberty_groups.specs.Grammar.{Reads, expect, next_start, next_at, statement}
 use Rattle.liberty_groups.specs.Library.{is_word, levels_inside, header}
 use Rattle.cell_cursor.specs.declared.item.LibraryItem.{LibraryItem}
 use Rattle.cell_cursor.specs.declared.part.Place.{Place}

@@ -36,6 +36,7 @@ use Rattle.cell_cursor.specs.Reached.{Comes, is_settled}
 use Rattle.cell_cursor.specs.Scanned.{Scanned, AreScanned}
 use Rattle.cell_cursor.specs.Stands.{given_next, Keeps, Goes, MayTake, GoesBy, Knows, Stands}
 use Rattle.cell_cursor.proofs.EndsLemmas.{refused_reads, part_items, part_answers, answer_for, never_cut, never_whole}
+use Rattle.cell_cursor.specs.Part.{all_scanned}
 use Rattle.cell_cursor.specs.Progress.{scanned_by}
 use Rattle.cell_cursor.proofs.Depths.{lexeme_kinds_behind}
 use Rattle.cell_cursor.proofs.GivenLemmas.{seen_more, seen_items, seen_next, given_items, given_seen, place_closed, none_closed}
@@ -604,3 +605,30 @@ part_waits true o r s fresh all end before bytes tokens is comes s_is tokens_are
     ap (has_outer o.place) same ∙ h last.0 last.1 (sym same ∙ last.2) last.3 in
     let k = taken_within o given items o.limit t.keeps o.within in
     stands_going o given items going no_item (goes_open o given items t.keeps scanned none t.seen) (omega (arith, k))
+
+-- a part that was taken apart
+pub record Opened (part : Scanned) (bytes : List ℕ) (tokens : List Token) : Type 0 where
+  pub bytes_are : bytes ≡ part.bytes
+  pub tokens_are : tokens ≡ part.tokens
+  pub scanned : AreScanned part.bytes part.tokens part.mode
+  pub inside : LieInside part.bytes tokens
+  pub all : part ≡ all_scanned part.before bytes
+
+pub opened : (part taken : Scanned) (bytes : List ℕ) (tokens : List Token) → taken ≡ part → bytes ≡ taken.bytes →
+    tokens ≡ taken.tokens → LieInside taken.bytes taken.tokens → AreScanned taken.bytes taken.tokens taken.mode →
+    taken ≡ all_scanned taken.before taken.bytes → Opened part bytes tokens
+opened part taken bytes tokens e f g h i j =
+    subst (λ (p : Scanned). Opened p bytes tokens) e
+    (record {
+      bytes_are = f;
+      tokens_are = g;
+      scanned = i;
+      inside = subst (λ (ts : List Token). LieInside taken.bytes ts) (sym g) h;
+      all = j ∙ ap (all_scanned taken.before) (sym f);
+    })
+
+-- its bytes were scanned anew
+pub part_back : (part new : Scanned) (before : ℕ) (bytes again : List ℕ) (tokens : List Token) → Opened part bytes tokens →
+    before ≡ part.before → again ≡ bytes → new ≡ all_scanned before again → new ≡ part
+part_back part new before bytes again tokens o e f g =
+    g ∙ ap (λ (k : ℕ). all_scanned k again) e ∙ ap (all_scanned part.before) f ∙ sym o.all

@@ -17,7 +17,7 @@ use Rattle.liberty_groups.specs.Grammar.{starts, next_start, next_at, statement}
 use Rattle.liberty_groups.specs.Library.{levels_inside}
 use Rattle.cell_cursor.specs.declared.item.LibraryItem.{LibraryItem}
 use Rattle.cell_cursor.specs.Items.{Adds, given, has_ended, item_statement, adding, statements_after}
-use Rattle.cell_cursor.specs.Reached.{ReadsOn, ReadsUpTo}
+use Rattle.cell_cursor.specs.Reached.{ReadsOn}
 use Rattle.cell_cursor.proofs.Closed.{reads_on, closed_statement}
 use Rattle.cell_cursor.proofs.Prefix.{Told}
 

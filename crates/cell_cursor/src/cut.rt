@@ -7,7 +7,7 @@ use crate::item::LibraryItem;
 use crate::part::{Part, Place, scanned_part};
 use crate::statements::reach_rest;
 use liberty_groups::Cursor;
-use liberty_text::{Kept, TokenKind};
+use liberty_text::{Kept, TokenKind, copy_kept};
 use std::alloc::{AllocError, Global};
 
 /// The part behind the statements of this part that have ended before the name that ended last, if they have, and their items.
@@ -32,7 +32,7 @@ pub(crate) fn part_behind(
     if place != Place::Inside || bytes.len() < end {
         return Ok(None);
     }
-    let mut cursor = Cursor::behind(before, bytes, tokens);
+    let mut cursor = Cursor::behind(before, bytes, copy_kept(alloc, tokens)?);
     if !reach_rest(&mut cursor, alloc, back.len(), items)? {
         return Ok(None);
     }

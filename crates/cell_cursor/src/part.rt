@@ -5,6 +5,7 @@ ghost use Rattle.liberty_text.specs.declared.scanner.Mode.TheVariants.{Between};
 ghost use Rattle.liberty_groups.specs.Lexeme.{LieInside};
 ghost use Rattle.liberty_text.specs.Runs.{mode_behind, tokens_ended};
 ghost use Rattle.cell_cursor.specs.Braces.{depth_behind, depth_after, is_outer, has_outer, ShowsOuter, kinds_of};
+ghost use Rattle.cell_cursor.specs.Part.{all_scanned};
 ghost use Rattle.cell_cursor.specs.Scanned.{AreScanned, NoneOuter, NoneOuterEnds, ends_by, last_kind};
 
 use crate::watch::{Sight, Watch};
@@ -64,6 +65,7 @@ impl Part {
         ensures before { result.before ≡ before }
         ensures bytes { result.bytes ≡ [] }
         ensures tokens { result.tokens ≡ [] }
+        ensures all { result ≡ all_scanned before [] }
     {
         Part {
             before,
@@ -74,17 +76,25 @@ impl Part {
         }
     }
 
-    /// Makes it a part of no bytes, which begins at this place, and keeps the memory.
-    pub(crate) fn restart(&mut self, before: usize, place: Place)
-        ensures before { self.new.before ≡ before }
-        ensures bytes { self.new.bytes ≡ [] }
-        ensures tokens { self.new.tokens ≡ [] }
+    /// A part of no bytes, which begins at this place, with the memory of these bytes and tokens.
+    pub(crate) fn with_room(
+        before: usize,
+        place: Place,
+        mut bytes: Vec<u8>,
+        tokens: Vec<Kept>,
+    ) -> Part
+        ensures before { result.before ≡ before }
+        ensures bytes { result.bytes ≡ [] }
+        ensures tokens { result.tokens ≡ [] }
     {
-        self.before = before;
-        self.bytes.clear();
-        self.scanner.restart();
-        self.depth = 0;
-        self.watch = Watch::from(standing_at(place));
+        bytes.clear();
+        Part {
+            before,
+            bytes,
+            scanner: Scanner::with_room(tokens),
+            depth: 0,
+            watch: Watch::from(standing_at(place)),
+        }
     }
 
     /// The bytes of the library before this part.
@@ -108,6 +118,18 @@ impl Part {
     {
         let Part { before, bytes, .. } = self;
         (before, bytes)
+    }
+
+    /// The bytes of the part, and the tokens that have ended in it.
+    pub(crate) fn into_tokens(self) -> (Vec<u8>, Vec<Kept>)
+        ensures bytes { result.0.items ≡ self.bytes }
+        ensures tokens { result.1.items ≡ self.tokens }
+        ensures inside { LieInside self.bytes self.tokens }
+        ensures scanned { AreScanned self.bytes self.tokens self.mode }
+        ensures all { self ≡ all_scanned self.before self.bytes }
+    {
+        let Part { bytes, scanner, .. } = self;
+        (bytes, scanner.into_tokens())
     }
 
     /// The tokens that have ended in the part.
@@ -135,6 +157,7 @@ impl Part {
         ensures lost { OnErr result (self.new.bytes ≡ []) }
         ensures mode { IfOk result (λ run. run.may_end ≡ true → self.new.mode ≡ Between false) }
         ensures scanned { AreScanned self.new.bytes self.new.tokens self.new.mode }
+        ensures all { self.new ≡ all_scanned self.new.before self.new.bytes }
         ensures none_before { IfOk result (λ run. has_outer place (kinds_of self.old.tokens) ≡ false
             → NoneOuter place self.old.bytes bytes.now run.count) }
         ensures outer { IfOk result (λ run. has_outer place (kinds_of self.old.tokens) ≡ false
@@ -162,8 +185,25 @@ impl Part {
     }
 }
 
-/// A part of these bytes, before which so many others stand, with all of them scanned. There is none where a statement may
-/// end in it.
+/// A part of these bytes, before which so many others stand, with all of them scanned.
+pub(crate) fn part_of(
+    alloc: Global,
+    before: usize,
+    place: Place,
+    bytes: &[u8],
+) -> Result<Part, AllocError>
+    ensures { IfOk result (λ part. part ≡ all_scanned before bytes.now) }
+{
+    let mut part = Part::new(alloc, before, place);
+    let mut left = bytes;
+    while !left.is_empty() {
+        let run = part.scan(alloc, place, left)?;
+        left = &left[run.count..];
+    }
+    Ok(part)
+}
+
+/// The same, or none where a statement may end in it.
 pub(crate) fn scanned_part(
     alloc: Global,
     before: usize,

@@ -83,7 +83,7 @@ fn goes_on_closed(
     closed.extend_from_slice(b" \"")?;
     moved(before, closed.len())?;
     let KeptScan { tokens, .. } = scan_kept(alloc, &closed)?;
-    let mut cursor = Cursor::behind(before, &closed, &tokens);
+    let mut cursor = Cursor::behind(before, &closed, tokens);
     let mut items = Vec::new(alloc);
     if let Err(Stop::Memory) = read_rest(&mut cursor, alloc, place, &mut items) {
         return Err(AllocError);
@@ -142,7 +142,7 @@ pub(crate) fn read_end(
 {
     let end = before + bytes.len();
     let KeptScan { tokens, stop } = scan_kept(alloc, bytes)?;
-    let mut cursor = Cursor::behind(before, bytes, &tokens);
+    let mut cursor = Cursor::behind(before, bytes, tokens);
     let halt = halt_of(alloc, &mut cursor, place, end, items)?;
     if !whole && may_go_on(alloc, before, bytes, place, halt, stop)? {
         return Ok(Answer::Over);

@@ -4,6 +4,7 @@ ghost use Rattle.std.specs.Prelude.{◌≡◌, ℕ, true, false, ◌≤◌, ◌+
 ghost use Rattle.liberty_text.specs.declared.scanner.Mode.TheVariants.{Between};
 ghost use Rattle.cell_cursor.specs.Finish.{part_outcome, answer_at};
 ghost use Rattle.cell_cursor.specs.Items.{items_in};
+ghost use Rattle.cell_cursor.specs.Part.{all_scanned};
 ghost use Rattle.cell_cursor.specs.Progress.{ReadsNothing};
 ghost use Rattle.cell_cursor.specs.declared.item.LibraryItem.{LibraryItem as Given};
 ghost use Rattle.cell_cursor.specs.Stands.{is_failed, is_ended, Goes, GoesBy, Stands};
@@ -11,10 +12,11 @@ ghost use Rattle.cell_cursor.specs.Stands.{is_failed, is_ended, Goes, GoesBy, St
 use crate::cursor::{Answer, CellCursor};
 use crate::cut::part_behind;
 use crate::item::LibraryItem;
-use crate::part::{Part, Place};
+use crate::part::{Part, Place, part_of};
 use crate::reading::read_end;
 use crate::statements::{Reached, reach};
 use liberty_groups::{Cursor, LibraryFault};
+use liberty_text::Kept;
 use std::alloc::AllocError;
 use std::mem::replace;
 
@@ -23,7 +25,7 @@ const MOST_KEPT: usize = 1_048_576;
 
 impl CellCursor {
     /// Sees which token of the part is refused, if one is, and else takes its statements, if the last one may have ended and they
-    /// have all ended.
+    /// have all ended. Its tokens go as they are read, so where the part stays they are scanned anew.
     pub(crate) fn take_part(&mut self, may_have_ended: bool) -> Result<(), AllocError>
         requires none_waits { self.old.waiting.items ≡ [] }
         requires going { self.old.answer ≡ None }
@@ -36,22 +38,46 @@ impl CellCursor {
         ensures never { is_failed self.old.answer ≡ false → is_failed self.new.answer ≡ false }
     {
         let mut items = Vec::new(self.alloc);
-        let end = self.part.before() + self.part.bytes().len();
-        let mut tokens = Cursor::behind(self.part.before(), self.part.bytes(), self.part.tokens());
-        match reach(&mut tokens, self.alloc, self.place, end, &mut items)? {
-            Reached::Unfinished => Ok(()),
+        let before = self.part.before();
+        let end = before + self.part.bytes().len();
+        let nothing = Part::new(self.alloc, end, self.place);
+        let (bytes, tokens) = replace(&mut self.part, nothing).into_tokens();
+        let mut cursor = Cursor::behind(before, &bytes, tokens);
+        let reached = reach(&mut cursor, self.alloc, self.place, end, &mut items)?;
+        let room = cursor.into_room();
+        match reached {
+            Reached::Unfinished => {
+                self.scan_anew(before, &bytes)?;
+                Ok(())
+            }
             Reached::Refused(fault) => {
                 self.refuse(fault, items);
                 Ok(())
             }
             Reached::To(place) => {
                 if !may_have_ended {
+                    self.scan_anew(before, &bytes)?;
                     return Ok(());
                 }
-                self.go_to(place, end, items);
+                self.go_to(place, end, items, bytes, room);
                 Ok(())
             }
         }
+    }
+
+    /// The part is the one of these bytes, before which so many others stand.
+    fn scan_anew(&mut self, before: usize, bytes: &[u8]) -> Result<(), AllocError>
+        requires { before + (length bytes.now + length self.old.piece) ≤ self.old.limit }
+        ensures part { OnOk result (self.new.part ≡ all_scanned before bytes.now) }
+        ensures lost { OnErr result (self.new.part ≡ self.old.part) }
+        ensures limit { self.new.limit ≡ self.old.limit }
+        ensures piece { self.new.piece ≡ self.old.piece }
+        ensures place { self.new.place ≡ self.old.place }
+        ensures answer { self.new.answer ≡ self.old.answer }
+        ensures items { self.new.waiting.items ≡ self.old.waiting.items }
+    {
+        self.part = part_of(self.alloc, before, self.place, bytes)?;
+        Ok(())
     }
 
     /// Takes the statements of the part before the name that ended last, if they have ended.
@@ -103,8 +129,15 @@ impl CellCursor {
         self.answer = Some(Answer::Refused(fault));
     }
 
-    /// The part led to a place, at an offset, behind these items.
-    fn go_to(&mut self, place: Place, end: usize, mut items: Vec<LibraryItem>)
+    /// The part led to a place, at an offset, behind these items. Its bytes and tokens leave their memory to the next part.
+    fn go_to(
+        &mut self,
+        place: Place,
+        end: usize,
+        mut items: Vec<LibraryItem>,
+        bytes: Vec<u8>,
+        tokens: Vec<Kept>,
+    )
         requires { end + length self.old.piece ≤ self.old.limit }
         ensures limit { self.new.limit ≡ self.old.limit }
         ensures piece { self.new.piece ≡ self.old.piece }
@@ -118,11 +151,11 @@ impl CellCursor {
         items.reverse();
         self.waiting = items;
         self.place = place;
-        if self.part.bytes().len() > MOST_KEPT {
-            self.part = Part::new(self.alloc, end, place);
+        self.part = if bytes.len() > MOST_KEPT {
+            Part::new(self.alloc, end, place)
         } else {
-            self.part.restart(end, place);
-        }
+            Part::with_room(end, place, bytes, tokens)
+        };
     }
 
     /// Takes what there is of a library that has ended or, where that is not `whole`, has come to the limit. The tokens of the

@@ -19,4 +19,5 @@ pub mod Spelling
 pub mod Statements
 pub mod Texts
 pub mod TokenSteps
+pub mod Unreads
 pub mod WritesBack

@@ -1,6 +1,8 @@
 -- The values that stand in the place of a list.
-use Rattle.std.specs.Prelude.{List, [], ◌∷◌, Option, Some, None}
+use Rattle.std.specs.Prelude.{List, [], ◌∷◌}
 use Rattle.liberty_groups.specs.declared.tree.Value.{Value}
+use Rattle.liberty_groups.specs.declared.values.HeldArguments.{HeldArguments}
+use Rattle.liberty_groups.specs.declared.values.HeldArguments.TheVariants as arguments
 use Rattle.liberty_groups.specs.declared.values.HeldValues.{HeldValues}
 use Rattle.liberty_groups.specs.declared.values.HeldValues.TheVariants.{Nothing, One, Several}
 
@@ -9,6 +11,7 @@ held_values Nothing = []
 held_values (One value) = value ∷ []
 held_values (Several values) = values
 
-abbrev pub held_arguments : Option (List Value) → List Value
-held_arguments (Some values) = values
-held_arguments None = []
+abbrev pub held_arguments : HeldArguments → List Value
+held_arguments arguments.Nothing = []
+held_arguments (arguments.One value) = value ∷ []
+held_arguments (arguments.Several values) = values

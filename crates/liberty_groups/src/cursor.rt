@@ -1,11 +1,12 @@
 //! A cursor over the tokens of a text.
 
-ghost use Rattle.std.specs.Prelude.{◌≡◌, ◌<◌, ◌+◌, ◌^◌, length};
+ghost use Rattle.std.specs.Prelude.{◌≡◌, ◌<◌, ◌+◌, ◌^◌, [], length, IfOk};
 ghost use Rattle.liberty_groups.specs.Lexeme.{lexemes_of, lexemes_behind, LieInside, next_token, next_bytes, rest};
 ghost use Rattle.liberty_groups.specs.Answer.{is_last};
 
 use crate::reader::is_argument;
-use liberty_text::{Kept, Token, TokenKind};
+use liberty_text::{Kept, Token, TokenKind, Unread};
+use std::alloc::{AllocError, Global};
 use std::marker::Model;
 
 /// The tokens of a text, or of a part of it, that are not read yet. It shows them with the offsets of
@@ -13,7 +14,9 @@ use std::marker::Model;
 #[derive(Drop)]
 pub struct Cursor<'a> {
     text: &'a [u8],
-    left: &'a [Kept],
+    /// The first token that is left, which is asked for several times and unpacked once.
+    next: Option<Token>,
+    left: Unread,
     /// How many bytes stand before the part.
     before: usize,
 }
@@ -33,39 +36,59 @@ impl<'a> Model for Cursor<'a> {
 
 impl<'a> Cursor<'a> {
     /// A cursor before the first token.
-    pub fn new(text: &'a [u8], tokens: &'a [Kept]) -> Cursor<'a>
-        requires { LieInside text.now tokens.now }
-        ensures { result ≡ lexemes_of text.now tokens.now }
+    pub fn new(text: &'a [u8], tokens: Vec<Kept>) -> Cursor<'a>
+        requires { LieInside text.now tokens.items }
+        ensures { result ≡ lexemes_of text.now tokens.items }
     {
+        let left = Unread::new(tokens);
         Cursor {
             text,
-            left: tokens,
+            next: left.first(),
+            left,
             before: 0,
         }
     }
 
     /// The tokens of a part of a text, before which so many bytes stand.
-    pub fn behind(before: usize, text: &'a [u8], tokens: &'a [Kept]) -> Cursor<'a>
-        requires inside { LieInside text.now tokens.now }
+    pub fn behind(before: usize, text: &'a [u8], tokens: Vec<Kept>) -> Cursor<'a>
+        requires inside { LieInside text.now tokens.items }
         requires fits { before + length text.now < 2 ^ 64 }
-        ensures { result ≡ lexemes_behind before text.now tokens.now }
+        ensures { result ≡ lexemes_behind before text.now tokens.items }
     {
+        let left = Unread::new(tokens);
         Cursor {
             text,
-            left: tokens,
+            next: left.first(),
+            left,
             before,
         }
     }
 
-    /// A cursor at the same place.
-    pub fn again(&self) -> Cursor<'a>
-        ensures { result ≡ self.now }
+    /// A cursor at the same place. An `Err` comes only where memory is wanting.
+    pub fn again(&self, alloc: Global) -> Result<Cursor<'a>, AllocError>
+        ensures { IfOk result (λ same. same ≡ self.now) }
     {
-        Cursor {
+        Ok(Cursor {
             text: self.text,
-            left: self.left,
+            next: self.next,
+            left: self.left.again(alloc)?,
             before: self.before,
-        }
+        })
+    }
+
+    /// An empty list, with the memory that the tokens stood in.
+    pub fn into_room(self) -> Vec<Kept>
+        ensures { result.items ≡ [] }
+    {
+        let Cursor { left, .. } = self;
+        left.into_room()
+    }
+
+    /// Gives back the memory of the tokens that were read, where it is much.
+    pub(crate) fn give_back(&mut self)
+        ensures { self.new ≡ self.old }
+    {
+        self.left.give_back();
     }
 
     /// How many tokens are left.
@@ -78,7 +101,9 @@ impl<'a> Cursor<'a> {
     /// How many values stand among the arguments from here on.
     pub(crate) fn values_ahead(&self) -> usize {
         self.left
+            .turned()
             .iter()
+            .rev()
             .map(|kept| kept.token().kind)
             .take_while(|kind| is_argument(*kind))
             .filter(|kind| *kind != TokenKind::Comma)
@@ -86,49 +111,46 @@ impl<'a> Cursor<'a> {
     }
 
     /// The next token, which stays.
+    #[tactic(auto, using(crate::proofs::Unreads::next_is, crate::proofs::Unreads::first_inside))]
     pub fn peek(&self) -> Option<Token>
         ensures { result ≡ next_token self.now }
     {
-        match self.left {
-            [first, ..] => {
-                let token = first.token();
-                Some(Token {
-                    kind: token.kind,
-                    at: token.at + self.before,
-                    end: token.end + self.before,
-                    line_before: token.line_before,
-                })
-            }
-            [] => None,
+        match self.next {
+            Some(token) => Some(Token {
+                kind: token.kind,
+                at: token.at + self.before,
+                end: token.end + self.before,
+                line_before: token.line_before,
+            }),
+            None => None,
         }
     }
 
     /// Whether exactly one token is left.
+    #[tactic(auto, using(crate::proofs::Unreads::one_is_last))]
     pub fn is_last(&self) -> bool
         ensures { result ≡ is_last self.now }
     {
-        matches!(self.left, [_])
+        self.left.len() == 1
     }
 
     /// Goes past the next token.
+    #[tactic(auto, using(crate::proofs::Unreads::others_are, crate::proofs::Unreads::others_inside))]
     pub fn skip(&mut self)
         ensures { self.new ≡ rest self.old }
     {
-        if let [_, rest @ ..] = self.left {
-            self.left = rest;
-        }
+        self.left.skip();
+        self.next = self.left.first();
     }
 
     /// The bytes of the next token.
+    #[tactic(auto, using(crate::proofs::Unreads::bytes_are, crate::proofs::Unreads::first_inside))]
     pub fn bytes(&self) -> &'a [u8]
         ensures { result.now ≡ next_bytes self.now }
     {
-        match self.left {
-            [first, ..] => {
-                let token = first.token();
-                &self.text[token.at..token.end]
-            }
-            [] => &[],
+        match self.next {
+            Some(token) => &self.text[token.at..token.end],
+            None => &[],
         }
     }
 }

@@ -41,6 +41,7 @@ impl Cursor<'_> {
         let at = self.at();
         let bytes = SmallBytes::from_slice(alloc, self.bytes())?;
         self.skip();
+        self.give_back();
         Ok((bytes, at))
     }
 

@@ -86,14 +86,14 @@ impl Cursor<'_> {
 fn read_tokens(
     alloc: Global,
     bytes: &[u8],
-    tokens: &[Kept],
+    tokens: Vec<Kept>,
     found: &mut Contents,
 ) -> Result<Halt, AllocError>
-    requires inside { LieInside bytes.now tokens.now }
+    requires inside { LieInside bytes.now tokens.items }
     requires nothing { found_of found.old ≡ nothing_found }
-    ensures halt { IfOk result (λ halt. halt ≡ halt_of (length bytes.now) (is_last (lexemes_of bytes.now tokens.now))
-        (read library (lexemes_of bytes.now tokens.now))) }
-    ensures found { OnOk result (found_of found.new ≡ found_in (read library (lexemes_of bytes.now tokens.now))) }
+    ensures halt { IfOk result (λ halt. halt ≡ halt_of (length bytes.now) (is_last (lexemes_of bytes.now tokens.items))
+        (read library (lexemes_of bytes.now tokens.items))) }
+    ensures found { OnOk result (found_of found.new ≡ found_in (read library (lexemes_of bytes.now tokens.items))) }
 {
     let mut cursor = Cursor::new(bytes, tokens);
     let is_only = cursor.is_last();
@@ -129,7 +129,7 @@ fn closed_has_outline(alloc: Global, bytes: &[u8]) -> Result<bool, AllocError>
     let mut closed = Vec::from_slice(alloc, bytes)?;
     closed.extend_from_slice(b" \"")?;
     let KeptScan { tokens, .. } = tokens_of(alloc, &closed)?;
-    Ok(Cursor::new(&closed, &tokens).has_outline())
+    Ok(Cursor::new(&closed, tokens).has_outline())
 }
 
 /// Whether some library text begins with bytes whose tokens are the front of a library.
@@ -191,8 +191,7 @@ fn read_exactly(alloc: Global, bytes: &[u8], whole: bool) -> Result<Reading, All
 {
     let mut contents = Contents::new(alloc);
     let KeptScan { tokens, stop } = tokens_of(alloc, bytes)?;
-    let halt = read_tokens(alloc, bytes, &tokens, &mut contents)?;
-    drop(tokens);
+    let halt = read_tokens(alloc, bytes, tokens, &mut contents)?;
     let end = end_of(alloc, bytes, whole, halt, stop)?;
     let Contents {
         cells,

@@ -2,6 +2,7 @@
 
 ghost use Rattle.std.specs.Prelude.{◌≡◌, ◌++◌, ℕ, [], OnOk, OnErr, IfOk};
 ghost use Rattle.grammar_rules.specs.Reading.{read};
+ghost use Rattle.liberty_text.specs.TextValue.{value_of};
 ghost use Rattle.liberty_groups.specs.Lexeme.{next_token, next_bytes, rest};
 ghost use Rattle.liberty_groups.specs.Grammar as spec;
 ghost use Rattle.liberty_groups.specs.Grammar.{Reads, next_part, next_start, next_at};
@@ -10,7 +11,7 @@ use crate::cursor::Cursor;
 use crate::fault::{Expected, Refusal, Stop};
 use crate::tree::{Item, Value};
 use crate::values::Values;
-use liberty_text::{Token, TokenKind, text_value};
+use liberty_text::{Token, TokenKind, plain_value, text_value};
 use small_bytes::SmallBytes;
 use std::alloc::{AllocError, Global};
 
@@ -133,6 +134,16 @@ fn between_quotes(bytes: &[u8]) -> &[u8]
     }
 }
 
+/// The value of a quoted text, given the bytes between its quotes. A short one that is plain needs no memory.
+fn text_bytes(alloc: Global, inner: &[u8]) -> Result<SmallBytes, AllocError>
+    ensures { IfOk result (λ value. value ≡ value_of inner.now) }
+{
+    match plain_value(inner) {
+        Some(value) => Ok(SmallBytes::from_slice(alloc, value)?),
+        None => Ok(SmallBytes::from_items(alloc, text_value(alloc, inner)?)?),
+    }
+}
+
 impl Cursor<'_> {
     /// A mark that must stand next.
     pub fn expect(&mut self, mark: Mark, expected: Expected) -> Result<(), Stop>
@@ -183,14 +194,14 @@ impl Cursor<'_> {
                 found.push(alloc, Value { bytes, quoted })?;
             }
             TokenKind::Text => {
-                let value = text_value(alloc, between_quotes(self.bytes()))?;
-                let bytes = SmallBytes::from_items(alloc, value)?;
+                let bytes = text_bytes(alloc, between_quotes(self.bytes()))?;
                 let quoted = true;
                 found.push(alloc, Value { bytes, quoted })?;
             }
             _ => {}
         }
         self.skip();
+        self.give_back();
         Ok(())
     }
 

@@ -138,11 +138,19 @@ impl Values {
     }
 }
 
+/// What stands in the place of some arguments.
+#[derive(Drop)]
+enum HeldArguments {
+    Nothing,
+    One(Boxed<Value>),
+    Several(Boxed<Items<Value>>),
+}
+
 /// The arguments of a group, which mostly has none or few beside what stands in it: they stand behind a box. Contracts see the
 /// list of them.
 #[derive(Drop)]
 pub struct Arguments {
-    held: Option<Boxed<Values>>,
+    held: HeldArguments,
 }
 
 impl Model for Arguments {
@@ -161,12 +169,13 @@ impl Arguments {
     pub fn from_values(alloc: Global, values: Values) -> Result<Arguments, AllocError>
         ensures { IfOk result (λ same. same ≡ values) }
     {
-        if values.is_empty() {
-            return Ok(Arguments { held: None });
-        }
-        Ok(Arguments {
-            held: Some(Boxed::new(alloc, values)?),
-        })
+        let Values { held } = values;
+        let held = match held {
+            HeldValues::Nothing => HeldArguments::Nothing,
+            HeldValues::One(value) => HeldArguments::One(Boxed::new(alloc, value)?),
+            HeldValues::Several(several) => HeldArguments::Several(Boxed::new(alloc, several)?),
+        };
+        Ok(Arguments { held })
     }
 
     /// The values.
@@ -174,8 +183,9 @@ impl Arguments {
         ensures { result.now ≡ self.now }
     {
         match &self.held {
-            Some(values) => values.get().as_slice(),
-            None => &[],
+            HeldArguments::Nothing => &[],
+            HeldArguments::One(value) => from_ref(value.get()),
+            HeldArguments::Several(several) => several.get().as_slice(),
         }
     }
 

@@ -12,3 +12,4 @@ pub mod Staying
 pub mod Spelling
 pub mod TextValues
 pub mod Times
+pub mod Turning

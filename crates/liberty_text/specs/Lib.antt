@@ -8,3 +8,4 @@ pub mod TextValue
 pub mod Time
 pub mod TokenLaws
 pub mod Tokens
+pub mod Unread

@@ -5,7 +5,7 @@ ghost use Rattle.liberty_text.specs.Scanner.{token};
 ghost use Rattle.liberty_text.specs.Kept.{kind_by, size_by, token_by};
 
 use crate::token::{Stop, Token, TokenKind};
-use std::alloc::AllocError;
+use std::alloc::{AllocError, Global};
 use std::marker::Model;
 
 /// The farthest offset of a token that is kept.
@@ -114,4 +114,18 @@ impl Kept {
             TokenKind::Comma => Ok(Kept::packed(at, 5, 0, line_before)),
         }
     }
+}
+
+/// The same tokens once more. An `Err` comes only where memory is wanting.
+pub fn copy_kept(alloc: Global, tokens: &[Kept]) -> Result<Vec<Kept>, AllocError>
+    ensures { IfOk result (λ copy. copy.items ≡ tokens.now) }
+{
+    let mut copy = Vec::with_capacity(alloc, tokens.len())?;
+    for token in tokens {
+        copy.push(Kept {
+            at: token.at,
+            rest: token.rest,
+        })?;
+    }
+    Ok(copy)
 }

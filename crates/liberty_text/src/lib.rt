@@ -13,14 +13,16 @@ mod scanner;
 mod text;
 mod time;
 mod token;
+mod unread;
 mod whole_texts;
 
 pub use decimal::{Fixed, NumberFault};
-pub use kept::{Kept, KeptScan};
+pub use kept::{Kept, KeptScan, copy_kept};
 pub use laws::{one_reading, tokens_cover};
 pub use number::fixed;
 pub use scanner::{Mode, Scanner};
-pub use text::{one_value, quotes_read_back, text_value};
+pub use text::{one_value, plain_value, quotes_read_back, text_value};
 pub use time::{Unit, picoseconds};
 pub use token::{Scan, Stop, TextFault, Token, TokenKind};
+pub use unread::Unread;
 pub use whole_texts::{scan, scan_kept, tokens};

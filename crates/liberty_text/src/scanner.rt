@@ -68,13 +68,24 @@ impl Scanner {
         }
     }
 
-    /// Forgets what was read, and keeps the memory for tokens.
-    pub fn restart(&mut self)
-        ensures tokens { self.new.tokens.items ≡ [] }
-        ensures mode { self.new.mode ≡ Between false }
+    /// A scanner that has read no byte, with the memory of this list for its tokens.
+    pub fn with_room(mut room: Vec<Kept>) -> Scanner
+        ensures tokens { result.tokens.items ≡ [] }
+        ensures mode { result.mode ≡ Between false }
     {
-        self.tokens.clear();
-        self.mode = Mode::Between { line_before: false };
+        room.clear();
+        Scanner {
+            tokens: room,
+            mode: Mode::Between { line_before: false },
+        }
+    }
+
+    /// The tokens that have ended, as a list of the caller's.
+    pub fn into_tokens(self) -> Vec<Kept>
+        ensures { result.items ≡ self.tokens.items }
+    {
+        let Scanner { tokens, .. } = self;
+        tokens
     }
 
     /// The tokens that have ended.

@@ -1,6 +1,6 @@
 //! What a quoted text stands for.
 
-ghost use Rattle.std.specs.Prelude.{◌≡◌, ◌<◌, ◌≤◌, ◌+◌, length, IfOk, IfSome, [], ◌∷◌, OnOk, ◌++◌};
+ghost use Rattle.std.specs.Prelude.{◌≡◌, ◌<◌, ◌≤◌, ◌+◌, length, IfOk, IfSome, [], ◌∷◌, OnOk, ◌++◌, None, false};
 ghost use Rattle.std.specs.List.{list_all};
 ghost use Rattle.liberty_text.specs.Idle.{stands_for_itself};
 ghost use Rattle.liberty_text.specs.TextValue.{blank_line, piece, behind_backslash, begins_with_quote, value_of, HaveOneValue};
@@ -74,15 +74,23 @@ fn is_plain(bytes: &[u8]) -> bool
     }
 }
 
+/// The value of a text token where each of the bytes between its quotes stands for itself: those bytes.
+#[tactic(auto, using(crate::proofs::TextValues::value_of_plain))]
+pub fn plain_value(bytes: &[u8]) -> Option<&[u8]>
+    ensures plain { IfSome result (λ value. value.now ≡ value_of bytes.now) }
+    ensures other { result ≡ None → list_all stands_for_itself bytes.now ≡ false }
+{
+    if is_plain(bytes) { Some(bytes) } else { None }
+}
+
 /// The value of a text token, given the bytes between its quotes: a backslash with blanks and a line
 /// end behind it vanishes, a line end without one stands for a space, `\"` for a double quote, and
 /// any other byte for itself.
-#[tactic(auto, using(crate::proofs::TextValues::value_of_plain))]
 pub fn text_value(alloc: Global, bytes: &[u8]) -> Result<Items<u8>, AllocError>
     ensures { IfOk result (λ value. value ≡ value_of bytes.now) }
 {
-    if is_plain(bytes) {
-        return Ok(Items::from_slice(alloc, bytes)?);
+    if let Some(value) = plain_value(bytes) {
+        return Ok(Items::from_slice(alloc, value)?);
     }
     let mut value = Items::new(alloc);
     let mut at = 0;

@@ -130,7 +130,7 @@ pub fn whole_statement(
     ensures { Reads (read (spec.statement levels name at) cursor.old) result cursor.new }
 {
     if cursor.left() > MANY {
-        let mut ahead = cursor.again();
+        let mut ahead = cursor.again(alloc)?;
         if let Err(stop) = skip_statement(&mut ahead, levels) {
             *cursor = ahead;
             return Err(stop);

@@ -1,0 +1,16 @@
+use Rattle.std.proofs.Common.{subst}
+use Rattle.liberty_groups.specs.Lexeme.{LieInside}
+use Rattle.cell_cursor.specs.Scanned.{Scanned, AreScanned}
+use Rattle.cell_cursor.proofs.ScannedLemmas.{all_are_scanned, scanned_inside}
+use Rattle.cell_cursor.proofs.part.Part.into_tokens.Goals as goal
+
+pub returns-clause-inside : goal.returns-clause-inside
+returns-clause-inside c =
+    subst (λ (v : Scanned). LieInside v.bytes v.tokens) c.self.view_is
+    (scanned_inside c.self.inside.bytes.items c.self.inside.scanner.tokens.items c.self.inside.scanner.mode
+    (all_are_scanned c.self.inside.bytes.items c.self.inside.scanner.tokens.items c.self.inside.scanner.mode c.self.invariant.tokens_are c.self.invariant.open_is))
+
+pub returns-clause-scanned : goal.returns-clause-scanned
+returns-clause-scanned c =
+    subst (λ (v : Scanned). AreScanned v.bytes v.tokens v.mode) c.self.view_is
+    (all_are_scanned c.self.inside.bytes.items c.self.inside.scanner.tokens.items c.self.inside.scanner.mode c.self.invariant.tokens_are c.self.invariant.open_is)

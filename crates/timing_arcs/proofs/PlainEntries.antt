@@ -251,23 +251,6 @@ too_many_behind text fraction count c r h =
     let run : digit_run fraction ≡ digit_run k.fraction = ap digit_run (fraction_is text fraction count c r k) in
     absurd (omega (arith, c, h, run, k.few)))
 
-pub no_digits : (text fraction : List ℕ) (count places : ℕ) → count ≡ digit_run text → drop count text ≡ 46 ∷ fraction
-    → places ≡ digit_run fraction → count + places ≡ 0 → is_plain text ≡ false
-no_digits text fraction count places c r d h =
-    unless (is_plain text) (λ p. let k = plain_parts (digit_run text) (drop (digit_run text) text) p in
-    let run : digit_run fraction ≡ digit_run k.fraction = ap digit_run (fraction_is text fraction count c r k) in
-    absurd (omega (arith, c, d, h, run, k.some)))
-
-pub no_end : (text fraction behind : List ℕ) (count places : ℕ) → count ≡ digit_run text → drop count text ≡ 46 ∷ fraction
-    → places ≡ digit_run fraction → behind ≡ drop places fraction → (word_length is_separator behind == 0) ≡ false
-    → is_plain text ≡ false
-no_end text fraction behind count places c r d b h =
-    unless (is_plain text) (λ p. let k = plain_parts (digit_run text) (drop (digit_run text) text) p in
-    let same : fraction ≡ k.fraction = fraction_is text fraction count c r k in
-    let left : behind ≡ drop (digit_run k.fraction) k.fraction =
-    b ∙ ap (λ m. drop m fraction) d ∙ ap (λ f. drop (digit_run f) f) same in
-    true≢false (sym k.ends ∙ sym (ap (λ l. word_length is_separator l == 0) left) ∙ h))
-
 pub plain_is : (text fraction behind : List ℕ) (count places : ℕ) → IsPlain text fraction behind count places
     → 0 < count + places → count + places ≤ 18 → is_plain text ≡ true
 plain_is text fraction behind count places k some few =

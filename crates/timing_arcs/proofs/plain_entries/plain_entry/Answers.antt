@@ -1,6 +1,6 @@
 use Rattle.std.proofs.Common.{sym, ap, ◌∙◌, Ok, arith}
-use Rattle.timing_arcs.proofs.PlainEntries.{plain_length, plain_number, plain_is, too_many, no_point, too_many_behind, room_behind}
-use Rattle.timing_arcs.proofs.PlainEntries.{all_fits, no_digits, no_end}
+use Rattle.timing_arcs.proofs.PlainEntries.{plain_length, plain_number, plain_is, too_many, no_point, too_many_behind}
+use Rattle.timing_arcs.proofs.PlainEntries.{room_behind, all_fits}
 use Rattle.timing_arcs.proofs.plain_entries.plain_entry.Goals as goal
 
 pub digits_behind-requires-2-clause-before : goal.digits_behind-requires-2-clause-before
@@ -21,7 +21,8 @@ returns-in_err-fraction-clause-plain c =
 pub returns-in_err-all-clause-plain : goal.returns-in_err-all-clause-plain
 returns-in_err-all-clause-plain c =
     rw c.from_residual-in_err-all.ensures
-    (too_many_behind c.args.text.now _ _ c.in_ok-whole.ensures.count (sym c.split_at.ensures.back ∙ c.in_ok-fraction.ensures) c.in_err-all.ensures.room)
+    (too_many_behind c.args.text.now _ _ c.in_ok-whole.ensures.count
+    (sym c.split_at.ensures.back ∙ c.in_ok-fraction.ensures) c.in_err-all.ensures.room)
 
 pub returns-clause-plain : goal.returns-clause-plain
 returns-clause-plain c = plain_is c.args.text.now _ _ _ _ (record {

@@ -192,7 +192,7 @@ impl FileDesk {
 
     /// What a call on the file that the word at this place names came to. Where it failed, it is said why, and the fault
     /// is counted.
-    fn told<T>(&mut self, place: usize, outcome: io::Result<T>) -> Result<T, Failed>
+    fn reported<T>(&mut self, place: usize, outcome: io::Result<T>) -> Result<T, Failed>
         ensures ok { OnOk result (self.new ≡ self.old) }
         ensures err { OnErr result (self.new ≡ record self.old { faults = min (self.old.faults + 1) (2 ^ 64 - 1) }) }
         ensures later { self.old.faults ≤ self.new.faults }
@@ -283,7 +283,7 @@ impl Desk for FileDesk {
     #[tactic(auto, unfolding(crate::specs::Host::reads_files))]
     fn bind_in(&mut self, slot: InSlot, place: usize) -> Result<(), Failed> {
         let opened = self.open(place);
-        let opened = self.told(place, opened)?;
+        let opened = self.reported(place, opened)?;
         self.inputs.set(slot, Some(opened));
         Ok(())
     }
@@ -302,7 +302,7 @@ impl Desk for FileDesk {
     #[tactic(auto, unfolding(crate::specs::Host::reads_files))]
     fn bind_out(&mut self, slot: OutSlot, place: usize) -> Result<(), Failed> {
         let opened = self.create(place);
-        let opened = self.told(place, opened)?;
+        let opened = self.reported(place, opened)?;
         self.outputs.set(slot, Some(opened));
         Ok(())
     }

@@ -1,7 +1,9 @@
 -- Entries of tables that are digits, a point and digits.
 use Rattle.std.proofs.Common.{◌≡◌, ℕ, ◌+◌, ◌-◌, ◌*◌, ◌<◌, ◌≤◌, ◌++◌, suc, Bool, true, false, List, [], ◌∷◌, Some, length}
 use Rattle.std.proofs.Common.{take, drop, Ok, Err, Option, None, ◌==◌, ◌||◌, subst, refl, sym, ◌∙◌, ap, arith, cond}
-use Rattle.std.specs.Prelude.{nat_lt, pos, ◌-ℤ◌}
+use Rattle.std.specs.Prelude.{◌^◌, ◌&&◌, nat_lt, nat_le, pos, ◌-ℤ◌}
+use Rattle.std.proofs.lemmas.Bool.{true≢false, and_parts, eqb-true}
+use Rattle.std.proofs.Math.Nat.{pow-suc, pow-le-pow_right}
 use Rattle.std.proofs.lemmas.Bool.Decides.{nat_tests}
 use Rattle.std.proofs.lemmas.List.{take-append-drop, append-nil, length-append, length-take-le}
 use Rattle.liberty_text.specs.declared.decimal.Fixed.{Fixed}
@@ -16,6 +18,7 @@ use Rattle.timing_arcs.specs.Times.{time_as, time_of, time_in}
 use Rattle.timing_arcs.specs.Tables.{is_separator}
 use Rattle.timing_arcs.specs.Sums.{with_time, with_entry}
 use Rattle.timing_arcs.specs.Words.{word_length, with_word, front_number}
+use Rattle.timing_arcs.specs.PlainForm.{starts_at_point, is_plain_behind, is_plain}
 
 -- the digits at the front, read one after another
 pub front_is : (before : ℕ) (bs : List ℕ) → front_number before bs ≡ digits_value before (take (digit_run bs) bs)
@@ -194,3 +197,93 @@ pub passed : (unit : Option TimeUnit) (at : ℕ) (sum : Sum) (text : List ℕ) �
 passed unit at sum text none =
     let empty : take 0 text ≡ take (word_length is_separator text) text = ap (λ n. take n text) (none_there text none) in
     ap (with_word unit at sum) empty
+
+-- which texts have the plain form
+unless : (b : Bool) → (b ≡ true → ⊥) → b ≡ false
+unless true f = absurd (f refl)
+unless false f = refl
+
+record PlainParts (whole : ℕ) (rest : List ℕ) : Type 0 where
+  fraction : List ℕ
+  point : rest ≡ 46 ∷ fraction
+  ends : (word_length is_separator (drop (digit_run fraction) fraction) == 0) ≡ true
+  some : 0 < whole + digit_run fraction
+  few : whole + digit_run fraction ≤ 18
+
+plain_parts : (whole : ℕ) (rest : List ℕ) → is_plain_behind whole rest ≡ true → PlainParts whole rest
+plain_parts whole [] h = absurd cc
+plain_parts whole (b ∷ fraction) h =
+    let digits : ℕ = whole + digit_run fraction in
+    let ending : Bool = word_length is_separator (drop (digit_run fraction) fraction) == 0 in
+    let one = and_parts (b == 46) (ending && (nat_lt 0 digits && nat_le digits 18)) h in
+    let two = and_parts ending (nat_lt 0 digits && nat_le digits 18) one.1 in
+    let three = and_parts (nat_lt 0 digits) (nat_le digits 18) two.1 in
+    record {
+      fraction = fraction;
+      point = ap (λ x. x ∷ fraction) (eqb-true b 46 one.0);
+      ends = two.0;
+      some = grind (arith, nat_tests, three.0);
+      few = grind (arith, nat_tests, three.1);
+    }
+
+pub too_many : (text : List ℕ) → 18 < digit_run text → is_plain text ≡ false
+too_many text h =
+    unless (is_plain text) (λ p. let k = plain_parts (digit_run text) (drop (digit_run text) text) p in
+    absurd (omega (arith, h, k.few)))
+
+pub no_point : (text rest : List ℕ) (count : ℕ) → count ≡ digit_run text → rest ≡ drop count text
+    → starts_at_point rest ≡ false → is_plain text ≡ false
+no_point text rest count c r h =
+    unless (is_plain text) (λ p. let k = plain_parts (digit_run text) (drop (digit_run text) text) p in
+    let there : rest ≡ 46 ∷ k.fraction = r ∙ ap (λ m. drop m text) c ∙ k.point in
+    true≢false (sym (ap starts_at_point there) ∙ h))
+
+-- the digits behind the point
+fraction_is : (text fraction : List ℕ) (count : ℕ) → count ≡ digit_run text → drop count text ≡ 46 ∷ fraction
+    → (k : PlainParts (digit_run text) (drop (digit_run text) text)) → fraction ≡ k.fraction
+fraction_is text fraction count c r k =
+    let same : 46 ∷ fraction ≡ 46 ∷ k.fraction = sym r ∙ ap (λ m. drop m text) c ∙ k.point in ap (drop 1) same
+
+pub too_many_behind : (text fraction : List ℕ) (count : ℕ) → count ≡ digit_run text → drop count text ≡ 46 ∷ fraction
+    → 18 - count < digit_run fraction → is_plain text ≡ false
+too_many_behind text fraction count c r h =
+    unless (is_plain text) (λ p. let k = plain_parts (digit_run text) (drop (digit_run text) text) p in
+    let run : digit_run fraction ≡ digit_run k.fraction = ap digit_run (fraction_is text fraction count c r k) in
+    absurd (omega (arith, c, h, run, k.few)))
+
+pub plain_is : (text fraction behind : List ℕ) (count places : ℕ) → IsPlain text fraction behind count places
+    → 0 < count + places → count + places ≤ 18 → is_plain text ≡ true
+plain_is text fraction behind count places k some few =
+    let rest : drop (digit_run text) text ≡ 46 ∷ fraction = ap (λ m. drop m text) (sym k.count_is) ∙ k.point in
+    let left : drop (digit_run fraction) fraction ≡ behind = ap (λ m. drop m fraction) (sym k.places_is) ∙ sym k.behind_is in
+    let ends : (word_length is_separator (drop (digit_run fraction) fraction) == 0) ≡ true =
+    ap (λ l. word_length is_separator l == 0) left ∙ k.ends in
+    let one : nat_lt 0 (digit_run text + digit_run fraction) ≡ true =
+    let here : 0 < digit_run text + digit_run fraction = omega (arith, some, k.count_is, k.places_is) in
+    grind (arith, nat_tests, here) in
+    let all : nat_le (digit_run text + digit_run fraction) 18 ≡ true =
+    let here : digit_run text + digit_run fraction ≤ 18 = omega (arith, few, k.count_is, k.places_is) in
+    grind (arith, nat_tests, here) in
+    ap (is_plain_behind (digit_run text)) rest ∙ rw (ends, one, all) refl
+
+-- one digit more
+pub digit_more : (number room at digit : ℕ) → number < 10 ^ (18 - room + at) → at < room → room ≤ 18 → digit ≤ 9
+    → (number * 10 + digit < 10 ^ (18 - room + (at + 1))) × (number * 10 + digit < 2 ^ 63)
+digit_more number room at digit h l r d =
+    let ten : 0 < 10 = omega arith in
+    let low : 18 - room + at ≤ 17 = omega (arith, l, r) in
+    let power : 10 ^ (18 - room + at) ≤ 10 ^ 17 = pow-le-pow_right ten low in
+    let next : 18 - room + (at + 1) ≡ suc (18 - room + at) = omega arith in
+    let step : 10 ^ (18 - room + (at + 1)) ≡ 10 ^ (18 - room + at) * 10 = ap (λ k. 10 ^ k) next ∙ pow-suc 10 (18 - room + at) in
+    (omega (arith, h, d, step), omega (arith, h, d, power))
+
+pub all_fits : (number room count : ℕ) → number < 10 ^ (18 - room + count) → count ≤ room → room ≤ 18 → number < 2 ^ 63
+all_fits number room count h l r =
+    let ten : 0 < 10 = omega arith in
+    let low : 18 - room + count ≤ 18 = omega (arith, l, r) in
+    let power : 10 ^ (18 - room + count) ≤ 10 ^ 18 = pow-le-pow_right ten low in
+    omega (arith, h, power)
+
+pub room_behind : (number count : ℕ) → number < 10 ^ (18 - 18 + count) → count ≤ 18 → number < 10 ^ (18 - (18 - count))
+room_behind number count h l =
+    let same : 18 - 18 + count ≡ 18 - (18 - count) = omega (arith, l) in subst (λ k. number < 10 ^ k) same h

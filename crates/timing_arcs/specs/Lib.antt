@@ -15,3 +15,4 @@ pub mod TimingTexts
 pub mod Laws
 pub mod Shown
 pub mod Words
+pub mod PlainForm

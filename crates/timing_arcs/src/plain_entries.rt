@@ -1,14 +1,13 @@
 //! Entries of tables that are digits, a point and digits, as nearly all are.
-ghost use Rattle.std.specs.Prelude.{◌≡◌, ◌∷◌, ◌≤◌, ◌<◌, ◌^◌, length, take, IfSome, Ok, pos, ◌-ℤ◌};
+ghost use Rattle.std.specs.Prelude.{◌≡◌, ◌∷◌, ◌+◌, ◌-◌, ◌≤◌, ◌<◌, ◌^◌, true, false, length, take, IfSome, MatchOption, Ok};
+ghost use Rattle.std.specs.Prelude.{pos, ◌-ℤ◌};
 ghost use Rattle.liberty_text.specs.Number.{digit_run, fixed_of};
 ghost use Rattle.timing_arcs.specs.Tables.{is_separator as separates};
 ghost use Rattle.timing_arcs.specs.Words.{word_length, front_number};
+ghost use Rattle.timing_arcs.specs.PlainForm.{starts_at_point, is_plain};
 
 use crate::words::is_end;
 use liberty_text::Fixed;
-
-/// The least number behind which no further digit is read.
-const LARGE: u64 = 100_000_000_000_000_000;
 
 /// The most digits of a plain entry.
 const MOST_DIGITS: usize = 18;
@@ -29,13 +28,15 @@ struct Digits {
     count: usize,
 }
 
-/// The digits at the front of a text, behind a number. None where they are too many.
+/// The digits at the front of a text, behind the number that others spell. None where they are more than there is room for.
 #[inline(always)]
-fn digits_behind(before: u64, text: &[u8]) -> Option<Digits>
-    requires { before < 2 ^ 63 }
+fn digits_behind(before: u64, room: usize, text: &[u8]) -> Option<Digits>
+    requires room { room ≤ 18 }
+    requires before { before < 10 ^ (18 - room) }
+    ensures room { MatchOption result (room < digit_run text.now) (λ digits. digits.count ≤ room) }
     ensures count { IfSome result (λ digits. digits.count ≡ digit_run text.now) }
     ensures number { IfSome result (λ digits. digits.number ≡ front_number before text.now) }
-    ensures fits { IfSome result (λ digits. digits.number < 2 ^ 63) }
+    ensures fits { IfSome result (λ digits. digits.number < 10 ^ (18 - room + digits.count)) }
     ensures within { IfSome result (λ digits. digits.count ≤ length text.now) }
 {
     let mut number = before;
@@ -43,7 +44,7 @@ fn digits_behind(before: u64, text: &[u8]) -> Option<Digits>
         if !byte.is_ascii_digit() {
             return Some(Digits { number, count: at });
         }
-        if number >= LARGE {
+        if at >= room {
             return None;
         }
         number = number * 10 + u64::from(*byte - b'0');
@@ -56,7 +57,7 @@ fn digits_behind(before: u64, text: &[u8]) -> Option<Digits>
 
 /// A text without the point that it begins with.
 fn behind_point(text: &[u8]) -> Option<&[u8]>
-    ensures { IfSome result (λ behind. text.now ≡ 46 ∷ behind.now) }
+    ensures { MatchOption result (starts_at_point text.now ≡ false) (λ behind. text.now ≡ 46 ∷ behind.now) }
 {
     match text {
         [b'.', behind @ ..] => Some(behind),
@@ -64,19 +65,23 @@ fn behind_point(text: &[u8]) -> Option<&[u8]>
     }
 }
 
-/// The entry at the front of a text, where it is digits, a point and digits, not many.
+/// The entry at the front of a text, where it has the plain form.
 pub(crate) fn plain_entry(text: &[u8]) -> Option<PlainEntry>
+    ensures plain { MatchOption result (is_plain text.now ≡ false) (λ _. is_plain text.now ≡ true) }
     ensures length { IfSome result (λ entry. entry.length ≡ word_length separates text.now) }
     ensures within { IfSome result (λ entry. entry.length ≤ length text.now) }
     ensures number { IfSome result (λ entry. fixed_of (take (word_length separates text.now) text.now) ≡ Ok entry.number) }
 {
-    let whole = digits_behind(0, text)?;
+    let whole = digits_behind(0, MOST_DIGITS, text)?;
     let (_, rest) = text.split_at(whole.count);
     let fraction = behind_point(rest)?;
-    let all = digits_behind(whole.number, fraction)?;
+    let all = digits_behind(whole.number, MOST_DIGITS - whole.count, fraction)?;
     let digits = whole.count + all.count;
     let (_, behind) = fraction.split_at(all.count);
-    if digits == 0 || digits > MOST_DIGITS || !is_end(behind) {
+    if digits == 0 {
+        return None;
+    }
+    if !is_end(behind) {
         return None;
     }
     Some(PlainEntry {

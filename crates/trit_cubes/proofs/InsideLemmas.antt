@@ -9,7 +9,7 @@ use Rattle.trit_cubes.specs.declared.trits.Trit.TheVariants.{Zero, One, Unknown}
 use Rattle.trit_cubes.specs.Filling.{IsFilling}
 use Rattle.trit_cubes.specs.Resolution.{agreed, res}
 use Rattle.trit_cubes.specs.Prime.{IsInside, IsPrime, is_inside, freed, is_prime}
-use Rattle.trit_cubes.proofs.SplitLemmas.{zero≢unknown, one≢unknown}
+use Rattle.trit_cubes.proofs.Basics.{zero≢unknown, one≢unknown}
 
 -- a test that passes is true at each filling
 pub is_inside-fillings : (set : List Bool → Bool) (ts : List Trit) → is_inside set ts ≡ true → IsInside set ts

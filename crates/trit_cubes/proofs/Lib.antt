@@ -1,3 +1,4 @@
+mod Basics
 pub mod WordLemmas
 pub mod ResolutionLemmas
 pub mod ListLemmas

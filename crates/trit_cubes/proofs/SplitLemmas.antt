@@ -14,7 +14,7 @@ use Rattle.trit_cubes.specs.Sets.{common, gives}
 use Rattle.trit_cubes.specs.Prime.{is_inside, freed, is_prime, cubes_of, prime_list, any_covers, uncovered, merged}
 use Rattle.trit_cubes.proofs.ListLemmas.{Among, among-map, among-append, among-filter, filter-map, filter-and, filter_same}
 use Rattle.trit_cubes.proofs.ListLemmas.{any_same, any-map, any_never, any-filter, all_same}
-use Rattle.trit_cubes.proofs.WordLemmas.{and_swap}
+use Rattle.trit_cubes.proofs.Basics.{and_swap, zero≢unknown, one≢unknown}
 
 -- the points whose first place has this value, without that place
 abbrev pub half : (List Bool → Bool) → Bool → List Bool → Bool
@@ -178,12 +178,6 @@ any_covers-split : (zs bs cs : List (List Trit)) (ts : List Trit)
     → any_covers (zs ++ bs ++ cs) ts ≡ ((any_covers zs ts || any_covers bs ts) || any_covers cs ts)
 any_covers-split zs bs cs ts =
     list_any-append (λ c. covers c ts) (zs ++ bs) cs ∙ ap (λ b. b || any_covers cs ts) (list_any-append (λ c. covers c ts) zs bs)
-
-pub zero≢unknown : Zero ≢ Unknown
-zero≢unknown e = cc
-
-pub one≢unknown : One ≢ Unknown
-one≢unknown e = cc
 
 -- whether a prime covers a list, by the first place of the prime
 covers-split : (n : ℕ) (set : List Bool → Bool) (t : Trit) (ts : List Trit)

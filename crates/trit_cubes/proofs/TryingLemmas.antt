@@ -13,7 +13,8 @@ use Rattle.trit_cubes.specs.Filling.{is_unknown, same, trit_of}
 use Rattle.trit_cubes.specs.Resolution.{res}
 use Rattle.trit_cubes.specs.Prime.{is_inside, is_prime, freed, cubes_of}
 use Rattle.trit_cubes.proofs.ListLemmas.{contains-among}
-use Rattle.trit_cubes.proofs.SplitLemmas.{cubes_of-length, is_inside-gives, one≢unknown}
+use Rattle.trit_cubes.proofs.Basics.{one≢unknown}
+use Rattle.trit_cubes.proofs.SplitLemmas.{cubes_of-length, is_inside-gives}
 use Rattle.trit_cubes.proofs.InsideLemmas.{all_freed-at, at-all_freed}
 
 pub cubes-short : (n : ℕ) (cubes : List (List Trit)) → cubes ≡ cubes_of n → n < 10 → All (λ c. length c < 10) cubes

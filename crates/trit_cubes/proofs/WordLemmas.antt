@@ -10,6 +10,7 @@ use Rattle.trit_cubes.specs.declared.trits.Trit.{Trit}
 use Rattle.trit_cubes.specs.declared.trits.Trit.TheVariants.{Zero, One, Unknown}
 use Rattle.trit_cubes.specs.Filling.{is_unknown, same, covers}
 use Rattle.trit_cubes.specs.Words.{fixed_bit, value_bit, fixed_word, value_word, trit_of_bits, trits_of}
+use Rattle.trit_cubes.proofs.Basics.{and_swap}
 
 pub fixed_bit-lt : (t : Trit) → fixed_bit t < 2
 fixed_bit-lt t = grind arith
@@ -84,12 +85,6 @@ nat_eq-double b d m n p q =
       ]
       | inr e ↦ ne_eqb (b + 2 * m) (d + 2 * n) (λ g. e (omega arith)) ∙ sym (and_left (nat_eq b d) (nat_eq m n) (ne_eqb b d e))
     ]
-
-pub and_swap : (p q r s : Bool) → ((p && q) && (r && s)) ≡ ((p && r) && (q && s))
-and_swap true true r s = refl
-and_swap true false true s = refl
-and_swap true false false s = refl
-and_swap false q r s = refl
 
 -- the test by words, the lowest bits apart
 covers-double : (b d e g x y z u : ℕ) → b < 2 → d < 2 → e < 2 → g < 2

@@ -6,7 +6,7 @@ use Rattle.std.specs.List.{list_all}
 use Rattle.std.specs.Option.{option_map_or}
 use Rattle.std.specs.Int.{bit_at}
 use Rattle.std.proofs.lemmas.Bool.{cases_eq, true≢false, and_parts, and_from}
-use Rattle.std.proofs.lemmas.Nat.{and_comm, and_assoc, and_le_l}
+use Rattle.std.proofs.lemmas.Nat.{and_comm, and_assoc, and_le_l, or_comm}
 use Rattle.std.proofs.lemmas.Nat.Bits.{bit_at_and, bit_at_or, bit_at_xor, bit_at-pow_same, bit_at-pow_other, bit_at-lt}
 use Rattle.std.proofs.lemmas.Nat.Bits.{same_from_bits}
 use Rattle.cell_machine.specs.declared.outputs.Source.{Source}
@@ -138,12 +138,7 @@ set_more k mask more e =
     ap (λ n. nat_eq n 1) (bit_at_or mask more k ∙ most)
 
 set_also : (k more mask : ℕ) → is_set k mask ≡ true → is_set k (bit_or more mask) ≡ true
-unfolding is_set
-set_also k more mask e =
-    let one = eqb-true (bit_at mask k) 1 e in
-    let small = bit_at-lt more k in
-    let most : max (bit_at more k) (bit_at mask k) ≡ 1 = omega (arith, one, small) in
-    ap (λ n. nat_eq n 1) (bit_at_or more mask k ∙ most)
+set_also k more mask e = ap (is_set k) (or_comm more mask) ∙ set_more k mask more e
 
 place_more : (o : Option ℕ) (mask more : ℕ) → option_map_or (λ k. is_set k mask) o true ≡ true
     → option_map_or (λ k. is_set k (bit_or mask more)) o true ≡ true

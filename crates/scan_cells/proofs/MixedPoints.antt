@@ -86,6 +86,13 @@ mask_over : (view : ViewData) (from places support : List Source) (mask : ℕ) �
     → IsMask view places support mask
 mask_over view from places support mask e h = subst (λ xs. IsMask view xs support mask) e h
 
+-- a mask by another name of the view and of the support
+pub mask_of :
+    (given view : ViewData) (places from support : List Source) (mask : ℕ) → given ≡ view → from ≡ support
+    → IsMask given places from mask → IsMask view places support mask
+mask_of given view places from support mask e f h =
+    subst (λ v. IsMask v places support mask) e (subst (λ xs. IsMask given places xs mask) f h)
+
 -- the steps of groups
 pub mixed_steps :
     (cell : CellData) (view : ViewData) (g point a b : ℕ) (from : List Source) → from ≡ step_places cell view g

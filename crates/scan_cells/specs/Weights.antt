@@ -32,4 +32,5 @@ numbers_of weights unit = map (λ k. number (weighed weights (unit * k))) (range
 -- a point's number over the places with these weights is that of its low byte and that of what stands above it
 pub record IsSplit (weights : List ℕ) : Type 0 where
   pub at : (point : ℕ)
-      → number (weighed weights (1 * (point % 256))) + number (weighed weights (256 * (point / 256))) ≡ number (weighed weights point)
+      → number (weighed weights (1 * (point % 256))) + number (weighed weights (256 * (point / 256)))
+      ≡ number (weighed weights point)

@@ -31,7 +31,8 @@ fn enabled_pins(
     view: &Cell,
 ) -> Result<Option<EnabledPins>, AllocError>
     ensures is { IfOk result
-        (λ found. option_map (enabled_view (data_of view.now)) found ≡ view_by (data_of cell.now) group.now (Some (data_of view.now))) }
+        (λ found. option_map (enabled_view (data_of view.now)) found
+        ≡ view_by (data_of cell.now) group.now (Some (data_of view.now))) }
     ensures beside { IfOk result
         (λ found. IfSome found (λ pins. StandsBeside (data_of cell.now) (enabled_view (data_of view.now) pins))) }
 {

@@ -1,10 +1,9 @@
 //! The steps of a state group of a cell beside those of its view's.
-ghost use Rattle.std.specs.Prelude.{◌≡◌, ℕ, ◌+◌, ◌<◌, ◌≤◌, false, true, None, length, map, position, unwrap_or};
+ghost use Rattle.std.specs.Prelude.{◌≡◌, ℕ, ◌+◌, ◌<◌, false, true, None, length, map};
 ghost use Rattle.cell_machine.specs.CellData.{data_of};
 ghost use Rattle.scan_cells.specs.Views.{view_data, StandsBeside};
 ghost use Rattle.std.specs.List.{range_with_len};
-ghost use Rattle.scan_cells.specs.Places.{same_source, is_inactive, changed_at as changed_at_place};
-ghost use Rattle.cell_machine.specs.declared.outputs.Source.TheVariants as source;
+ghost use Rattle.scan_cells.specs.Places.{is_inactive, changed_at as changed_at_place};
 ghost use Rattle.scan_cells.specs.Masks.{IsMask};
 ghost use Rattle.scan_cells.specs.Weights.{weight_of};
 ghost use Rattle.scan_cells.specs.Comparison.{first_some, cell_support, view_support, step_places, cell_step, view_step};
@@ -13,11 +12,10 @@ ghost use Rattle.scan_cells.specs.Comparison.{group_difference as group_differen
 
 use crate::answers::Difference;
 use crate::by_points::{Compared, first_from};
-use crate::masks::{is_mixed, mask_of};
-use crate::places::places_of;
+use crate::compared_places::ComparedPlaces;
 use crate::point_steps::PointSteps;
-use crate::points::{changed_at, enable_place, is_inactive_by};
-use crate::sources::{Sources, in_cell, pin_sources};
+use crate::points::changed_at;
+use crate::sources::{in_cell, pin_sources};
 use crate::views::View;
 use cell_machine::Cell;
 use step_tables::StateSteps;
@@ -27,28 +25,20 @@ use trit_cubes::Trit;
 #[derive(Drop)]
 pub struct GroupPair<'a> {
     cell: &'a Cell,
-    view: &'a View,
     group: usize,
     of_cell: PointSteps<'a>,
     of_view: PointSteps<'a>,
-    places: Sources,
-    /// The place of the scan enable.
-    enable: Option<usize>,
-    cell_mask: u32,
-    view_mask: u32,
-    ghost are_places: { places ≡ step_places (data_of cell.now) (view_data view.now) group },
-    ghost few_places: { length places ≤ 20 },
-    ghost is_enable: { enable ≡ position (same_source (source.Pin view.now.enable)) places },
-    ghost few_enable: { unwrap_or enable 0 < 20 },
+    over: ComparedPlaces<'a>,
+    ghost are_places: { over.places ≡ step_places (data_of cell.now) (view_data over.view.now) group },
     ghost inside: { group < length cell.now.groups },
     ghost is_cell: { of_cell.table.cell.now ≡ cell.now },
-    ghost is_view: { of_view.table.cell.now ≡ view.now.cell },
+    ghost is_view: { of_view.table.cell.now ≡ over.view.now.cell },
     ghost is_of_cell: { of_cell.table.group ≡ group },
     ghost is_of_view: { of_view.table.group ≡ group },
-    ghost weigh_cell: { of_cell.numbering.weights ≡ map (weight_of places) (cell_support (data_of cell.now) group) },
-    ghost weigh_view: { of_view.numbering.weights ≡ map (weight_of places) (view_support (view_data view.now) group) },
-    ghost is_cell_mask: { IsMask (view_data view.now) places (cell_support (data_of cell.now) group) cell_mask },
-    ghost is_view_mask: { IsMask (view_data view.now) places (view_support (view_data view.now) group) view_mask },
+    ghost weigh_cell: { of_cell.numbering.weights ≡ map (weight_of over.places) (cell_support (data_of cell.now) group) },
+    ghost weigh_view: { of_view.numbering.weights ≡ map (weight_of over.places) (view_support (view_data over.view.now) group) },
+    ghost is_cell_mask: { IsMask (view_data over.view.now) over.places (cell_support (data_of cell.now) group) over.cell_mask },
+    ghost is_view_mask: { IsMask (view_data over.view.now) over.places (view_support (view_data over.view.now) group) over.view_mask },
 }
 
 impl<'a> GroupPair<'a> {
@@ -57,42 +47,28 @@ impl<'a> GroupPair<'a> {
         requires beside { StandsBeside (data_of cell.now) (view_data view.now) }
         requires group { group < length cell.now.groups }
         ensures cell { result.cell.now ≡ cell.now }
-        ensures view { result.view.now ≡ view.now }
+        ensures view { result.over.view.now ≡ view.now }
         ensures group { result.group ≡ group }
     {
         let of_cell = pin_sources(cell.group(group).support.as_slice());
         let of_view = pin_sources(view.cell.group(group).support.as_slice());
         let of_view = in_cell(view, of_view.as_slice());
-        let places = places_of(cell, of_cell.as_slice(), of_view.as_slice());
-        let cell_mask = mask_of(view, places.as_slice(), of_cell.as_slice());
-        let view_mask = mask_of(view, places.as_slice(), of_view.as_slice());
+        let over = ComparedPlaces::of(cell, view, of_cell.as_slice(), of_view.as_slice());
         GroupPair {
-            of_cell: PointSteps::of(cell, group, places.as_slice(), of_cell.as_slice()),
-            of_view: PointSteps::of(&view.cell, group, places.as_slice(), of_view.as_slice()),
+            of_cell: PointSteps::of(cell, group, over.as_slice(), of_cell.as_slice()),
+            of_view: PointSteps::of(&view.cell, group, over.as_slice(), of_view.as_slice()),
             cell,
-            view,
             group,
-            enable: enable_place(view, places.as_slice()),
-            places,
-            cell_mask,
-            view_mask,
+            over,
         }
-    }
-
-    /// Whether the scan enable is inactive at a point.
-    #[tactic(auto, unfolding(crate::specs::Places::is_inactive))]
-    fn is_inactive(&self, point: u32) -> bool
-        ensures { result ≡ is_inactive (view_data self.now.view.now) self.now.places point }
-    {
-        is_inactive_by(self.view, self.enable, point)
     }
 
     /// The steps of the cell's group.
     #[tactic(auto, unfolding(crate::specs::Comparison::cell_step))]
     fn cell_steps(&self, before: u32, after: u32) -> StateSteps
-        ensures zero { result.«zero» ≡ cell_step (data_of self.now.cell.now) (view_data self.now.view.now) self.now.group before
+        ensures zero { result.«zero» ≡ cell_step (data_of self.now.cell.now) (view_data self.now.over.view.now) self.now.group before
             after false }
-        ensures one { result.one ≡ cell_step (data_of self.now.cell.now) (view_data self.now.view.now) self.now.group before after
+        ensures one { result.one ≡ cell_step (data_of self.now.cell.now) (view_data self.now.over.view.now) self.now.group before after
             true }
     {
         self.of_cell.steps(before, after)
@@ -101,9 +77,9 @@ impl<'a> GroupPair<'a> {
     /// The steps of the view's group.
     #[tactic(auto, unfolding(crate::specs::Comparison::view_step))]
     fn view_steps(&self, before: u32, after: u32) -> StateSteps
-        ensures zero { result.«zero» ≡ view_step (data_of self.now.cell.now) (view_data self.now.view.now) self.now.group before
+        ensures zero { result.«zero» ≡ view_step (data_of self.now.cell.now) (view_data self.now.over.view.now) self.now.group before
             after false }
-        ensures one { result.one ≡ view_step (data_of self.now.cell.now) (view_data self.now.view.now) self.now.group before after
+        ensures one { result.one ≡ view_step (data_of self.now.cell.now) (view_data self.now.over.view.now) self.now.group before after
             true }
     {
         self.of_view.steps(before, after)
@@ -133,7 +109,7 @@ impl<'a> GroupPair<'a> {
 
     /// The first difference of the steps at a change.
     fn state_difference(&self, before: u32, after: u32) -> Option<Difference>
-        ensures { result ≡ state_difference (data_of self.now.cell.now) (view_data self.now.view.now) self.now.group before
+        ensures { result ≡ state_difference (data_of self.now.cell.now) (view_data self.now.over.view.now) self.now.group before
             after }
     {
         let of_cell = self.cell_steps(before, after);
@@ -146,10 +122,10 @@ impl<'a> GroupPair<'a> {
 
     /// The same, but none where the scan enable is active before the change.
     fn change_difference(&self, after: u32, before: u32) -> Option<Difference>
-        ensures { result ≡ change_difference (data_of self.now.cell.now) (view_data self.now.view.now) self.now.group after
+        ensures { result ≡ change_difference (data_of self.now.cell.now) (view_data self.now.over.view.now) self.now.group after
             before }
     {
-        if self.is_inactive(before) {
+        if self.over.is_inactive(before) {
             self.state_difference(before, after)
         } else {
             None
@@ -160,17 +136,17 @@ impl<'a> GroupPair<'a> {
     /// nothing changes. Then there is none at a change from a point with 1 at a place that the cell's group does not depend on
     /// and at one that the view's does not, since the two differ there only where they do without these places.
     fn next_change(&self, after: u32, k: usize) -> Option<Difference>
-        requires place { k < length self.now.places }
+        requires place { k < length self.now.over.places }
         requires before { (p : ℕ) → p < after
-            → after_difference (data_of self.now.cell.now) (view_data self.now.view.now) self.now.group p ≡ None }
-        requires unchanged { change_difference (data_of self.now.cell.now) (view_data self.now.view.now) self.now.group after
+            → after_difference (data_of self.now.cell.now) (view_data self.now.over.view.now) self.now.group p ≡ None }
+        requires unchanged { change_difference (data_of self.now.cell.now) (view_data self.now.over.view.now) self.now.group after
             after ≡ None }
-        requires idle { is_inactive (view_data self.now.view.now) self.now.places after ≡ true }
-        ensures { result ≡ change_difference (data_of self.now.cell.now) (view_data self.now.view.now) self.now.group after
+        requires idle { is_inactive (view_data self.now.over.view.now) self.now.over.places after ≡ true }
+        ensures { result ≡ change_difference (data_of self.now.cell.now) (view_data self.now.over.view.now) self.now.group after
             (changed_at_place after k) }
     {
         let before = changed_at(after, k);
-        if is_mixed(before, self.cell_mask, self.view_mask) {
+        if self.over.is_mixed(before) {
             return None;
         }
         self.change_difference(after, before)
@@ -181,14 +157,14 @@ impl<'a> GroupPair<'a> {
     #[tactic(auto, using(crate::proofs::Ranges::first_turn, crate::proofs::Ranges::first_end))]
     fn changed_difference(&self, after: u32) -> Option<Difference>
         requires before { (p : ℕ) → p < after
-            → after_difference (data_of self.now.cell.now) (view_data self.now.view.now) self.now.group p ≡ None }
-        requires unchanged { change_difference (data_of self.now.cell.now) (view_data self.now.view.now) self.now.group after
+            → after_difference (data_of self.now.cell.now) (view_data self.now.over.view.now) self.now.group p ≡ None }
+        requires unchanged { change_difference (data_of self.now.cell.now) (view_data self.now.over.view.now) self.now.group after
             after ≡ None }
-        requires idle { is_inactive (view_data self.now.view.now) self.now.places after ≡ true }
-        ensures { result ≡ first_some (λ k. change_difference (data_of self.now.cell.now) (view_data self.now.view.now)
-            self.now.group after (changed_at_place after k)) (range_with_len 0 (length self.now.places)) }
+        requires idle { is_inactive (view_data self.now.over.view.now) self.now.over.places after ≡ true }
+        ensures { result ≡ first_some (λ k. change_difference (data_of self.now.cell.now) (view_data self.now.over.view.now)
+            self.now.group after (changed_at_place after k)) (range_with_len 0 (length self.now.over.places)) }
     {
-        for k in 0..self.places.as_slice().len() {
+        for k in 0..self.over.as_slice().len() {
             if let Some(difference) = self.next_change(after, k) {
                 return Some(difference);
             }
@@ -200,10 +176,10 @@ impl<'a> GroupPair<'a> {
     /// none where the scan enable is active.
     fn after_difference(&self, after: u32) -> Option<Difference>
         requires before { (p : ℕ) → p < after
-            → after_difference (data_of self.now.cell.now) (view_data self.now.view.now) self.now.group p ≡ None }
-        ensures { result ≡ after_difference (data_of self.now.cell.now) (view_data self.now.view.now) self.now.group after }
+            → after_difference (data_of self.now.cell.now) (view_data self.now.over.view.now) self.now.group p ≡ None }
+        ensures { result ≡ after_difference (data_of self.now.cell.now) (view_data self.now.over.view.now) self.now.group after }
     {
-        if !self.is_inactive(after) {
+        if !self.over.is_inactive(after) {
             return None;
         }
         match self.change_difference(after, after) {
@@ -215,9 +191,9 @@ impl<'a> GroupPair<'a> {
     /// The first difference of the groups.
     #[tactic(auto, using(crate::proofs::Halves::few_points))]
     fn difference(&self) -> Option<Difference>
-        ensures { result ≡ group_difference_of (data_of self.now.cell.now) (view_data self.now.view.now) self.now.group }
+        ensures { result ≡ group_difference_of (data_of self.now.cell.now) (view_data self.now.over.view.now) self.now.group }
     {
-        first_from(self, 0, self.places.as_slice().len())
+        first_from(self, 0, self.over.as_slice().len())
     }
 }
 
@@ -226,10 +202,10 @@ impl<'a> Compared for GroupPair<'a> {
     ghost use Rattle.scan_cells.specs.Views.{view_data};
     ghost use Rattle.scan_cells.specs.Comparison.{after_difference};
 
-    ghost at = { λ pair. after_difference (data_of pair.cell.now) (view_data pair.view.now) pair.group };
+    ghost at = { λ pair. after_difference (data_of pair.cell.now) (view_data pair.over.view.now) pair.group };
 
     fn is_mixed(&self, point: u32) -> bool {
-        is_mixed(point, self.cell_mask, self.view_mask)
+        self.over.is_mixed(point)
     }
 
     fn difference_at(&self, point: u32) -> Option<Difference> {

@@ -4,6 +4,7 @@
 
 mod answers;
 mod by_points;
+mod compared_places;
 mod comparison;
 mod enables;
 mod functional;

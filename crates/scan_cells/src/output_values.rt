@@ -1,10 +1,8 @@
 //! The values of an output of a cell beside those of its view's.
-ghost use Rattle.std.specs.Prelude.{◌≡◌, ◌<◌, ◌≤◌, length, map, position, unwrap_or, IfSome};
+ghost use Rattle.std.specs.Prelude.{◌≡◌, ◌<◌, length, map, IfSome};
 ghost use Rattle.cell_machine.specs.CellData.{data_of};
 ghost use Rattle.cell_machine.specs.CellTrace.{sources_at};
 ghost use Rattle.scan_cells.specs.Views.{view_data};
-ghost use Rattle.cell_machine.specs.declared.outputs.Source.TheVariants as source;
-ghost use Rattle.scan_cells.specs.Places.{same_source, is_inactive};
 ghost use Rattle.scan_cells.specs.Masks.{IsMask};
 ghost use Rattle.scan_cells.specs.Weights.{weight_of};
 ghost use Rattle.scan_cells.specs.Comparison.{is_on_pin as is_on_pin_of, output_in_view as output_in_view_of, output_support};
@@ -13,11 +11,9 @@ ghost use Rattle.scan_cells.specs.Comparison.{output_difference as output_differ
 
 use crate::answers::Difference;
 use crate::by_points::{Compared, first_from};
-use crate::masks::{is_mixed, mask_of};
+use crate::compared_places::ComparedPlaces;
 use crate::output_table::OutputTable;
-use crate::places::places_of;
-use crate::points::{enable_place, is_inactive_by};
-use crate::sources::{Sources, in_cell, pin_in_cell};
+use crate::sources::{in_cell, pin_in_cell};
 use crate::views::View;
 use cell_machine::{Cell, OutputPin};
 use trit_cubes::Trit;
@@ -26,30 +22,22 @@ use trit_cubes::Trit;
 #[derive(Drop)]
 pub struct OutputPair<'a> {
     cell: &'a Cell,
-    view: &'a View,
     output: usize,
     view_output: usize,
     of_cell: OutputTable<'a>,
     of_view: OutputTable<'a>,
-    places: Sources,
-    /// The place of the scan enable.
-    enable: Option<usize>,
-    cell_mask: u32,
-    view_mask: u32,
+    over: ComparedPlaces<'a>,
     ghost in_cell: { output < length cell.now.outputs },
-    ghost in_view: { view_output < length view.now.cell.outputs },
-    ghost are_places: { places ≡ output_places (data_of cell.now) (view_data view.now) output view_output },
-    ghost is_enable: { enable ≡ position (same_source (source.Pin view.now.enable)) places },
-    ghost few_enable: { unwrap_or enable 0 < 20 },
+    ghost in_view: { view_output < length over.view.now.cell.outputs },
+    ghost are_places: { over.places ≡ output_places (data_of cell.now) (view_data over.view.now) output view_output },
     ghost is_cell: { of_cell.cell.now ≡ cell.now },
-    ghost is_view: { of_view.cell.now ≡ view.now.cell },
+    ghost is_view: { of_view.cell.now ≡ over.view.now.cell },
     ghost is_of_cell: { of_cell.output ≡ output },
     ghost is_of_view: { of_view.output ≡ view_output },
-    ghost weigh_cell: { of_cell.numbering.weights ≡ map (weight_of places) (sources_at (data_of cell.now) output) },
-    ghost weigh_view: { of_view.numbering.weights ≡ map (weight_of places) (output_support (view_data view.now) view_output) },
-    ghost few_places: { length places ≤ 20 },
-    ghost is_cell_mask: { IsMask (view_data view.now) places (sources_at (data_of cell.now) output) cell_mask },
-    ghost is_view_mask: { IsMask (view_data view.now) places (output_support (view_data view.now) view_output) view_mask },
+    ghost weigh_cell: { of_cell.numbering.weights ≡ map (weight_of over.places) (sources_at (data_of cell.now) output) },
+    ghost weigh_view: { of_view.numbering.weights ≡ map (weight_of over.places) (output_support (view_data over.view.now) view_output) },
+    ghost is_cell_mask: { IsMask (view_data over.view.now) over.places (sources_at (data_of cell.now) output) over.cell_mask },
+    ghost is_view_mask: { IsMask (view_data over.view.now) over.places (output_support (view_data over.view.now) view_output) over.view_mask },
 }
 
 impl<'a> OutputPair<'a> {
@@ -58,46 +46,27 @@ impl<'a> OutputPair<'a> {
         requires output { output < length cell.now.outputs }
         requires view_output { view_output < length view.now.cell.outputs }
         ensures cell { result.cell.now ≡ cell.now }
-        ensures view { result.view.now ≡ view.now }
+        ensures view { result.over.view.now ≡ view.now }
         ensures output { result.output ≡ output }
         ensures view_output { result.view_output ≡ view_output }
     {
         let of_cell = cell.output_pin(output).support.as_slice();
         let of_view = in_cell(view, view.cell.output_pin(view_output).support.as_slice());
-        let places = places_of(cell, of_cell, of_view.as_slice());
-        let cell_mask = mask_of(view, places.as_slice(), of_cell);
-        let view_mask = mask_of(view, places.as_slice(), of_view.as_slice());
+        let over = ComparedPlaces::of(cell, view, of_cell, of_view.as_slice());
         OutputPair {
             cell,
-            view,
             output,
             view_output,
-            of_cell: OutputTable::of(cell, output, places.as_slice(), of_cell),
-            of_view: OutputTable::of(
-                &view.cell,
-                view_output,
-                places.as_slice(),
-                of_view.as_slice(),
-            ),
-            enable: enable_place(view, places.as_slice()),
-            places,
-            cell_mask,
-            view_mask,
+            of_cell: OutputTable::of(cell, output, over.as_slice(), of_cell),
+            of_view: OutputTable::of(&view.cell, view_output, over.as_slice(), of_view.as_slice()),
+            over,
         }
-    }
-
-    /// Whether the scan enable is inactive at a point.
-    #[tactic(auto, unfolding(crate::specs::Places::is_inactive))]
-    fn is_inactive(&self, point: u32) -> bool
-        ensures { result ≡ is_inactive (view_data self.now.view.now) self.now.places point }
-    {
-        is_inactive_by(self.view, self.enable, point)
     }
 
     /// The value of the cell's output at a point.
     #[tactic(auto, unfolding(crate::specs::Comparison::cell_output))]
     fn cell_output(&self, point: u32) -> Trit
-        ensures { result ≡ cell_output (data_of self.now.cell.now) (view_data self.now.view.now) self.now.output
+        ensures { result ≡ cell_output (data_of self.now.cell.now) (view_data self.now.over.view.now) self.now.output
             self.now.view_output point }
     {
         self.of_cell.value(point)
@@ -106,7 +75,7 @@ impl<'a> OutputPair<'a> {
     /// The value of the view's output at a point.
     #[tactic(auto, unfolding(crate::specs::Comparison::view_output))]
     fn view_output(&self, point: u32) -> Trit
-        ensures { result ≡ view_output (data_of self.now.cell.now) (view_data self.now.view.now) self.now.output
+        ensures { result ≡ view_output (data_of self.now.cell.now) (view_data self.now.over.view.now) self.now.output
             self.now.view_output point }
     {
         self.of_view.value(point)
@@ -114,10 +83,10 @@ impl<'a> OutputPair<'a> {
 
     /// The difference of the outputs at a point; none where the scan enable is active.
     fn point_difference(&self, point: u32) -> Option<Difference>
-        ensures { result ≡ point_difference (data_of self.now.cell.now) (view_data self.now.view.now) self.now.output
+        ensures { result ≡ point_difference (data_of self.now.cell.now) (view_data self.now.over.view.now) self.now.output
             self.now.view_output point }
     {
-        if !self.is_inactive(point) {
+        if !self.over.is_inactive(point) {
             return None;
         }
         let difference = Difference {
@@ -134,10 +103,10 @@ impl<'a> OutputPair<'a> {
     /// The first difference of the outputs.
     #[tactic(auto, using(crate::proofs::Halves::few_points))]
     fn difference(&self) -> Option<Difference>
-        ensures { result ≡ pair_difference (data_of self.now.cell.now) (view_data self.now.view.now) self.now.output
+        ensures { result ≡ pair_difference (data_of self.now.cell.now) (view_data self.now.over.view.now) self.now.output
             self.now.view_output }
     {
-        first_from(self, 0, self.places.as_slice().len())
+        first_from(self, 0, self.over.as_slice().len())
     }
 }
 
@@ -146,10 +115,10 @@ impl<'a> Compared for OutputPair<'a> {
     ghost use Rattle.scan_cells.specs.Views.{view_data};
     ghost use Rattle.scan_cells.specs.Comparison.{point_difference};
 
-    ghost at = { λ pair. point_difference (data_of pair.cell.now) (view_data pair.view.now) pair.output pair.view_output };
+    ghost at = { λ pair. point_difference (data_of pair.cell.now) (view_data pair.over.view.now) pair.output pair.view_output };
 
     fn is_mixed(&self, point: u32) -> bool {
-        is_mixed(point, self.cell_mask, self.view_mask)
+        self.over.is_mixed(point)
     }
 
     fn difference_at(&self, point: u32) -> Option<Difference> {

@@ -14,7 +14,7 @@ later b x y z h k e = e ∙ ap (λ o. or_else o y) (sym k) ∙ ap (λ c. cond c 
 pub returns-in-None : goal.returns-in-None
 returns-in-None c =
     let cell = data_of c.args.self.now.cell.now in
-    let view = view_data c.args.self.now.view.now in
+    let view = view_data c.args.self.now.over.view.now in
     let g = c.args.self.now.group in
     let idle : is_inactive view (step_places cell view g) c.args.after ≡ true =
     ap (λ xs. is_inactive view xs c.args.after) (sym c.args.self.now.are_places) ∙ sym c.is_inactive.ensures ∙ c.if-not-is_inactive.false in

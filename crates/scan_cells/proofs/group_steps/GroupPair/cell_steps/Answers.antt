@@ -11,10 +11,10 @@ unfolding cell_step
 returns c =
     let self = c.args.self.now in
     let cell = data_of self.cell.now in
-    let view = view_data self.view.now in
+    let view = view_data self.over.view.now in
     let g = self.group in
     let same = c.steps.ensures
-    ∙ steps_weighed (data_of self.of_cell.table.cell.now) cell self.of_cell.table.group g self.places (step_places cell view g)
+    ∙ steps_weighed (data_of self.of_cell.table.cell.now) cell self.of_cell.table.group g self.over.places (step_places cell view g)
     (cell_support cell g) self.of_cell.numbering.weights c.args.before c.args.after (ap data_of self.is_cell) self.is_of_cell
     self.weigh_cell self.are_places in
     record { «zero» = ap (λ (steps : StateSteps). steps.zero) same; one = ap (λ (steps : StateSteps). steps.one) same }

@@ -9,7 +9,7 @@ use Rattle.scan_cells.proofs.group_steps.GroupPair.changed_difference.Given as g
 -- the first one is among the rest
 abbrev pub invariant-loop-k : goal.invariant-loop-k
 invariant-loop-k l =
-    first_some (λ k. change_difference (data_of l.self.cell.now) (view_data l.self.view.now) l.self.group l.after (changed_at l.after k))
-    (range_with_len l.k (length l.self.places - l.k))
-    ≡ first_some (λ k. change_difference (data_of l.self.cell.now) (view_data l.self.view.now) l.self.group l.after (changed_at l.after k))
-    (range_with_len 0 (length l.self.places))
+    first_some (λ k. change_difference (data_of l.self.cell.now) (view_data l.self.over.view.now) l.self.group l.after (changed_at l.after k))
+    (range_with_len l.k (length l.self.over.places - l.k))
+    ≡ first_some (λ k. change_difference (data_of l.self.cell.now) (view_data l.self.over.view.now) l.self.group l.after (changed_at l.after k))
+    (range_with_len 0 (length l.self.over.places))

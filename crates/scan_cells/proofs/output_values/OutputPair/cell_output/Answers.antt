@@ -11,8 +11,8 @@ unfolding cell_output
 returns c =
     let self = c.args.self.now in
     let cell = data_of self.cell.now in
-    let view = view_data self.view.now in
+    let view = view_data self.over.view.now in
     c.value.ensures
-    ∙ output_weighed (data_of self.of_cell.cell.now) cell self.of_cell.output self.output self.places
+    ∙ output_weighed (data_of self.of_cell.cell.now) cell self.of_cell.output self.output self.over.places
     (output_places cell view self.output self.view_output) (sources_at cell self.output) self.of_cell.numbering.weights c.args.point
     (ap data_of self.is_cell) self.is_of_cell self.weigh_cell self.are_places

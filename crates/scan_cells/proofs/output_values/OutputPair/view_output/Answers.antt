@@ -10,8 +10,8 @@ unfolding view_output
 returns c =
     let self = c.args.self.now in
     let cell = data_of self.cell.now in
-    let view = view_data self.view.now in
+    let view = view_data self.over.view.now in
     c.value.ensures
-    ∙ output_weighed (data_of self.of_view.cell.now) view.cell self.of_view.output self.view_output self.places
+    ∙ output_weighed (data_of self.of_view.cell.now) view.cell self.of_view.output self.view_output self.over.places
     (output_places cell view self.output self.view_output) (output_support view self.view_output) self.of_view.numbering.weights c.args.point
     (ap data_of self.is_view) self.is_of_view self.weigh_view self.are_places

@@ -7,7 +7,7 @@ use Rattle.scan_cells.proofs.output_values.OutputPairCompared.is_mixed.Goals as 
 pub returns : goal.returns
 returns c = λ mixed later has none.
     let self = c.args.self.now in
-    mixed_outputs (data_of self.cell.now) (view_data self.view.now) self.output self.view_output later self.cell_mask self.view_mask
-    self.places self.are_places self.is_cell_mask self.is_view_mask
-    (outside_later c.args.point later self.cell_mask has (c.is_mixed.ensures.first mixed))
-    (outside_later c.args.point later self.view_mask has (c.is_mixed.ensures.second mixed)) none
+    mixed_outputs (data_of self.cell.now) (view_data self.over.view.now) self.output self.view_output later self.over.cell_mask self.over.view_mask
+    self.over.places self.are_places self.is_cell_mask self.is_view_mask
+    (outside_later c.args.point later self.over.cell_mask has (c.is_mixed.ensures.first mixed))
+    (outside_later c.args.point later self.over.view_mask has (c.is_mixed.ensures.second mixed)) none

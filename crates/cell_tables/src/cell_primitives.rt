@@ -58,8 +58,8 @@ fn group_inputs(cell: &Cell, group: usize) -> usize
     if has_notifier(cell) { pins + 1 } else { pins }
 }
 
-/// Whether the primitives of groups have a notifier: the cell has checks.
-fn has_notifier(cell: &Cell) -> bool
+/// Whether the tables of groups have a column for the checks, that of a notifier or of a violation: the cell has checks.
+pub fn has_notifier(cell: &Cell) -> bool
     ensures { result ≡ has_notifier (data_of cell.now) }
 {
     !cell.checks.is_empty()
@@ -116,8 +116,8 @@ fn outputs_before(outputs: &[OutputPin], count: usize) -> usize
     found
 }
 
-/// Whether the output depends on anything.
-fn has_sources(output: &OutputPin) -> bool
+/// Whether an output depends on anything.
+pub fn has_sources(output: &OutputPin) -> bool
     ensures { result ≡ has_sources output.now }
 {
     !output.support.is_empty()

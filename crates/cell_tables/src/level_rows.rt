@@ -2,7 +2,7 @@
 ghost use Rattle.std.specs.Prelude.{◌≡◌, ◌++◌, map, IfOk, OnOk};
 ghost use Rattle.trit_cubes.specs.declared.trits.Trit.TheVariants as trit;
 ghost use Rattle.cell_machine.specs.CellData.{data_of};
-ghost use Rattle.udp_tables.specs.Tables.{or_row};
+ghost use Rattle.udp_tables.specs.Tables.{value_rows, or_row};
 ghost use Rattle.udp_tables.specs.Edges.{rows_by, level_row_by};
 ghost use Rattle.udp_tables.specs.CellPrimitives.{part_places, part_value, IsPart};
 ghost use Rattle.cell_tables.specs.Cubes.{rows_of_function};
@@ -38,8 +38,7 @@ pub(crate) fn rows_of_function<M: LevelRows>(
     ensures { IfOk result (λ rows. rows ≡ rows_of_function (level_row_by M.Symbol.of_place (M.level_row maker)) cubes.now) }
 {
     let mut rows = Items::new(alloc);
-    add_level_rows(alloc, &mut rows, maker, Trit::One, cubes.ones.as_slice())?;
-    add_level_rows(alloc, &mut rows, maker, Trit::Zero, cubes.zeros.as_slice())?;
+    add_value_rows(alloc, &mut rows, maker, cubes)?;
     let rows = or_free_row(alloc, rows, maker, &cubes.free)?;
     Ok(rows)
 }
@@ -60,8 +59,22 @@ pub(crate) fn or_free_row<M: LevelRows>(
     Ok(rows)
 }
 
+/// Adds the rows of levels that give 1, one for each cube of a function, and then those that give 0.
+pub(crate) fn add_value_rows<M: LevelRows>(
+    alloc: Global,
+    rows: &mut Items<M::Row>,
+    maker: M,
+    cubes: &FunctionCubes,
+) -> Result<(), AllocError>
+    ensures { OnOk result (rows.new ≡ rows.old
+        ++ value_rows (level_row_by M.Symbol.of_place (M.level_row maker)) cubes.now.ones cubes.now.zeros) }
+{
+    add_level_rows(alloc, rows, maker, Trit::One, cubes.ones.as_slice())?;
+    add_level_rows(alloc, rows, maker, Trit::Zero, cubes.zeros.as_slice())
+}
+
 /// Adds a row of levels with this value for each cube.
-pub(crate) fn add_level_rows<M: LevelRows>(
+fn add_level_rows<M: LevelRows>(
     alloc: Global,
     rows: &mut Items<M::Row>,
     maker: M,

@@ -20,7 +20,7 @@ mod step_rows;
 mod timing_checks;
 
 pub use cell_conditions::condition_number;
-pub use cell_primitives::{part_udp, sequential_udp};
+pub use cell_primitives::{has_notifier, has_sources, part_udp, sequential_udp};
 pub use cubes::{CellCubes, ChangeCube, FunctionCubes, GroupCubes};
 pub use generation::function_udp;
 pub use level_rows::part_rows;

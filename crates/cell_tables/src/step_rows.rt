@@ -7,7 +7,7 @@ ghost use Rattle.cell_tables.specs.Cubes.{asked_state, change_row, rows_of_group
 ghost use Rattle.cell_tables.specs.declared.cubes.ChangeCube.{ChangeCube as ChangeData};
 
 use crate::cubes::{ChangeCube, GroupCubes};
-use crate::level_rows::add_level_rows;
+use crate::level_rows::add_value_rows;
 use crate::model_source::ModelSource;
 use sqlite_items::Items;
 use std::alloc::{AllocError, Global};
@@ -44,10 +44,8 @@ fn rows_of_group<M: StepRows>(
         (keep_row_by M.Symbol.of_place M.of_change (M.change_row maker)) cubes.now) }
 {
     let mut rows = Items::new(alloc);
-    let forced = &cubes.forced;
-    add_level_rows(alloc, &mut rows, maker, Trit::One, forced.ones.as_slice())?;
-    add_level_rows(alloc, &mut rows, maker, Trit::Zero, forced.zeros.as_slice())?;
-    maker.add_report_rows(alloc, &mut rows, forced.free.len())?;
+    add_value_rows(alloc, &mut rows, maker, &cubes.forced)?;
+    maker.add_report_rows(alloc, &mut rows, cubes.forced.free.len())?;
     add_change_rows(alloc, &mut rows, maker, cubes.changes.as_slice())?;
     Ok(rows)
 }

@@ -6,12 +6,11 @@ ghost use Rattle.specify_blocks.specs.Generated.{wires_of, notifier_of, conditio
 use crate::instances::instances_of;
 use crate::model::VModule;
 use crate::names::{add_numbered, module_name, notifier_name};
-use crate::nets::has_notifier;
 use crate::ports::verilog_ports;
 use crate::primitives::primitives_of;
 use crate::timing::{module_checks, paths_of};
 use cell_machine::Cell;
-use cell_tables::ModelSource;
+use cell_tables::{ModelSource, has_notifier};
 use sqlite_items::Items;
 use std::alloc::{AllocError, Global};
 

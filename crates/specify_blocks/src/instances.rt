@@ -2,7 +2,6 @@
 ghost use Rattle.std.specs.Prelude.{◌≡◌, ◌≤◌, ◌<◌, ◌^◌, ◌++◌, map, IfOk, OnOk};
 ghost use Rattle.bool_functions.specs.Tree.{name_bound};
 ghost use Rattle.cell_machine.specs.CellData.{data_of};
-ghost use Rattle.udp_tables.specs.CellPrimitives.{has_sources};
 ghost use Rattle.specify_blocks.specs.Generated.{each_from, group_instance, condition_wire, condition_instance, output_instance};
 ghost use Rattle.specify_blocks.specs.Generated.{output_instances, instances_of};
 
@@ -10,7 +9,7 @@ use crate::model::{Instance, VNet};
 use crate::nets::{add_notifier, pin_net, pin_nets, source_nets};
 use bool_functions::Function;
 use cell_machine::{Cell, OutputPin, StateGroup, Values};
-use cell_tables::ModelSource;
+use cell_tables::{ModelSource, has_sources};
 use sqlite_items::Items;
 use std::alloc::{AllocError, Global};
 
@@ -141,11 +140,4 @@ fn output_instance(
             one: Values::new().value(&output.function),
         })
     }
-}
-
-/// Whether an output depends on anything.
-pub(crate) fn has_sources(output: &OutputPin) -> bool
-    ensures { result ≡ has_sources output.now }
-{
-    output.support.len() > 0
 }

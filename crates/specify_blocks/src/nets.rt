@@ -6,6 +6,7 @@ ghost use Rattle.specify_blocks.specs.Generated.{pin_net, source_net, notifier_n
 
 use crate::model::VNet;
 use cell_machine::{Cell, Pin, Source};
+use cell_tables::has_notifier;
 use sqlite_items::Items;
 use std::alloc::{AllocError, Global};
 use udp_tables::port_number;
@@ -65,11 +66,4 @@ pub(crate) fn add_notifier(nets: &mut Items<VNet>, cell: &Cell) -> Result<(), Al
         nets.push(VNet::Notifier)?;
     }
     Ok(())
-}
-
-/// Whether the module of a cell has a register of the checks: the cell has some.
-pub(crate) fn has_notifier(cell: &Cell) -> bool
-    ensures { result ≡ has_notifier (data_of cell.now) }
-{
-    cell.checks.len() > 0
 }

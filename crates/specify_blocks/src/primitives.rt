@@ -3,8 +3,7 @@ ghost use Rattle.std.specs.Prelude.{◌≡◌, ◌++◌, IfOk, OnOk};
 ghost use Rattle.cell_machine.specs.CellData.{data_of};
 ghost use Rattle.specify_blocks.specs.Generated.{group_primitives, condition_primitives, output_primitives, primitives_of};
 
-use crate::instances::has_sources;
-use cell_tables::{ModelSource, part_udp, sequential_udp};
+use cell_tables::{ModelSource, has_sources, part_udp, sequential_udp};
 use sqlite_items::Items;
 use std::alloc::AllocError;
 use udp_tables::{Part, Udp};

@@ -3,17 +3,17 @@ ghost use Rattle.std.specs.Prelude.{◌≡◌, ◌<◌, ◌≤◌, ◌++◌, map
 ghost use Rattle.bool_functions.specs.Tree.{name_bound};
 ghost use Rattle.cell_machine.specs.CellData.{data_of};
 ghost use Rattle.vital_tables.specs.udp_tables.Conditions.{conditions_of};
-ghost use Rattle.vital_tables.specs.udp_tables.CellPrimitives.{condition_tree, has_sources};
+ghost use Rattle.vital_tables.specs.udp_tables.CellPrimitives.{condition_tree};
 ghost use Rattle.vital_models.specs.Generated.{ports_at, state_of, states_of, condition_of, source_at, value_of_output};
 ghost use Rattle.vital_models.specs.Generated.{output_of, entity_of};
 
 use crate::model::{OutValue, VEntity, VOutput, VState, VTruth};
 use crate::ports::vital_ports;
-use crate::tables::{condition_table, has_violation, output_table, state_table};
+use crate::tables::{condition_table, output_table, state_table};
 use crate::timing::{entity_checks, paths_to};
 use bool_functions::Function;
 use cell_machine::{OutputPin, Pin, Source, Values};
-use cell_tables::ModelSource;
+use cell_tables::{ModelSource, has_notifier, has_sources};
 use sqlite_items::Items;
 use std::alloc::{AllocError, Global};
 use vital_tables::primitives::port_number;
@@ -74,7 +74,7 @@ fn state_of(from: &ModelSource, group: usize) -> Result<VState, AllocError>
     let support = cell.group(group).support.as_slice();
     Ok(VState {
         table: state_table(from, group)?,
-        violation: has_violation(cell),
+        violation: has_notifier(cell),
         inputs: ports_at(alloc, cell.pins.as_slice(), support)?,
     })
 }
@@ -160,13 +160,6 @@ fn value_of(from: &ModelSource, number: usize, output: &OutputPin) -> Result<Out
     } else {
         Ok(OutValue::Constant(Values::new().value(&output.function)))
     }
-}
-
-/// Whether an output depends on anything.
-fn has_sources(output: &OutputPin) -> bool
-    ensures { result ≡ has_sources output.now }
-{
-    output.support.len() > 0
 }
 
 /// The sources with the ports of their pins.

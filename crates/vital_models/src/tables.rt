@@ -3,27 +3,20 @@ ghost use Rattle.std.specs.Prelude.{◌≡◌, ◌<◌, length, slice_get, Some,
 ghost use Rattle.cell_machine.specs.CellData.{data_of};
 ghost use Rattle.vital_tables.specs.udp_tables.Conditions.{conditions_of};
 ghost use Rattle.vital_tables.specs.udp_tables.CellPrimitives.{condition_tree};
-ghost use Rattle.vital_models.specs.Generated.{has_violation, state_table, condition_table, output_table};
+ghost use Rattle.vital_models.specs.Generated.{state_table, condition_table, output_table};
 
-use cell_machine::{Cell, OutputPin};
-use cell_tables::{ModelSource, group_rows, part_rows};
+use cell_machine::OutputPin;
+use cell_tables::{ModelSource, group_rows, has_notifier, part_rows};
 use std::alloc::AllocError;
 use vital_tables::primitives::Part;
 use vital_tables::{StateTableRows, TruthTable, TruthTableRows, VStateTable, state_rows};
-
-/// Whether state tables have a column of the violation: the cell has checks.
-pub(crate) fn has_violation(cell: &Cell) -> bool
-    ensures { result ≡ has_violation (data_of cell.now) }
-{
-    cell.checks.len() > 0
-}
 
 /// The state table of a group over its support.
 pub(crate) fn state_table(from: &ModelSource, group: usize) -> Result<VStateTable, AllocError>
     requires { group < length from.now.cell.now.groups }
     ensures { IfOk result (λ table. table ≡ state_table (data_of from.now.cell.now) group) }
 {
-    let violation = has_violation(from.cell);
+    let violation = has_notifier(from.cell);
     let pins = from.cell.group(group).support.len();
     let decisive = group_rows(from, group, StateTableRows { violation })?;
     Ok(VStateTable {

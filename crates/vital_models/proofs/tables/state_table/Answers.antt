@@ -19,8 +19,8 @@ returns c =
     = c.len-pins.ensures ∙ sym (ap (λ o. length (option_map_or (λ (group : StateGroup). group.support) o [])) c.group.ensures.is) in
     let decisive =
     c.in_ok-decisive.ensures
-    ∙ ap (λ v. decisive_rows (level_row v) (violation_rows v) (edge_row v) (keep_row v) n step) c.has_violation-violation.ensures
+    ∙ ap (λ v. decisive_rows (level_row v) (violation_rows v) (edge_row v) (keep_row v) n step) c.has_notifier-violation.ensures
     ∙ append_assoc (forced_rows (level_row checks) n step) (violation_rows checks n)
     (each_below (compact_edge_rows (edge_row checks) (keep_row checks) step n) n) in
     ap (λ rows. record { rows = rows })
-    (c.in_ok-state_rows.ensures ∙ (λ i. state_rows_around (c.has_violation-violation.ensures i) (pins i) (decisive i)))
+    (c.in_ok-state_rows.ensures ∙ (λ i. state_rows_around (c.has_notifier-violation.ensures i) (pins i) (decisive i)))

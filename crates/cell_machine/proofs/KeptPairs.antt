@@ -20,8 +20,8 @@ use Rattle.cell_machine.specs.Names.{has}
 use Rattle.cell_machine.specs.Inputs.{input_number}
 use Rattle.cell_machine.specs.Outputs.{is_zero}
 use Rattle.cell_machine.specs.Delay.{Path, least, active_delays}
-use Rattle.cell_machine.specs.CellTrace.{inputs_of, same_pins, is_off, is_quiet, is_active, path_of, is_between}
-use Rattle.cell_machine.specs.KeptConditions.{condition_inputs, arc_inputs, kept_unless}
+use Rattle.cell_machine.specs.CellTrace.{inputs_of, condition_names, arc_names, same_pins, is_off, is_quiet, is_active, path_of, is_between}
+use Rattle.cell_machine.specs.KeptConditions.{names_input, kept_unless}
 use Rattle.cell_machine.specs.Places.{places_from, entries_at, AreBelow}
 use Rattle.cell_machine.specs.ArcDelay.{least_delays}
 use Rattle.cell_machine.specs.ArcPlaces.{arcs_between, arcs_from, names_at, first_naming, firsts_naming}
@@ -34,11 +34,11 @@ use Rattle.cell_machine.proofs.ArcDelays.{some_at}
 
 abbrev AllUnnamed : List Pin → ℕ → List Arc → Type 0
 AllUnnamed pins input [] = ⊤
-AllUnnamed pins input (x ∷ xs) = (has (condition_inputs pins x.condition) input ≡ false) × AllUnnamed pins input xs
+AllUnnamed pins input (x ∷ xs) = (names_input pins input (condition_names x.condition) ≡ false) × AllUnnamed pins input xs
 
 off-stays :
     (pins : List Pin) (v : List Trit) (input : ℕ) (to : Trit) (condition : Option Node)
-    → has (condition_inputs pins condition) input ≡ false → is_off pins (set v input to) condition ≡ is_off pins v condition
+    → names_input pins input (condition_names condition) ≡ false → is_off pins (set v input to) condition ≡ is_off pins v condition
 off-stays pins v input to None unnamed = refl
 off-stays pins v input to (Some f) unnamed = ap is_zero (condition-stays pins v (Some f) input to unnamed)
 
@@ -54,7 +54,7 @@ quiet-stays pins v input to arc (x ∷ arcs) unnamed =
 
 active-stays :
     (pins : List Pin) (v : List Trit) (input : ℕ) (to : Trit) (arcs : List Arc) (arc : Arc) (condition : Option Node)
-    → AllUnnamed pins input arcs → has (condition_inputs pins condition) input ≡ false
+    → AllUnnamed pins input arcs → names_input pins input (condition_names condition) ≡ false
     → is_active pins arcs (set v input to) arc condition ≡ is_active pins arcs v arc condition
 active-stays pins v input to arcs arc None all unnamed = quiet-stays pins v input to arc arcs all
 active-stays pins v input to arcs arc (Some f) all unnamed =
@@ -82,14 +82,14 @@ delays-stay pins v input to arcs unnamed =
 
 unnamed-one :
     (pins : List Pin) (input : ℕ) (x : Arc) (rest : List Arc) (b : Bool)
-    → (b ≡ true → has (condition_inputs pins x.condition) input ≡ false) → AllUnnamed pins input rest
+    → (b ≡ true → names_input pins input (condition_names x.condition) ≡ false) → AllUnnamed pins input rest
     → AllUnnamed pins input (cond b (x ∷ rest) rest)
 unnamed-one pins input x rest true here others = (here refl, others)
 unnamed-one pins input x rest false here others = others
 
 unnamed-pass :
     (pins : List Pin) (input : ℕ) (t : Arc → Bool) (arcs : List Arc)
-    → ((j : ℕ) (x : Arc) → slice_get arcs j ≡ Some x → t x ≡ true → has (condition_inputs pins x.condition) input ≡ false)
+    → ((j : ℕ) (x : Arc) → slice_get arcs j ≡ Some x → t x ≡ true → names_input pins input (condition_names x.condition) ≡ false)
     → AllUnnamed pins input (filter t arcs)
 unnamed-pass pins input t [] each = tt
 unnamed-pass pins input t (x ∷ arcs) each =
@@ -116,13 +116,13 @@ first-here k i true e none = sym (ap (λ c. c || false) e) ∙ none
 first-here k i false e none = refl
 
 first-none :
-    (named : List (List ℕ)) (input : ℕ) (places : List ℕ) (i : ℕ)
-    → slice_get places 0 ≡ Some i → has (first_naming named input places) i ≡ false
-    → list_any (names_at named input) places ≡ false
-first-none named input [] i e none = refl
-first-none named input (k ∷ places) i e none =
+    (pins : List Pin) (named : List (List ℕ)) (input : ℕ) (places : List ℕ) (i : ℕ)
+    → slice_get places 0 ≡ Some i → has (first_naming pins named input places) i ≡ false
+    → list_any (names_at pins named input) places ≡ false
+first-none pins named input [] i e none = refl
+first-none pins named input (k ∷ places) i e none =
     let same : k ≡ i = cc in
-    first-here k i (list_any (names_at named input) (k ∷ places)) (ap (eqb k) (sym same) ∙ eqb-self k) none
+    first-here k i (list_any (names_at pins named input) (k ∷ places)) (ap (eqb k) (sym same) ∙ eqb-self k) none
 
 -- a list that is not among others stands in none of them
 flat-none :
@@ -150,28 +150,28 @@ pair-unnamed :
     → slice_get (arcs_between cell input output.pin) 0 ≡ Some i → has (firsts_naming cell changed) i ≡ false
     → AllUnnamed cell.pins changed (filter (is_between cell.pins input output.pin) cell.arcs)
 pair-unnamed cell changed input place output i is_input is_output first none =
-    let named : List (List ℕ) = arc_inputs cell in
+    let named : List (List ℕ) = arc_names cell in
     let t : Arc → Bool = is_between cell.pins input output.pin in
     let between = λ (o : OutputPin). arcs_between cell input o.pin in
     let row = range-get (arcs_from cell) (inputs_of cell) input is_input in
     let list : slice_get (arcs_from cell input) place ≡ Some (arcs_between cell input output.pin)
     = slice_get-map between cell.outputs place ∙ ap (option_map between) is_output in
-    let of_row = flat-none (flat_map (first_naming named changed)) (map (arcs_from cell) (range_with_len 0 (inputs_of cell))) i input
+    let of_row = flat-none (flat_map (first_naming cell.pins named changed)) (map (arcs_from cell) (range_with_len 0 (inputs_of cell))) i input
     (arcs_from cell input) none row in
-    let of_list = flat-none (first_naming named changed) (arcs_from cell input) i place (arcs_between cell input output.pin) of_row list in
-    let any = first-none named changed (arcs_between cell input output.pin) i first of_list in
+    let of_list = flat-none (first_naming cell.pins named changed) (arcs_from cell input) i place (arcs_between cell input output.pin) of_row list in
+    let any = first-none cell.pins named changed (arcs_between cell input output.pin) i first of_list in
     unnamed-pass cell.pins changed t cell.arcs
     (λ j x e p.
     let zeroed : 0 + j ≡ j = omega arith in
     let placed : has (arcs_between cell input output.pin) j ≡ true
     = ap (has (arcs_between cell input output.pin)) (sym zeroed) ∙ has-from t 0 cell.arcs j x e p in
-    let inputs : slice_get named j ≡ Some (condition_inputs cell.pins x.condition)
-    = slice_get-map (λ (arc : Arc). condition_inputs cell.pins arc.condition) cell.arcs j
-    ∙ ap (option_map (λ (arc : Arc). condition_inputs cell.pins arc.condition)) e in
-    let unnamed : list_any (λ is. has is changed) (option_to_list (slice_get named j)) ≡ false
-    = none-any (names_at named changed) (arcs_between cell input output.pin) j any placed in
-    (or_parts (has (condition_inputs cell.pins x.condition) changed) false
-    (sym (ap (λ o. list_any (λ is. has is changed) (option_to_list o)) inputs) ∙ unnamed)).0)
+    let names : slice_get named j ≡ Some (condition_names x.condition)
+    = slice_get-map (λ (arc : Arc). condition_names arc.condition) cell.arcs j
+    ∙ ap (option_map (λ (arc : Arc). condition_names arc.condition)) e in
+    let unnamed : list_any (names_input cell.pins changed) (option_to_list (slice_get named j)) ≡ false
+    = none-any (names_at cell.pins named changed) (arcs_between cell input output.pin) j any placed in
+    (or_parts (names_input cell.pins changed (condition_names x.condition)) false
+    (sym (ap (λ o. list_any (names_input cell.pins changed) (option_to_list o)) names) ∙ unnamed)).0)
 
 -- what is kept of two pins is right when an input changes
 pub delays_changed :
@@ -296,7 +296,7 @@ first-below n places false below = tt
 
 from-row :
     (cell : CellData) (input q o : ℕ) (places : List ℕ) → slice_get (arcs_from cell q) o ≡ Some places
-    → AllBelow (length cell.arcs) (first_naming (arc_inputs cell) input places)
+    → AllBelow (length cell.arcs) (first_naming cell.pins (arc_names cell) input places)
 from-row cell input q o places f =
     let between = λ (output : OutputPin). arcs_between cell q output.pin in
     let inside : o < length cell.outputs = omega (arith, slice_get_within (arcs_from cell q) o places f, length-map cell.outputs between) in
@@ -304,17 +304,17 @@ from-row cell input q o places f =
     let found : Some places ≡ Some (between output.0)
     = sym f ∙ slice_get-map between cell.outputs o ∙ ap (option_map between) output.1 in
     let same : places ≡ between output.0 = cc in
-    first-below (length cell.arcs) places (list_any (names_at (arc_inputs cell) input) places)
+    first-below (length cell.arcs) places (list_any (names_at cell.pins (arc_names cell) input) places)
     (subst (AreBelow (length cell.arcs)) (sym same) (places-below (is_between cell.pins q output.0.pin) cell.arcs))
 
 pub firsts-below : (cell : CellData) (input : ℕ) → AreBelow (length cell.arcs) (firsts_naming cell input)
 firsts-below cell input =
     let n : ℕ = length cell.arcs in
-    let named : List (List ℕ) = arc_inputs cell in
+    let named : List (List ℕ) = arc_names cell in
     below-all n (firsts_naming cell input)
-    (below-flat n (flat_map (first_naming named input)) (map (arcs_from cell) (range_with_len 0 (inputs_of cell)))
+    (below-flat n (flat_map (first_naming cell.pins named input)) (map (arcs_from cell) (range_with_len 0 (inputs_of cell)))
     (λ j row e.
     let is = range-at (arcs_from cell) (inputs_of cell) j (map (arcs_from cell) (range_with_len 0 (inputs_of cell))) row refl e in
-    subst (λ lists. AllBelow n (flat_map (first_naming named input) lists)) (sym is)
-    (below-flat n (first_naming named input) (arcs_from cell j)
+    subst (λ lists. AllBelow n (flat_map (first_naming cell.pins named input) lists)) (sym is)
+    (below-flat n (first_naming cell.pins named input) (arcs_from cell j)
     (λ o places f. from-row cell input j o places f))))

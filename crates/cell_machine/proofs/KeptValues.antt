@@ -20,8 +20,8 @@ use Rattle.cell_machine.specs.CellData.{CellData}
 use Rattle.cell_machine.specs.Names.{has}
 use Rattle.cell_machine.specs.Inputs.{input_number, pin_values}
 use Rattle.cell_machine.specs.Outputs.{condition_at, is_zero}
-use Rattle.cell_machine.specs.CellTrace.{condition_names, is_off, is_active}
-use Rattle.cell_machine.specs.KeptConditions.{arc_condition, condition_inputs, arc_inputs, AreKept, AreConditions, kept_unless}
+use Rattle.cell_machine.specs.CellTrace.{condition_names, arc_names, is_off, is_active}
+use Rattle.cell_machine.specs.KeptConditions.{arc_condition, names_input, AreKept, AreConditions, kept_unless}
 use Rattle.cell_machine.specs.ArcPlaces.{arcs_naming}
 use Rattle.cell_machine.proofs.ArcDelays.{some_at, drop-at}
 use Rattle.cell_machine.proofs.EachLemmas.{get_or-default}
@@ -103,17 +103,17 @@ forget_more kept next places j d i inside written =
 
 values-stay :
     (pins : List Pin) (v : List Trit) (names : List ℕ) (input : ℕ) (to : Trit)
-    → has (map (input_number pins) names) input ≡ false → pin_values pins (set v input to) names ≡ pin_values pins v names
+    → names_input pins input names ≡ false → pin_values pins (set v input to) names ≡ pin_values pins v names
 values-stay pins v [] input to e = refl
 values-stay pins v (name ∷ names) input to e =
-    let parts = or_parts (input_number pins name == input) (has (map (input_number pins) names) input) e in
+    let parts = or_parts (input_number pins name == input) (names_input pins input names) e in
     let here = get_or-set_other v input (input_number pins name) to Unknown (eqb-false (input_number pins name) input parts.0) in
     let rest = values-stay pins v names input to parts.1 in
     λ i. here i ∷ rest i
 
 pub condition-stays :
     (pins : List Pin) (v : List Trit) (condition : Option Node) (input : ℕ) (to : Trit)
-    → has (condition_inputs pins condition) input ≡ false
+    → names_input pins input (condition_names condition) ≡ false
     → arc_condition pins (set v input to) condition ≡ arc_condition pins v condition
 condition-stays pins v None input to e = refl
 condition-stays pins v (Some f) input to e =
@@ -135,10 +135,10 @@ kept_changed cell v kept next input to h are long = (
   long ∙ h.0,
   λ i value e arc at.
       let left = unless-some (has (arcs_naming cell input) i) (get_or kept i None) value (sym (are i) ∙ e) in
-      let inputs : slice_get (arc_inputs cell) i ≡ Some (condition_inputs cell.pins arc.condition)
-      = slice_get-map (λ (arc : Arc). condition_inputs cell.pins arc.condition) cell.arcs i
-      ∙ ap (option_map (λ (arc : Arc). condition_inputs cell.pins arc.condition)) at in
-      let unnamed = not-placed (λ inputs. has inputs input) (arc_inputs cell) i (condition_inputs cell.pins arc.condition) inputs left.0 in
+      let names : slice_get (arc_names cell) i ≡ Some (condition_names arc.condition)
+      = slice_get-map (λ (arc : Arc). condition_names arc.condition) cell.arcs i
+      ∙ ap (option_map (λ (arc : Arc). condition_names arc.condition)) at in
+      let unnamed = not-placed (names_input cell.pins input) (arc_names cell) i (condition_names arc.condition) names left.0 in
       h.1 i value left.1 arc at ∙ sym (condition-stays cell.pins v arc.condition input to unnamed),
 )
 
@@ -150,14 +150,6 @@ range-at f n i made x are found =
     let here : 0 + i ≡ i = omega arith in
     let within : i < n = omega (arith, slice_get_within made i x found, ap length are, length-map-range_with_len f 0 n) in
     sym (get_or_from_slice_get made i x x found) ∙ ap (λ xs. get_or xs i x) are ∙ get_or-map-range_with_len f 0 n i i x within here
-
--- the inputs of the pins that conditions name
-pub named_inputs :
-    (pins : List Pin) (arcs : List Arc)
-    → map (map (input_number pins)) (map (λ (arc : Arc). condition_names arc.condition) arcs) ≡ map
-    (λ (arc : Arc). condition_inputs pins arc.condition) arcs
-named_inputs pins [] = refl
-named_inputs pins (arc ∷ arcs) = ap (λ rest. condition_inputs pins arc.condition ∷ rest) (named_inputs pins arcs)
 
 -- an arc with a condition
 pub active_by :

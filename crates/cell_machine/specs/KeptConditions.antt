@@ -1,26 +1,22 @@
 -- Values of the conditions of arcs that are kept as long as no input changes that they name.
-use Rattle.std.specs.Prelude.{◌≡◌, ℕ, Bool, true, false, List, length, map, Option, Some, None, slice_get, slice_index_or}
+use Rattle.std.specs.Prelude.{◌≡◌, ℕ, Bool, true, false, List, length, ◌==◌, Option, Some, None, slice_get, slice_index_or}
+use Rattle.std.specs.List.{list_any}
 use Rattle.trit_cubes.specs.declared.trits.Trit.{Trit}
 use Rattle.trit_cubes.specs.declared.trits.Trit.TheVariants.{Zero}
 use Rattle.bool_functions.specs.declared.tree.Node.{Node}
 use Rattle.cell_machine.specs.declared.pins.Pin.{Pin}
 use Rattle.cell_machine.specs.declared.arcs.Arc.{Arc}
-use Rattle.cell_machine.specs.CellData.{CellData}
 use Rattle.cell_machine.specs.Inputs.{input_number}
-use Rattle.cell_machine.specs.CellTrace.{condition_value, condition_names}
+use Rattle.cell_machine.specs.CellTrace.{condition_value}
 
 -- the value of the condition of an arc; an arc without one counts as one whose condition is 0
 abbrev pub arc_condition : List Pin → List Trit → Option Node → Trit
 arc_condition pins v None = Zero
 arc_condition pins v (Some f) = condition_value pins v f
 
--- the numbers of the inputs that a condition names
-abbrev pub condition_inputs : List Pin → Option Node → List ℕ
-condition_inputs pins condition = map (input_number pins) (condition_names condition)
-
--- the same of each arc of a cell
-abbrev pub arc_inputs : CellData → List (List ℕ)
-arc_inputs cell = map (λ (arc : Arc). condition_inputs cell.pins arc.condition) cell.arcs
+-- whether one of these names is an input's
+abbrev pub names_input : List Pin → ℕ → List ℕ → Bool
+names_input pins input names = list_any (λ name. input_number pins name == input) names
 
 -- this is the value of the condition of the arc with a number
 abbrev pub IsCondition : List Pin → List Trit → List Arc → ℕ → Trit → Type 0

@@ -1,11 +1,10 @@
 //! The numbers of a cell's arcs, ascending, as a change of an input asks for them.
 ghost use Rattle.std.specs.Prelude.{◌≡◌, [], ◌∷◌, ◌++◌, cond, map, flat_map, IfOk, OnOk};
 ghost use Rattle.std.specs.List.{list_any, range_with_len};
-ghost use Rattle.cell_machine.specs.Names.{has};
 ghost use Rattle.cell_machine.specs.Places.{places_from};
 ghost use Rattle.cell_machine.specs.CellData.{data_of};
-ghost use Rattle.cell_machine.specs.CellTrace.{is_between};
-ghost use Rattle.cell_machine.specs.KeptConditions.{arc_inputs as arc_inputs_of};
+ghost use Rattle.cell_machine.specs.CellTrace.{arc_names, is_between};
+ghost use Rattle.cell_machine.specs.KeptConditions.{names_input};
 ghost use Rattle.cell_machine.specs.ArcPlaces.{arcs_between as arcs_between_of, arcs_from as arcs_from_of, AreArcPlaces};
 ghost use Rattle.cell_machine.specs.ArcPlaces.{names_at, first_naming};
 
@@ -28,19 +27,20 @@ pub struct ArcPlaces {
 }
 
 impl ArcPlaces {
-    /// Those of a cell, where for each arc there are the numbers of the inputs that its condition names.
+    /// Those of a cell, where for each arc there are the pins that its condition names.
     pub(crate) fn of(
         alloc: Global,
         cell: &Cell,
-        arc_inputs: &[Items<usize>],
+        names: &[Items<usize>],
     ) -> Result<ArcPlaces, AllocError>
-        requires { arc_inputs.now ≡ arc_inputs_of (data_of cell.now) }
+        requires { names.now ≡ arc_names (data_of cell.now) }
         ensures { IfOk result (AreArcPlaces (data_of cell.now)) }
     {
-        let count = input_number(cell.pins.as_slice(), cell.pins.len());
-        let naming = all_naming(alloc, arc_inputs, count)?;
+        let pins = cell.pins.as_slice();
+        let count = input_number(pins, pins.len());
+        let naming = all_naming(alloc, pins, names, count)?;
         let between = all_between(alloc, cell, count)?;
-        let firsts = all_firsts(alloc, arc_inputs, between.as_slice(), count)?;
+        let firsts = all_firsts(alloc, pins, names, between.as_slice(), count)?;
         Ok(ArcPlaces {
             naming,
             between,
@@ -59,20 +59,29 @@ fn add_where(places: &mut Items<usize>, passes: bool, place: usize) -> Result<()
     Ok(())
 }
 
-/// Whether this input is among these.
-fn names_input(inputs: &[usize], input: usize) -> bool
-    ensures { result ≡ has inputs.now input }
+/// Whether one of these names is an input's.
+fn names_input(pins: &[Pin], names: &[usize], input: usize) -> bool
+    ensures { result ≡ names_input pins.now input names.now }
 {
-    inputs.iter().any(|named| *named == input)
+    names.iter().any(|name| input_number(pins, *name) == input)
 }
 
-/// The numbers of those lists that hold an input.
-fn naming(alloc: Global, named: &[Items<usize>], input: usize) -> Result<Items<usize>, AllocError>
-    ensures { IfOk result (λ places. places ≡ places_from (λ inputs. has inputs input) 0 named.now) }
+/// The numbers of those names of which one is an input's.
+fn naming(
+    alloc: Global,
+    pins: &[Pin],
+    named: &[Items<usize>],
+    input: usize,
+) -> Result<Items<usize>, AllocError>
+    ensures { IfOk result (λ places. places ≡ places_from (names_input pins.now input) 0 named.now) }
 {
     let mut places = Items::new(alloc);
     for i in 0..named.len() {
-        add_where(&mut places, names_input(named[i].as_slice(), input), i)?;
+        add_where(
+            &mut places,
+            names_input(pins, named[i].as_slice(), input),
+            i,
+        )?;
     }
     Ok(places)
 }
@@ -80,15 +89,16 @@ fn naming(alloc: Global, named: &[Items<usize>], input: usize) -> Result<Items<u
 /// The same for each input.
 fn all_naming(
     alloc: Global,
+    pins: &[Pin],
     named: &[Items<usize>],
     count: usize,
 ) -> Result<Items<Items<usize>>, AllocError>
-    ensures { IfOk result (λ all. all ≡ map (λ input. places_from (λ inputs. has inputs input) 0 named.now)
+    ensures { IfOk result (λ all. all ≡ map (λ input. places_from (names_input pins.now input) 0 named.now)
         (range_with_len 0 count)) }
 {
     let mut all = Items::new(alloc);
     for input in 0..count {
-        all.push(naming(alloc, named, input)?)?;
+        all.push(naming(alloc, pins, named, input)?)?;
     }
     Ok(all)
 }
@@ -143,49 +153,53 @@ fn all_between(
     Ok(all)
 }
 
-/// Whether there is a list with this number, and it holds an input.
-fn names(named: &[Items<usize>], place: usize, input: usize) -> bool
-    ensures { result ≡ names_at named.now input place }
+/// Whether there are names with this number, and one of them is an input's.
+fn names_at(pins: &[Pin], named: &[Items<usize>], place: usize, input: usize) -> bool
+    ensures { result ≡ names_at pins.now named.now input place }
 {
     match named.get(place) {
-        Some(inputs) => names_input(inputs.as_slice(), input),
+        Some(names) => names_input(pins, names.as_slice(), input),
         None => false,
     }
 }
 
-/// Whether one of the lists with these numbers holds an input.
-fn any_names(named: &[Items<usize>], places: &[usize], input: usize) -> bool
-    ensures { result ≡ list_any (names_at named.now input) places.now }
+/// Whether one of the names with these numbers is an input's.
+fn any_names(pins: &[Pin], named: &[Items<usize>], places: &[usize], input: usize) -> bool
+    ensures { result ≡ list_any (names_at pins.now named.now input) places.now }
 {
-    places.iter().any(|place| names(named, *place, input))
+    places
+        .iter()
+        .any(|place| names_at(pins, named, *place, input))
 }
 
-/// Adds the first of these numbers where one of the lists with these numbers holds an input.
+/// Adds the first of these numbers where one of the names with these numbers is an input's.
 fn add_first(
     firsts: &mut Items<usize>,
+    pins: &[Pin],
     named: &[Items<usize>],
     places: &[usize],
     input: usize,
 ) -> Result<(), AllocError>
-    ensures { OnOk result (firsts.new ≡ firsts.old ++ first_naming named.now input places.now) }
+    ensures { OnOk result (firsts.new ≡ firsts.old ++ first_naming pins.now named.now input places.now) }
 {
     let Some(first) = places.first() else {
         return Ok(());
     };
-    add_where(firsts, any_names(named, places, input), *first)
+    add_where(firsts, any_names(pins, named, places, input), *first)
 }
 
 /// The same of each of these lists of numbers.
 fn add_firsts(
     firsts: &mut Items<usize>,
+    pins: &[Pin],
     named: &[Items<usize>],
     lists: &[Items<usize>],
     input: usize,
 ) -> Result<(), AllocError>
-    ensures { OnOk result (firsts.new ≡ firsts.old ++ flat_map (first_naming named.now input) lists.now) }
+    ensures { OnOk result (firsts.new ≡ firsts.old ++ flat_map (first_naming pins.now named.now input) lists.now) }
 {
     for places in lists {
-        add_first(firsts, named, places.as_slice(), input)?;
+        add_first(firsts, pins, named, places.as_slice(), input)?;
     }
     Ok(())
 }
@@ -193,15 +207,16 @@ fn add_firsts(
 /// The same of each of these lists of them.
 fn firsts(
     alloc: Global,
+    pins: &[Pin],
     named: &[Items<usize>],
     between: &[Items<Items<usize>>],
     input: usize,
 ) -> Result<Items<usize>, AllocError>
-    ensures { IfOk result (λ firsts. firsts ≡ flat_map (flat_map (first_naming named.now input)) between.now) }
+    ensures { IfOk result (λ firsts. firsts ≡ flat_map (flat_map (first_naming pins.now named.now input)) between.now) }
 {
     let mut firsts = Items::new(alloc);
     for lists in between {
-        add_firsts(&mut firsts, named, lists.as_slice(), input)?;
+        add_firsts(&mut firsts, pins, named, lists.as_slice(), input)?;
     }
     Ok(firsts)
 }
@@ -209,16 +224,17 @@ fn firsts(
 /// The same for each input.
 fn all_firsts(
     alloc: Global,
+    pins: &[Pin],
     named: &[Items<usize>],
     between: &[Items<Items<usize>>],
     count: usize,
 ) -> Result<Items<Items<usize>>, AllocError>
-    ensures { IfOk result (λ all. all ≡ map (λ input. flat_map (flat_map (first_naming named.now input)) between.now)
+    ensures { IfOk result (λ all. all ≡ map (λ input. flat_map (flat_map (first_naming pins.now named.now input)) between.now)
         (range_with_len 0 count)) }
 {
     let mut all = Items::new(alloc);
     for input in 0..count {
-        all.push(firsts(alloc, named, between, input)?)?;
+        all.push(firsts(alloc, pins, named, between, input)?)?;
     }
     Ok(all)
 }

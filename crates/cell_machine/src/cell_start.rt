@@ -4,15 +4,13 @@ ghost use Rattle.trit_cubes.specs.declared.trits.Trit.TheVariants.{Unknown};
 ghost use Rattle.cell_machine.specs.Inputs.{input_number};
 ghost use Rattle.cell_machine.specs.Times.{no_times};
 ghost use Rattle.cell_machine.specs.CellData.{data_of};
-ghost use Rattle.cell_machine.specs.CellTrace.{arc_names};
-ghost use Rattle.cell_machine.specs.ArcPlaces.{AreArcPlaces};
 ghost use Rattle.cell_machine.specs.OutputTables.{AreOutputTables};
 ghost use Rattle.cell_machine.specs.LibertyStands.{shown_after};
 ghost use Rattle.cell_machine.specs.CellStarts.{IsCellStart};
 
 use crate::arc_places::ArcPlaces;
 use crate::cells::Cell;
-use crate::condition_names::{arc_inputs, arc_names, check_names};
+use crate::condition_names::{arc_names, check_names};
 use crate::group_tables::step_tables;
 use crate::kept_arcs::KeptArcs;
 use crate::output_tables::output_tables;
@@ -51,7 +49,7 @@ impl CellStart {
         let outputs = output_tables(alloc, cell)?;
         let steps = step_tables(alloc, cell)?;
         let shown = first_shown(alloc, cell, &outputs)?;
-        let places = arc_places(alloc, cell, arc_names.as_slice())?;
+        let places = ArcPlaces::of(alloc, cell, arc_names.as_slice())?;
         Ok(CellStart {
             check_names,
             arc_names,
@@ -80,15 +78,6 @@ fn first_shown(
         values.inputs.as_slice(),
         values.states.as_slice(),
     )
-}
-
-/// The numbers of a cell's arcs by inputs and outputs, of the pins that their conditions name.
-fn arc_places(alloc: Global, cell: &Cell, names: &[Items<usize>]) -> Result<ArcPlaces, AllocError>
-    requires { names.now ≡ arc_names (data_of cell.now) }
-    ensures { IfOk result (AreArcPlaces (data_of cell.now)) }
-{
-    let inputs = arc_inputs(alloc, cell, names)?;
-    ArcPlaces::of(alloc, cell, inputs.as_slice())
 }
 
 /// What a cell's simulator keeps beside what its outputs show, before any change.

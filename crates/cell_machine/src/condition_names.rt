@@ -1,14 +1,11 @@
 //! The pins that conditions name.
 ghost use Rattle.std.specs.Prelude.{◌≡◌, IfOk, length, map};
-ghost use Rattle.cell_machine.specs.Inputs.{input_number as input_number_of};
 ghost use Rattle.cell_machine.specs.CellData.{data_of};
 ghost use Rattle.cell_machine.specs.CellTrace.{condition_names, check_names, arc_names};
 
 use crate::arcs::Arc;
 use crate::cells::Cell;
 use crate::checks::Check;
-use crate::pin_values::input_number;
-use crate::pins::Pin;
 use bool_functions::Function;
 use sqlite_items::Items;
 use std::alloc::{AllocError, Global};
@@ -82,31 +79,4 @@ pub fn arc_names(alloc: Global, cell: &Cell) -> Result<Items<Items<usize>>, Allo
     ensures { IfOk result (λ names. names ≡ arc_names (data_of cell.now)) }
 {
     names_of_all(alloc, &cell.arcs)
-}
-
-/// The numbers of these pins among the inputs.
-fn input_numbers(alloc: Global, pins: &[Pin], names: &[usize]) -> Result<Items<usize>, AllocError>
-    ensures { IfOk result (λ numbers. numbers ≡ map (input_number_of pins.now) names.now) }
-{
-    let mut numbers = Items::new(alloc);
-    for name in names {
-        numbers.push(input_number(pins, *name))?;
-    }
-    Ok(numbers)
-}
-
-/// The numbers of the inputs that the conditions of a cell's arcs name, of the pins that they name.
-pub fn arc_inputs(
-    alloc: Global,
-    cell: &Cell,
-    named: &[Items<usize>],
-) -> Result<Items<Items<usize>>, AllocError>
-    ensures { IfOk result (λ inputs. inputs ≡ map (map (input_number_of cell.now.pins)) named.now) }
-{
-    let mut all = Items::new(alloc);
-    for names in named {
-        let numbers = input_numbers(alloc, cell.pins.as_slice(), names.as_slice())?;
-        all.push(numbers)?;
-    }
-    Ok(all)
 }

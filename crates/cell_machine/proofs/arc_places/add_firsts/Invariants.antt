@@ -5,4 +5,4 @@ use Rattle.cell_machine.proofs.arc_places.add_firsts.Given as goal
 
 -- the numbers of the lists so far are added
 abbrev pub invariant-loop-places : goal.invariant-loop-places
-invariant-loop-places l = l.firsts ≡ l.initial.firsts ++ flat_map (first_naming l.named l.input) (take l.places-index l.lists)
+invariant-loop-places l = l.firsts ≡ l.initial.firsts ++ flat_map (first_naming l.pins l.named l.input) (take l.places-index l.lists)

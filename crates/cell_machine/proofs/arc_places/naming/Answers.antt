@@ -1,5 +1,5 @@
 use Rattle.std.proofs.Common.{◌<◌, ◌∙◌, ap, refl, length, arith}
-use Rattle.cell_machine.specs.Names.{has}
+use Rattle.cell_machine.specs.KeptConditions.{names_input}
 use Rattle.cell_machine.proofs.EntryPlaces.{places-more}
 use Rattle.std.proofs.lemmas.Option.{slice_get_read}
 use Rattle.cell_machine.proofs.arc_places.naming.Goals as goal
@@ -8,6 +8,6 @@ pub loop-i-preserved : goal.loop-i-preserved
 loop-i-preserved c =
     let named = c.args.named.now in
     let inside : c.loop-i.i < length named = omega arith in
-    places-more (λ inputs. has inputs c.args.input) named c.loop-i.i c.index-named-i.result c.names_input.result c.loop-i.places _
-    (slice_get_read named (length named) c.loop-i.i c.index-named-i.result refl inside c.index-named-i.is) (c.names_input.ensures ∙ ap (λ inputs. has inputs c.args.input) c.as_slice.ensures)
+    places-more (names_input c.args.pins.now c.args.input) named c.loop-i.i c.index-named-i.result c.names_input.result c.loop-i.places _
+    (slice_get_read named (length named) c.loop-i.i c.index-named-i.result refl inside c.index-named-i.is) (c.names_input.ensures ∙ ap (names_input c.args.pins.now c.args.input) c.as_slice.ensures)
     c.loop-i.invariant c.in_ok-add_where.ensures

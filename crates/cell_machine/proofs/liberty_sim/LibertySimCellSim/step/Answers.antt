@@ -7,8 +7,8 @@ use Rattle.cell_machine.specs.Report.{any_true}
 use Rattle.cell_machine.specs.Times.{no_times, stamped}
 use Rattle.cell_machine.specs.Places.{AreBelow}
 use Rattle.cell_machine.specs.CellData.{data_of}
-use Rattle.cell_machine.specs.CellTrace.{inputs_of}
-use Rattle.cell_machine.specs.KeptConditions.{kept_unless, arc_inputs}
+use Rattle.cell_machine.specs.CellTrace.{inputs_of, arc_names}
+use Rattle.cell_machine.specs.KeptConditions.{kept_unless, names_input}
 use Rattle.cell_machine.specs.KeptArcs.{AreKeptArcs}
 use Rattle.cell_machine.proofs.KeptPairs.{delays_changed, firsts-below}
 use Rattle.cell_machine.specs.Names.{has}
@@ -73,9 +73,9 @@ forget-requires c =
     let entry = subst (λ (k : CellStart). slice_get k.places.naming c.args.pin ≡ Some c.entry.result.now) c.get-3.ensures c.entry.ensures.is in
     let named =
     c.as_slice-naming.ensures ∙ range-at (arcs_naming cell) (inputs_of cell) c.args.pin sim.known.places.naming _ sim.placed_arcs.naming_are entry in
-    let long : length sim.kept.conditions ≡ length (arc_inputs cell) = stood.kept_are.conditions_are.0 ∙ sym (length-map cell.arcs _) in
+    let long : length sim.kept.conditions ≡ length (arc_names cell) = stood.kept_are.conditions_are.0 ∙ sym (length-map cell.arcs _) in
     subst (AreBelow (length sim.kept.conditions)) (sym named)
-    (subst (λ n. AreBelow n (arcs_naming cell c.args.pin)) (sym long) (places-below (λ inputs. has inputs c.args.pin) (arc_inputs cell)))
+    (subst (λ n. AreBelow n (arcs_naming cell c.args.pin)) (sym long) (places-below (names_input cell.pins c.args.pin) (arc_names cell)))
 
 pub forget-requires-2 : goal.forget-requires-2
 forget-requires-2 c =

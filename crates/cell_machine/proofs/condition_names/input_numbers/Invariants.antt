@@ -1,7 +1,0 @@
-use Rattle.std.proofs.Common.{◌≡◌, take, map}
-use Rattle.cell_machine.specs.Inputs.{input_number}
-use Rattle.cell_machine.proofs.condition_names.input_numbers.Given as goal
-
--- the numbers of the pins so far
-abbrev pub invariant-loop-name : goal.invariant-loop-name
-invariant-loop-name l = l.numbers ≡ map (input_number l.pins) (take l.name-index l.names)

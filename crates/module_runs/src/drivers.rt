@@ -35,13 +35,13 @@ impl Drivers {
     }
 
     /// The place of the instance that drives a net, where there is one.
-    pub(crate) fn driver(&self, instances: &[Instance], net: VNet) -> Option<usize>
-        requires { AreDrivers instances.now self.now }
-        ensures { result ≡ driver instances.now net }
+    pub(crate) fn driver(&self, model: &VModule, net: VNet) -> Option<usize>
+        requires { AreDrivers model.now.instances self.now }
+        ensures { result ≡ driver model.now.instances net }
     {
         match self.known(net) {
             Some(place) => place,
-            None => first_driver(instances, net),
+            None => first_driver(model.instances.as_slice(), net),
         }
     }
 

@@ -52,8 +52,7 @@ impl Gates {
         let Gate::If(wire) = path.gate else {
             return;
         };
-        let instances = model.instances.as_slice();
-        let Some(place) = drivers.driver(instances, VNet::Wire(wire)) else {
+        let Some(place) = drivers.driver(model, VNet::Wire(wire)) else {
             return;
         };
         put(&mut self.places, place, true);

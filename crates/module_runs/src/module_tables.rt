@@ -95,7 +95,6 @@ impl<'a> ModuleTables<'a> {
     pub(crate) fn driver(&self, net: VNet) -> Option<usize>
         ensures { result ≡ driver self.now.model.now.instances net }
     {
-        let instances = self.model.instances.as_slice();
-        self.index.drivers.driver(instances, net)
+        self.index.drivers.driver(self.model, net)
     }
 }

@@ -42,7 +42,7 @@ fn is_input(ports: &Ports, input: usize, net: VNet) -> bool
     ensures { result ≡ is_turned ports.now.list.now (turned.Input input) net }
 {
     match net {
-        VNet::Port(port) => input_number(ports, port) == input && is_input_port(ports.list, port),
+        VNet::Port(port) => is_input_port(ports.list, port) && input_number(ports, port) == input,
         VNet::Wire(_) => false,
         VNet::Notifier => false,
     }

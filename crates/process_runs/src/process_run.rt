@@ -158,8 +158,8 @@ fn step_event(
     changed
 }
 
-/// Takes the run over a change of an input, and writes which checks report. `conditions` has the value of each condition. It answers whether one of
-/// these changed between 0 and not 0.
+/// Takes the run over a change of an input, and writes which checks report. `conditions` has the value of each condition. It
+/// answers whether one of these changed between 0 and not 0.
 pub(crate) fn step_run(
     run: &mut ProcessState,
     conditions: &mut Items<Trit>,

@@ -1,6 +1,5 @@
 //! Whether the timing checks of a model report, by the times that they keep, in both languages.
-ghost use Rattle.std.specs.Prelude.{◌≡◌, ◌<◌, ◌&&◌, length, nat_eq, replicate, false, slice_set, slice_index_or};
-ghost use Rattle.cell_machine.specs.declared.times.Times.{Times as TimesOf};
+ghost use Rattle.std.specs.Prelude.{◌≡◌, ◌<◌, ◌&&◌, length, nat_eq, replicate, false};
 ghost use Rattle.cell_machine.specs.Each.{each};
 ghost use Rattle.cell_machine.specs.Edges.{moves};
 ghost use Rattle.cell_machine.specs.Report.{happens};
@@ -46,41 +45,22 @@ fn happens(seen: &InputChange, event: Event) -> bool
     counts(is_of(seen, event.pin), event.edge, seen)
 }
 
-/// The times that a check keeps after a change.
+/// The times that a check keeps after a change: one of another port than those of its events leaves them as they are.
+#[tactic(auto, using(crate::proofs::StampLemmas::unstamped))]
 fn stamped(seen: &InputChange, check: &TimingCheck, stamps: Times) -> Times
     ensures { result ≡ stamped seen.now.ports.list.now seen.now.from seen.now.change check.now stamps }
 {
     let is_first = is_of(seen, check.first.pin);
     let is_second = is_of(seen, check.second.pin);
+    if !is_first && !is_second {
+        return stamps;
+    }
     let at = seen.change.at;
     Times {
         event: renewed(counts(is_first, check.first.edge, seen), at, stamps.event),
         rise: renewed(counts(is_second, Edge::Rise, seen), at, stamps.rise),
         fall: renewed(counts(is_second, Edge::Fall, seen), at, stamps.fall),
     }
-}
-
-/// Whether a change is of the port of an event of a check.
-fn concerns(seen: &InputChange, check: &TimingCheck) -> bool
-    ensures first { result ≡ false → nat_eq seen.now.change.pin (input_number seen.now.ports.list.now check.now.first.pin)
-        ≡ false }
-    ensures second { result ≡ false → nat_eq seen.now.change.pin (input_number seen.now.ports.list.now check.now.second.pin)
-        ≡ false }
-{
-    is_of(seen, check.first.pin) || is_of(seen, check.second.pin)
-}
-
-/// Takes the kept times of the check with this number over a change: one of another port leaves them as they are.
-fn stamp(seen: &InputChange, check: &TimingCheck, stamps: &mut Items<Times>, i: usize)
-    requires { i < length stamps.old }
-    ensures { (none : TimesOf) → stamps.new ≡ slice_set stamps.old i
-        (stamped seen.now.ports.list.now seen.now.from seen.now.change check.now (slice_index_or stamps.old i none)) }
-{
-    if !concerns(seen, check) {
-        return;
-    }
-    let kept = stamps.as_slice()[i];
-    stamps.set(i, stamped(seen, check, kept));
 }
 
 /// The time from which a check measures at a change.
@@ -142,7 +122,8 @@ pub fn stamp_all(seen: &InputChange, checks: &[TimingCheck], stamps: &mut Items<
     ensures len { length stamps.new ≡ length stamps.old }
 {
     for i in 0..stamps.len() {
-        stamp(seen, &checks[i], stamps, i);
+        let kept = stamps.as_slice()[i];
+        stamps.set(i, stamped(seen, &checks[i], kept));
     }
 }
 

@@ -1,8 +1,7 @@
-use Rattle.std.proofs.Common.{◌<◌, sym, ap, ◌∙◌, refl, length, arith}
+use Rattle.std.proofs.Common.{◌<◌, sym, ap, ◌∙◌, length, arith}
 use Rattle.std.proofs.lemmas.List.{length-set}
 use Rattle.std.proofs.lemmas.Option.{slice_get-get_or}
 use Rattle.cell_machine.proofs.EachLemmas.{each-kept, each-done}
-use Rattle.cell_machine.specs.Times.{no_times}
 use Rattle.model_traces.specs.CheckTimes.{stamped}
 use Rattle.run_parts.proofs.checks.stamp_all.Goals as goal
 
@@ -13,9 +12,9 @@ loop-i-preserved c =
     let inside : c.loop-i.i < length checks = omega (arith, c.loop-i.invariant.len, c.requires) in
     record {
       whole =
-          each-kept (stamped c.args.seen.now.ports.list.now c.args.seen.now.from c.args.seen.now.change) checks c.loop-i.stamps c.loop-i.i no_times
-          (slice_get-get_or checks c.loop-i.i _ inside) many refl (c.stamp.ensures no_times) c.loop-i.invariant.whole;
-      len = ap length (c.stamp.ensures no_times) ∙ length-set c.loop-i.stamps c.loop-i.i _ ∙ c.loop-i.invariant.len;
+          each-kept (stamped c.args.seen.now.ports.list.now c.args.seen.now.from c.args.seen.now.change) checks c.loop-i.stamps c.loop-i.i _
+          (slice_get-get_or checks c.loop-i.i _ inside) many (rw c.as_slice.ensures at c.stamped.ensures) c.set.ensures c.loop-i.invariant.whole;
+      len = ap length c.set.ensures ∙ length-set c.loop-i.stamps c.loop-i.i c.stamped.result ∙ c.loop-i.invariant.len;
     }
 
 pub returns-clause-stamped : goal.returns-clause-stamped

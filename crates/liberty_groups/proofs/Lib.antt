@@ -1,3 +1,4 @@
+pub mod Adding
 pub mod Around
 pub mod Completions
 pub mod Contexts

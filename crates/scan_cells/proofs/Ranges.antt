@@ -1,9 +1,8 @@
 -- Going through numbers in order.
-use Rattle.std.proofs.Common.{◌≡◌, ℕ, suc, ◌+◌, ◌-◌, ◌<◌, ◌≤◌, Bool, List, [], ◌∷◌, ◌++◌, length, map, filter, Option, Some, None}
-use Rattle.std.proofs.Common.{inl, inr, sym, subst, ◌∙◌, ap, arith, append_assoc, append-nil, length-append}
+use Rattle.std.proofs.Common.{◌≡◌, ℕ, suc, ◌+◌, ◌-◌, ◌<◌, ◌≤◌, Bool, List, [], ◌∷◌, ◌++◌, length, map, filter, Option, None}
+use Rattle.std.proofs.Common.{sym, subst, ◌∙◌, ap, arith, append_assoc, append-nil, length-append}
 use Rattle.std.proofs.lemmas.List.Elements.{filter-append}
 use Rattle.std.specs.List.{range_with_len}
-use Rattle.std.proofs.lemmas.Bool.{cases_eq}
 use Rattle.cell_machine.specs.declared.outputs.Source.{Source}
 use Rattle.scan_cells.specs.Comparison.{or_else, first_some}
 
@@ -28,27 +27,6 @@ first_turn f i n h = ap (first_some f) (range_turn i n h)
 
 pub first_end : {B : Type 0} (f : ℕ → Option B) (i n : ℕ) → n ≤ i → first_some f (range_with_len i (n - i)) ≡ None
 first_end f i n h = ap (first_some f) (range_end i n h)
-
--- one that gives no answer, or the first answer
-pub first_next :
-    {B : Type 0} (f : ℕ → Option B) (i n : ℕ) (whole : Option B) → i < n → f i ≡ None
-    → first_some f (range_with_len i (n - i)) ≡ whole → first_some f (range_with_len (i + 1) (n - (i + 1))) ≡ whole
-first_next f i n whole h none e =
-    ap (λ o. or_else o (first_some f (range_with_len (i + 1) (n - (i + 1))))) (sym none) ∙ sym (first_turn f i n h) ∙ e
-
-pub first_here :
-    {B : Type 0} (f : ℕ → Option B) (i n : ℕ) (whole : Option B) (d : B) → i < n → f i ≡ Some d
-    → first_some f (range_with_len i (n - i)) ≡ whole → Some d ≡ whole
-first_here f i n whole d h some e =
-    ap (λ o. or_else o (first_some f (range_with_len (i + 1) (n - (i + 1))))) (sym some) ∙ sym (first_turn f i n h) ∙ e
-
-pub none_yet : {B : Type 0} (f : ℕ → Option B) (i : ℕ) → f i ≡ None → ((p : ℕ) → p < i → f p ≡ None) → (p : ℕ) → p < i + 1
-    → f p ≡ None
-none_yet f i none before p h =
-    elim (cases_eq p i) [
-      | inl e ↦ subst (λ q. f q ≡ None) (sym e) none
-      | inr ne ↦ before p (omega (arith, h, ne))
-    ]
 
 -- one more source gone through
 pub place_turn :

@@ -1,6 +1,6 @@
 -- Points, and the words of their places.
-use Rattle.std.proofs.Common.{◌≡◌, ℕ, zero, suc, ◌+◌, ◌-◌, ◌*◌, ◌/◌, ◌%◌, ◌^◌, ◌<◌, ◌≤◌, Bool, nat_eq, List, []}
-use Rattle.std.proofs.Common.{◌∷◌, ◌++◌, length, take, drop, get_or, slice_get, Some, refl, sym, ap, subst, ◌∙◌}
+use Rattle.std.proofs.Common.{◌≡◌, ℕ, zero, suc, ◌+◌, ◌-◌, ◌/◌, ◌%◌, ◌^◌, ◌<◌, ◌≤◌, Bool, nat_eq, List, []}
+use Rattle.std.proofs.Common.{◌∷◌, ◌++◌, length, take, drop, slice_get, Some, refl, sym, ap, subst, ◌∙◌}
 use Rattle.std.proofs.Common.{arith, append_assoc}
 use Rattle.std.proofs.lemmas.Option.{none-some, same_Some}
 use Rattle.trit_cubes.specs.declared.trits.Trit.{Trit}
@@ -18,11 +18,6 @@ point_turn places i rest point whole h e =
     let one : places - i ≡ suc (places - (i + 1)) = omega arith in
     append_assoc point ((nat_eq (rest % 2) 1) ∷ []) (point_of (places - (i + 1)) (rest / 2))
     ∙ ap (λ n. point ++ point_of n rest) (sym one) ∙ e
-
-pub length-turned : (p : ℕ) (point : List Bool) → length (turned p point) ≡ length point
-length-turned p [] = refl
-length-turned zero (b ∷ point) = refl
-length-turned (suc p) (b ∷ point) = ap suc (length-turned p point)
 
 -- behind its end nothing is turned
 pub turned_past : (p : ℕ) (point : List Bool) → length point ≤ p → turned p point ≡ point
@@ -54,17 +49,6 @@ push_each P [] x h new zero v e = subst (P 0) (same_Some x v e) new
 push_each P [] x h new (suc p) v e = absurd (none-some v e)
 push_each P (y ∷ xs) x h new zero v e = h zero v e
 push_each P (y ∷ xs) x h new (suc p) v e = push_each (λ q. P (suc q)) xs x (λ q w. h (suc q) w) new p v e
-
--- the number of the places from one on
-pub number_none : (point : List Bool) → number (drop (length point) point) ≡ 0
-number_none [] = refl
-number_none (b ∷ point) = number_none point
-
-pub number_turn : (point : List Bool) (p : ℕ) (d : Bool) → p < length point
-    → bit (get_or point p d) + 2 * number (drop (suc p) point) ≡ number (drop p point)
-number_turn [] p d h = absurd (omega (arith, h))
-number_turn (b ∷ point) zero d h = refl
-number_turn (b ∷ point) (suc p) d h = number_turn point p d (omega (arith, h))
 
 bit_of : (b : ℕ) → b < 2 → bit (nat_eq b 1) ≡ b
 bit_of zero h = refl

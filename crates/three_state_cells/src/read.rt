@@ -135,7 +135,7 @@ struct Made {
 }
 
 /// The names and the left-out timing groups of a cell with this core and these drivers.
-fn made_anew(
+fn names_and_left_out(
     alloc: Global,
     read: &ReadCell,
     drivers: &Drivers,
@@ -186,7 +186,7 @@ fn floating_cell(
     requires { IsDriverOf (data_of read.cell) drivers.driver }
     ensures { IfOk result (λ cell. IsFloating read drivers number cell) }
 {
-    let made = made_anew(alloc, &read, &drivers, number);
+    let made = names_and_left_out(alloc, &read, &drivers, number);
     let ((read, drivers), made) = held_with((read, drivers), made)?;
     Ok(driven_by(read, drivers, made))
 }

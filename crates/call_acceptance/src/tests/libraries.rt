@@ -14,7 +14,7 @@ cell (BUF) { pin (A) { direction : input; } pin (Y) { direction : output; functi
 ";
 
 /// How many cells a text has, whole or cut, and how it ends; nothing where memory is short.
-fn told(alloc: Global, text: &[u8], is_whole: bool) -> Option<(usize, End)> {
+fn count_and_end(alloc: Global, text: &[u8], is_whole: bool) -> Option<(usize, End)> {
     match read_library(alloc, text, is_whole) {
         Ok(read) => Some((read.cells.len(), read.end)),
         Err(_) => None,
@@ -28,12 +28,12 @@ fn ended(len: usize) -> usize {
 
 /// Whether these bytes have so many cells, as a whole text and as a cut one, and are a whole library or not.
 fn is_front(alloc: Global, front: &[u8], cells: usize, is_whole: bool) -> bool {
-    let Some((count, end)) = told(alloc, front, true) else {
+    let Some((count, end)) = count_and_end(alloc, front, true) else {
         return false;
     };
     count == cells
         && (end == End::Whole) == is_whole
-        && told(alloc, front, false) == Some((cells, End::Cut))
+        && count_and_end(alloc, front, false) == Some((cells, End::Cut))
 }
 
 /// The first length of a front of a library that has not the cells which have ended in it.
@@ -58,7 +58,7 @@ struct WholeText<'a>(&'a [u8], End);
 
 impl Row for WholeText<'_> {
     fn holds(&self, alloc: Global) -> bool {
-        matches!(told(alloc, self.0, true), Some((_, end)) if end == self.1)
+        matches!(count_and_end(alloc, self.0, true), Some((_, end)) if end == self.1)
     }
 }
 

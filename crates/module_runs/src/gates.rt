@@ -7,6 +7,7 @@ ghost use Rattle.module_runs.specs.NetDrivers.{AreDrivers};
 ghost use Rattle.module_runs.specs.Gates.{IsGate, AreGates, gate_zero};
 
 use crate::drivers::Drivers;
+use crate::module_tables::ModuleTables;
 use crate::module_values::has_state;
 use run_parts::put;
 use specify_blocks::{Gate, VModule, VNet, VPath};
@@ -90,19 +91,20 @@ fn gate_zero(gate: bool, value: Trit) -> bool
 
 /// Whether some gate changed before, or the instance at this place drives one that changes between 0 and not 0.
 pub(crate) fn is_gate_changed_at(
-    places: &[bool],
+    tables: &ModuleTables,
     place: usize,
     before: bool,
     was: Trit,
     now: Trit,
 ) -> bool
     ensures { result ≡ false → (before ≡ false)
-        × (gate_zero (slice_index_or places.now place false) was ≡ gate_zero (slice_index_or places.now place false) now) }
+        × (gate_zero (slice_index_or tables.now.index.now.gates.places place false) was
+        ≡ gate_zero (slice_index_or tables.now.index.now.gates.places place false) now) }
 {
     if was == now {
         return before;
     }
-    let gate = is_gate(places, place);
+    let gate = is_gate(tables.index.gates.places.as_slice(), place);
     before || gate_zero(gate, was) != gate_zero(gate, now)
 }
 

@@ -69,13 +69,12 @@ pub(crate) fn find_anew(
         ≡ gate_zeros values.now.tables.index.now.gates.places kept.old }
     ensures room { length room.new ≡ length room.old }
 {
-    let gates = values.tables.index.gates.places.as_slice();
     let mut changed = false;
     for j in 0..places.len() {
         let i = places[j];
         let instance = instance_at(values.tables.model, i);
         let value = instance_value(values, Trit::Unknown, instance, room);
-        changed = is_gate_changed_at(gates, i, changed, kept.as_slice()[i], value);
+        changed = is_gate_changed_at(&values.tables, i, changed, kept.as_slice()[i], value);
         kept.set(i, value);
     }
     changed

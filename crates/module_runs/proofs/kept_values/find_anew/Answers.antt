@@ -30,7 +30,7 @@ loop-j-preserved c =
           let same = c.is_gate_changed_at-changed.ensures e in
           ap (gate_zeros gates) c.set.ensures
           ∙ gate-zeros-kept gates c.loop-j.kept _ _ c.instance_value-value.result
-          (rw (c.as_slice-gates.ensures, c.as_slice.ensures) at same.1)
+          (rw c.as_slice.ensures at same.1)
           ∙ c.loop-j.invariant.still same.0;
       len = ap length c.set.ensures ∙ length-set c.loop-j.kept _ c.instance_value-value.result ∙ c.loop-j.invariant.len;
       room = c.instance_value-value.ensures.len ∙ c.loop-j.invariant.room;

@@ -8,4 +8,4 @@ use Rattle.model_acceptance.proofs.tests.alike.sound_entity.Goals as goal
 pub returns : goal.returns
 returns c =
     subst IsSound (sym c.in_ok-entity.ensures)
-    (entity_is_sound (data_of c.args.cell.now) c.as_slice.result.now (cell_rules c.args.cell.now))
+    (entity_is_sound (data_of c.source.result.cell.now) c.as_slice.result.now (cell_rules c.source.result.cell.now))

@@ -7,4 +7,5 @@ use Rattle.model_acceptance.proofs.tests.alike.sound_module.Goals as goal
 
 pub returns : goal.returns
 returns c =
-    subst IsSound (sym c.in_ok-model.ensures) (module_is_sound (data_of c.args.cell.now) (cell_rules c.args.cell.now))
+    subst IsSound (sym c.in_ok-model.ensures)
+    (module_is_sound (data_of c.source.result.cell.now) (cell_rules c.source.result.cell.now))

@@ -27,11 +27,9 @@ pub fn driver_name(alloc: Global, number: usize, name: &[u8]) -> Result<Items<u8
     if is_kept_cell_name(name) {
         return Ok(Items::from_slice(alloc, name)?);
     }
-    let mut buffer = Buffer::new();
-    let mut other = Vec::from_slice(alloc, b"lib_")?;
-    other.extend_from_slice(buffer.format(number).as_bytes())?;
-    other.extend_from_slice(b"_z")?;
-    Ok(Items::from_vec(other))
+    let mut other = numbered_name(alloc, b"lib_", number)?;
+    other.append(Items::from_slice(alloc, b"_z")?)?;
+    Ok(other)
 }
 
 /// A word followed by a number.

@@ -1,4 +1,3 @@
-pub mod Adding
 pub mod Around
 pub mod Completions
 pub mod Contexts

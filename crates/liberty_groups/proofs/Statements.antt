@@ -17,7 +17,7 @@ statement_turns rule n items s = repeat (λ _. starts) (λ u a r. read (one_more
 less : (n i : ℕ) → i < n → n - i ≡ suc (n - (i + 1))
 less n i h = omega arith
 
-pub empty_suc : (rule : List ℕ → ℕ → Grammar Item) (n : ℕ) (items : List Item) (s : List Lexeme) → next_start s ≡ start.Empty →
+empty_suc : (rule : List ℕ → ℕ → Grammar Item) (n : ℕ) (items : List Item) (s : List Lexeme) → next_start s ≡ start.Empty →
     statement_turns rule (suc n) items s ≡ statement_turns rule n items (rest s)
 empty_suc rule n items [] e = absurd cc
 empty_suc rule n items (x ∷ s) e = rw e refl
@@ -28,7 +28,7 @@ pub empty_turn : (rule : List ℕ → ℕ → Grammar Item) (n i : ℕ) (items :
 empty_turn rule n i items s h e = ap (λ (k : ℕ). statement_turns rule k items s) (less n i h)
     ∙ empty_suc rule (n - (i + 1)) items s e
 
-pub named_suc : (rule : List ℕ → ℕ → Grammar Item) (n : ℕ) (items : List Item) (s : List Lexeme) (item : Item) (r : List Lexeme)
+named_suc : (rule : List ℕ → ℕ → Grammar Item) (n : ℕ) (items : List Item) (s : List Lexeme) (item : Item) (r : List Lexeme)
     → next_start s ≡ start.Named →
     read (rule (next_bytes s) (next_at s)) (rest s) ≡ Ok (item, r)
     → statement_turns rule (suc n) items s ≡ statement_turns rule n (items ++ item ∷ []) r
@@ -42,7 +42,7 @@ pub named_turn : (rule : List ℕ → ℕ → Grammar Item) (n i : ℕ) (items :
 named_turn rule n i items s item r h e t = ap (λ (k : ℕ). statement_turns rule k items s) (less n i h)
     ∙ named_suc rule (n - (i + 1)) items s item r e t
 
-pub failed_suc : (rule : List ℕ → ℕ → Grammar Item) (n : ℕ) (items : List Item) (s : List Lexeme) (k : Refusal) (m : List Lexeme)
+failed_suc : (rule : List ℕ → ℕ → Grammar Item) (n : ℕ) (items : List Item) (s : List Lexeme) (k : Refusal) (m : List Lexeme)
     → next_start s ≡ start.Named →
     read (rule (next_bytes s) (next_at s)) (rest s) ≡ Err (k, m) → statement_turns rule (suc n) items s ≡ Err (k, m)
 failed_suc rule n items [] k m e h = absurd cc

@@ -212,12 +212,6 @@ Reads outcome (Ok a) left = outcome ≡ Ok (a, left)
 Reads outcome (Err (Refused k)) left = outcome ≡ Err (k, left)
 Reads outcome (Err Memory) left = Unit {0}
 
--- a reading that adds to a list of statements
-abbrev pub Adds : Outcome Lexeme Refusal (List Item) → Result (Unit {0}) Stop → List Item → List Lexeme → Type 0
-Adds outcome (Ok u) found left = outcome ≡ Ok (found, left)
-Adds outcome (Err (Refused k)) found left = outcome ≡ Err (k, left)
-Adds outcome (Err Memory) found left = Unit {0}
-
 -- the part of a list of values that the next token is
 abbrev pub next_part : List Lexeme → List Value
 next_part [] = []

@@ -1,10 +1,10 @@
 //! Statements and groups, by recursive descent.
 
-ghost use Rattle.std.specs.Prelude.{◌≡◌, ◌≤◌, ◌++◌, ℕ, take, drop, length, OnOk, OnErr, IfOk};
+ghost use Rattle.std.specs.Prelude.{◌≡◌, ◌++◌, ℕ, [], OnOk, OnErr, IfOk};
 ghost use Rattle.grammar_rules.specs.Reading.{read};
 ghost use Rattle.liberty_groups.specs.Lexeme.{next_bytes, rest};
 ghost use Rattle.liberty_groups.specs.Grammar as spec;
-ghost use Rattle.liberty_groups.specs.Grammar.{Reads, Adds, next_at};
+ghost use Rattle.liberty_groups.specs.Grammar.{Reads, next_at};
 
 use crate::cursor::Cursor;
 use crate::fault::{Expected, Refusal, Stop};
@@ -14,26 +14,21 @@ use crate::values::{Arguments, Values};
 use small_bytes::SmallBytes;
 use sqlite_items::Items;
 use std::alloc::{AllocError, Global};
-use std::mem::replace;
 
-/// So many statements are moved to a list of their own, which takes no more room than they need.
+/// A list of at most so many statements is moved to exactly the room that it needs, since it grows by doubling, first to four
+/// places. A longer one keeps its room, of which the system has given no memory yet for most of what is not used.
 const FEW: usize = 1024;
 
-/// Takes the statements behind the first so many off a list. Where they are many and no small part of it, they keep its room, of
-/// which the system has given no memory yet for most of what is not used, and the first ones are moved. An `Err` comes only where
-/// memory is wanting.
-fn taken_off(pending: &mut Vec<Item>, first: usize) -> Result<Items<Item>, AllocError>
-    requires { first ≤ length pending.old.items }
-    ensures taken { IfOk result (λ items. items ≡ drop first pending.old.items) }
-    ensures kept { OnOk result (pending.new.items ≡ take first pending.old.items) }
+/// The same statements, in no more room than they need where they are not many. An `Err` comes only where memory is wanting.
+fn fitted(alloc: Global, items: Items<Item>) -> Result<Items<Item>, AllocError>
+    ensures { IfOk result (λ same. same ≡ items) }
 {
-    let count = pending.len() - first;
-    if count <= FEW || count <= first / 16 {
-        return Ok(Items::from_vec(pending.split_off(first)?));
+    if items.is_empty() || items.len() > FEW {
+        return Ok(items);
     }
-    pending.rotate_left(first);
-    let kept = pending.split_off(count)?;
-    Ok(Items::from_vec(replace(pending, kept)))
+    let mut same = Items::from_vec(Vec::with_capacity(alloc, items.len())?);
+    same.append(items)?;
+    Ok(same)
 }
 
 impl Cursor<'_> {
@@ -51,6 +46,7 @@ impl Cursor<'_> {
     }
 
     /// What follows the name of a statement, where groups may be open to `levels` more levels.
+    #[cycle(nest)]
     pub fn statement(
         &mut self,
         alloc: Global,
@@ -60,29 +56,11 @@ impl Cursor<'_> {
     ) -> Result<Item, Stop>
         ensures { Reads (read (spec.statement levels name at) self.old) result self.new }
     {
-        let mut pending = Vec::new(alloc);
-        self.inner_statement(alloc, levels, name, at, &mut pending)
-    }
-
-    /// The same. `pending` are the statements that were read of the groups around it; those of its own groups are added to them,
-    /// and taken off where a group ends.
-    #[cycle(nest)]
-    fn inner_statement(
-        &mut self,
-        alloc: Global,
-        levels: usize,
-        name: SmallBytes,
-        at: usize,
-        pending: &mut Vec<Item>,
-    ) -> Result<Item, Stop>
-        ensures reads { Reads (read (spec.statement levels name at) self.old) result self.new }
-        ensures pending { OnOk result (pending.new.items ≡ pending.old.items) }
-    {
         if self.sees(Mark::Colon) {
             self.skip();
             self.simple(alloc, name, at)
         } else {
-            self.bracketed(alloc, levels, name, at, pending)
+            self.bracketed(alloc, levels, name, at)
         }
     }
 
@@ -95,14 +73,12 @@ impl Cursor<'_> {
         levels: usize,
         name: SmallBytes,
         at: usize,
-        pending: &mut Vec<Item>,
     ) -> Result<Item, Stop>
-        ensures reads { Reads (read (spec.bracketed levels (spec.body levels) name at) self.old) result self.new }
-        ensures pending { OnOk result (pending.new.items ≡ pending.old.items) }
+        ensures { Reads (read (spec.bracketed levels (spec.body levels) name at) self.old) result self.new }
     {
         self.expect(Mark::Open, Expected::AfterName)?;
         let arguments = self.arguments(alloc)?;
-        self.complex_or_group(alloc, levels, name, arguments, at, pending)
+        self.complex_or_group(alloc, levels, name, arguments, at)
     }
 
     /// The group, if a brace opens it; otherwise the complex attribute that was read.
@@ -115,10 +91,8 @@ impl Cursor<'_> {
         name: SmallBytes,
         arguments: Values,
         at: usize,
-        pending: &mut Vec<Item>,
     ) -> Result<Item, Stop>
-        ensures reads { Reads (read (spec.complex_or_group levels (spec.body levels) name arguments at) self.old) result self.new }
-        ensures pending { OnOk result (pending.new.items ≡ pending.old.items) }
+        ensures { Reads (read (spec.complex_or_group levels (spec.body levels) name arguments at) self.old) result self.new }
     {
         if !self.sees(Mark::Begin) {
             return Ok(Item::Complex {
@@ -131,7 +105,7 @@ impl Cursor<'_> {
             return Err(Stop::Refused(Refusal::TooDeep));
         }
         self.skip();
-        let items = self.statements(alloc, levels - 1, pending)?;
+        let items = self.statements(alloc, levels - 1)?;
         let arguments = Arguments::from_values(alloc, arguments)?;
         Ok(Item::Inner(Group {
             name,
@@ -143,44 +117,31 @@ impl Cursor<'_> {
 
     /// The statements of a group up to its closing brace, and the brace.
     #[cycle(nest)]
-    fn statements(
-        &mut self,
-        alloc: Global,
-        levels: usize,
-        pending: &mut Vec<Item>,
-    ) -> Result<Items<Item>, Stop>
-        ensures reads { Reads (read (spec.statements (spec.statement levels)) self.old) result self.new }
-        ensures pending { OnOk result (pending.new.items ≡ pending.old.items) }
+    fn statements(&mut self, alloc: Global, levels: usize) -> Result<Items<Item>, Stop>
+        ensures { Reads (read (spec.statements (spec.statement levels)) self.old) result self.new }
     {
-        let first = pending.len();
-        self.some_statements(alloc, levels, pending)?;
+        let items = self.some_statements(alloc, levels)?;
         self.expect(Mark::End, Expected::Statement)?;
-        Ok(taken_off(pending, first)?)
+        Ok(fitted(alloc, items)?)
     }
 
-    /// Adds the statements from here on.
+    /// The statements from here on.
     #[cycle(nest)]
     #[tactic(auto, using(crate::proofs::Statements::empty_turn, crate::proofs::Statements::named_turn, crate::proofs::Statements::failed_turn, crate::proofs::Statements::no_turn))]
-    fn some_statements(
-        &mut self,
-        alloc: Global,
-        levels: usize,
-        pending: &mut Vec<Item>,
-    ) -> Result<(), Stop>
-        ensures { Adds (read (spec.some_statements (spec.statement levels) pending.old.items) self.old) result
-            pending.new.items self.new }
+    fn some_statements(&mut self, alloc: Global, levels: usize) -> Result<Items<Item>, Stop>
+        ensures { Reads (read (spec.some_statements (spec.statement levels) []) self.old) result self.new }
     {
+        let mut items = Items::new(alloc);
         for _turn in 0..self.left() {
             match self.start() {
                 Start::Empty => self.skip(),
                 Start::Named => {
                     let (name, at) = self.name(alloc)?;
-                    let item = self.inner_statement(alloc, levels, name, at, pending)?;
-                    pending.push(item)?;
+                    items.push(self.statement(alloc, levels, name, at)?)?;
                 }
                 Start::Other => break,
             }
         }
-        Ok(())
+        Ok(items)
     }
 }

@@ -9,8 +9,8 @@ decreases-complex_or_group l = 5 * l.levels
 abbrev pub decreases-bracketed : goal.decreases-bracketed
 decreases-bracketed l = 5 * l.levels + 1
 
-abbrev pub decreases-inner_statement : goal.decreases-inner_statement
-decreases-inner_statement l = 5 * l.levels + 2
+abbrev pub decreases-statement : goal.decreases-statement
+decreases-statement l = 5 * l.levels + 2
 
 abbrev pub decreases-some_statements : goal.decreases-some_statements
 decreases-some_statements l = 5 * l.levels + 3
@@ -20,5 +20,5 @@ decreases-statements l = 5 * l.levels + 4
 
 abbrev pub invariant-some_statements-loop-turn : goal.invariant-some_statements-loop-turn
 invariant-some_statements-loop-turn l =
-    statement_turns (spec.statement l.levels) (l._turn-end - l._turn) l.pending.items l.self
-    ≡ statement_turns (spec.statement l.levels) (length l.initial.self) l.initial.pending.items l.initial.self
+    statement_turns (spec.statement l.levels) (l._turn-end - l._turn) l.items l.self
+    ≡ statement_turns (spec.statement l.levels) (length l.initial.self) l.initial.items l.initial.self

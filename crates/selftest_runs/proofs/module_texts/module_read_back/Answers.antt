@@ -1,6 +1,6 @@
 use Rattle.std.proofs.Common.{◌≡◌, ◌∙◌, ap, subst, IfOk}
 use Rattle.cell_machine.specs.CellData.{data_of}
-use Rattle.specify_blocks.specs.Generated.{module_of}
+use Rattle.verilog_grammar.specs.specify_blocks.Generated.{module_of}
 use Rattle.selftest_runs.proofs.ModuleTexts.{generated_module}
 use Rattle.selftest_runs.proofs.module_texts.module_read_back.Goals as goal
 

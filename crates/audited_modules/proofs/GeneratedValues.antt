@@ -35,7 +35,7 @@ use Rattle.specify_blocks.specs.declared.model.Instance.TheVariants as instance
 use Rattle.specify_blocks.specs.declared.model.VModule.{VModule}
 use Rattle.specify_blocks.specs.Nets.{same_net, are_apart}
 use Rattle.specify_blocks.specs.Sound.{IsSound}
-use Rattle.specify_blocks.specs.Generated.{pin_net, notifier_nets, condition_count, wire_of, group_instance, instances_of}
+use Rattle.specify_blocks.specs.Generated.{pin_net, notifier_nets, condition_count, wire_of, instances_of}
 use Rattle.specify_blocks.specs.Generated.{primitives_of, module_of}
 use Rattle.specify_blocks.specs.Generated as generated
 use Rattle.specify_blocks.proofs.PrimitiveLemmas.{get-left, get-right, group_primitive-at, condition_primitive-at}

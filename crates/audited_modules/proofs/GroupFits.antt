@@ -40,7 +40,7 @@ use Rattle.model_traces.proofs.PinNumbers.{input-pin-port}
 use Rattle.model_traces.proofs.CellSteps.{IsNamed, support-is, step-is, all-passes}
 use Rattle.table_audit.specs.module_terminals.Terminals.{sequential_instances, is_among, same_nets, group_nets}
 use Rattle.table_audit.specs.module_shapes.Shape.{cell_inputs, port_inputs}
-use Rattle.table_audit.specs.module_tables.Tables.{arranged, next_by, place_net, model_step, note_after, model_notified}
+use Rattle.table_audit.specs.module_tables.Tables.{arranged, next_by, place_net, note_after}
 use Rattle.table_audit.specs.module_tables.Tables as tables
 use Rattle.table_audit.specs.module_tables.SameValues.{HasValues}
 use Rattle.audited_modules.proofs.ListLemmas.{among-place, both-true, same-place, no-place, none-passes}

@@ -5,7 +5,7 @@ use Rattle.std.specs.List.{list_all}
 use Rattle.std.specs.Prelude.{option_map}
 use Rattle.std.proofs.lemmas.List.{length-set}
 use Rattle.std.proofs.lemmas.Bool.{or_parts, eqb-true, eqb-false}
-use Rattle.std.proofs.lemmas.List.{get_or-set_same, get_or-set_other, drop_more, length-replicate}
+use Rattle.std.proofs.lemmas.List.{get_or-set_same, get_or-set_other, length-replicate}
 use Rattle.std.specs.List.{range_with_len}
 use Rattle.std.proofs.lemmas.List.FromFn.{length-map-range_with_len, get_or-map-range_with_len}
 use Rattle.std.proofs.lemmas.Option.{slice_get-map, slice_get_within, get_or_from_slice_get}
@@ -89,15 +89,6 @@ forget-at kept place i rest true e =
     unless-none rest (get_or (set kept place None) i None) (ap (λ m. get_or (set kept m None) i None) at ∙ gone kept i)
 forget-at kept place i rest false e =
     ap (kept_unless rest) (get_or-set_other kept place i None None (λ same. eqb-false place i e (sym same)))
-
-pub forget_more :
-    {V : Type 0} (kept next : List (Option V)) (places : List ℕ) (j : ℕ) (d i : ℕ)
-    → j < length places → next ≡ set kept (get_or places j d) None
-    → kept_unless (has (drop (j + 1) places) i) (get_or next i None) ≡ kept_unless (has (drop j places) i) (get_or kept i None)
-forget_more kept next places j d i inside written =
-    ap (λ ks. kept_unless (has (drop (j + 1) places) i) (get_or ks i None)) written
-    ∙ forget-at kept (get_or places j d) i (has (drop (j + 1) places) i) (eqb (get_or places j d) i) refl
-    ∙ ap (λ (is : List ℕ). kept_unless (has is i) (get_or kept i None)) (sym (drop_more places j d inside))
 
 -- an input that is not named may change
 

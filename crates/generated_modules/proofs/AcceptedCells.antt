@@ -21,7 +21,7 @@ use Rattle.cell_attributes.proofs.Distinct.{nil_parts}
 use Rattle.cell_reader.specs.CellTexts.{subject_of}
 use Rattle.cell_reader.proofs.Accepted.{accepted_meets_none, accepted_cells_are_sound}
 use Rattle.generated_modules.specs.Accepted.{IsAccepted, AreAccepted}
-use Rattle.generated_modules.specs.Cells.{IsNumberedCell, names_of_cells, numbers_of_cells, AreCellsOfOneLibrary}
+use Rattle.generated_modules.specs.Cells.{IsNumberedCell, names_of_cells, numbers_of_cells}
 use Rattle.generated_modules.specs.Laws.{AcceptedAreOfOneLibrary, AcceptedModulesAreWellFormed}
 use Rattle.generated_modules.proofs.NameLists.{unlike, each_among}
 use Rattle.generated_modules.proofs.KeptNames.{with_distinct_names}

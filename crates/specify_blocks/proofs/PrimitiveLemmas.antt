@@ -1,7 +1,6 @@
 -- The primitives of a cell's module by their numbers.
-use Rattle.std.proofs.Common.{◌≡◌, ℕ, zero, suc, ◌+◌, ◌<◌, ◌≤◌, Bool, true, false, List, [], ◌∷◌, ◌++◌, length, refl, ap, ◌∙◌}
-use Rattle.std.proofs.Common.{subst, arith, Some, slice_get, nat_lt, append_assoc, length-append, decimal}
-use Rattle.std.proofs.lemmas.Bool.{ltb-true, ltb-false}
+use Rattle.std.proofs.Common.{◌≡◌, ℕ, zero, suc, ◌+◌, ◌<◌, List, [], ◌∷◌, ◌++◌, length, refl, ap, ◌∙◌}
+use Rattle.std.proofs.Common.{arith, Some, slice_get, length-append, decimal}
 use Rattle.udp_tables.specs.PortNames.{input_name, input_names}
 use Rattle.cell_machine.specs.CellData.{CellData}
 use Rattle.udp_tables.specs.CellPrimitives.{group_primitive, condition_primitive}

@@ -4,7 +4,7 @@ use Rattle.std.proofs.Common.{Option, ap, arith, length-append}
 use Rattle.std.specs.Prelude.{sum_by}
 use Rattle.std.proofs.lemmas.List.{length-map}
 use Rattle.std.proofs.lemmas.List.Sums.{sum_by-append, sum_by-cons}
-use Rattle.grammar_rules.specs.Rule.{Rule, Verdict, Fits, Times, Takes}
+use Rattle.grammar_rules.specs.Rule.{Rule, Verdict, Times, Takes}
 use Rattle.grammar_rules.specs.Rule as r
 use Rattle.cell_machine.specs.declared.checks.Edge.TheVariants as edge
 use Rattle.udp_tables.specs.declared.models.VPort.{VPort}

@@ -7,7 +7,7 @@ use Rattle.std.specs.Option.{option_map}
 use Rattle.std.specs.Str.{bytes_eq}
 use Rattle.std.proofs.lemmas.List.{map-append}
 use Rattle.std.proofs.Math.Seq.{set-append_seam, drop-append_seam}
-use Rattle.grammar_rules.specs.Rule.{Verdict, Fits, Stops}
+use Rattle.grammar_rules.specs.Rule.{Stops}
 use Rattle.grammar_rules.specs.Rule as r
 use Rattle.udp_tables.specs.declared.models.VPort.{VPort}
 use Rattle.udp_tables.specs.VerilogRules.{begins, is_among, place_from}

@@ -102,7 +102,7 @@ fn driver_of_text<L: DriverSections>(
             Some(at) => Err(ModelFault::Lexical(at)),
         },
         Err(Stop::Memory) => Err(ModelFault::Memory),
-        // the tokens before those that are left were given back
+        // the cursor holds no tokens but those that are left
         Err(Stop::Refused(refusal)) => match L::scan(alloc, text) {
             Ok(Scan { tokens, fault }) => Err(refusal_fault(text, &tokens, fault, refusal, &left)),
             Err(_) => Err(ModelFault::Memory),

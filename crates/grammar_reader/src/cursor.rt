@@ -10,16 +10,14 @@ use std::alloc::Global;
 use std::marker::{Model, PhantomData};
 use std::mem::replace;
 
-/// The tokens of a text that are not read yet, each seen as its bytes, in a language `L`. It holds their places, and gives the
-/// memory of those back that were read, so that the tokens of a text and what they are read as never stand whole beside each
+/// The tokens of a text that are not read yet, each seen as its bytes, in a language `L`. It holds their places, and can give back
+/// the memory of those that were read, so that the tokens of a text and what they are read as need not stand whole beside each
 /// other.
 #[derive(Drop)]
 pub struct Cursor<'a, L> {
     text: &'a [u8],
     /// The last one first.
     left: Vec<KeptSpan>,
-    /// Where no more than so many are left, the room of those that were read is given back.
-    few: usize,
     language: PhantomData<L>,
 }
 
@@ -45,7 +43,6 @@ impl<'a, L: Language> Cursor<'a, L> {
         left.reverse();
         Cursor {
             text,
-            few: left.len() / 2,
             left,
             language: PhantomData,
         }
@@ -59,7 +56,6 @@ impl<'a, L: Language> Cursor<'a, L> {
         Cursor {
             text: self.text,
             left: replace(&mut self.left, Vec::new(alloc)),
-            few: self.few,
             language: PhantomData,
         }
     }
@@ -106,20 +102,15 @@ impl<'a, L: Language> Cursor<'a, L> {
     pub fn skip(&mut self)
         ensures { self.new ≡ rest self.old }
     {
-        if self.left.len() > self.few {
-            let _token = self.left.pop();
-        } else {
-            self.skip_last();
-        }
+        let _token = self.left.pop();
     }
 
-    /// The same, and gives the room back of the tokens that were read.
-    #[cold]
-    fn skip_last(&mut self)
-        ensures { self.new ≡ rest self.old }
+    /// Gives back the memory of the tokens that were read, where that is more than the memory of those that are left.
+    pub fn give_back(&mut self)
+        ensures { self.new ≡ self.old }
     {
-        let _token = self.left.pop();
-        self.left.shrink_to_fit();
-        self.few = self.left.len() / 2;
+        if self.left.len() < self.left.capacity() / 2 {
+            self.left.shrink_to_fit();
+        }
     }
 }

@@ -108,6 +108,7 @@ fn next_module(cursor: &mut Cursor, alloc: Global, before: &mut Before) -> Read<
     udps.shrink_to_fit();
     let whole = one_module(cursor, alloc, &mut before.names, Items::from_vec(udps))?;
     before.modules.push(whole)?;
+    cursor.give_back();
     Ok(())
 }
 

@@ -32,7 +32,7 @@ fn models_of(alloc: Global, text: &[u8]) -> Result<Vec<VModule>, ModelFault>
             Some(at) => Err(ModelFault::Lexical(at)),
         },
         Err(Stop::Memory) => Err(ModelFault::Memory),
-        // the tokens before those that are left were given back
+        // the cursor holds no tokens but those that are left
         Err(Stop::Refused(refusal)) => match scan(alloc, text) {
             Ok(Scan { tokens, fault }) => {
                 Err(refusal_fault(text, &tokens, fault, refusal, &cursor))

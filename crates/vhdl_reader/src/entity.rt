@@ -152,6 +152,7 @@ impl RepeatedPart<Vhdl> for NextEntity {
     fn next(&self, cursor: &mut Cursor<'_>, entities: Entities) -> Read<Entities> {
         let more = entity(cursor, self.0, &entities);
         let (entities, more) = with_read(entities, more)?;
+        cursor.give_back();
         entities.with(more)
     }
 }

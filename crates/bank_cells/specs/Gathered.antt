@@ -43,8 +43,8 @@ gathered_cell types cell =
 unfoldable pub gathered : List BusType → Group → Group
 gathered types cell = if has_many cell then gathered_cell types cell else cell
 
--- What gathering answers: the gathered group, where nothing refuses to expand the cell, or why the cell is refused, or that memory
--- was wanting.
+-- What gathering answers: the gathered group, where nothing refuses to expand the cell, or why the cell is refused, or that
+-- memory was wanting.
 abbrev pub Gathers : List BusType → Group → Result Group BankFault → Type 0
 Gathers types cell (Ok group) = (bank_refusal types cell ≡ None) × (group ≡ gathered types cell)
 Gathers types cell (Err (Refused refusal)) = bank_refusal types cell ≡ Some refusal

@@ -109,8 +109,8 @@ impl<'a> Statements<'a> {
     /// Whether two members have the same statements.
     fn have_same(&self, one: Member<'_>, other: Member<'_>) -> bool
         requires { spec.AreOfOneGroup self.now }
-        ensures { result
-            ≡ spec.have_same self.now.vectors.now self.now.group.now (spec.shown_member one.entry) (spec.shown_member other.entry) }
+        ensures { result ≡ spec.have_same self.now.vectors.now self.now.group.now (spec.shown_member one.entry)
+            (spec.shown_member other.entry) }
     {
         self.stay && same_of_all(one, other, &self.inner)
     }

@@ -165,8 +165,8 @@ fn add_bank_faults(
     group: &Group,
     bank: Bank<'_>,
 ) -> Result<(), AllocError>
-    ensures { OnOk result
-        (found.new.items ≡ found.old.items ++ flat_map (spec.state_faults vectors.now group.now) (positions_of bank.entry.width)) }
+    ensures { OnOk result (found.new.items ≡ found.old.items
+        ++ flat_map (spec.state_faults vectors.now group.now) (positions_of bank.entry.width)) }
 {
     let bits = positions(alloc, bank.width)?;
     add_states_faults(alloc, found, vectors, group, bits.as_slice())

@@ -1,5 +1,5 @@
 -- Values that are kept of entries.
-use Rattle.std.proofs.Common.{◌≡◌, ℕ, zero, suc, ◌+◌, ◌<◌, ◌==◌, eqb, Bool, true, false, not, ◌&&◌, ◌||◌, List, [], ◌∷◌, length, map}
+use Rattle.std.proofs.Common.{◌≡◌, ℕ, zero, suc, ◌+◌, ◌<◌, ◌==◌, eqb, Bool, true, false, not, ◌&&◌, List, [], ◌∷◌, length, map}
 use Rattle.std.proofs.Common.{replicate, get_or, set, drop, add-one, subst, refl, sym, ap, ◌∙◌, Option, Some, None, slice_get, arith}
 use Rattle.std.specs.List.{list_all}
 use Rattle.std.specs.Prelude.{option_map}
@@ -68,27 +68,6 @@ pub kept_set :
 kept_set is_right n kept i value next h inside is written =
     subst (AreKept is_right n) (sym written)
     (length-set kept i (Some value) ∙ h.0, λ j other o. set-at is_right n kept i j value other (eqb j i) h inside is refl o)
-
--- what is kept at some places is forgotten
-
-gone : {V : Type 0} (kept : List (Option V)) (i : ℕ) → get_or (set kept i None) i None ≡ None
-gone [] i = refl
-gone (k ∷ kept) zero = refl
-gone (k ∷ kept) (suc i) = gone kept i
-
-unless-none : {V : Type 0} (b : Bool) (k : Option V) → k ≡ None → kept_unless b k ≡ None
-unless-none true k e = refl
-unless-none false k e = e
-
-forget-at :
-    {V : Type 0} (kept : List (Option V)) (place i : ℕ) (rest same : Bool)
-    → eqb place i ≡ same
-    → kept_unless rest (get_or (set kept place None) i None) ≡ kept_unless (same || rest) (get_or kept i None)
-forget-at kept place i rest true e =
-    let at = eqb-true place i e in
-    unless-none rest (get_or (set kept place None) i None) (ap (λ m. get_or (set kept m None) i None) at ∙ gone kept i)
-forget-at kept place i rest false e =
-    ap (kept_unless rest) (get_or-set_other kept place i None None (λ same. eqb-false place i e (sym same)))
 
 -- an input that is not named may change
 

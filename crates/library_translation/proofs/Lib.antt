@@ -1,3 +1,6 @@
+pub mod StoppedWrites
+pub mod ModelTexts
+pub mod TestLineTexts
 pub mod CellLemmas
 pub mod ModelsLemmas
 pub mod TranslateLemmas

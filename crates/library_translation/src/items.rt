@@ -5,17 +5,18 @@ ghost use Rattle.text_io.specs.declared.slots.InSlot.TheVariants.{Library};
 ghost use Rattle.text_io.specs.declared.slots.OutSlot.TheVariants.{VerilogText, VitalText};
 ghost use Rattle.text_io.specs.Desk.{is_bound, StopsWithCause};
 ghost use Rattle.run_outcome.specs.Written.{in_report};
-ghost use Rattle.cell_translation.specs.library_report.LeftOutLines.{left_out_file_line};
+ghost use Rattle.library_report.specs.LeftOutLines.{left_out_file_line};
 ghost use Rattle.library_reader.specs.Endings.{library_limit};
 ghost use Rattle.library_reader.specs.Progress.{no_progress};
 ghost use Rattle.library_translation.specs.Cells.{ModelsAreBound, cell_written};
 ghost use Rattle.library_translation.specs.Library.{Handles};
 
+use crate::cells::write_accepted;
+use crate::stopped::stopped;
 use cell_attributes::groups::cell_name;
-use cell_translation::report::{write_left_out_file, write_refused_cell};
-use cell_translation::write_accepted;
 use liberty_groups::Group;
 use library_reader::{Ending, ItemWriter, NextCell, NothingKept, Progress, fold_items};
+use library_report::{write_left_out_file, write_refused_cell};
 use std::alloc::Global;
 use text_io::{Desk, Stop};
 
@@ -43,15 +44,14 @@ impl ItemWriter for CellModels {
                 write_accepted(alloc, desk, cell, entity.as_slice(), group)
             }
             NextCell::Refused(refusal) => {
-                write_refused_cell(desk, progress.next_number(), cell_name(group), refusal)?;
-                Ok(())
+                let number = progress.next_number();
+                stopped(write_refused_cell(desk, number, cell_name(group), refusal))
             }
         }
     }
 
     fn write_left_out<D: Desk>(&self, desk: &mut D) -> Result<(), Stop> {
-        write_left_out_file(desk)?;
-        Ok(())
+        stopped(write_left_out_file(desk))
     }
 }
 

@@ -6,8 +6,8 @@ use Rattle.std.specs.List.{list_any}
 use Rattle.std.specs.Str.{str_eq_ignore_ascii_case, str_to_ascii_lowercase}
 use Rattle.std.proofs.lemmas.Map.Keys.{IsDistinct-push}
 use Rattle.grammar_reader.specs.Words.{is_among}
-use Rattle.driven_files.specs.vhdl_tokens.Tokens.{is_name}
-use Rattle.driven_files.specs.vhdl_tokens.Spelling.{is_same}
+use Rattle.vhdl_tokens.specs.Tokens.{is_name}
+use Rattle.vhdl_tokens.specs.Spelling.{is_same}
 use Rattle.vhdl_grammar.specs.WellFormed.{AreApart}
 use Rattle.vhdl_scope.proofs.LoweredNames.{same_lowered}
 

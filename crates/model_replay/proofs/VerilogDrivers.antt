@@ -7,20 +7,20 @@ use Rattle.std.proofs.lemmas.Map.Keys.{IsDistinct-push}
 use Rattle.std.proofs.lemmas.Cmp.{nat_list_eq_equiv as bytes_equivalence}
 use Rattle.grammar_rules.proofs.Promises.{Promises, gives, in_turn, many, choice}
 use Rattle.udp_tables.specs.declared.models.VPort.{VPort}
-use Rattle.driven_files.specs.verilog_tokens.Tokens.{is_name}
+use Rattle.verilog_tokens.specs.Tokens.{is_name}
 use Rattle.verilog_grammar.specs.VerilogModules.{port_name, port_names, plain_port, next_port, more_ports, some_ports, Inputs}
 use Rattle.verilog_grammar.specs.VerilogModules.{input_at, declared_input, declared_inputs}
 use Rattle.verilog_grammar.specs.WellFormed.{AreApart}
 use Rattle.verilog_grammar.proofs.ReadHeaders.{HasNames, input_named}
 use Rattle.file_models.specs.driver_models.declared.model.DriverModel.{DriverModel}
 use Rattle.file_models.specs.driver_models.Cores.{Core}
-use Rattle.driven_files.specs.driver_texts.Sections.{section, section_text}
+use Rattle.driver_texts.specs.Sections.{section, section_text}
 use Rattle.file_models.proofs.driver_texts.SectionTexts.{text_keeps}
 use Rattle.file_models.proofs.driver_texts.SoundCores.{AnyToken, behind, known_values}
 use Rattle.file_models.proofs.driver_texts.StandingCores.{new_names}
-use Rattle.driven_files.specs.verilog_drivers.DriverSections.{driver_header, driver_ports, section_front, core_call, section_body}
-use Rattle.driven_files.specs.verilog_drivers.DriverSections.{section_rest, verilog_section_grammar}
-use Rattle.driven_files.proofs.verilog_drivers.StandingDrivers.{section_ends}
+use Rattle.verilog_drivers.specs.DriverSections.{driver_header, driver_ports, section_front, core_call, section_body}
+use Rattle.verilog_drivers.specs.DriverSections.{section_rest, verilog_section_grammar}
+use Rattle.verilog_drivers.proofs.StandingDrivers.{section_ends}
 use Rattle.model_replay.proofs.NamedDrivers.{IsNamed, declared_names, core_names}
 
 -- Headers.

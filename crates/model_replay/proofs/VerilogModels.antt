@@ -5,7 +5,7 @@ use Rattle.std.specs.Str.{bytes_eq}
 use Rattle.std.specs.List.{IsDistinct, AllByRecursion, list_any}
 use Rattle.std.proofs.lemmas.List.Folds.{list_any-append}
 use Rattle.std.proofs.lemmas.Cmp.{nat_list_eq_equiv as bytes_equivalence}
-use Rattle.driven_files.specs.verilog_tokens.Tokens.{is_name}
+use Rattle.verilog_tokens.specs.Tokens.{is_name}
 use Rattle.verilog_grammar.specs.specify_blocks.declared.model.VModule.{VModule}
 use Rattle.verilog_grammar.specs.specify_blocks.Sound.{IsSound}
 use Rattle.verilog_grammar.specs.VerilogModules.{port_names}
@@ -18,8 +18,8 @@ use Rattle.file_models.specs.sectioned_texts.declared.driven_models.DrivenModels
 use Rattle.file_models.specs.sectioned_texts.DrivenModels.{rest_of, driven_models}
 use Rattle.file_models.specs.sectioned_texts.Drivers.{AllMayStand}
 use Rattle.file_models.proofs.sectioned_texts.TextLaws.{drivers_stand}
-use Rattle.driven_files.proofs.verilog_drivers.StandingDrivers.{text_may_stand}
-use Rattle.driven_files.specs.Verilog.{verilog_sections}
+use Rattle.verilog_drivers.proofs.StandingDrivers.{text_may_stand}
+use Rattle.verilog_drivers.specs.VerilogSections.{verilog_sections}
 use Rattle.file_models.specs.declared.file_model.FileModel.{FileModel}
 use Rattle.file_models.specs.FileModels.{file_models}
 use Rattle.file_models.proofs.ReadDrivers.{read_parts}

@@ -10,19 +10,19 @@ use Rattle.grammar_reader.specs.declared.refusal.Refusal.TheVariants.{Syntax, Un
 use Rattle.grammar_reader.specs.Words.{is_among}
 use Rattle.grammar_reader.proofs.Passing.{fits_if, fits_unless}
 use Rattle.udp_tables.specs.declared.models.VPort.{VPort}
-use Rattle.driven_files.specs.vhdl_tokens.Tokens.{is_name}
-use Rattle.driven_files.specs.vhdl_tokens.Spelling.{is_same}
+use Rattle.vhdl_tokens.specs.Tokens.{is_name}
+use Rattle.vhdl_tokens.specs.Spelling.{is_same}
 use Rattle.vhdl_grammar.specs.VhdlDeclarations.{name_of_port, port_names, has_underscore, port_by, next_port, port_list}
 use Rattle.vhdl_grammar.specs.WellFormed.{AreApart}
 use Rattle.model_replay.proofs.SameNames.{push_apart}
 use Rattle.file_models.specs.driver_models.declared.model.DriverModel.{DriverModel}
 use Rattle.file_models.specs.driver_models.Cores.{Core}
-use Rattle.driven_files.specs.driver_texts.Sections.{section, section_text}
+use Rattle.driver_texts.specs.Sections.{section, section_text}
 use Rattle.file_models.proofs.driver_texts.SectionTexts.{text_keeps}
 use Rattle.file_models.proofs.driver_texts.SoundCores.{AnyToken, behind}
-use Rattle.driven_files.specs.vhdl_drivers.DriverSections.{driver_name, driver_ports, section_front, core_call, section_core}
-use Rattle.driven_files.specs.vhdl_drivers.DriverSections.{section_process, section_rest, vhdl_section_grammar}
-use Rattle.driven_files.proofs.vhdl_drivers.StandingDrivers.{section_ends}
+use Rattle.vhdl_drivers.specs.DriverSections.{driver_name, driver_ports, section_front, core_call, section_core}
+use Rattle.vhdl_drivers.specs.DriverSections.{section_process, section_rest, vhdl_section_grammar}
+use Rattle.vhdl_drivers.proofs.StandingDrivers.{section_ends}
 use Rattle.model_replay.proofs.NamedDrivers.{IsNamed, declared_names, core_names}
 
 -- Ports.

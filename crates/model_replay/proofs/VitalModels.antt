@@ -8,7 +8,7 @@ use Rattle.std.proofs.lemmas.Simd.{map-map}
 use Rattle.file_models.specs.bool_functions.NameList.{AreDistinct}
 use Rattle.file_models.proofs.bool_functions.NameLists.{IsDistinct-map}
 use Rattle.vhdl_tokens.specs.Kept.{lowered}
-use Rattle.driven_files.specs.vhdl_tokens.Tokens.{is_name}
+use Rattle.vhdl_tokens.specs.Tokens.{is_name}
 use Rattle.vital_models.specs.declared.model.VOutput.{VOutput}
 use Rattle.vital_models.specs.declared.model.VEntity.{VEntity}
 use Rattle.vital_models.specs.Sound.{IsSound}
@@ -22,8 +22,8 @@ use Rattle.file_models.specs.sectioned_texts.declared.driven_models.DrivenModels
 use Rattle.file_models.specs.sectioned_texts.DrivenModels.{rest_of, driven_models}
 use Rattle.file_models.specs.sectioned_texts.Drivers.{AllMayStand}
 use Rattle.file_models.proofs.sectioned_texts.TextLaws.{drivers_stand}
-use Rattle.driven_files.proofs.vhdl_drivers.StandingDrivers.{text_may_stand}
-use Rattle.driven_files.specs.Vital.{vital_sections}
+use Rattle.vhdl_drivers.proofs.StandingDrivers.{text_may_stand}
+use Rattle.vhdl_drivers.specs.VitalSections.{vital_sections}
 use Rattle.file_models.specs.declared.file_model.FileModel.{FileModel}
 use Rattle.file_models.specs.FileModels.{file_models}
 use Rattle.file_models.proofs.ReadDrivers.{read_parts}

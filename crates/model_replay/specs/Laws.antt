@@ -9,8 +9,8 @@ use Rattle.vhdl_grammar.specs.VhdlText.{vhdl_text}
 use Rattle.vhdl_grammar.specs.WellFormed.{AreApart, IsCount, AreWellFormed}
 use Rattle.file_models.specs.sectioned_texts.declared.driven_models.DrivenModels.{DrivenModels}
 use Rattle.file_models.specs.sectioned_texts.DrivenModels.{driven_models}
-use Rattle.driven_files.specs.Verilog.{verilog_sections}
-use Rattle.driven_files.specs.Vital.{vital_sections}
+use Rattle.verilog_drivers.specs.VerilogSections.{verilog_sections}
+use Rattle.vhdl_drivers.specs.VitalSections.{vital_sections}
 use Rattle.file_models.specs.declared.file_model.FileModel.{FileModel}
 use Rattle.file_models.specs.FileModels.{own_model, file_models}
 use Rattle.model_files.specs.Languages.{Language}

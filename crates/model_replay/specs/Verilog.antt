@@ -7,7 +7,7 @@ use Rattle.verilog_grammar.specs.specify_blocks.declared.model.VModule.{VModule}
 use Rattle.verilog_grammar.specs.specify_blocks.Sound.{IsSound}
 use Rattle.model_traces.specs.ModuleTrace.{module_machine}
 use Rattle.file_models.specs.sectioned_texts.DrivenModels.{driven_models}
-use Rattle.driven_files.specs.Verilog.{verilog_sections}
+use Rattle.verilog_drivers.specs.VerilogSections.{verilog_sections}
 use Rattle.file_models.specs.declared.file_model.FileModel.{FileModel}
 use Rattle.file_models.specs.FileModels.{file_models, machine_by, IsRunnable}
 use Rattle.model_files.specs.declared.format.ModelFormat.TheVariants.{Verilog}

@@ -7,7 +7,7 @@ use Rattle.vital_models.specs.declared.model.VEntity.{VEntity}
 use Rattle.vital_models.specs.Sound.{IsSound}
 use Rattle.model_traces.specs.EntityTrace.{entity_machine}
 use Rattle.file_models.specs.sectioned_texts.DrivenModels.{driven_models}
-use Rattle.driven_files.specs.Vital.{vital_sections}
+use Rattle.vhdl_drivers.specs.VitalSections.{vital_sections}
 use Rattle.file_models.specs.declared.file_model.FileModel.{FileModel}
 use Rattle.file_models.specs.FileModels.{file_models, machine_by, IsRunnable}
 use Rattle.model_files.specs.declared.format.ModelFormat.TheVariants.{Vital}

@@ -13,7 +13,9 @@ mod reading;
 mod run;
 mod starts;
 mod verilog;
+mod verilog_sections;
 mod vital;
+mod vital_sections;
 
 pub use laws::{
     entities_have_own_names, modules_have_own_names, plain_entities_read_as_before,
@@ -23,4 +25,6 @@ pub use run::replay_models;
 pub use starts::{known_entity, known_module, start_entity, start_module};
 pub use table_interpreters::{EntityStart, ModuleStart};
 pub use verilog::Verilog;
+pub use verilog_sections::{read_driven_models, read_verilog_driver};
 pub use vital::Vital;
+pub use vital_sections::{read_driven_entities, read_vital_driver};

@@ -1,8 +1,8 @@
 //! Verilog as a language of models.
 
 use crate::starts::{known_module, start_module};
+use crate::verilog_sections::read_driven_models;
 use cell_machine::{Change, Shared};
-use driven_files::{VerilogFiles, read_driven_models};
 use file_models::{FileModel, file_models};
 use model_files::{ModelFormat, ModelLanguage};
 use std::alloc::{AllocError, Global};
@@ -33,7 +33,7 @@ impl ModelLanguage for Verilog {
 
     fn read(alloc: Global, text: &[u8]) -> Result<Vec<FileModel<VModule>>, ModelFault> {
         let found = read_driven_models(alloc, text)?;
-        Ok(file_models::<VerilogFiles>(alloc, found)?)
+        Ok(file_models::<Verilog>(alloc, found)?)
     }
 
     fn name(model: &FileModel<VModule>) -> &[u8] {

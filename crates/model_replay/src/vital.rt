@@ -1,8 +1,8 @@
 //! VHDL by VITAL as a language of models.
 
 use crate::starts::{known_entity, start_entity};
+use crate::vital_sections::read_driven_entities;
 use cell_machine::{Change, Shared};
-use driven_files::{VitalFiles, read_driven_entities};
 use file_models::{FileModel, file_models};
 use model_files::{ModelFormat, ModelLanguage};
 use std::alloc::{AllocError, Global};
@@ -35,7 +35,7 @@ impl ModelLanguage for Vital {
     fn read(alloc: Global, text: &[u8]) -> Result<Vec<FileModel<VEntity>>, ModelFault> {
         texts_are_well_formed();
         let found = read_driven_entities(alloc, text)?;
-        Ok(file_models::<VitalFiles>(alloc, found)?)
+        Ok(file_models::<Vital>(alloc, found)?)
     }
 
     fn name(model: &FileModel<VEntity>) -> &[u8] {

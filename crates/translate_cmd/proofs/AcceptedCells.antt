@@ -12,7 +12,7 @@ use Rattle.std.proofs.lemmas.Slice.Eq.{bytes_eq-Decides}
 use Rattle.library_simulation.specs.file_models.bool_functions.NameList.{number_of}
 use Rattle.library_simulation.proofs.file_models.bool_functions.Elements.{contains_here, contains_cases}
 use Rattle.library_simulation.proofs.file_models.bool_functions.NameLists.{position-none}
-use Rattle.generated_driven_models.specs.liberty_groups.declared.tree.Group.{Group}
+use Rattle.written_driven_models.specs.liberty_groups.declared.tree.Group.{Group}
 use Rattle.library_simulation.specs.file_models.cell_machine.CellData.{CellData}
 use Rattle.cell_attributes.specs.Groups.{cell_name}
 use Rattle.cell_reader.specs.declared.refusal.Refusal.{Refusal}
@@ -20,13 +20,13 @@ use Rattle.cell_cursor.specs.declared.item.LibraryItem.{LibraryItem}
 use Rattle.cell_cursor.specs.declared.item.LibraryItem.TheVariants as item
 use Rattle.cell_cursor.specs.Ends.{items_within}
 use Rattle.cell_cursor.proofs.Ascending.{items_few}
-use Rattle.generated_driven_models.specs.three_state_cells.DrivenCells.{DrivenData}
-use Rattle.generated_driven_models.specs.generated_modules.Cells.{kept_names}
-use Rattle.generated_driven_models.specs.generated_modules.Accepted.{IsAccepted, AreAccepted, described}
-use Rattle.generated_driven_models.proofs.generated_modules.AcceptedCells.{accepted-of-one-library}
-use Rattle.generated_driven_models.specs.Library.{IsNumberedDriven, AreOfOneLibrary}
-use Rattle.generated_driven_models.proofs.ModuleDrivers.{well-formed-together}
-use Rattle.generated_driven_models.proofs.Together.{well_formed_together}
+use Rattle.written_driven_models.specs.three_state_cells.DrivenCells.{DrivenData}
+use Rattle.written_driven_models.specs.generated_modules.Cells.{kept_names}
+use Rattle.written_driven_models.specs.generated_modules.Accepted.{IsAccepted, AreAccepted, described}
+use Rattle.written_driven_models.proofs.generated_modules.AcceptedCells.{accepted-of-one-library}
+use Rattle.written_driven_models.specs.Library.{IsNumberedDriven, AreOfOneLibrary}
+use Rattle.written_driven_models.proofs.ModuleDrivers.{well-formed-together}
+use Rattle.written_driven_models.proofs.Together.{well_formed_together}
 use Rattle.library_simulation.specs.library_reader.declared.progress.Progress.{Progress}
 use Rattle.library_simulation.specs.library_reader.Progress.{no_progress, next_number, next_bits, names_with, next_refusal}
 use Rattle.library_simulation.specs.library_reader.Progress.{next_data, next_entity, entity_by, after_cell}

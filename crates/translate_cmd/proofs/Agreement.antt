@@ -20,8 +20,8 @@ use Rattle.library_simulation.specs.model_files.StimulusAnswer.{stimulus_answer}
 use Rattle.library_simulation.specs.model_files.Limits.{model_limit, stimulus_limit}
 use Rattle.library_simulation.specs.Verilog.{verilog}
 use Rattle.library_simulation.specs.Vital.{vital}
-use Rattle.generated_driven_models.specs.vital_models.declared.model.VEntity.{VEntity}
-use Rattle.generated_driven_models.specs.vhdl_grammar.WellFormed.{AreApart}
+use Rattle.written_driven_models.specs.vital_models.declared.model.VEntity.{VEntity}
+use Rattle.written_driven_models.specs.vhdl_grammar.WellFormed.{AreApart}
 use Rattle.library_simulation.specs.file_models.declared.file_model.FileModel.{FileModel}
 use Rattle.library_simulation.specs.model_files.ModelNames.{model_names}
 use Rattle.library_simulation.proofs.VerilogModels.{own_names}

@@ -7,9 +7,9 @@ use Rattle.std.specs.Option.{option_and_then}
 use Rattle.library_simulation.specs.file_models.bool_functions.NameList.{number_of}
 use Rattle.library_simulation.specs.file_models.cell_machine.CellData.{CellData}
 use Rattle.library_simulation.specs.file_models.cell_machine.CellRules.{is_cell}
-use Rattle.generated_driven_models.specs.specify_blocks.declared.model.VModule.{VModule}
-use Rattle.generated_driven_models.specs.specify_blocks.Names.{module_name}
-use Rattle.generated_driven_models.specs.specify_blocks.Sound.{IsSound}
+use Rattle.written_driven_models.specs.specify_blocks.declared.model.VModule.{VModule}
+use Rattle.written_driven_models.specs.specify_blocks.Names.{module_name}
+use Rattle.written_driven_models.specs.specify_blocks.Sound.{IsSound}
 use Rattle.library_simulation.specs.file_models.udp_tables.declared.models.ModelFault.{ModelFault}
 use Rattle.model_traces.specs.Agreement.{FittingModulesAgree}
 use Rattle.audited_modules.specs.Laws.{MatchingModulesFit}

@@ -5,7 +5,7 @@ use Rattle.std.specs.List.{AllByRecursion, list_any}
 use Rattle.std.specs.Option.{option_and_then}
 use Rattle.std.proofs.lemmas.List.{map-append, length-map}
 use Rattle.library_simulation.specs.file_models.driver_models.Cores.{Core, core_number}
-use Rattle.generated_driven_models.proofs.grammar_reader.ItemPlaces.{get_at, found_behind}
+use Rattle.written_driven_models.proofs.grammar_reader.ItemPlaces.{get_at, found_behind}
 use Rattle.library_simulation.specs.file_models.sectioned_texts.DrivenModels.{SectionLanguage}
 use Rattle.library_simulation.specs.file_models.FileModels.{core_named}
 use Rattle.library_simulation.proofs.file_models.DistinctNames.{core_name_of}

@@ -6,12 +6,12 @@ use Rattle.std.specs.Str.{bytes_eq, str_eq_ignore_ascii_case}
 use Rattle.std.proofs.lemmas.List.Folds.{list_any-append}
 use Rattle.std.proofs.lemmas.Slice.Eq.{bytes_eq-Decides}
 use Rattle.library_simulation.specs.file_models.bool_functions.NameList.{number_of}
-use Rattle.generated_driven_models.specs.liberty_groups.declared.tree.Group.{Group}
+use Rattle.written_driven_models.specs.liberty_groups.declared.tree.Group.{Group}
 use Rattle.cell_attributes.proofs.Clashes.{found_is}
-use Rattle.generated_driven_models.specs.vhdl_tokens.Kept.{is_identifier, is_free, is_numbered, lowered}
-use Rattle.generated_driven_models.specs.vital_models.Kept.{is_kept_entity_name, name_or_numbered, entity_name, driver_name}
-use Rattle.generated_driven_models.specs.three_state_cells.DrivenCells.{DrivenData, may_float}
-use Rattle.generated_driven_models.specs.VitalLibrary.{model_name}
+use Rattle.written_driven_models.specs.vhdl_tokens.Kept.{is_identifier, is_free, is_numbered, lowered}
+use Rattle.written_driven_models.specs.vital_models.Kept.{is_kept_entity_name, name_or_numbered, entity_name, driver_name}
+use Rattle.written_driven_models.specs.three_state_cells.DrivenCells.{DrivenData, may_float}
+use Rattle.written_driven_models.specs.VitalLibrary.{model_name}
 use Rattle.library_simulation.specs.library_reader.LibraryCells.{vital_name}
 use Rattle.library_simulation.specs.library_reader.declared.progress.Progress.{Progress}
 use Rattle.library_simulation.specs.library_reader.Progress.{names_with, next_data, next_entity}

@@ -4,28 +4,28 @@ use Rattle.std.proofs.Common.{◌∙◌, Some, None, Ok, if◌then◌else◌}
 use Rattle.std.specs.List.{AllByRecursion, list_any}
 use Rattle.std.specs.Result.{result_map_both}
 use Rattle.std.proofs.lemmas.List.Elements.{recursion_from_All}
-use Rattle.generated_driven_models.specs.specify_blocks.declared.model.VModule.{VModule}
-use Rattle.generated_driven_models.specs.specify_blocks.Generated.{module_of}
-use Rattle.generated_driven_models.specs.verilog_grammar.WellFormed as verilog_rules
-use Rattle.generated_driven_models.specs.vhdl_tokens.Kept.{lowered}
-use Rattle.generated_driven_models.specs.vital_models.declared.model.VEntity.{VEntity}
-use Rattle.generated_driven_models.specs.vital_models.Generated.{entity_of}
-use Rattle.generated_driven_models.specs.vhdl_tokens.Spelling.{is_same}
-use Rattle.generated_driven_models.specs.vhdl_grammar.WellFormed as vital_rules
-use Rattle.generated_driven_models.proofs.grammar_reader.ItemPlaces.{same_bytes, at_place}
-use Rattle.generated_driven_models.proofs.written_modules.NameReading as module_names
-use Rattle.generated_driven_models.proofs.written_entities.Names.{IsNamed, entity_named, same_self}
-use Rattle.generated_driven_models.proofs.written_entities.NameReading as entity_names
+use Rattle.written_driven_models.specs.specify_blocks.declared.model.VModule.{VModule}
+use Rattle.written_driven_models.specs.specify_blocks.Generated.{module_of}
+use Rattle.written_driven_models.specs.verilog_grammar.WellFormed as verilog_rules
+use Rattle.written_driven_models.specs.vhdl_tokens.Kept.{lowered}
+use Rattle.written_driven_models.specs.vital_models.declared.model.VEntity.{VEntity}
+use Rattle.written_driven_models.specs.vital_models.Generated.{entity_of}
+use Rattle.written_driven_models.specs.vhdl_tokens.Spelling.{is_same}
+use Rattle.written_driven_models.specs.vhdl_grammar.WellFormed as vital_rules
+use Rattle.written_driven_models.proofs.grammar_reader.ItemPlaces.{same_bytes, at_place}
+use Rattle.written_driven_models.proofs.written_modules.NameReading as module_names
+use Rattle.written_driven_models.proofs.written_entities.Names.{IsNamed, entity_named, same_self}
+use Rattle.written_driven_models.proofs.written_entities.NameReading as entity_names
 use Rattle.library_simulation.specs.file_models.driver_models.declared.model.DriverModel.{DriverModel}
-use Rattle.generated_driven_models.specs.three_state_cells.DrivenCells.{DrivenData, may_float}
-use Rattle.generated_driven_models.specs.generated_drivers.Generated.{verilog_driver_of, vital_driver_of}
+use Rattle.written_driven_models.specs.three_state_cells.DrivenCells.{DrivenData, may_float}
+use Rattle.written_driven_models.specs.generated_drivers.Generated.{verilog_driver_of, vital_driver_of}
 use Rattle.library_simulation.specs.file_models.sectioned_texts.DrivenModels.{SectionLanguage}
 use Rattle.library_simulation.specs.file_models.sectioned_texts.declared.driven_models.DrivenModels.{DrivenModels}
-use Rattle.generated_driven_models.specs.written_driven_models.driven_files.Verilog.{verilog_sections}
-use Rattle.generated_driven_models.specs.written_driven_models.driven_files.Vital.{vital_sections}
-use Rattle.generated_driven_models.specs.written_driven_models.Texts.{models_of, driver_in, drivers_of}
-use Rattle.generated_driven_models.specs.VerilogLibrary.{driven_modules_of}
-use Rattle.generated_driven_models.specs.VitalLibrary.{model_name, driven_entity, driven_entities_behind}
+use Rattle.written_driven_models.specs.verilog_drivers.VerilogSections.{verilog_sections}
+use Rattle.written_driven_models.specs.vhdl_drivers.VitalSections.{vital_sections}
+use Rattle.written_driven_models.specs.Texts.{models_of, driver_in, drivers_of}
+use Rattle.written_driven_models.specs.VerilogLibrary.{driven_modules_of}
+use Rattle.written_driven_models.specs.VitalLibrary.{model_name, driven_entity, driven_entities_behind}
 use Rattle.library_simulation.proofs.VerilogModels.{modules_apart}
 use Rattle.library_simulation.specs.file_models.declared.file_model.FileModel.{FileModel}
 use Rattle.library_simulation.specs.file_models.FileModels.{over_core, driver_over, core_named, over_its_core, own_model}

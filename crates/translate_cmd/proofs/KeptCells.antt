@@ -3,15 +3,15 @@
 use Rattle.std.proofs.Common.{◌≡◌, ℕ, Bool, true, false, List, [], ◌∷◌, ◌++◌, refl, ap, subst, Option, Some, None, is_some}
 use Rattle.std.proofs.Common.{if◌then◌else◌}
 use Rattle.library_simulation.specs.file_models.bool_functions.NameList.{number_of}
-use Rattle.generated_driven_models.specs.liberty_groups.declared.tree.Group.{Group}
+use Rattle.written_driven_models.specs.liberty_groups.declared.tree.Group.{Group}
 use Rattle.cell_attributes.specs.Groups.{cell_name}
 use Rattle.cell_reader.specs.declared.refusal.Refusal.{Refusal}
 use Rattle.cell_cursor.specs.declared.item.LibraryItem.{LibraryItem}
 use Rattle.cell_cursor.specs.declared.item.LibraryItem.TheVariants as item
 use Rattle.cell_cursor.specs.Ends.{items_within}
-use Rattle.generated_driven_models.specs.vhdl_tokens.Kept.{lowered}
-use Rattle.generated_driven_models.specs.three_state_cells.DrivenCells.{DrivenData, may_float}
-use Rattle.generated_driven_models.specs.VitalLibrary.{model_name}
+use Rattle.written_driven_models.specs.vhdl_tokens.Kept.{lowered}
+use Rattle.written_driven_models.specs.three_state_cells.DrivenCells.{DrivenData, may_float}
+use Rattle.written_driven_models.specs.VitalLibrary.{model_name}
 use Rattle.library_simulation.specs.library_reader.LibraryCells.{CellEntry, Accepted, Refused}
 use Rattle.library_simulation.specs.library_reader.declared.progress.Progress.{Progress}
 use Rattle.library_simulation.specs.library_reader.Progress.{no_progress, next_bits, next_refusal, next_data, next_entity}

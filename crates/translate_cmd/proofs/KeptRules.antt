@@ -3,8 +3,8 @@ use Rattle.std.proofs.Common.{ℕ, List, [], ◌∷◌, sym, subst}
 use Rattle.std.specs.Prelude.{All}
 use Rattle.std.specs.List.{AllByRecursion}
 use Rattle.std.proofs.lemmas.List.Elements.{All-from_recursion}
-use Rattle.generated_driven_models.specs.three_state_cells.DrivenCells.{DrivenData}
-use Rattle.generated_driven_models.specs.Library.{IsNumberedDriven}
+use Rattle.written_driven_models.specs.three_state_cells.DrivenCells.{DrivenData}
+use Rattle.written_driven_models.specs.Library.{IsNumberedDriven}
 use Rattle.library_simulation.specs.library_reader.LibraryCells.{CellEntry, Accepted, Refused}
 use Rattle.library_simulation.specs.simulation_catalog.Generated.{KeepsRules}
 use Rattle.translate_cmd.proofs.AcceptedCells.{all_numbered}

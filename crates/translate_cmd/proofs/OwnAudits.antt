@@ -5,7 +5,7 @@ use Rattle.std.proofs.Common.{if◌then◌else◌}
 use Rattle.std.specs.Prelude.{◌≢◌, All, slice_get, slice_index_or}
 use Rattle.std.specs.Option.{option_and_then}
 use Rattle.std.proofs.lemmas.Option.{slice_get-get_or}
-use Rattle.generated_driven_models.specs.three_state_cells.DrivenCells.{DrivenData, may_float}
+use Rattle.written_driven_models.specs.three_state_cells.DrivenCells.{DrivenData, may_float}
 use Rattle.library_simulation.specs.library_reader.LibraryCells.{CellEntry, Accepted, Refused}
 use Rattle.library_simulation.specs.library_reader.declared.ending.Ending.{Ending}
 use Rattle.library_simulation.specs.library_reader.declared.ending.Ending.TheVariants as ending
@@ -13,8 +13,8 @@ use Rattle.library_simulation.specs.library_reader.Endings.{library_limit, endin
 use Rattle.library_simulation.specs.library_reader.KeptCells.{cells_by}
 use Rattle.library_simulation.specs.library_report.LibraryAnswer.{answer_by, library_answer}
 use Rattle.library_translation.specs.Library.{translate_outcome}
-use Rattle.generated_driven_models.specs.specify_blocks.declared.model.VModule.{VModule}
-use Rattle.generated_driven_models.specs.specify_blocks.Generated.{module_of}
+use Rattle.written_driven_models.specs.specify_blocks.declared.model.VModule.{VModule}
+use Rattle.written_driven_models.specs.specify_blocks.Generated.{module_of}
 use Rattle.run_outcome.specs.declared.status.Status.TheVariants as status
 use Rattle.run_outcome.specs.Outcome.{Outcome}
 use Rattle.run_outcome.specs.FileSteps.{FileStop, outcome_by}

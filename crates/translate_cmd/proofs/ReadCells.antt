@@ -2,11 +2,11 @@
 use Rattle.std.proofs.Common.{◌≡◌, ℕ, ◌^◌, ◌<◌, Bool, true, false, List, [], ◌∷◌, ◌++◌, map, refl, sym, ap, subst, ◌∙◌, Option}
 use Rattle.std.proofs.Common.{Some, None, is_some, if◌then◌else◌}
 use Rattle.library_simulation.specs.file_models.bool_functions.NameList.{number_of}
-use Rattle.generated_driven_models.specs.liberty_text.declared.time.Unit.{Unit}
-use Rattle.generated_driven_models.specs.liberty_groups.declared.tree.Item.{Item}
-use Rattle.generated_driven_models.specs.liberty_groups.declared.tree.Item.TheOpen.{Group-F}
-use Rattle.generated_driven_models.specs.liberty_groups.declared.tree.Item.TheViews.{out-roll-Group}
-use Rattle.generated_driven_models.specs.liberty_groups.declared.tree.Group.{Group}
+use Rattle.written_driven_models.specs.liberty_text.declared.time.Unit.{Unit}
+use Rattle.written_driven_models.specs.liberty_groups.declared.tree.Item.{Item}
+use Rattle.written_driven_models.specs.liberty_groups.declared.tree.Item.TheOpen.{Group-F}
+use Rattle.written_driven_models.specs.liberty_groups.declared.tree.Item.TheViews.{out-roll-Group}
+use Rattle.written_driven_models.specs.liberty_groups.declared.tree.Group.{Group}
 use Rattle.library_simulation.specs.file_models.cell_machine.CellData.{CellData}
 use Rattle.cell_attributes.specs.Groups.{first_argument, cell_name}
 use Rattle.cell_attributes.specs.Declarations.{declared_of, known_cell, clashes_after}
@@ -15,15 +15,15 @@ use Rattle.cell_reader.specs.declared.refusal.Refusal.{Refusal}
 use Rattle.cell_reader.specs.CellTexts.{subject_of}
 use Rattle.cell_reader.specs.Refusals.{refusal_of}
 use Rattle.cell_reader.proofs.Accepted.{accepted_meets_none, accepted_cells_are_sound}
-use Rattle.generated_driven_models.specs.three_state_cells.Outputs.{ThreeStateOutput, three_state_outputs}
-use Rattle.generated_driven_models.specs.three_state_cells.CoreGroups.{core_statement, enable_pins, core_group}
-use Rattle.generated_driven_models.specs.three_state_cells.Refusals.{first_of_two, floating_refusal, refusal_by, driven_refusal}
-use Rattle.generated_driven_models.specs.three_state_cells.DrivenCells.{DrivenData, core_name, floating_of, data_by, driven_data}
-use Rattle.generated_driven_models.proofs.three_state_cells.CoreNames.{core_name_is_name, renamed_keeps_rules}
-use Rattle.generated_driven_models.specs.generated_modules.Cells.{IsNumberedCell}
-use Rattle.generated_driven_models.specs.generated_modules.Accepted.{described}
-use Rattle.generated_driven_models.specs.Library.{IsNumberedDriven}
-use Rattle.generated_driven_models.proofs.ReadCells.{read-cells-numbered}
+use Rattle.written_driven_models.specs.three_state_cells.Outputs.{ThreeStateOutput, three_state_outputs}
+use Rattle.written_driven_models.specs.three_state_cells.CoreGroups.{core_statement, enable_pins, core_group}
+use Rattle.written_driven_models.specs.three_state_cells.Refusals.{first_of_two, floating_refusal, refusal_by, driven_refusal}
+use Rattle.written_driven_models.specs.three_state_cells.DrivenCells.{DrivenData, core_name, floating_of, data_by, driven_data}
+use Rattle.written_driven_models.proofs.three_state_cells.CoreNames.{core_name_is_name, renamed_keeps_rules}
+use Rattle.written_driven_models.specs.generated_modules.Cells.{IsNumberedCell}
+use Rattle.written_driven_models.specs.generated_modules.Accepted.{described}
+use Rattle.written_driven_models.specs.Library.{IsNumberedDriven}
+use Rattle.written_driven_models.proofs.ReadCells.{read-cells-numbered}
 
 first_none : (one other : Option Refusal) → first_of_two one other ≡ None → one ≡ None
 first_none None other e = refl

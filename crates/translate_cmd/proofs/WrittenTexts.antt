@@ -3,26 +3,26 @@ use Rattle.std.proofs.Common.{◌≡◌, ℕ, Bool, true, false, List, [], ◌�
 use Rattle.std.proofs.Common.{None, if◌then◌else◌}
 use Rattle.std.specs.List.{flat_map}
 use Rattle.std.proofs.lemmas.List.{append-nil}
-use Rattle.generated_driven_models.specs.liberty_groups.declared.tree.Group.{Group}
+use Rattle.written_driven_models.specs.liberty_groups.declared.tree.Group.{Group}
 use Rattle.cell_attributes.specs.Groups.{cell_name}
 use Rattle.cell_reader.specs.declared.refusal.Refusal.{Refusal}
 use Rattle.cell_cursor.specs.declared.item.LibraryItem.{LibraryItem}
 use Rattle.cell_cursor.specs.declared.item.LibraryItem.TheVariants as item
 use Rattle.cell_cursor.specs.Ends.{items_within}
-use Rattle.generated_driven_models.specs.vhdl_tokens.Kept.{lowered}
-use Rattle.generated_driven_models.specs.specify_blocks.Generated.{module_of}
+use Rattle.written_driven_models.specs.vhdl_tokens.Kept.{lowered}
+use Rattle.written_driven_models.specs.specify_blocks.Generated.{module_of}
 use Rattle.verilog_writer.specs.Model.{prelude_text, module_text}
-use Rattle.generated_driven_models.specs.verilog_drivers.DriverText as verilog
-use Rattle.generated_driven_models.specs.vital_models.Generated.{entity_of}
-use Rattle.generated_driven_models.specs.vhdl_writer.Entity.{entity_text}
-use Rattle.generated_driven_models.specs.vhdl_drivers.DriverText as vhdl
-use Rattle.generated_driven_models.specs.three_state_cells.DrivenCells.{DrivenData, may_float}
-use Rattle.generated_driven_models.specs.generated_drivers.Generated.{verilog_driver_of, vital_driver_of}
-use Rattle.generated_driven_models.specs.written_driven_models.Texts.{text_behind, written_model_text, written_text}
-use Rattle.generated_driven_models.specs.written_driven_models.Verilog.{written_verilog}
-use Rattle.generated_driven_models.specs.written_driven_models.Vital.{written_vital}
-use Rattle.generated_driven_models.specs.VerilogLibrary.{driven_module_of, driven_modules_of}
-use Rattle.generated_driven_models.specs.VitalLibrary.{model_name, driven_entity, driven_entities_behind}
+use Rattle.written_driven_models.specs.verilog_drivers.DriverText as verilog
+use Rattle.written_driven_models.specs.vital_models.Generated.{entity_of}
+use Rattle.written_driven_models.specs.vhdl_writer.Entity.{entity_text}
+use Rattle.written_driven_models.specs.vhdl_drivers.DriverText as vhdl
+use Rattle.written_driven_models.specs.three_state_cells.DrivenCells.{DrivenData, may_float}
+use Rattle.written_driven_models.specs.generated_drivers.Generated.{verilog_driver_of, vital_driver_of}
+use Rattle.written_driven_models.specs.Texts.{text_behind, written_model_text, written_text}
+use Rattle.written_driven_models.specs.Verilog.{written_verilog}
+use Rattle.written_driven_models.specs.Vital.{written_vital}
+use Rattle.written_driven_models.specs.VerilogLibrary.{driven_module_of, driven_modules_of}
+use Rattle.written_driven_models.specs.VitalLibrary.{model_name, driven_entity, driven_entities_behind}
 use Rattle.run_outcome.specs.Written.{Written, joined}
 use Rattle.library_simulation.specs.library_reader.declared.progress.Progress.{Progress}
 use Rattle.library_simulation.specs.library_reader.Progress.{no_progress, next_refusal, next_data, next_entity, entity_by}

@@ -4,11 +4,11 @@ use Rattle.library_simulation.specs.file_models.cell_machine.declared.changes.Ch
 use Rattle.library_simulation.specs.file_models.cell_machine.CellData.{CellData}
 use Rattle.library_simulation.specs.file_models.cell_machine.History.{IsProper, IsProperFrom}
 use Rattle.library_simulation.specs.file_models.cell_machine.CellTrace.{inputs_of, states_after, cell_trace}
-use Rattle.generated_driven_models.specs.specify_blocks.declared.model.VModule.{VModule}
+use Rattle.written_driven_models.specs.specify_blocks.declared.model.VModule.{VModule}
 use Rattle.model_traces.specs.ModuleRun.{run_after}
 use Rattle.model_traces.specs.ModuleTrace.{module_trace}
 use Rattle.model_traces.specs.SequentialStates.{sequential_states}
-use Rattle.generated_driven_models.specs.three_state_cells.DrivenCells.{DrivenData, may_float}
+use Rattle.written_driven_models.specs.three_state_cells.DrivenCells.{DrivenData, may_float}
 use Rattle.library_simulation.specs.file_models.declared.file_model.FileModel.{FileModel}
 use Rattle.library_simulation.specs.library_reader.LibraryCells.{CellEntry, Accepted, Refused}
 use Rattle.run_outcome.specs.declared.status.Status.TheVariants as status

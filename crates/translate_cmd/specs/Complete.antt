@@ -1,7 +1,7 @@
 -- When a command does all that it was asked for. This project's promise.
 use Rattle.std.specs.Prelude.{◌≡◌, ◌≤◌, ◌⊎◌, ℕ, List, length, true, Ok}
-use Rattle.generated_driven_models.specs.liberty_groups.declared.read.End.TheVariants.{Whole}
-use Rattle.generated_driven_models.specs.liberty_groups.Answer.{end_of_bytes}
+use Rattle.written_driven_models.specs.liberty_groups.declared.read.End.TheVariants.{Whole}
+use Rattle.written_driven_models.specs.liberty_groups.Answer.{end_of_bytes}
 use Rattle.text_io.specs.declared.file_commands.FileCommand.{FileCommand}
 use Rattle.text_io.specs.declared.file_commands.FileCommand.TheVariants.{Translate, Simulate, ReplayVerilog, ReplayVital, Audit}
 use Rattle.text_io.specs.declared.slots.InSlot.{InSlot}
@@ -16,8 +16,8 @@ use Rattle.run_outcome.specs.Binding.{bound_state, AreNamed, took_all, Tells, by
 use Rattle.library_simulation.specs.model_replay.Complete.{CanBeReplayed}
 use Rattle.library_simulation.specs.model_files.Limits.{model_limit, stimulus_limit}
 use Rattle.cell_cursor.specs.Ends.{items_within}
-use Rattle.generated_driven_models.specs.specify_blocks.declared.model.VModule.{VModule}
-use Rattle.generated_driven_models.specs.vital_models.declared.model.VEntity.{VEntity}
+use Rattle.written_driven_models.specs.specify_blocks.declared.model.VModule.{VModule}
+use Rattle.written_driven_models.specs.vital_models.declared.model.VEntity.{VEntity}
 use Rattle.library_simulation.specs.file_models.declared.file_model.FileModel.{FileModel}
 use Rattle.library_simulation.specs.file_models.stimulus.declared.sections.Section.{Section}
 use Rattle.library_simulation.specs.file_models.stimulus.PortEntries.{listed}

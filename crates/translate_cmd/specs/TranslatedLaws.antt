@@ -1,14 +1,14 @@
 -- Laws of what `translate` writes.
 use Rattle.std.specs.Prelude.{◌≡◌, ℕ, List, [], Ok}
 use Rattle.library_simulation.specs.file_models.sectioned_texts.DrivenModels.{driven_models}
-use Rattle.generated_driven_models.specs.verilog_grammar.WellFormed as modules
-use Rattle.generated_driven_models.specs.vhdl_grammar.WellFormed as entities
-use Rattle.generated_driven_models.specs.written_driven_models.driven_files.Verilog.{verilog_sections}
-use Rattle.generated_driven_models.specs.written_driven_models.driven_files.Vital.{vital_sections}
-use Rattle.generated_driven_models.specs.written_driven_models.Texts.{written_text}
-use Rattle.generated_driven_models.specs.written_driven_models.Laws.{AreWellFormedDrivers, HoldsApart}
-use Rattle.generated_driven_models.specs.written_driven_models.Verilog.{written_verilog, well_formed_verilog}
-use Rattle.generated_driven_models.specs.written_driven_models.Vital.{written_vital, well_formed_vital}
+use Rattle.written_driven_models.specs.verilog_grammar.WellFormed as modules
+use Rattle.written_driven_models.specs.vhdl_grammar.WellFormed as entities
+use Rattle.written_driven_models.specs.verilog_drivers.VerilogSections.{verilog_sections}
+use Rattle.written_driven_models.specs.vhdl_drivers.VitalSections.{vital_sections}
+use Rattle.written_driven_models.specs.Texts.{written_text}
+use Rattle.written_driven_models.specs.Laws.{AreWellFormedDrivers, HoldsApart}
+use Rattle.written_driven_models.specs.Verilog.{written_verilog, well_formed_verilog}
+use Rattle.written_driven_models.specs.Vital.{written_vital, well_formed_vital}
 use Rattle.library_translation.specs.Library.{translate_outcome}
 use Rattle.translate_cmd.specs.TranslatedModels.{modules_in, entities_in, verilog_in, vital_in}
 

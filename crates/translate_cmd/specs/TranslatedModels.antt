@@ -1,17 +1,17 @@
 -- The cells of a library that translating it accepts, and the models of their cores and of their drivers. This project's rules.
 use Rattle.std.specs.Prelude.{ℕ, List, [], ◌∷◌, ◌++◌, Option, Some, None}
-use Rattle.generated_driven_models.specs.liberty_groups.declared.tree.Group.{Group}
+use Rattle.written_driven_models.specs.liberty_groups.declared.tree.Group.{Group}
 use Rattle.cell_reader.specs.declared.refusal.Refusal.{Refusal}
 use Rattle.cell_cursor.specs.declared.item.LibraryItem.{LibraryItem}
 use Rattle.cell_cursor.specs.declared.item.LibraryItem.TheVariants as item
 use Rattle.cell_cursor.specs.Ends.{items_within}
-use Rattle.generated_driven_models.specs.three_state_cells.DrivenCells.{DrivenData}
-use Rattle.generated_driven_models.specs.specify_blocks.declared.model.VModule.{VModule}
-use Rattle.generated_driven_models.specs.vital_models.declared.model.VEntity.{VEntity}
+use Rattle.written_driven_models.specs.three_state_cells.DrivenCells.{DrivenData}
+use Rattle.written_driven_models.specs.specify_blocks.declared.model.VModule.{VModule}
+use Rattle.written_driven_models.specs.vital_models.declared.model.VEntity.{VEntity}
 use Rattle.library_simulation.specs.file_models.sectioned_texts.declared.driven_models.DrivenModels.{DrivenModels}
-use Rattle.generated_driven_models.specs.written_driven_models.Texts.{WrittenModel, models_of, drivers_of}
-use Rattle.generated_driven_models.specs.VerilogLibrary.{driven_modules_of}
-use Rattle.generated_driven_models.specs.VitalLibrary.{driven_entities_of}
+use Rattle.written_driven_models.specs.Texts.{WrittenModel, models_of, drivers_of}
+use Rattle.written_driven_models.specs.VerilogLibrary.{driven_modules_of}
+use Rattle.written_driven_models.specs.VitalLibrary.{driven_entities_of}
 use Rattle.library_simulation.specs.library_reader.declared.progress.Progress.{Progress}
 use Rattle.library_simulation.specs.library_reader.Progress.{no_progress, next_refusal, next_data, after_item}
 use Rattle.library_simulation.specs.library_reader.Endings.{library_limit}

@@ -3,8 +3,7 @@ ghost use Rattle.std.specs.Prelude.{IsTrue};
 ghost use Rattle.text_io.specs.declared.slots.OutSlot.TheVariants.{VerilogText};
 ghost use Rattle.text_io.specs.declared.slots.Slot.TheVariants.{Output};
 ghost use Rattle.text_io.specs.Desk.{is_bound, HasCause, WritesText};
-ghost use Rattle.verilog_drivers.specs.DriverText.{driver_header_text, driver_declarations_text, core_text, drive_paths_text};
-ghost use Rattle.verilog_drivers.specs.DriverText.{driver_text};
+ghost use Rattle.verilog_drivers.specs.DriverText.{driver_declarations_text, drive_paths_text, driver_text};
 
 use crate::buffers::Buffers;
 use crate::paths::DrivePathLines;
@@ -47,26 +46,6 @@ impl Part for Declarations<'_> {
     }
 }
 
-/// The line of the core.
-#[derive(Drop)]
-struct Core<'a>(&'a DriverModel);
-
-impl Part for Core<'_> {
-    ghost text = { λ c. core_text c.0.now };
-
-    #[tactic(auto, unfolding(crate::specs::DriverText::core_text))]
-    fn put<D: Desk>(&self, line: &mut Line, desk: &mut D, slot: OutSlot) -> Put {
-        let name = Bytes(self.0.core.as_slice());
-        let terminals = CoreTerminals {
-            value: b"lib_d",
-            enable: b"lib_e",
-            model: self.0,
-        };
-        let start = Bytes(b" lib_u (");
-        parts!(Bytes(b"  "), name, start, terminals, Bytes(b");\n")).put(line, desk, slot)
-    }
-}
-
 /// The specify block of a driver, where it has a path.
 #[derive(Drop)]
 struct Paths<'a>(&'a DriverModel);
@@ -90,13 +69,25 @@ struct DriverText<'a>(&'a DriverModel);
 impl Part for DriverText<'_> {
     ghost text = { λ d. driver_text d.0.now };
 
-    #[tactic(auto, unfolding(crate::specs::DriverText::driver_text, crate::specs::DriverText::driver_header_text))]
+    #[tactic(auto, unfolding(crate::specs::DriverText::driver_text, crate::specs::DriverText::driver_header_text, crate::specs::DriverText::core_text))]
     fn put<D: Desk>(&self, line: &mut Line, desk: &mut D, slot: OutSlot) -> Put {
         let model = self.0;
         let ports = model.ports.as_slice();
         let name = Bytes(model.name.as_slice());
         let opening = Bytes(b"`celldefine\nmodule ");
         let header = parts!(opening, name, Bytes(b" ("), Ports(ports), Bytes(b");\n"));
+        let terminals = CoreTerminals {
+            value: b"lib_d",
+            enable: b"lib_e",
+            model,
+        };
+        let core = parts!(
+            Bytes(b"  "),
+            Bytes(model.core.as_slice()),
+            Bytes(b" lib_u ("),
+            terminals,
+            Bytes(b");\n")
+        );
         let buffers = EachPort {
             texts: Buffers,
             drives: model.driver.drives.as_slice(),
@@ -106,7 +97,7 @@ impl Part for DriverText<'_> {
         parts!(
             header,
             Declarations(model),
-            Core(model),
+            core,
             buffers,
             Paths(model),
             end

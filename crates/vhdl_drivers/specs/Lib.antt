@@ -2,3 +2,4 @@ pub mod DriverText
 pub mod DriverSection
 pub mod DriverSections
 pub mod WellFormed
+pub mod VitalSections

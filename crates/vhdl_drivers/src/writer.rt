@@ -3,8 +3,7 @@ ghost use Rattle.std.specs.Prelude.{IsTrue};
 ghost use Rattle.text_io.specs.declared.slots.OutSlot.TheVariants.{VitalText};
 ghost use Rattle.text_io.specs.declared.slots.Slot.TheVariants.{Output};
 ghost use Rattle.text_io.specs.Desk.{is_bound, HasCause, WritesText};
-ghost use Rattle.vhdl_drivers.specs.DriverText.{driver_header_text, signals_text, core_text, process_text, statements_text};
-ghost use Rattle.vhdl_drivers.specs.DriverText.{driver_text};
+ghost use Rattle.vhdl_drivers.specs.DriverText.{driver_header_text, process_text, statements_text, driver_text};
 
 use crate::inputs::NextInputs;
 use crate::lines::{Buffers, DrivenLines, DrivenVariables};
@@ -47,51 +46,6 @@ impl Part for Header<'_> {
             Bytes(b";\narchitecture driven of "),
             Bytes(name),
             Bytes(b" is\n")
-        )
-        .put(line, desk, slot)
-    }
-}
-
-/// The signals: those of data, then those of enables.
-#[derive(Drop)]
-struct Signals(usize);
-
-impl Part for Signals {
-    ghost text = { λ s. signals_text s.0 };
-
-    #[tactic(auto, unfolding(crate::specs::DriverText::signals_text, crate::specs::DriverText::signal_text))]
-    fn put<D: Desk>(&self, line: &mut Line, desk: &mut D, slot: OutSlot) -> Put {
-        let names = WireNames {
-            before: b"  signal ",
-            value: b"d_",
-            enable: b"e_",
-            count: self.0,
-            behind: b" : std_ulogic;\n",
-        };
-        names.put(line, desk, slot)
-    }
-}
-
-/// The line of the core.
-#[derive(Drop)]
-struct Core<'a>(&'a DriverModel);
-
-impl Part for Core<'_> {
-    ghost text = { λ c. core_text c.0.now };
-
-    #[tactic(auto, unfolding(crate::specs::DriverText::core_text))]
-    fn put<D: Desk>(&self, line: &mut Line, desk: &mut D, slot: OutSlot) -> Put {
-        let terminals = CoreTerminals {
-            value: b"d_",
-            enable: b"e_",
-            model: self.0,
-        };
-        parts!(
-            Bytes(b"begin\n  u_1 : entity work."),
-            Bytes(self.0.core.as_slice()),
-            Bytes(b" port map ("),
-            terminals,
-            Bytes(b");\n")
         )
         .put(line, desk, slot)
     }
@@ -142,13 +96,32 @@ struct DriverText<'a>(&'a DriverModel);
 impl Part for DriverText<'_> {
     ghost text = { λ d. driver_text d.0.now };
 
-    #[tactic(auto, unfolding(crate::specs::DriverText::driver_text))]
+    #[tactic(auto, unfolding(crate::specs::DriverText::driver_text, crate::specs::DriverText::signals_text, crate::specs::DriverText::signal_text, crate::specs::DriverText::core_text))]
     fn put<D: Desk>(&self, line: &mut Line, desk: &mut D, slot: OutSlot) -> Put {
         let model = self.0;
+        let signals = WireNames {
+            before: b"  signal ",
+            value: b"d_",
+            enable: b"e_",
+            count: model.driver.drives.len(),
+            behind: b" : std_ulogic;\n",
+        };
+        let terminals = CoreTerminals {
+            value: b"d_",
+            enable: b"e_",
+            model,
+        };
+        let core = parts!(
+            Bytes(b"begin\n  u_1 : entity work."),
+            Bytes(model.core.as_slice()),
+            Bytes(b" port map ("),
+            terminals,
+            Bytes(b");\n")
+        );
         parts!(
             Header(model),
-            Signals(model.driver.drives.len()),
-            Core(model),
+            signals,
+            core,
             Process(model),
             Statements(model),
             Bytes(b"  end process;\nend driven;\n")

@@ -4,15 +4,15 @@ use Rattle.std.proofs.Common.{ap, ◌∙◌, subst, arith, append_assoc}
 use Rattle.std.specs.List.{AllByRecursion, list_any}
 use Rattle.std.specs.Option.{option_map, option_and_then}
 use Rattle.std.proofs.lemmas.List.{map-append}
-use Rattle.driven_files.specs.vital_models.declared.model.VEntity.{VEntity}
-use Rattle.driven_files.specs.vhdl_tokens.Spelling.{is_same}
-use Rattle.driven_files.specs.vhdl_grammar.VhdlRules.{is_among}
-use Rattle.driven_files.specs.vhdl_grammar.VhdlText.{entity_names}
-use Rattle.driven_files.specs.vhdl_grammar.WellFormed.{IsEntityName, AreApart, AreWellFormed}
-use Rattle.driven_files.specs.driver_models.declared.model.DriverModel.{DriverModel}
-use Rattle.driven_files.specs.driver_models.Cores.{Core, core_number, ports_at, core_ports, fits}
-use Rattle.driven_files.specs.sectioned_texts.DrivenModels.{taken_names}
-use Rattle.driven_files.specs.Vital.{vital_sections}
+use Rattle.generated_drivers.specs.vital_models.declared.model.VEntity.{VEntity}
+use Rattle.written_entities.specs.vhdl_tokens.Spelling.{is_same}
+use Rattle.written_entities.specs.vhdl_grammar.VhdlRules.{is_among}
+use Rattle.written_entities.specs.vhdl_grammar.VhdlText.{entity_names}
+use Rattle.written_entities.specs.vhdl_grammar.WellFormed.{IsEntityName, AreApart, AreWellFormed}
+use Rattle.driver_models.specs.declared.model.DriverModel.{DriverModel}
+use Rattle.driver_models.specs.Cores.{Core, core_number, ports_at, core_ports, fits}
+use Rattle.sectioned_texts.specs.DrivenModels.{taken_names}
+use Rattle.vhdl_drivers.specs.VitalSections.{vital_sections}
 use Rattle.written_modules.proofs.grammar_reader.ItemPlaces.{IsAt, item_at, get_at, found_behind}
 use Rattle.written_entities.proofs.Names.{entity_named, same_self}
 use Rattle.written_entities.proofs.NameReading.{is_new}

@@ -6,8 +6,8 @@ use Rattle.std.proofs.lemmas.List.Sums.{length-filter}
 use Rattle.written_modules.specs.udp_tables.declared.models.VPort.{VPort}
 use Rattle.driven_traces.specs.declared.delays.DrivePath.{DrivePath}
 use Rattle.driven_traces.specs.Drivers.{IsPathOf}
-use Rattle.driven_files.specs.driver_models.declared.model.DriverModel.{DriverModel}
-use Rattle.driven_files.specs.driver_models.Models.{IsSound}
+use Rattle.driver_models.specs.declared.model.DriverModel.{DriverModel}
+use Rattle.driver_models.specs.Models.{IsSound}
 use Rattle.driver_texts.specs.NumberedPorts.{ports_of}
 use Rattle.driver_texts.specs.PortNames.{inputs, outputs, name_at, driven_name}
 use Rattle.written_modules.proofs.grammar_reader.ItemPlaces.{all_at}

@@ -1,22 +1,23 @@
 -- Written models and drivers keep apart, and read back, in any language of which the pieces are known.
-use Rattle.std.proofs.Common.{◌≡◌, ℕ, false, List, [], ◌∷◌, ◌++◌, map, Option, Some, None, Ok, refl, sym, ap, ◌∙◌, flat_map}
+use Rattle.std.proofs.Common.{◌≡◌, ℕ, false, List, [], ◌∷◌, ◌++◌, map, Option, Some, None, Ok, refl, sym, ap, subst, ◌∙◌}
+use Rattle.std.proofs.Common.{flat_map}
 use Rattle.std.proofs.lemmas.List.{map-append}
 use Rattle.std.specs.List.{AllByRecursion}
-use Rattle.driven_files.specs.lexer.Tokens.{scan_of}
-use Rattle.driven_files.specs.lexer.Separators.{spelled}
-use Rattle.driven_files.specs.driver_models.declared.model.DriverModel.{DriverModel}
-use Rattle.driven_files.specs.driver_models.Cores.{Core}
-use Rattle.driven_files.specs.driver_sections.Sections.{text_of}
+use Rattle.written_modules.specs.lexer.Tokens.{scan_of}
+use Rattle.written_modules.specs.lexer.Separators.{spelled}
+use Rattle.driver_models.specs.declared.model.DriverModel.{DriverModel}
+use Rattle.driver_models.specs.Cores.{Core}
+use Rattle.written_modules.specs.driver_sections.Sections.{text_of}
 use Rattle.written_modules.specs.grammar_reader.ReadBack.{ReadsBack}
 use Rattle.written_modules.proofs.grammar_reader.Fronts.{Front, each}
-use Rattle.driven_files.proofs.section_outlines.Outlined.{Outlined, IsOutlined, nothing, one_behind, each_outlined, outlined_is}
-use Rattle.driven_files.specs.sectioned_texts.DrivenModels.{taken_names, rest_of}
-use Rattle.driven_files.proofs.sectioned_texts.WrittenTexts.{AreRead, text_read}
+use Rattle.written_modules.proofs.section_outlines.Outlined.{Outlined, IsOutlined, nothing, one_behind, each_outlined, outlined_is}
+use Rattle.sectioned_texts.specs.DrivenModels.{taken_names, rest_of, driven_models}
+use Rattle.sectioned_texts.proofs.WrittenTexts.{AreRead, text_read}
 use Rattle.written_modules.proofs.ModuleReading.{all_parts}
 use Rattle.written_driven_models.specs.Texts.{WrittenLanguage, WrittenModel, models_of, driver_in, drivers_of, text_behind}
 use Rattle.written_driven_models.specs.Texts.{written_model_text, written_text, models_text}
 use Rattle.written_driven_models.specs.Laws.{WellFormedness, sections_of, WrittenDriversKeepApart, WrittenModelsHaveNoSections}
-use Rattle.written_driven_models.specs.Laws.{AreWellFormedDrivers, WrittenModelsReadBack}
+use Rattle.written_driven_models.specs.Laws.{AreWellFormedDrivers, HoldsApart, WrittenModelsReadBack}
 
 -- Before any bytes these tokens stand in a text of a language outside its sections, which are these.
 abbrev pub Outlines : {M : Type 0} → WrittenLanguage M → List ℕ → Front → List (List ℕ) → Type 0
@@ -128,7 +129,7 @@ module _ {M : Type 0} (w : WrittenLanguage M) (r : WellFormedness M) (p : Pieces
 
   -- Both read back.
 
-  pub all_declared : (ms : List M) (done drivers : List DriverModel) → AreWellFormedDrivers w r ms done drivers
+  all_declared : (ms : List M) (done drivers : List DriverModel) → AreWellFormedDrivers w r ms done drivers
       → AllByRecursion r.CanBeDeclared drivers
   all_declared ms done [] h = tt
   all_declared ms done (d ∷ drivers) h =
@@ -147,3 +148,13 @@ module _ {M : Type 0} (w : WrittenLanguage M) (r : WellFormedness M) (p : Pieces
       text_read w.language (models_of xs) w.drivers.driver_section (written_text w xs) (drivers_of xs) apart.models.answer
       apart.sections
       (all_read (models_of xs) [] (drivers_of xs) k)
+
+  -- by another name of the text
+  pub text_back : (xs : List (WrittenModel M)) (text : List ℕ) → text ≡ written_text w xs → r.AreWellFormed (models_of xs)
+      → AreWellFormedDrivers w r (models_of xs) [] (drivers_of xs)
+      → (driven_models w.language text ≡ Ok (record { models = models_of xs; drivers = drivers_of xs }))
+      × HoldsApart w text (models_of xs) (drivers_of xs)
+  text_back xs text e h k =
+      subst (λ t. (driven_models w.language t ≡ Ok (record { models = models_of xs; drivers = drivers_of xs }))
+      × HoldsApart w t (models_of xs) (drivers_of xs)) (sym e)
+      (read_back xs h k, kept_apart xs h (all_declared (models_of xs) [] (drivers_of xs) k))

@@ -3,7 +3,7 @@ use Rattle.std.proofs.Common.{◌≡◌, ℕ, Bool, true, false, List, [], ◌�
 use Rattle.written_modules.specs.grammar_rules.Rule.{Fits}
 use Rattle.written_modules.specs.grammar_reader.Words.{expect, begins, known, this_name}
 use Rattle.grammar_reader.specs.Rests.{with_end}
-use Rattle.driven_files.specs.driver_models.Wires.{numbered}
+use Rattle.driver_models.specs.Wires.{numbered}
 use Rattle.written_modules.proofs.grammar_reader.Derivations.{Reads, gives, token, in_turn}
 
 -- A token is the same as itself, the names of wires are names, and none to an enable is one to a buffer's input.

@@ -23,7 +23,20 @@ pub mod KeptApart
 pub mod VerilogPieces
 pub mod VitalPieces
 pub mod ApartDrivers
+pub mod CellPins
+pub mod CellsHaveDrivers
+pub mod VerilogDrivers
+pub mod VitalDrivers
+pub mod ReadCells
+pub mod Cores
+pub mod DriverNames
+pub mod FirstCores
+pub mod ModuleDrivers
+pub mod NameForms
+pub mod NamesApart
+pub mod Together
+pub use Rattle.generated_modules.proofs as generated_modules
+pub use Rattle.generated_drivers.proofs.three_state_cells as three_state_cells
 pub use Rattle.written_modules.proofs.grammar_reader as grammar_reader
-pub use Rattle.written_entities.proofs.trit_cubes as trit_cubes
 pub use Rattle.written_entities.proofs as written_entities
 pub use Rattle.written_modules.proofs as written_modules

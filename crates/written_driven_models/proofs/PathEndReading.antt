@@ -7,7 +7,7 @@ use Rattle.std.specs.Option.{option_and_then}
 use Rattle.std.proofs.lemmas.Bool.{eq-eqb, ne_eqb}
 use Rattle.std.proofs.lemmas.Iterator.Adapters.{position_from-zero}
 use Rattle.written_modules.specs.udp_tables.declared.models.VPort.{VPort}
-use Rattle.driven_files.specs.driver_models.PathEnds.{input_from, output_from, input_number, drive_number}
+use Rattle.driver_models.specs.PathEnds.{input_from, output_from, input_number, drive_number}
 use Rattle.driver_texts.specs.PortNames.{inputs, outputs}
 use Rattle.written_modules.proofs.grammar_reader.ItemPlaces.{item_at, found_behind}
 use Rattle.written_driven_models.proofs.Languages.{IsDriverLanguage}

@@ -8,10 +8,10 @@ use Rattle.std.proofs.lemmas.List.{append-nil}
 use Rattle.written_modules.specs.udp_tables.declared.models.VPort.{VPort}
 use Rattle.written_modules.specs.grammar_rules.Rule.{Stops}
 use Rattle.written_modules.specs.grammar_reader.Words.{Grammar, ◌>>=◌, begins, is_among}
-use Rattle.driven_files.specs.driver_models.declared.terminals.Terminals.{Terminals}
-use Rattle.driven_files.specs.driver_models.Wires.{numbered}
-use Rattle.driven_files.specs.driver_models.Terminals.{all_numbered, is_driven_by, output_terminal, input_terminal, port_terminal}
-use Rattle.driven_files.specs.driver_models.Terminals.{more_terminals, more_enables, no_terminal, core_terminals}
+use Rattle.driver_models.specs.declared.terminals.Terminals.{Terminals}
+use Rattle.driver_models.specs.Wires.{numbered}
+use Rattle.driver_models.specs.Terminals.{all_numbered, is_driven_by, output_terminal, input_terminal, port_terminal}
+use Rattle.driver_models.specs.Terminals.{more_terminals, more_enables, no_terminal, core_terminals}
 use Rattle.driver_texts.specs.NumberedPorts.{NumberedPort}
 use Rattle.driver_texts.specs.CoreTerminals.{terminal_by}
 use Rattle.written_modules.proofs.grammar_reader.Fronts.{Front, each}

@@ -3,18 +3,18 @@ use Rattle.std.proofs.Common.{◌≡◌, ℕ, suc, ◌+◌, Bool, false, List, [
 use Rattle.std.proofs.Common.{arith, codes, append_assoc, length-append}
 use Rattle.std.proofs.lemmas.Bool.{or_parts}
 use Rattle.std.specs.Str.{bytes_eq}
-use Rattle.driven_files.specs.verilog_tokens.Tokens.{Token, scan, lexis}
-use Rattle.driven_files.specs.driver_models.declared.model.DriverModel.{DriverModel}
-use Rattle.driven_files.specs.verilog_drivers.DriverText.{driver_section, driver_text}
-use Rattle.driven_files.specs.driver_sections.Marks.{ends}
-use Rattle.driven_files.specs.driver_sections.Sections.{section_length}
+use Rattle.written_modules.specs.verilog_tokens.Tokens.{Token, scan, lexis}
+use Rattle.driver_models.specs.declared.model.DriverModel.{DriverModel}
+use Rattle.verilog_drivers.specs.DriverText.{driver_section, driver_text}
+use Rattle.written_modules.specs.driver_sections.Marks.{ends}
+use Rattle.written_modules.specs.driver_sections.Sections.{section_length}
 use Rattle.written_modules.proofs.grammar_reader.Fronts.{Front, Anything}
 use Rattle.written_modules.proofs.grammar_reader.Spelling.{SpellsBy, barred_less, literal, behind}
-use Rattle.driven_files.specs.section_outlines.Marked.{begins, ends_next}
-use Rattle.driven_files.specs.section_outlines.VerilogMarks.{verilog_marks}
-use Rattle.driven_files.proofs.section_outlines.Offsets.{behind_pair, over_token}
-use Rattle.driven_files.proofs.section_outlines.Passing.{section_is}
-use Rattle.driven_files.proofs.section_outlines.Outlined.{Outlined, IsSection, plain, section_before}
+use Rattle.written_modules.specs.section_outlines.Marked.{begins, ends_next}
+use Rattle.written_modules.specs.section_outlines.VerilogMarks.{verilog_marks}
+use Rattle.written_modules.proofs.section_outlines.Offsets.{behind_pair, over_token}
+use Rattle.written_modules.proofs.section_outlines.Passing.{section_is}
+use Rattle.written_modules.proofs.section_outlines.Outlined.{Outlined, IsSection, plain, section_before}
 use Rattle.written_modules.proofs.Spelling.{verilog, Spells}
 use Rattle.written_driven_models.proofs.VerilogTokens.{IsNamedDriver, inner_text, inner_tokens, inner_spelled, before_is}
 

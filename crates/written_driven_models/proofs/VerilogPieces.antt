@@ -1,6 +1,6 @@
 -- The pieces of Verilog text that is written.
 use Rattle.std.proofs.Common.{[], ◌∷◌, codes, refl}
-use Rattle.driven_files.proofs.section_outlines.Outlined.{plain}
+use Rattle.written_modules.proofs.section_outlines.Outlined.{plain}
 use Rattle.written_modules.proofs.FileReading.{IsAlone, all_alone, design_tokens, design_spelled, prelude_spelled}
 use Rattle.written_modules.proofs.FileReading.{read_from}
 use Rattle.written_driven_models.proofs.VerilogTokens.{IsNamedDriver}

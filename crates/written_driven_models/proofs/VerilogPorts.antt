@@ -10,13 +10,13 @@ use Rattle.written_modules.specs.verilog_grammar.VerilogModules.{port_names}
 use Rattle.written_modules.specs.verilog_grammar.WellFormed.{IsName}
 use Rattle.driven_traces.specs.declared.delays.DrivePath.{DrivePath}
 use Rattle.driven_traces.specs.Drivers.{IsPathOf}
-use Rattle.driven_files.specs.driver_models.declared.model.DriverModel.{DriverModel}
-use Rattle.driven_files.specs.driver_models.PathEnds.{input_number, drive_number}
-use Rattle.driven_files.specs.driver_models.Cores.{Core}
+use Rattle.driver_models.specs.declared.model.DriverModel.{DriverModel}
+use Rattle.driver_models.specs.PathEnds.{input_number, drive_number}
+use Rattle.driver_models.specs.Cores.{Core}
 use Rattle.driver_texts.specs.NumberedPorts.{NumberedPort, ports_of}
 use Rattle.driver_texts.specs.PortNames.{inputs, name_at, driven_name}
-use Rattle.driven_files.specs.verilog_drivers.DriverText.{data_word, enable_word}
-use Rattle.driven_files.specs.verilog_drivers.WellFormed.{HasNumbers, IsNoWire, IsWellFormedDriver}
+use Rattle.verilog_drivers.specs.DriverText.{data_word, enable_word}
+use Rattle.verilog_drivers.specs.WellFormed.{HasNumbers, IsNoWire, IsWellFormedDriver}
 use Rattle.written_modules.proofs.grammar_reader.ItemPlaces.{same_bytes}
 use Rattle.written_modules.proofs.Words.{name_is}
 use Rattle.written_modules.proofs.ModuleTokens.{IsNamedPort}
@@ -32,8 +32,8 @@ pub verilog : IsDriverLanguage is_name bytes_eq data_word enable_word
 verilog = record {
   itself = same_bytes;
   turned = λ x y n m. bytes_equivalence.symm x y;
-  value_is_name = λ n. name_is (Rattle.driven_files.specs.driver_models.Wires.numbered data_word n) (data_name n);
-  enable_is_name = λ n. name_is (Rattle.driven_files.specs.driver_models.Wires.numbered enable_word n) (enable_name n);
+  value_is_name = λ n. name_is (Rattle.driver_models.specs.Wires.numbered data_word n) (data_name n);
+  enable_is_name = λ n. name_is (Rattle.driver_models.specs.Wires.numbered enable_word n) (enable_name n);
   apart = λ n k. refl;
 }
 

@@ -14,21 +14,21 @@ use Rattle.written_modules.specs.udp_tables.VerilogRules.{begins, this_name}
 use Rattle.written_modules.specs.verilog_grammar.VerilogModules.{port_names}
 use Rattle.written_modules.specs.verilog_grammar.WellFormed.{IsName, AreApart}
 use Rattle.driven_traces.specs.declared.delays.DrivePath.{DrivePath}
-use Rattle.driven_files.specs.driver_models.declared.model.DriverModel.{DriverModel}
-use Rattle.driven_files.specs.driver_models.PathEnds.{input_number, drive_number}
-use Rattle.driven_files.specs.driver_models.Cores.{Core, core_name}
-use Rattle.driven_files.specs.driver_models.Terminals.{all_numbered}
-use Rattle.driven_files.specs.driver_models.Terminals as terminal_rules
+use Rattle.driver_models.specs.declared.model.DriverModel.{DriverModel}
+use Rattle.driver_models.specs.PathEnds.{input_number, drive_number}
+use Rattle.driver_models.specs.Cores.{Core, core_name}
+use Rattle.driver_models.specs.Terminals.{all_numbered}
+use Rattle.driver_models.specs.Terminals as terminal_rules
 use Rattle.driver_texts.specs.NumberedPorts.{NumberedPort, ports_of, driven_names}
 use Rattle.driver_texts.specs.PortNames.{inputs, outputs, name_at, driven_name}
-use Rattle.driven_files.specs.verilog_drivers.DriverText.{data_word, enable_word}
-use Rattle.driven_files.specs.verilog_drivers.DriverSections.{driver_header, driver_ports, driver_wires, core_call, buffer_inputs}
-use Rattle.driven_files.specs.verilog_drivers.DriverSections.{buffer}
-use Rattle.driven_files.specs.verilog_drivers.DriverSections.{buffers, drive_path, next_drive_path, drive_block, drive_paths}
-use Rattle.driven_files.specs.verilog_drivers.DriverSections.{section_front, section_body, section_end}
-use Rattle.driven_files.specs.verilog_drivers.DriverSections.{section_rest, verilog_section_grammar}
+use Rattle.verilog_drivers.specs.DriverText.{data_word, enable_word}
+use Rattle.verilog_drivers.specs.DriverSections.{driver_header, driver_ports, driver_wires, core_call, buffer_inputs}
+use Rattle.verilog_drivers.specs.DriverSections.{buffer}
+use Rattle.verilog_drivers.specs.DriverSections.{buffers, drive_path, next_drive_path, drive_block, drive_paths}
+use Rattle.verilog_drivers.specs.DriverSections.{section_front, section_body, section_end}
+use Rattle.verilog_drivers.specs.DriverSections.{section_rest, verilog_section_grammar}
 use Rattle.driver_texts.specs.Sections.{section}
-use Rattle.driven_files.specs.verilog_drivers.WellFormed.{IsWellFormedDriver}
+use Rattle.verilog_drivers.specs.WellFormed.{IsWellFormedDriver}
 use Rattle.written_modules.proofs.grammar_reader.Fronts.{each}
 use Rattle.written_modules.proofs.grammar_reader.Derivations.{Reads, to_same, gives, in_turn, chosen, passed, no_turn}
 use Rattle.written_modules.proofs.grammar_reader.Derivations.{turn, turns, through, goes_on}

@@ -3,11 +3,11 @@ use Rattle.std.proofs.Common.{◌≡◌, ℕ, false, List, [], ◌∷◌, ◌++�
 use Rattle.written_modules.specs.lexer.Tokens.{scan}
 use Rattle.written_modules.specs.lexer.Separators.{spelled}
 use Rattle.written_modules.specs.verilog_tokens.Tokens.{lexis}
-use Rattle.driven_files.specs.driver_models.declared.model.DriverModel.{DriverModel}
-use Rattle.driven_files.specs.driver_models.Cores.{Core}
-use Rattle.driven_files.specs.verilog_drivers.DriverText.{driver_before, driver_section, driver_text}
-use Rattle.driven_files.specs.verilog_drivers.WellFormed.{IsWellFormedDriver}
-use Rattle.driven_files.proofs.verilog_drivers.StandingDrivers.{section_ends}
+use Rattle.driver_models.specs.declared.model.DriverModel.{DriverModel}
+use Rattle.driver_models.specs.Cores.{Core}
+use Rattle.verilog_drivers.specs.DriverText.{driver_before, driver_section, driver_text}
+use Rattle.verilog_drivers.specs.WellFormed.{IsWellFormedDriver}
+use Rattle.verilog_drivers.proofs.StandingDrivers.{section_ends}
 use Rattle.written_modules.proofs.grammar_reader.Fronts.{Front, Anything, in_front}
 use Rattle.written_modules.proofs.grammar_reader.Passages.{Barred}
 use Rattle.written_modules.proofs.grammar_reader.Spelling.{SpellsBy, literal, behind, barred_less, found_is}

@@ -1,7 +1,6 @@
 -- The tokens of a written driver.
 use Rattle.std.proofs.Common.{◌≡◌, ℕ, zero, suc, ◌+◌, ◌<◌, ◌/◌, ◌%◌, Bool, true, false, ◌||◌, ◌==◌, nat_lt, if◌then◌else◌, List}
-use Rattle.std.proofs.Common.{[], ◌∷◌, ◌++◌, length, Option, Some, None, refl, sym, ap, ◌∙◌, arith, codes, decimal, flat_map}
-use Rattle.std.proofs.Common.{append_assoc}
+use Rattle.std.proofs.Common.{[], ◌∷◌, ◌++◌, length, Option, Some, None, refl, sym, ap, arith, codes, decimal, flat_map}
 use Rattle.std.specs.Char.{is_ascii_digit, is_ascii_uppercase, is_ascii_lowercase}
 use Rattle.std.specs.Fmt.{digits, digits_onto, digit_glyph}
 use Rattle.std.specs.List.{AllByRecursion, list_all}
@@ -12,21 +11,22 @@ use Rattle.written_modules.specs.verilog_tokens.Kept.{is_name_byte}
 use Rattle.written_modules.specs.verilog_tokens.Words.{is_verilog_word, verilog_words}
 use Rattle.written_modules.specs.verilog_grammar.WellFormed.{IsName}
 use Rattle.driven_traces.specs.declared.delays.DrivePath.{DrivePath}
-use Rattle.driven_files.specs.driver_models.declared.model.DriverModel.{DriverModel}
+use Rattle.driver_models.specs.declared.model.DriverModel.{DriverModel}
 use Rattle.written_modules.specs.verilog_writer.Model.{ports_text}
-use Rattle.driven_files.specs.driver_models.Terminals.{all_numbered}
+use Rattle.driver_models.specs.Terminals.{all_numbered}
 use Rattle.driver_texts.specs.NumberedNames.{next_name_text, listed_names_text}
 use Rattle.driver_texts.specs.CoreTerminals.{terminal_by, next_terminal_text, terminals_text}
 use Rattle.driver_texts.specs.NumberedPorts.{NumberedPort, ports_of}
 use Rattle.driver_texts.specs.PortNames.{inputs, name_at, driven_name}
-use Rattle.driven_files.specs.verilog_drivers.DriverText.{data_word, enable_word, core_text, buffer_by, buffer_text}
-use Rattle.driven_files.specs.verilog_drivers.DriverText.{drive_path_text}
-use Rattle.driven_files.specs.verilog_drivers.DriverText.{drive_paths_text, driver_header_text, driver_declarations_text}
-use Rattle.driven_files.specs.verilog_drivers.DriverText.{driver_before}
-use Rattle.driven_files.specs.verilog_drivers.WellFormed.{HasNumbers}
+use Rattle.verilog_drivers.specs.DriverText.{data_word, enable_word, core_text, buffer_by, buffer_text}
+use Rattle.verilog_drivers.specs.DriverText.{drive_path_text}
+use Rattle.verilog_drivers.specs.DriverText.{drive_paths_text, driver_header_text, driver_declarations_text}
+use Rattle.verilog_drivers.specs.DriverText.{driver_before}
+use Rattle.verilog_drivers.specs.WellFormed.{HasNumbers}
 use Rattle.written_modules.proofs.grammar_reader.Fronts.{Front, Anything, each}
 use Rattle.written_modules.proofs.grammar_reader.Spelling.{literal, joins, behind, nothing, each_spelled}
 use Rattle.written_modules.proofs.Spelling.{Spells, Ends}
+use Rattle.written_driven_models.proofs.WholeSections.{last_of}
 use Rattle.written_driven_models.proofs.WireReading.{all_named}
 use Rattle.written_driven_models.proofs.TerminalReading.{terminal_tokens, name_tokens, wires_listed}
 use Rattle.written_driven_models.proofs.TerminalReading as listed
@@ -254,13 +254,6 @@ pub inner_spelled : (m : DriverModel) → IsNamedDriver m → Spells Anything fa
 inner_spelled m h =
     behind (header m h.name h.ports) (behind (declarations m h.ports) (behind (core m h.core h.terminals)
     (behind (each_spelled IsNamedTerminal buffer (λ x r q. tt) (ports_of m) h.terminals) (behind (paths m h.paths) module_end))))
-
-last_of : (a b c d e f g : List ℕ) → (a ++ (b ++ (c ++ (d ++ (e ++ f))))) ++ g ≡ a ++ (b ++ (c ++ (d ++ (e ++ (f ++ g)))))
-last_of a b c d e f g =
-    append_assoc a (b ++ (c ++ (d ++ (e ++ f)))) g
-    ∙ ap (λ (t : List ℕ). a ++ t) (append_assoc b (c ++ (d ++ (e ++ f))) g
-    ∙ ap (λ (t : List ℕ). b ++ t) (append_assoc c (d ++ (e ++ f)) g
-    ∙ ap (λ (t : List ℕ). c ++ t) (append_assoc d (e ++ f) g ∙ ap (λ (t : List ℕ). d ++ t) (append_assoc e f g))))
 
 -- a driver, by what stands behind its first line
 pub before_is : (m : DriverModel) (end : List ℕ)

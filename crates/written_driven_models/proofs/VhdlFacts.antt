@@ -15,12 +15,12 @@ use Rattle.written_entities.specs.vhdl_grammar.VhdlRules.{is_among}
 use Rattle.written_entities.specs.vhdl_grammar.VhdlDeclarations.{port_names, name_of_port}
 use Rattle.written_entities.specs.vhdl_grammar.WellFormed.{IsPortName, AreApart}
 use Rattle.written_modules.specs.udp_tables.declared.models.VPort.{VPort}
-use Rattle.driven_files.specs.driver_models.declared.model.DriverModel.{DriverModel}
-use Rattle.driven_files.specs.driver_models.Terminals.{all_numbered}
-use Rattle.driven_files.specs.driver_models.Wires.{numbered}
+use Rattle.driver_models.specs.declared.model.DriverModel.{DriverModel}
+use Rattle.driver_models.specs.Terminals.{all_numbered}
+use Rattle.driver_models.specs.Wires.{numbered}
 use Rattle.driver_texts.specs.NumberedPorts.{NumberedPort, ports_of}
-use Rattle.driven_files.specs.vhdl_drivers.DriverText.{data_word, enable_word}
-use Rattle.driven_files.specs.vhdl_drivers.WellFormed.{IsWrittenDriver}
+use Rattle.vhdl_drivers.specs.DriverText.{data_word, enable_word}
+use Rattle.vhdl_drivers.specs.WellFormed.{IsWrittenDriver}
 use Rattle.written_modules.proofs.grammar_reader.ItemPlaces.{at_place}
 use Rattle.written_entities.proofs.Names.{IsNamed, port_named, scored_no_word, same_self, case_turned, same_letters, same_name}
 use Rattle.written_entities.proofs.NameReading.{unlike_plain, is_new}

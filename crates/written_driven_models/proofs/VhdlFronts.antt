@@ -7,18 +7,18 @@ use Rattle.written_entities.specs.vhdl_tokens.Words.{is_reserved, is_used, vhdl_
 use Rattle.written_entities.specs.vhdl_tokens.Tokens.{is_name}
 use Rattle.written_entities.specs.vhdl_tokens.Spelling.{is_same}
 use Rattle.written_entities.specs.vhdl_grammar.VhdlRules.{begins}
-use Rattle.driven_files.specs.driver_models.declared.model.DriverModel.{DriverModel}
-use Rattle.driven_files.specs.driver_models.Cores.{Core, core_name}
-use Rattle.driven_files.specs.driver_models.Terminals.{core_terminals}
+use Rattle.driver_models.specs.declared.model.DriverModel.{DriverModel}
+use Rattle.driver_models.specs.Cores.{Core, core_name}
+use Rattle.driver_models.specs.Terminals.{core_terminals}
 use Rattle.driver_texts.specs.NumberedPorts.{NumberedPort, ports_of}
 use Rattle.driver_texts.specs.PortNames.{outputs}
-use Rattle.driven_files.specs.vhdl_drivers.DriverText.{data_word, enable_word, driven_count}
-use Rattle.driven_files.specs.vhdl_drivers.DriverSections.{driver_packages, not_driven, driver_name, this_driver}
-use Rattle.driven_files.specs.vhdl_drivers.DriverSections.{header_end}
-use Rattle.driven_files.specs.vhdl_drivers.DriverSections.{driver_ports, section_front, driver_signals, core_start}
-use Rattle.driven_files.specs.vhdl_drivers.DriverSections.{port_map}
-use Rattle.driven_files.specs.vhdl_drivers.DriverSections.{core_call, section_core}
-use Rattle.driven_files.specs.vhdl_drivers.WellFormed.{IsWrittenDriver, IsWellFormedDriver}
+use Rattle.vhdl_drivers.specs.DriverText.{data_word, enable_word, driven_count}
+use Rattle.vhdl_drivers.specs.DriverSections.{driver_packages, not_driven, driver_name, this_driver}
+use Rattle.vhdl_drivers.specs.DriverSections.{header_end}
+use Rattle.vhdl_drivers.specs.DriverSections.{driver_ports, section_front, driver_signals, core_start}
+use Rattle.vhdl_drivers.specs.DriverSections.{port_map}
+use Rattle.vhdl_drivers.specs.DriverSections.{core_call, section_core}
+use Rattle.vhdl_drivers.specs.WellFormed.{IsWrittenDriver, IsWellFormedDriver}
 use Rattle.written_modules.proofs.grammar_reader.Fronts.{each}
 use Rattle.written_modules.proofs.grammar_reader.Derivations.{Reads, gives, token, in_turn}
 use Rattle.written_entities.proofs.Names.{entity_named}

@@ -15,16 +15,16 @@ use Rattle.written_entities.specs.vhdl_grammar.VhdlOutputs.{delays}
 use Rattle.written_entities.specs.vhdl_grammar.WellFormed.{IsCount, IsNumber}
 use Rattle.driven_traces.specs.declared.delays.DrivePath.{DrivePath}
 use Rattle.driven_traces.specs.Drivers.{IsPathOf}
-use Rattle.driven_files.specs.driver_models.declared.model.DriverModel.{DriverModel}
-use Rattle.driven_files.specs.driver_models.PathEnds.{input_number}
-use Rattle.driven_files.specs.driver_models.Cores.{Core}
+use Rattle.driver_models.specs.declared.model.DriverModel.{DriverModel}
+use Rattle.driver_models.specs.PathEnds.{input_number}
+use Rattle.driver_models.specs.Cores.{Core}
 use Rattle.driver_texts.specs.NumberedPorts.{NumberedPort, ports_of, driven_names}
 use Rattle.driver_texts.specs.PortNames.{inputs, outputs, name_at}
-use Rattle.driven_files.specs.vhdl_drivers.DriverText.{paths_to, own_paths}
-use Rattle.driven_files.specs.vhdl_drivers.DriverSections.{drive_path, drive_paths, path_call_start, path_call, assignment}
-use Rattle.driven_files.specs.vhdl_drivers.DriverSections.{has_glitch}
-use Rattle.driven_files.specs.vhdl_drivers.DriverSections.{line_by, driven_lines, statements, process}
-use Rattle.driven_files.specs.vhdl_drivers.WellFormed.{HasNumbers, IsWrittenDriver, IsWellFormedDriver}
+use Rattle.vhdl_drivers.specs.DriverText.{paths_to, own_paths}
+use Rattle.vhdl_drivers.specs.DriverSections.{drive_path, drive_paths, path_call_start, path_call, assignment}
+use Rattle.vhdl_drivers.specs.DriverSections.{has_glitch}
+use Rattle.vhdl_drivers.specs.DriverSections.{line_by, driven_lines, statements, process}
+use Rattle.vhdl_drivers.specs.WellFormed.{HasNumbers, IsWrittenDriver, IsWellFormedDriver}
 use Rattle.written_modules.proofs.grammar_reader.Derivations.{Reads, from_same, to_same, gives, token, in_turn, no_turn, turn}
 use Rattle.written_modules.proofs.grammar_reader.Derivations.{turns}
 use Rattle.written_modules.proofs.grammar_reader.ItemPlaces.{get_at, one_longer, at_place}

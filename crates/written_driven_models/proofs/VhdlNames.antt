@@ -10,13 +10,13 @@ use Rattle.std.proofs.lemmas.List.Sums.{length-filter, count_by-le-length}
 use Rattle.written_modules.specs.udp_tables.declared.models.VPort.{VPort}
 use Rattle.written_entities.specs.vhdl_grammar.VhdlDeclarations.{port_names, input_names}
 use Rattle.written_entities.specs.vhdl_grammar.WellFormed.{IsPortName, IsCount}
-use Rattle.driven_files.specs.driver_models.declared.model.DriverModel.{DriverModel}
-use Rattle.driven_files.specs.driver_models.Terminals.{all_numbered}
+use Rattle.driver_models.specs.declared.model.DriverModel.{DriverModel}
+use Rattle.driver_models.specs.Terminals.{all_numbered}
 use Rattle.driver_texts.specs.NumberedPorts.{NumberedPort, port_number, outputs_with, driven_with, numbered_ports}
 use Rattle.driver_texts.specs.CoreTerminals.{terminal_by}
 use Rattle.driver_texts.specs.PortNames.{inputs, outputs, name_at}
-use Rattle.driven_files.specs.vhdl_drivers.DriverText.{data_word}
-use Rattle.driven_files.specs.vhdl_drivers.WellFormed.{IsWrittenDriver}
+use Rattle.vhdl_drivers.specs.DriverText.{data_word}
+use Rattle.vhdl_drivers.specs.WellFormed.{IsWrittenDriver}
 use Rattle.written_entities.proofs.Names.{IsNamed, port_named, part_named}
 
 -- Signals.

@@ -5,7 +5,7 @@ use Rattle.std.specs.List.{AllByRecursion}
 use Rattle.std.proofs.lemmas.Bool.{and_parts, cases_Bool, eqb-true, eqb-false, eq-eqb, ne_eqb, leb-true}
 use Rattle.written_modules.specs.cell_machine.CellRules.{is_in_order}
 use Rattle.driven_traces.specs.declared.delays.DrivePath.{DrivePath}
-use Rattle.driven_files.specs.vhdl_drivers.DriverText.{paths_to}
+use Rattle.vhdl_drivers.specs.DriverText.{paths_to}
 
 abbrev drive_of : DrivePath → ℕ
 drive_of path = path.drive

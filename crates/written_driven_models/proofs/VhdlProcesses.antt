@@ -13,14 +13,14 @@ use Rattle.written_entities.specs.vhdl_grammar.VhdlRules.{begins, this_name}
 use Rattle.written_entities.specs.vhdl_grammar.VhdlDeclarations.{input_names, listed_names, last_true, is_last_false}
 use Rattle.written_entities.specs.vhdl_grammar.WellFormed.{IsCount}
 use Rattle.driven_traces.specs.declared.delays.DrivePath.{DrivePath}
-use Rattle.driven_files.specs.driver_models.declared.model.DriverModel.{DriverModel}
-use Rattle.driven_files.specs.driver_models.Terminals.{all_numbered}
-use Rattle.driven_files.specs.driver_models.Wires.{numbered}
-use Rattle.driven_files.specs.vhdl_drivers.DriverText.{data_word, enable_word, own_paths}
-use Rattle.driven_files.specs.vhdl_drivers.DriverSections.{signal_names, process_start, variable_of, value_variable}
-use Rattle.driven_files.specs.vhdl_drivers.DriverSections.{delays_variable}
-use Rattle.driven_files.specs.vhdl_drivers.DriverSections.{driven_variable, driven_variables, buffer, buffers}
-use Rattle.driven_files.specs.vhdl_drivers.WellFormed.{IsWrittenDriver}
+use Rattle.driver_models.specs.declared.model.DriverModel.{DriverModel}
+use Rattle.driver_models.specs.Terminals.{all_numbered}
+use Rattle.driver_models.specs.Wires.{numbered}
+use Rattle.vhdl_drivers.specs.DriverText.{data_word, enable_word, own_paths}
+use Rattle.vhdl_drivers.specs.DriverSections.{signal_names, process_start, variable_of, value_variable}
+use Rattle.vhdl_drivers.specs.DriverSections.{delays_variable}
+use Rattle.vhdl_drivers.specs.DriverSections.{driven_variable, driven_variables, buffer, buffers}
+use Rattle.vhdl_drivers.specs.WellFormed.{IsWrittenDriver}
 use Rattle.written_modules.proofs.grammar_reader.Fronts.{Front, each}
 use Rattle.written_modules.proofs.grammar_reader.Derivations.{Reads, from_same, to_same, gives, in_turn, no_turn, turn, turns}
 use Rattle.written_modules.proofs.grammar_reader.Derivations.{goes_on}

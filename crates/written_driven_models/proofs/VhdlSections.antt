@@ -1,19 +1,19 @@
 -- The text of a well formed driver is a section that is read as this driver.
-use Rattle.std.proofs.Common.{◌≡◌, ℕ, false, List, [], ◌∷◌, ◌++◌, refl, sym, ap, ◌∙◌, codes, append_assoc}
+use Rattle.std.proofs.Common.{◌≡◌, ℕ, false, List, [], ◌∷◌, ◌++◌, refl, sym, ap, ◌∙◌, codes}
 use Rattle.written_modules.specs.lexer.Tokens.{scan}
 use Rattle.written_modules.specs.lexer.Separators.{spelled}
 use Rattle.written_entities.specs.vhdl_tokens.Words.{is_reserved, is_used, vhdl_words, used_words}
 use Rattle.written_entities.specs.vhdl_tokens.Tokens.{lexis}
-use Rattle.driven_files.specs.driver_models.declared.model.DriverModel.{DriverModel}
-use Rattle.driven_files.specs.driver_models.Cores.{Core}
-use Rattle.driven_files.specs.vhdl_drivers.DriverText.{driven_count, driver_header_text, signals_text, core_text, process_text}
-use Rattle.driven_files.specs.vhdl_drivers.DriverText.{statements_text, driver_text}
-use Rattle.driven_files.specs.vhdl_drivers.DriverSection.{driver_section}
-use Rattle.driven_files.specs.vhdl_drivers.DriverSections.{section_end, section_process, section_rest}
-use Rattle.driven_files.specs.vhdl_drivers.DriverSections.{vhdl_section_grammar}
+use Rattle.driver_models.specs.declared.model.DriverModel.{DriverModel}
+use Rattle.driver_models.specs.Cores.{Core}
+use Rattle.vhdl_drivers.specs.DriverText.{driven_count, driver_header_text, signals_text, core_text, process_text}
+use Rattle.vhdl_drivers.specs.DriverText.{statements_text, driver_text}
+use Rattle.vhdl_drivers.specs.DriverSection.{driver_section}
+use Rattle.vhdl_drivers.specs.DriverSections.{section_end, section_process, section_rest}
+use Rattle.vhdl_drivers.specs.DriverSections.{vhdl_section_grammar}
 use Rattle.driver_texts.specs.Sections.{section}
-use Rattle.driven_files.specs.vhdl_drivers.WellFormed.{IsWellFormedDriver}
-use Rattle.driven_files.proofs.vhdl_drivers.StandingDrivers.{section_ends}
+use Rattle.vhdl_drivers.specs.WellFormed.{IsWellFormedDriver}
+use Rattle.vhdl_drivers.proofs.StandingDrivers.{section_ends}
 use Rattle.written_modules.proofs.grammar_reader.Fronts.{in_front}
 use Rattle.written_modules.proofs.grammar_reader.Derivations.{Reads, to_same, gives, token, in_turn}
 use Rattle.written_modules.proofs.grammar_reader.Spelling.{found_is}
@@ -21,7 +21,7 @@ use Rattle.written_entities.proofs.NameReading.{five_expected}
 use Rattle.written_driven_models.specs.WrittenDrivers.{IsSectionOf}
 use Rattle.written_driven_models.specs.Laws.{WrittenDriversReadBack}
 use Rattle.written_driven_models.specs.Vital.{vital_drivers, written_vital, well_formed_vital}
-use Rattle.written_driven_models.proofs.WholeSections.{it_is, is_section}
+use Rattle.written_driven_models.proofs.WholeSections.{last_of, it_is, is_section}
 use Rattle.written_driven_models.proofs.VhdlTokens.{before_end, before_end_front, before_end_spelled}
 use Rattle.written_driven_models.proofs.VhdlFronts.{front_read, core_read}
 use Rattle.written_driven_models.proofs.VhdlLines.{process_read}
@@ -29,14 +29,6 @@ use Rattle.written_driven_models.proofs.VhdlLines.{process_read}
 -- the tokens at the end
 abbrev last_tokens : List (List ℕ)
 last_tokens = codes "end" ∷ codes "driven" ∷ codes ";" ∷ []
-
--- a text with other bytes behind the end of its process
-last_of : (a b c d e f g : List ℕ) → (a ++ (b ++ (c ++ (d ++ (e ++ f))))) ++ g ≡ a ++ (b ++ (c ++ (d ++ (e ++ (f ++ g)))))
-last_of a b c d e f g =
-    append_assoc a (b ++ (c ++ (d ++ (e ++ f)))) g
-    ∙ ap (λ (t : List ℕ). a ++ t) (append_assoc b (c ++ (d ++ (e ++ f))) g
-    ∙ ap (λ (t : List ℕ). b ++ t) (append_assoc c (d ++ (e ++ f)) g
-    ∙ ap (λ (t : List ℕ). c ++ t) (append_assoc d (e ++ f) g ∙ ap (λ (t : List ℕ). d ++ t) (append_assoc e f g))))
 
 pub before_is : (m : DriverModel) (end : List ℕ) →
     driver_header_text m ++ (signals_text (driven_count m)

@@ -17,19 +17,19 @@ use Rattle.written_entities.specs.vhdl_writer.Joined.{numbered_texts, apart_text
 use Rattle.written_entities.specs.vhdl_writer.Declarations.{some_ports_text}
 use Rattle.driven_traces.specs.declared.delays.DrivePath.{DrivePath}
 use Rattle.driven_traces.specs.Drivers.{IsPathOf}
-use Rattle.driven_files.specs.driver_models.declared.model.DriverModel.{DriverModel}
-use Rattle.driven_files.specs.driver_models.Terminals.{all_numbered}
-use Rattle.driven_files.specs.driver_models.Wires.{numbered}
+use Rattle.driver_models.specs.declared.model.DriverModel.{DriverModel}
+use Rattle.driver_models.specs.Terminals.{all_numbered}
+use Rattle.driver_models.specs.Wires.{numbered}
 use Rattle.driver_texts.specs.NumberedPorts.{NumberedPort, ports_of}
 use Rattle.driver_texts.specs.NumberedNames.{next_name_text, listed_names_text}
 use Rattle.driver_texts.specs.CoreTerminals.{terminal_by, terminals_text}
 use Rattle.driver_texts.specs.PortNames.{inputs, outputs, name_at}
-use Rattle.driven_files.specs.vhdl_drivers.DriverText.{data_word, enable_word, driven_count, driver_header_text, signal_text}
-use Rattle.driven_files.specs.vhdl_drivers.DriverText.{signals_text}
-use Rattle.driven_files.specs.vhdl_drivers.DriverText.{core_text, process_text, own_paths, delays_text, driven_variables_text}
-use Rattle.driven_files.specs.vhdl_drivers.DriverText.{buffer_text}
-use Rattle.driven_files.specs.vhdl_drivers.DriverText.{drive_path_text, path_call_text, direct_text, driven_line, statements_text}
-use Rattle.driven_files.specs.vhdl_drivers.WellFormed.{HasNumbers, IsWrittenDriver}
+use Rattle.vhdl_drivers.specs.DriverText.{data_word, enable_word, driven_count, driver_header_text, signal_text}
+use Rattle.vhdl_drivers.specs.DriverText.{signals_text}
+use Rattle.vhdl_drivers.specs.DriverText.{core_text, process_text, own_paths, delays_text, driven_variables_text}
+use Rattle.vhdl_drivers.specs.DriverText.{buffer_text}
+use Rattle.vhdl_drivers.specs.DriverText.{drive_path_text, path_call_text, direct_text, driven_line, statements_text}
+use Rattle.vhdl_drivers.specs.WellFormed.{HasNumbers, IsWrittenDriver}
 use Rattle.written_modules.specs.driver_sections.Marks.{are_next}
 use Rattle.written_modules.specs.section_outlines.Marked.{ends_next}
 use Rattle.written_modules.specs.section_outlines.VhdlMarks.{vhdl_marks}

@@ -1,20 +1,20 @@
 -- A written driver is one section.
 use Rattle.std.proofs.Common.{◌≡◌, ℕ, suc, ◌+◌, true, false, List, [], ◌∷◌, ◌++◌, length, drop, refl, sym, ap, subst, ◌∙◌, arith}
 use Rattle.std.proofs.Common.{codes, append_assoc, length-append}
-use Rattle.driven_files.specs.vhdl_tokens.Tokens.{scan, token_length}
-use Rattle.driven_files.specs.vhdl_tokens.Spelling.{is_same}
-use Rattle.driven_files.specs.driver_models.declared.model.DriverModel.{DriverModel}
-use Rattle.driven_files.specs.vhdl_drivers.DriverText.{driven_count, driver_header_text, signals_text, core_text, process_text}
-use Rattle.driven_files.specs.vhdl_drivers.DriverText.{statements_text, driver_text}
-use Rattle.driven_files.specs.vhdl_drivers.DriverSection.{driver_section}
-use Rattle.driven_files.specs.vhdl_drivers.WellFormed.{IsWrittenDriver}
-use Rattle.driven_files.specs.driver_sections.Marks.{ends}
-use Rattle.driven_files.specs.driver_sections.Sections.{section_length, begins_section}
+use Rattle.written_entities.specs.vhdl_tokens.Tokens.{scan, token_length}
+use Rattle.written_entities.specs.vhdl_tokens.Spelling.{is_same}
+use Rattle.driver_models.specs.declared.model.DriverModel.{DriverModel}
+use Rattle.vhdl_drivers.specs.DriverText.{driven_count, driver_header_text, signals_text, core_text, process_text}
+use Rattle.vhdl_drivers.specs.DriverText.{statements_text, driver_text}
+use Rattle.vhdl_drivers.specs.DriverSection.{driver_section}
+use Rattle.vhdl_drivers.specs.WellFormed.{IsWrittenDriver}
+use Rattle.written_modules.specs.driver_sections.Marks.{ends}
+use Rattle.written_modules.specs.driver_sections.Sections.{section_length, begins_section}
 use Rattle.written_modules.proofs.grammar_reader.Fronts.{Anything}
 use Rattle.written_modules.proofs.grammar_reader.Spelling.{literal}
-use Rattle.driven_files.specs.section_outlines.VhdlMarks.{vhdl_marks}
-use Rattle.driven_files.proofs.section_outlines.Passing.{section_is}
-use Rattle.driven_files.proofs.section_outlines.Outlined.{Outlined, IsSection, plain, section, one_behind}
+use Rattle.written_modules.specs.section_outlines.VhdlMarks.{vhdl_marks}
+use Rattle.written_modules.proofs.section_outlines.Passing.{section_is}
+use Rattle.written_modules.proofs.section_outlines.Outlined.{Outlined, IsSection, plain, section, one_behind}
 use Rattle.written_entities.proofs.Spelling.{vhdl, SpellsOutside}
 use Rattle.written_driven_models.proofs.VhdlTokens.{before_end, before_end_spelled}
 

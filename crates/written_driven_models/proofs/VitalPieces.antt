@@ -1,8 +1,8 @@
 -- The pieces of VHDL text that is written.
 use Rattle.std.proofs.lemmas.List.Elements.{recursion_from_All}
-use Rattle.driven_files.specs.vhdl_grammar.WellFormed.{IsWellFormedEntity}
-use Rattle.driven_files.specs.vhdl_drivers.WellFormed.{IsWrittenDriver}
-use Rattle.driven_files.proofs.section_outlines.Outlined.{plain, nothing}
+use Rattle.written_entities.specs.vhdl_grammar.WellFormed.{IsWellFormedEntity}
+use Rattle.vhdl_drivers.specs.WellFormed.{IsWrittenDriver}
+use Rattle.written_modules.proofs.section_outlines.Outlined.{plain, nothing}
 use Rattle.written_entities.proofs.EntityReading.{entity_tokens, entity_spelled}
 use Rattle.written_entities.proofs.EntityFile.{read_from}
 use Rattle.written_driven_models.proofs.VhdlSections.{read_back}

@@ -1,12 +1,12 @@
 -- What is read of a driver's parts is the driver, and its bytes are a section of it where their tokens are, in any language of
 -- drivers.
-use Rattle.std.proofs.Common.{◌≡◌, ℕ, false, List, [], sym, ap, ◌∙◌}
+use Rattle.std.proofs.Common.{◌≡◌, ℕ, false, List, [], ◌++◌, sym, ap, ◌∙◌, append_assoc}
 use Rattle.written_modules.specs.lexer.Tokens.{scan}
 use Rattle.written_modules.specs.lexer.Separators.{spelled}
 use Rattle.written_modules.specs.grammar_reader.Texts.{IsText}
-use Rattle.driven_files.specs.driver_models.declared.model.DriverModel.{DriverModel}
-use Rattle.driven_files.specs.driver_models.Models.{output_count, IsSound}
-use Rattle.driven_files.specs.driver_models.Cores.{Core}
+use Rattle.driver_models.specs.declared.model.DriverModel.{DriverModel}
+use Rattle.driver_models.specs.Models.{output_count, IsSound}
+use Rattle.driver_models.specs.Cores.{Core}
 use Rattle.driver_texts.specs.declared.section_parts.SectionFront.{SectionFront}
 use Rattle.driver_texts.specs.declared.section_parts.CoreCall.{CoreCall}
 use Rattle.driver_texts.specs.Sections.{EndsTexts, section, section_language, section_text, driver_of}
@@ -14,6 +14,14 @@ use Rattle.driver_texts.proofs.SectionTexts.{section_answer}
 use Rattle.written_modules.proofs.grammar_reader.Derivations.{Reads}
 use Rattle.written_modules.proofs.grammar_reader.TextsReadBack.{is_text, reads_back}
 use Rattle.written_driven_models.specs.WrittenDrivers.{WrittenSections, IsSectionOf}
+
+-- what stands behind six texts, behind the last of them
+pub last_of : (a b c d e f g : List ℕ) → (a ++ (b ++ (c ++ (d ++ (e ++ f))))) ++ g ≡ a ++ (b ++ (c ++ (d ++ (e ++ (f ++ g)))))
+last_of a b c d e f g =
+    append_assoc a (b ++ (c ++ (d ++ (e ++ f)))) g
+    ∙ ap (λ (t : List ℕ). a ++ t) (append_assoc b (c ++ (d ++ (e ++ f))) g
+    ∙ ap (λ (t : List ℕ). b ++ t) (append_assoc c (d ++ (e ++ f)) g
+    ∙ ap (λ (t : List ℕ). c ++ t) (append_assoc d (e ++ f) g ∙ ap (λ (t : List ℕ). d ++ t) (append_assoc e f g))))
 
 abbrev pub front_of : DriverModel → SectionFront
 front_of m = record { name = m.name; ports = m.ports }

@@ -7,9 +7,9 @@ use Rattle.std.proofs.lemmas.List.FromFn.{map-range_with_len_more}
 use Rattle.written_modules.specs.grammar_rules.Rule.{Stops}
 use Rattle.written_modules.specs.grammar_rules.Rule as r
 use Rattle.written_modules.specs.grammar_reader.Words.{Grammar, begins}
-use Rattle.driven_files.specs.driver_models.declared.wires.Wires.{Wires}
-use Rattle.driven_files.specs.driver_models.Terminals.{all_numbered}
-use Rattle.driven_files.specs.driver_models.Wires.{numbered, no_wires, next_wire, declared_wire, declared_wires}
+use Rattle.driver_models.specs.declared.wires.Wires.{Wires}
+use Rattle.driver_models.specs.Terminals.{all_numbered}
+use Rattle.driver_models.specs.Wires.{numbered, no_wires, next_wire, declared_wire, declared_wires}
 use Rattle.written_modules.proofs.grammar_reader.Fronts.{Front, each}
 use Rattle.written_modules.proofs.grammar_reader.Derivations.{Reads, from_same, gives, in_turn, no_turn, Turn, turn, turns}
 use Rattle.written_modules.proofs.grammar_reader.Derivations.{goes_on}

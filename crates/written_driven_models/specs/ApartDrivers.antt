@@ -2,12 +2,12 @@
 -- identifiers.)
 use Rattle.std.specs.Prelude.{◌≡◌, ℕ, List, [], ◌∷◌, ◌++◌, map, slice_get, Some}
 use Rattle.std.specs.List.{AllByRecursion}
-use Rattle.driven_files.specs.vital_models.declared.model.VEntity.{VEntity}
-use Rattle.driven_files.specs.vhdl_grammar.VhdlText.{entity_names}
-use Rattle.driven_files.specs.vhdl_grammar.WellFormed.{AreApart, AreWellFormed}
-use Rattle.driven_files.specs.driver_models.declared.model.DriverModel.{DriverModel}
-use Rattle.driven_files.specs.vhdl_drivers.WellFormed.{IsWellFormedDriver}
-use Rattle.driven_files.specs.Vital.{vital_sections}
+use Rattle.generated_drivers.specs.vital_models.declared.model.VEntity.{VEntity}
+use Rattle.written_entities.specs.vhdl_grammar.VhdlText.{entity_names}
+use Rattle.written_entities.specs.vhdl_grammar.WellFormed.{AreApart, AreWellFormed}
+use Rattle.driver_models.specs.declared.model.DriverModel.{DriverModel}
+use Rattle.vhdl_drivers.specs.WellFormed.{IsWellFormedDriver}
+use Rattle.vhdl_drivers.specs.VitalSections.{vital_sections}
 use Rattle.written_driven_models.specs.Laws.{AreWellFormedDrivers}
 use Rattle.written_driven_models.specs.Vital.{written_vital, well_formed_vital}
 

@@ -2,11 +2,11 @@
 -- rule.)
 use Rattle.std.specs.Prelude.{◌≡◌, ℕ, List, [], ◌∷◌, ◌++◌, map, Ok}
 use Rattle.std.specs.List.{AllByRecursion}
-use Rattle.driven_files.specs.lexer.declared.span.Span.{Span}
-use Rattle.driven_files.specs.driver_models.declared.model.DriverModel.{DriverModel}
-use Rattle.driven_files.specs.driver_models.Cores.{Core}
-use Rattle.driven_files.specs.driver_sections.Sections as sections
-use Rattle.driven_files.specs.sectioned_texts.DrivenModels.{taken_names, rest_of, driven_models}
+use Rattle.written_modules.specs.lexer.declared.span.Span.{Span}
+use Rattle.driver_models.specs.declared.model.DriverModel.{DriverModel}
+use Rattle.driver_models.specs.Cores.{Core}
+use Rattle.written_modules.specs.driver_sections.Sections as sections
+use Rattle.sectioned_texts.specs.DrivenModels.{taken_names, rest_of, driven_models}
 use Rattle.written_modules.specs.grammar_reader.ReadBack.{ReadsBack}
 use Rattle.written_driven_models.specs.WrittenDrivers.{DriverReadsBack}
 use Rattle.written_driven_models.specs.Texts.{WrittenLanguage, WrittenModel, models_of, drivers_of, written_text, models_text}

@@ -2,8 +2,8 @@
 -- core is this project's layout.)
 use Rattle.std.specs.Prelude.{ℕ, List, [], ◌∷◌, ◌++◌, map, Option, Some, None}
 use Rattle.std.specs.List.{flat_map}
-use Rattle.driven_files.specs.driver_models.declared.model.DriverModel.{DriverModel}
-use Rattle.driven_files.specs.sectioned_texts.DrivenModels.{SectionLanguage}
+use Rattle.driver_models.specs.declared.model.DriverModel.{DriverModel}
+use Rattle.sectioned_texts.specs.DrivenModels.{SectionLanguage}
 use Rattle.written_driven_models.specs.WrittenDrivers.{WrittenSections}
 
 -- How a language is written: the language, what stands before the models, a model's text, how drivers are written, and whether

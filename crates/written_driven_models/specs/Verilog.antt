@@ -1,16 +1,16 @@
 -- Verilog as it is written. (IEEE 1364-2005, A.1, source text, and 19.1, `celldefine; that a driver stands behind the module that
 -- is its core is this project's layout.)
 use Rattle.std.specs.Prelude.{ℕ, List}
-use Rattle.driven_files.specs.specify_blocks.declared.model.VModule.{VModule}
-use Rattle.driven_files.specs.verilog_grammar.VerilogText.{IsVerilogText}
-use Rattle.driven_files.specs.verilog_grammar.WellFormed.{AreWellFormed}
+use Rattle.written_modules.specs.specify_blocks.declared.model.VModule.{VModule}
+use Rattle.written_modules.specs.verilog_grammar.VerilogText.{IsVerilogText}
+use Rattle.written_modules.specs.verilog_grammar.WellFormed.{AreWellFormed}
 use Rattle.written_modules.specs.verilog_writer.Model.{prelude_text, module_text}
-use Rattle.driven_files.specs.driver_models.declared.model.DriverModel.{DriverModel}
-use Rattle.driven_files.specs.driver_models.Cores.{Core}
-use Rattle.driven_files.specs.verilog_drivers.DriverText.{driver_section, driver_text}
-use Rattle.driven_files.specs.verilog_drivers.DriverSections.{verilog_section_grammar}
-use Rattle.driven_files.specs.verilog_drivers.WellFormed.{IsWellFormedDriver}
-use Rattle.driven_files.specs.Verilog.{verilog_sections}
+use Rattle.driver_models.specs.declared.model.DriverModel.{DriverModel}
+use Rattle.driver_models.specs.Cores.{Core}
+use Rattle.verilog_drivers.specs.DriverText.{driver_section, driver_text}
+use Rattle.verilog_drivers.specs.DriverSections.{verilog_section_grammar}
+use Rattle.verilog_drivers.specs.WellFormed.{IsWellFormedDriver}
+use Rattle.verilog_drivers.specs.VerilogSections.{verilog_sections}
 use Rattle.written_driven_models.specs.WrittenDrivers.{WrittenSections}
 use Rattle.written_driven_models.specs.Texts.{WrittenLanguage}
 use Rattle.written_driven_models.specs.Laws.{WellFormedness}

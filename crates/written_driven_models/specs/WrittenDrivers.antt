@@ -1,7 +1,7 @@
 -- What is written of a driver reads back, in any language of drivers.
 use Rattle.std.specs.Prelude.{ℕ, List}
-use Rattle.driven_files.specs.driver_models.declared.model.DriverModel.{DriverModel}
-use Rattle.driven_files.specs.driver_models.Cores.{Core}
+use Rattle.driver_models.specs.declared.model.DriverModel.{DriverModel}
+use Rattle.driver_models.specs.Cores.{Core}
 use Rattle.driver_texts.specs.Sections.{SectionGrammar, section_language, section_text}
 use Rattle.written_modules.specs.grammar_reader.Texts.{IsText}
 use Rattle.written_modules.specs.grammar_reader.ReadBack.{ReadsBack}

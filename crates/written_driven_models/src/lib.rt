@@ -1,59 +1,20 @@
 //! Laws of the texts of models and drivers that this project writes in Verilog and in VHDL: each driver reads back as the driver
-//! it was written of, the sections of a text are the drivers, the models stand around them, and both read back. The functions do
-//! nothing.
+//! it was written of, the sections of a text are the drivers, the models stand around them, and both read back. The models and
+//! the drivers that are generated for the cells of one library, some of whose outputs may float, are well formed together in both
+//! languages, so that they read back from what is written of them. (IEEE 1364-2005, clauses 3, 7.4 and 12; IEEE 1076-1993, 10.3
+//! and 13.3.1.)
 #![tactic(auto)]
 
-ghost use Rattle.written_driven_models.specs.Laws.{WrittenDriversReadBack};
-ghost use Rattle.written_driven_models.specs.Laws.{WrittenDriversKeepApart, WrittenModelsHaveNoSections, WrittenModelsReadBack};
-ghost use Rattle.written_driven_models.specs.ApartDrivers.{DriversApartAreWellFormed};
-ghost use Rattle.written_driven_models.specs.Verilog.{written_verilog, well_formed_verilog};
-ghost use Rattle.written_driven_models.specs.Vital.{written_vital, well_formed_vital};
+mod library_laws;
+mod text_laws;
 
-/// A law: the Verilog text that is written of a well formed driver, and also without its last line end, is a section of this
-/// driver, and of no other. (IEEE 1364-2005, 7.4, 12.1 and 19.1.)
-pub fn verilog_drivers_read_back()
-    ensures { WrittenDriversReadBack written_verilog well_formed_verilog }
-{}
-
-/// The same law of VHDL text. (IEEE 1076-1993, 1.1, 1.2 and 9.6; IEEE 1076.4-2000, `VitalBUFIF1`.)
-pub fn vital_drivers_read_back()
-    ensures { WrittenDriversReadBack written_vital well_formed_vital }
-{}
-
-/// A law: the sections of the text that is written of well formed modules and drivers are the texts of the drivers, each without
-/// its last line end, and the text around them is that of the modules, and of no others. (IEEE 1364-2005, A.1 and 19.1.)
-pub fn verilog_drivers_keep_apart()
-    ensures { WrittenDriversKeepApart written_verilog well_formed_verilog }
-{}
-
-/// The same law of entities and drivers. (IEEE 1076-1993, 1.1, 1.2 and 10.4.)
-pub fn vital_drivers_keep_apart()
-    ensures { WrittenDriversKeepApart written_vital well_formed_vital }
-{}
-
-/// A law: the text that is written of well formed modules alone has no section. (IEEE 1364-2005, A.1 and 19.1.)
-pub fn modules_have_no_sections()
-    ensures { WrittenModelsHaveNoSections written_verilog well_formed_verilog }
-{}
-
-/// The same law of entities. (IEEE 1076-1993, 1.1, 1.2 and 10.4.)
-pub fn entities_have_no_sections()
-    ensures { WrittenModelsHaveNoSections written_vital well_formed_vital }
-{}
-
-/// A law: the text that is written of well formed modules and drivers reads as these modules and these drivers. (IEEE 1364-2005,
-/// A.1, 12.1 and 19.1.)
-pub fn driven_modules_read_back()
-    ensures { WrittenModelsReadBack written_verilog well_formed_verilog }
-{}
-
-/// The same law of entities and drivers. (IEEE 1076-1993, 1.1, 1.2 and 10.4; IEEE 1076.4-2000.)
-pub fn driven_entities_read_back()
-    ensures { WrittenModelsReadBack written_vital well_formed_vital }
-{}
-
-/// A law: drivers over well formed entities can be declared one behind the other, where no two of the entities and the drivers
-/// share a name, whatever the case of its letters. (IEEE 1076-1993, 10.3 and 13.3.1.)
-pub fn drivers_apart_are_well_formed()
-    ensures { DriversApartAreWellFormed }
-{}
+pub use library_laws::{
+    distinct_cells_are_of_one_library, driven_entities_are_well_formed,
+    driven_modules_are_well_formed, read_cells_are_numbered, read_cells_have_drivers,
+    verilog_drivers_are_well_formed, vital_drivers_are_well_formed,
+};
+pub use text_laws::{
+    driven_entities_read_back, driven_modules_read_back, drivers_apart_are_well_formed,
+    entities_have_no_sections, modules_have_no_sections, verilog_drivers_keep_apart,
+    verilog_drivers_read_back, vital_drivers_keep_apart, vital_drivers_read_back,
+};

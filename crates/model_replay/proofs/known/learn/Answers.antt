@@ -1,4 +1,4 @@
-use Rattle.std.proofs.Common.{◌∙◌, ap, not, sym}
+use Rattle.std.proofs.Common.{◌∙◌, ap, not}
 use Rattle.model_files.proofs.KnownThings.{found-some}
 use Rattle.model_replay.proofs.known.learn.Goals as goal
 

@@ -1,4 +1,4 @@
-use Rattle.driven_files.specs.Vital.{vital_sections}
+use Rattle.vhdl_drivers.specs.VitalSections.{vital_sections}
 use Rattle.model_replay.proofs.TextAnswers.{plain_as_before}
 use Rattle.model_replay.proofs.laws.plain_entities_read_as_before.Goals as goal
 

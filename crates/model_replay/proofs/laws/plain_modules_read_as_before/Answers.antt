@@ -1,4 +1,4 @@
-use Rattle.driven_files.specs.Verilog.{verilog_sections}
+use Rattle.verilog_drivers.specs.VerilogSections.{verilog_sections}
 use Rattle.model_replay.proofs.TextAnswers.{plain_as_before}
 use Rattle.model_replay.proofs.laws.plain_modules_read_as_before.Goals as goal
 

@@ -1,4 +1,4 @@
-use Rattle.run_outcome.proofs.WrittenLaws.{report_stops, report_whole}
+use Rattle.library_translation.proofs.StoppedWrites.{report_written, cause_kept}
 use Rattle.library_translation.proofs.CellLemmas.{accepted_of, refused_of, accepted_written_as, refused_written_as}
 use Rattle.library_translation.proofs.ItemsLemmas.{models_bound}
 use Rattle.library_translation.proofs.items.CellModelsItemWriter.write_cell.Goals as goal
@@ -12,14 +12,11 @@ returns-in-Accepted-clause-text g c =
     let same = accepted_written_as c.args.progress.now c.args.group.now c.in-Accepted.cell c.in-Accepted.entity accepted in
     rw same at (rw c.as_slice.ensures at c.write_accepted.ensures.text)
 
-pub returns-in_err-write_refused_cell-in-Refused-clause-text : goal.returns-in_err-write_refused_cell-in-Refused-clause-text
-returns-in_err-write_refused_cell-in-Refused-clause-text g c =
+pub returns-in-Refused-clause-text : goal.returns-in-Refused-clause-text
+returns-in-Refused-clause-text g c =
     let refused = refused_of c.args.progress.now c.args.group.now _ c.in-Refused.refusal c.in-Refused.is c.requires.next.is in
-    let same = refused_written_as c.args.progress.now c.args.group.now _ _ _ c.next_number.ensures c.cell_name.ensures refused in
-    rw same at (report_stops _ _ _ _ _ c.in_err-write_refused_cell-in-Refused.ensures.text c.from_residual.ensures.0)
+    let same = refused_written_as c.args.progress.now c.args.group.now _ _ _ c.next_number-number.ensures c.cell_name.ensures refused in
+    rw same at (report_written _ _ _ _ _ c.stopped.ensures c.write_refused_cell.ensures.text)
 
-pub returns-in_ok-write_refused_cell-in-Refused-clause-text : goal.returns-in_ok-write_refused_cell-in-Refused-clause-text
-returns-in_ok-write_refused_cell-in-Refused-clause-text g c =
-    let refused = refused_of c.args.progress.now c.args.group.now _ c.in-Refused.refusal c.in-Refused.is c.requires.next.is in
-    let same = refused_written_as c.args.progress.now c.args.group.now _ _ _ c.next_number.ensures c.cell_name.ensures refused in
-    record { whole = rw same at (report_whole _ _ _ c.in_ok-write_refused_cell-in-Refused.ensures.text.whole); part = tt }
+pub returns-in-Refused-clause-cause : goal.returns-in-Refused-clause-cause
+returns-in-Refused-clause-cause g c = cause_kept _ _ _ _ c.stopped.ensures c.write_refused_cell.ensures.cause

@@ -1,2 +1,0 @@
-pub mod ModelTexts
-pub mod TestLineTexts

@@ -1,8 +1,0 @@
-use Rattle.run_outcome.proofs.WrittenLaws.{verilog_stops, verilog_whole}
-use Rattle.cell_translation.proofs.models.put_module.Goals as goal
-
-pub returns-in_err-write_model-clause-text : goal.returns-in_err-write_model-clause-text
-returns-in_err-write_model-clause-text g c = verilog_stops _ _ _ _ _ c.in_err-write_model.ensures.text c.from_residual.ensures.0
-
-pub returns-clause-text : goal.returns-clause-text
-returns-clause-text g c = record { whole = verilog_whole _ _ _ c.in_ok-write_model.ensures.text.whole; part = tt }

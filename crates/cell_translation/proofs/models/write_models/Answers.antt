@@ -1,5 +1,0 @@
-use Rattle.run_outcome.proofs.WrittenLaws.{stopped_before}
-use Rattle.cell_translation.proofs.models.write_models.Goals as goal
-
-pub returns-in_err-parts-clause-text : goal.returns-in_err-parts-clause-text
-returns-in_err-parts-clause-text g c = stopped_before _ _ _ c.from_residual.ensures.0

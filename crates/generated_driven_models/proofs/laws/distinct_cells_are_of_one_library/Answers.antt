@@ -1,5 +1,0 @@
-use Rattle.generated_driven_models.proofs.ReadCells.{distinct-of-one-library}
-use Rattle.generated_driven_models.proofs.laws.distinct_cells_are_of_one_library.Goals as goal
-
-pub returns : goal.returns
-returns c = distinct-of-one-library

@@ -1,5 +1,0 @@
-use Rattle.generated_driven_models.proofs.ModuleDrivers.{well-formed-together}
-use Rattle.generated_driven_models.proofs.laws.driven_modules_are_well_formed.Goals as goal
-
-pub returns : goal.returns
-returns c = well-formed-together

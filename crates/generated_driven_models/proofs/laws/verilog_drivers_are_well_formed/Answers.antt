@@ -1,5 +1,0 @@
-use Rattle.generated_driven_models.proofs.VerilogDrivers.{verilog_drivers_are_well_formed}
-use Rattle.generated_driven_models.proofs.laws.verilog_drivers_are_well_formed.Goals as goal
-
-pub returns : goal.returns
-returns c = verilog_drivers_are_well_formed

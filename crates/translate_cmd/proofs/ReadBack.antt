@@ -14,16 +14,16 @@ verilog_back : (bytes : List ℕ) → VerilogReadsBack bytes
 verilog_back bytes =
     let h = modules-well-formed bytes in
     let back =
-        text_back written_verilog well_formed_verilog verilog.pieces (modules_in bytes) _ (verilog-of-modules bytes) h.models
-        h.drivers in
+    text_back written_verilog well_formed_verilog verilog.pieces (modules_in bytes) _ (verilog-of-modules bytes) h.models
+    h.drivers in
     record { answer = back.0; apart = back.1 }
 
 vital_back : (bytes : List ℕ) → VitalReadsBack bytes
 vital_back bytes =
     let h = entities-well-formed bytes in
     let back =
-        text_back written_vital well_formed_vital vital.pieces (entities_in bytes) _ (vital-of-entities bytes) h.models h.drivers
-        in
+    text_back written_vital well_formed_vital vital.pieces (entities_in bytes) _ (vital-of-entities bytes) h.models h.drivers
+    in
     record { answer = back.0; apart = back.1 }
 
 pub libraries-read-back : LibrariesReadBack

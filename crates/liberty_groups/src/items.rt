@@ -15,15 +15,29 @@ use small_bytes::SmallBytes;
 use sqlite_items::Items;
 use std::alloc::{AllocError, Global};
 
-/// A list of at most so many statements is moved to exactly the room that it needs, since it grows by doubling, first to four
-/// places. A longer one keeps its room, of which the system has given no memory yet for most of what is not used.
+/// A list of statements begins with so many places, which most groups do not fill: one kilobyte, the most that an allocator keeps
+/// at hand for the next list.
+const FIRST: usize = 14;
+
+/// A list of at most so many statements is moved to exactly the room that it needs, since it grows by doubling. A longer one keeps
+/// its room, of which the system has given no memory yet for most of what is not used.
 const FEW: usize = 1024;
+
+/// No statements yet. An `Err` comes only where memory is wanting.
+fn first_room(alloc: Global) -> Result<Items<Item>, AllocError>
+    ensures { IfOk result (λ items. items ≡ []) }
+{
+    Ok(Items::from_vec(Vec::with_capacity(alloc, FIRST)?))
+}
 
 /// The same statements, in no more room than they need where they are not many. An `Err` comes only where memory is wanting.
 fn fitted(alloc: Global, items: Items<Item>) -> Result<Items<Item>, AllocError>
     ensures { IfOk result (λ same. same ≡ items) }
 {
-    if items.is_empty() || items.len() > FEW {
+    if items.is_empty() {
+        return Ok(Items::new(alloc));
+    }
+    if items.len() > FEW {
         return Ok(items);
     }
     let mut same = Items::from_vec(Vec::with_capacity(alloc, items.len())?);
@@ -131,7 +145,7 @@ impl Cursor<'_> {
     fn some_statements(&mut self, alloc: Global, levels: usize) -> Result<Items<Item>, Stop>
         ensures { Reads (read (spec.some_statements (spec.statement levels) []) self.old) result self.new }
     {
-        let mut items = Items::new(alloc);
+        let mut items = first_room(alloc)?;
         for _turn in 0..self.left() {
             match self.start() {
                 Start::Empty => self.skip(),

@@ -1,9 +1,10 @@
 -- What is packed is unpacked.
 use Rattle.std.proofs.Common.{◌≡◌, ℕ, ◌+◌, ◌*◌, ◌/◌, ◌%◌, ◌<◌, Bool, true, false, ◌==◌, cond, refl, ap, ◌∙◌, arith}
 use Rattle.std.proofs.lemmas.Nat.{div-mul-add, mod-mul-add}
-use Rattle.liberty_text.specs.declared.token.TokenKind.TheVariants.{Word, Text, Brace, Colon, Semicolon, Comma}
+use Rattle.liberty_text.specs.declared.token.TokenKind.{TokenKind}
+use Rattle.liberty_text.specs.declared.token.TokenKind.TheVariants.{Brace}
 use Rattle.liberty_text.specs.Scanner.{token}
-use Rattle.liberty_text.specs.Kept.{token_by, unpacked}
+use Rattle.liberty_text.specs.Kept.{kind_by, size_by, code_of, token_by, unpacked}
 
 pub packed_back : (at code amount line : ℕ) → code < 8 → line < 2
     → unpacked at ((amount * 8 + code) * 2 + line) ≡ token_by at code amount line
@@ -20,25 +21,13 @@ flag_back : (line : Bool) → (cond line 1 0 == 1) ≡ line
 flag_back true = refl
 flag_back false = refl
 
-pub word_kept : (at size end : ℕ) (line : Bool) → at + size ≡ end → token_by at 0 size (cond line 1 0) ≡ token Word at end line
-word_kept at size end line e = ap (λ (n : ℕ). token Word at n (cond line 1 0 == 1)) e ∙ ap (token Word at end) (flag_back line)
+pub kept_back : (kind : TokenKind) (at size end amount : ℕ) (line : Bool) → kind_by (code_of kind) amount ≡ kind
+    → size_by (code_of kind) amount ≡ size → at + size ≡ end
+    → token_by at (code_of kind) amount (cond line 1 0) ≡ token kind at end line
+kept_back kind at size end amount line e f g =
+    ap (λ (k : TokenKind). token k at (at + size_by (code_of kind) amount) (cond line 1 0 == 1)) e
+    ∙ ap (λ (n : ℕ). token kind at (at + n) (cond line 1 0 == 1)) f
+    ∙ ap (λ (n : ℕ). token kind at n (cond line 1 0 == 1)) g ∙ ap (token kind at end) (flag_back line)
 
-pub text_kept : (at size end : ℕ) (line : Bool) → at + size ≡ end → token_by at 1 size (cond line 1 0) ≡ token Text at end line
-text_kept at size end line e = ap (λ (n : ℕ). token Text at n (cond line 1 0 == 1)) e ∙ ap (token Text at end) (flag_back line)
-
-pub brace_kept : (at byte end : ℕ) (line : Bool) → byte < 256 → at + 1 ≡ end
-    → token_by at 2 byte (cond line 1 0) ≡ token (Brace byte) at end line
-brace_kept at byte end line h e =
-    let same : byte % 256 ≡ byte = omega (arith, h) in
-    ap (λ (b : ℕ). token (Brace b) at (at + 1) (cond line 1 0 == 1)) same
-    ∙ ap (λ (n : ℕ). token (Brace byte) at n (cond line 1 0 == 1)) e ∙ ap (token (Brace byte) at end) (flag_back line)
-
-pub colon_kept : (at end : ℕ) (line : Bool) → at + 1 ≡ end → token_by at 3 0 (cond line 1 0) ≡ token Colon at end line
-colon_kept at end line e = ap (λ (n : ℕ). token Colon at n (cond line 1 0 == 1)) e ∙ ap (token Colon at end) (flag_back line)
-
-pub semicolon_kept : (at end : ℕ) (line : Bool) → at + 1 ≡ end → token_by at 4 0 (cond line 1 0) ≡ token Semicolon at end line
-semicolon_kept at end line e = ap (λ (n : ℕ). token Semicolon at n (cond line 1 0 == 1)) e
-    ∙ ap (token Semicolon at end) (flag_back line)
-
-pub comma_kept : (at end : ℕ) (line : Bool) → at + 1 ≡ end → token_by at 5 0 (cond line 1 0) ≡ token Comma at end line
-comma_kept at end line e = ap (λ (n : ℕ). token Comma at n (cond line 1 0 == 1)) e ∙ ap (token Comma at end) (flag_back line)
+pub brace_back : (byte : ℕ) → byte < 256 → Brace (byte % 256) ≡ Brace byte
+brace_back byte h = let same : byte % 256 ≡ byte = omega (arith, h) in ap Brace same

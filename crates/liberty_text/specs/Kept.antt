@@ -1,5 +1,5 @@
 -- A token in two numbers: where it begins, and its kind, its length and its flag in one.
-use Rattle.std.specs.Prelude.{ℕ, ◌+◌, ◌/◌, ◌%◌, ◌==◌, ◌||◌, if◌then◌else◌}
+use Rattle.std.specs.Prelude.{ℕ, Bool, true, false, ◌+◌, ◌/◌, ◌%◌, ◌==◌, ◌||◌, if◌then◌else◌}
 use Rattle.liberty_text.specs.declared.token.TokenKind.{TokenKind}
 use Rattle.liberty_text.specs.declared.token.TokenKind.TheVariants.{Word, Text, Brace, Colon, Semicolon, Comma}
 use Rattle.liberty_text.specs.declared.token.Token.{Token}
@@ -29,3 +29,18 @@ token_by at code amount line = record {
 
 abbrev pub unpacked : ℕ → ℕ → Token
 unpacked at rest = token_by at (rest / 2 % 8) (rest / 2 / 8) (rest % 2)
+
+-- the code of a kind
+abbrev pub code_of : TokenKind → ℕ
+code_of Word = 0
+code_of Text = 1
+code_of (Brace byte) = 2
+code_of Colon = 3
+code_of Semicolon = 4
+code_of Comma = 5
+
+-- a token of this kind may have any number of bytes
+abbrev pub is_run : TokenKind → Bool
+is_run Word = true
+is_run Text = true
+is_run _ = false

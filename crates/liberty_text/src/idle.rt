@@ -54,7 +54,7 @@ fn is_plain_in_word(byte: u8) -> bool
 
 /// How many bytes are searched before the others. Most texts are shorter, and a search of more bytes than these takes wide
 /// steps, which cost more where the end is near.
-const NEAR: usize = 191;
+const NEAR: usize = 127;
 
 /// How many bytes at the front are neither quotes nor backslashes, by one search.
 #[tactic(auto, using(crate::proofs::Firsts::text_some, crate::proofs::Firsts::text_none))]

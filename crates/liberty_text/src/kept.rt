@@ -1,8 +1,8 @@
 //! Tokens in eight bytes each.
 
-ghost use Rattle.std.specs.Prelude.{◌≡◌, ◌<◌, ◌≤◌, ◌^◌, IfOk, if◌then◌else◌};
+ghost use Rattle.std.specs.Prelude.{◌≡◌, ◌<◌, ◌≤◌, ◌^◌, IfOk, if◌then◌else◌, true, false};
 ghost use Rattle.liberty_text.specs.Scanner.{token};
-ghost use Rattle.liberty_text.specs.Kept.{kind_by, size_by, token_by};
+ghost use Rattle.liberty_text.specs.Kept.{kind_by, size_by, token_by, code_of, is_run};
 
 use crate::token::{Stop, Token, TokenKind};
 use std::alloc::{AllocError, Global};
@@ -52,6 +52,49 @@ fn kind_by(code: u32, amount: u32) -> TokenKind
     }
 }
 
+/// The code of a kind.
+#[inline(always)]
+fn code_of(kind: TokenKind) -> u32
+    ensures value { result ≡ code_of kind }
+    ensures few { result < 8 }
+{
+    match kind {
+        TokenKind::Word => 0,
+        TokenKind::Text => 1,
+        TokenKind::Brace(_) => 2,
+        TokenKind::Colon => 3,
+        TokenKind::Semicolon => 4,
+        TokenKind::Comma => 5,
+    }
+}
+
+/// What stands beside the code of a token of this kind that has so many bytes: one, unless it is a Word or a text.
+#[inline(always)]
+#[tactic(auto, using(crate::proofs::Packing::brace_back))]
+fn amount_of(kind: TokenKind, size: u32) -> u32
+    requires { is_run kind ≡ false → size ≡ 1 }
+    ensures kind { kind_by (code_of kind) result ≡ kind }
+    ensures size { size_by (code_of kind) result ≡ size }
+    ensures few { size < 2 ^ 28 → result < 2 ^ 28 }
+{
+    match kind {
+        TokenKind::Word | TokenKind::Text => size,
+        TokenKind::Brace(byte) => u32::from(byte),
+        TokenKind::Colon | TokenKind::Semicolon | TokenKind::Comma => 0,
+    }
+}
+
+/// Whether a token of this kind may have so many bytes.
+#[inline(always)]
+fn fits(kind: TokenKind, size: u32) -> bool
+    ensures { result ≡ true → is_run kind ≡ false → size ≡ 1 }
+{
+    match kind {
+        TokenKind::Word | TokenKind::Text => true,
+        _ => size == 1,
+    }
+}
+
 /// How many bytes a token has; what stands beside the code is the length of a Word or a text.
 fn size_by(code: u32, amount: u32) -> u32
     ensures { result ≡ size_by code amount }
@@ -90,7 +133,7 @@ impl Kept {
     }
 
     /// A token from an offset up to another. There is no memory for one that begins at 4 GiB or later, or has 256 MiB or more.
-    #[tactic(auto, using(crate::proofs::Packing::word_kept, crate::proofs::Packing::text_kept, crate::proofs::Packing::brace_kept, crate::proofs::Packing::colon_kept, crate::proofs::Packing::semicolon_kept, crate::proofs::Packing::comma_kept))]
+    #[tactic(auto, using(crate::proofs::Packing::kept_back))]
     pub(crate) fn new(
         kind: TokenKind,
         at: usize,
@@ -103,16 +146,11 @@ impl Kept {
             return Err(AllocError);
         }
         let size = (end - at) as u32;
-        let at = at as u32;
-        match kind {
-            TokenKind::Word => Ok(Kept::packed(at, 0, size, line_before)),
-            TokenKind::Text => Ok(Kept::packed(at, 1, size, line_before)),
-            _ if size != 1 => Err(AllocError),
-            TokenKind::Brace(byte) => Ok(Kept::packed(at, 2, u32::from(byte), line_before)),
-            TokenKind::Colon => Ok(Kept::packed(at, 3, 0, line_before)),
-            TokenKind::Semicolon => Ok(Kept::packed(at, 4, 0, line_before)),
-            TokenKind::Comma => Ok(Kept::packed(at, 5, 0, line_before)),
+        if !fits(kind, size) {
+            return Err(AllocError);
         }
+        let amount = amount_of(kind, size);
+        Ok(Kept::packed(at as u32, code_of(kind), amount, line_before))
     }
 }
 

@@ -111,14 +111,14 @@ impl Scanner {
         Ok(())
     }
 
-    /// A byte between tokens.
+    /// A byte between tokens. What stands open behind it.
     #[inline(always)]
-    fn open(&mut self, line_before: bool, at: usize, byte: u8) -> Result<(), AllocError>
+    fn open(&mut self, line_before: bool, at: usize, byte: u8) -> Result<Mode, AllocError>
         requires { at + 1 < 2 ^ 64 }
-        ensures mode { OnOk result (self.new.mode ≡ (opened line_before at byte).0) }
+        ensures mode { IfOk result (λ mode. mode ≡ (opened line_before at byte).0) }
         ensures tokens { OnOk result (self.new.tokens.items ≡ self.old.tokens.items ++ (opened line_before at byte).1) }
     {
-        self.mode = match class_of(byte) {
+        Ok(match class_of(byte) {
             Class::LineEnd => Mode::Between { line_before: true },
             Class::Blank => Mode::Between { line_before },
             Class::Mark(kind) => {
@@ -137,38 +137,42 @@ impl Scanner {
                 slash: slash_at(at, byte),
             },
             Class::Bad => Mode::Stopped { at },
-        };
-        Ok(())
+        })
     }
 
-    /// A byte after those of the word that begins at `begun`.
+    /// A byte after those of the word that begins at `begun`. What stands open behind it.
     #[inline(always)]
-    fn go_on(&mut self, begun: usize, line: bool, at: usize, byte: u8) -> Result<(), AllocError>
+    fn go_on(
+        &mut self,
+        begun: usize,
+        line: bool,
+        at: usize,
+        byte: u8,
+    ) -> Result<Mode, AllocError>
         requires { at + 1 < 2 ^ 64 }
-        ensures mode { OnOk result (self.new.mode ≡ (in_word_by begun line at byte (class_of byte)).0) }
+        ensures mode { IfOk result (λ mode. mode ≡ (in_word_by begun line at byte (class_of byte)).0) }
         ensures tokens { OnOk result (self.new.tokens.items ≡ self.old.tokens.items
             ++ (in_word_by begun line at byte (class_of byte)).1) }
     {
         if class_of(byte) == Class::WordByte {
-            self.mode = Mode::InWord {
+            return Ok(Mode::InWord {
                 at: begun,
                 line_before: line,
                 slash: slash_at(at, byte),
-            };
-            return Ok(());
+            });
         }
         self.push(TokenKind::Word, begun, at, line)?;
         self.open(false, at, byte)
     }
 
-    /// The word that begins at `begun` ends before the slash of a comment.
+    /// The word that begins at `begun` ends before the slash of a comment. What stands open behind that.
     fn begin_comment(
         &mut self,
         begun: usize,
         line_before: bool,
         slash: usize,
-    ) -> Result<(), AllocError>
-        ensures mode { OnOk result (self.new.mode ≡ (comment_in_word begun line_before slash).0) }
+    ) -> Result<Mode, AllocError>
+        ensures mode { IfOk result (λ mode. mode ≡ (comment_in_word begun line_before slash).0) }
         ensures tokens { OnOk result (self.new.tokens.items ≡ self.old.tokens.items
             ++ (comment_in_word begun line_before slash).1) }
     {
@@ -176,15 +180,15 @@ impl Scanner {
         if is_word {
             self.push(TokenKind::Word, begun, slash, line_before)?;
         }
-        self.mode = Mode::InComment {
+        Ok(Mode::InComment {
             at: slash,
             line_before: line_before && !is_word,
             star: false,
-        };
-        Ok(())
+        })
     }
 
-    /// A byte of the text that begins at `begun`.
+    /// A byte of the text that begins at `begun`. What stands open behind it.
+    #[inline(always)]
     fn go_on_text(
         &mut self,
         begun: usize,
@@ -192,60 +196,67 @@ impl Scanner {
         escaped: bool,
         at: usize,
         byte: u8,
-    ) -> Result<(), AllocError>
+    ) -> Result<Mode, AllocError>
         requires { at + 1 < 2 ^ 64 }
-        ensures mode { OnOk result (self.new.mode ≡ (in_text begun line_before escaped at byte).0) }
+        ensures mode { IfOk result (λ mode. mode ≡ (in_text begun line_before escaped at byte).0) }
         ensures tokens { OnOk result (self.new.tokens.items ≡ self.old.tokens.items
             ++ (in_text begun line_before escaped at byte).1) }
     {
         if byte == b'"' && !escaped {
             self.push(TokenKind::Text, begun, at + 1, line_before)?;
-            self.mode = Mode::Between { line_before: false };
-        } else {
-            self.mode = Mode::InText {
+            return Ok(Mode::Between { line_before: false });
+        }
+        Ok(Mode::InText {
+            at: begun,
+            line_before,
+            escaped: byte == b'\\',
+        })
+    }
+
+    /// Keeps the tokens that end with the byte at an offset, where this much stands open before it. What stands open behind it.
+    #[inline(always)]
+    fn mode_behind(&mut self, mode: Mode, at: usize, byte: u8) -> Result<Mode, AllocError>
+        requires { at + 1 < 2 ^ 64 }
+        ensures mode { IfOk result (λ behind. behind ≡ (step mode at byte).0) }
+        ensures tokens { OnOk result (self.new.tokens.items ≡ self.old.tokens.items ++ (step mode at byte).1) }
+    {
+        match mode {
+            Mode::Between { line_before } => self.open(line_before, at, byte),
+            Mode::InWord {
                 at: begun,
                 line_before,
-                escaped: byte == b'\\',
-            };
+                slash: Some(slash),
+            } if byte == b'*' => self.begin_comment(begun, line_before, slash),
+            Mode::InWord {
+                at: begun,
+                line_before,
+                ..
+            } => self.go_on(begun, line_before, at, byte),
+            Mode::InText {
+                at: begun,
+                line_before,
+                escaped,
+            } => self.go_on_text(begun, line_before, escaped, at, byte),
+            Mode::InComment {
+                at: begun,
+                line_before,
+                star,
+            } => Ok(after_comment_byte(begun, line_before, star, byte)),
+            Mode::InContinuation {
+                at: begun,
+                line_before,
+            } => Ok(after_continuation_byte(begun, line_before, byte)),
+            Mode::Stopped { .. } => Ok(mode),
         }
-        Ok(())
     }
 
     /// The byte at an offset, after those before it.
-    #[inline(always)]
     pub(crate) fn step(&mut self, at: usize, byte: u8) -> Result<(), AllocError>
         requires { at + 1 < 2 ^ 64 }
         ensures mode { OnOk result (self.new.mode ≡ (step self.old.mode at byte).0) }
         ensures tokens { OnOk result (self.new.tokens.items ≡ self.old.tokens.items ++ (step self.old.mode at byte).1) }
     {
-        match self.mode {
-            Mode::Between { line_before } => self.open(line_before, at, byte)?,
-            Mode::InWord {
-                at: begun,
-                line_before,
-                slash: Some(slash),
-            } if byte == b'*' => self.begin_comment(begun, line_before, slash)?,
-            Mode::InWord {
-                at: begun,
-                line_before,
-                ..
-            } => self.go_on(begun, line_before, at, byte)?,
-            Mode::InText {
-                at: begun,
-                line_before,
-                escaped,
-            } => self.go_on_text(begun, line_before, escaped, at, byte)?,
-            Mode::InComment {
-                at: begun,
-                line_before,
-                star,
-            } => self.mode = after_comment_byte(begun, line_before, star, byte),
-            Mode::InContinuation {
-                at: begun,
-                line_before,
-            } => self.mode = after_continuation_byte(begun, line_before, byte),
-            Mode::Stopped { .. } => {}
-        }
+        self.mode = self.mode_behind(self.mode, at, byte)?;
         Ok(())
     }
 
@@ -262,18 +273,21 @@ impl Scanner {
             → count ≡ length bytes.now) }
     {
         let ended = self.tokens().len();
+        let mut mode = self.mode;
         let mut done = 0;
         while done < bytes.len() {
             let (_, left) = bytes.split_at(done);
-            done += idle_run(self.mode, left);
+            done += idle_run(mode, left);
             if done < bytes.len() {
-                self.step(at + done, bytes[done])?;
+                mode = self.mode_behind(mode, at + done, bytes[done])?;
                 done += 1;
                 if self.tokens().len() != ended {
+                    self.mode = mode;
                     return Ok(done);
                 }
             }
         }
+        self.mode = mode;
         Ok(bytes.len())
     }
 

@@ -2,5 +2,6 @@
 #![tactic(auto)]
 
 mod bytes;
+mod room;
 
 pub use bytes::SmallBytes;

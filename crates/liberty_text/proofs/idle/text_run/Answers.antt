@@ -11,7 +11,7 @@ returns-then-run-near-clause-value c =
     c.searched_run-run.ensures.value
     ∙ run_stops is_plain_in_text near far (subst (λ (n : ℕ). n < length near) c.searched_run-run.ensures.value c.if-run-near.true)
     ∙ ap (front_run is_plain_in_text)
-    (ap (λ (l : List ℕ). l ++ far) c.split_at.ensures.front ∙ ap (λ (l : List ℕ). take 191 c.args.bytes.now ++ l) c.split_at.ensures.back ∙ take-append-drop 191 c.args.bytes.now)
+    (ap (λ (l : List ℕ). l ++ far) c.split_at.ensures.front ∙ ap (λ (l : List ℕ). take 127 c.args.bytes.now ++ l) c.split_at.ensures.back ∙ take-append-drop 127 c.args.bytes.now)
 
 pub returns-else-run-near-clause-value : goal.returns-else-run-near-clause-value
 returns-else-run-near-clause-value c =
@@ -21,4 +21,4 @@ returns-else-run-near-clause-value c =
     ∙ ap (λ (n : ℕ). front_run is_plain_in_text near + n) c.searched_run-else-run-near.ensures.value
     ∙ run_goes_on is_plain_in_text near far (λ less. omega (arith, less, c.searched_run-run.ensures.value, c.if-run-near.false))
     ∙ ap (front_run is_plain_in_text)
-    (ap (λ (l : List ℕ). l ++ far) c.split_at.ensures.front ∙ ap (λ (l : List ℕ). take 191 c.args.bytes.now ++ l) c.split_at.ensures.back ∙ take-append-drop 191 c.args.bytes.now)
+    (ap (λ (l : List ℕ). l ++ far) c.split_at.ensures.front ∙ ap (λ (l : List ℕ). take 127 c.args.bytes.now ++ l) c.split_at.ensures.back ∙ take-append-drop 127 c.args.bytes.now)

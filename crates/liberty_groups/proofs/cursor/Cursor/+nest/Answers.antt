@@ -17,5 +17,5 @@ some_statements-returns-in_err-statement-in-Named t c =
     let turns : List Item → Outcome Lexeme Refusal (List Item) = λ found. statement_turns (spec.statement c.args.levels) (length c.args.self.now) found c.args.self.now in
     subst (λ r. spec.Reads (turns []) r c.statement.new.self) (sym y.1)
     (failed_reads (spec.statement c.args.levels) c.left-turn-end.result c.loop-turn._turn c.loop-turn.items c.loop-turn.self (turns [])
-    c.loop-turn-test.true (sym c.in-Named.ensures) (c.loop-turn.invariant ∙ ap turns c.new-items.ensures) (name.name, name.at) c.name.new.self name.ensures.name name.ensures.left
+    c.loop-turn-test.true (sym c.in-Named.ensures) (c.loop-turn.invariant ∙ ap turns c.in_ok-items.ensures) (name.name, name.at) c.name.new.self name.ensures.name name.ensures.left
     c.statement.result c.statement.new.self c.statement.ensures y.0 e)

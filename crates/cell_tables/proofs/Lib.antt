@@ -1,5 +1,6 @@
 pub mod GroupLemmas
 pub mod GroupPlaces
+pub mod EdgeNumbers
 pub mod TableLemmas
 pub mod GenerationLemmas
 pub mod ConditionLemmas

@@ -14,8 +14,8 @@ use crate::cubes::ChangeCube;
 use crate::points::value_at;
 use sqlite_items::Items;
 use std::alloc::{AllocError, Global};
-use step_tables::StepTable;
-use trit_cubes::{Cube, Trit, primes_where, values_of};
+use step_tables::{StepTable, point_count};
+use trit_cubes::{Cube, Trit, primes_where};
 use udp_tables::CubeIndex;
 
 /// Adds the cubes of the changes of one input: those that give 1 or keep the state, and then those that give 0.
@@ -47,12 +47,11 @@ fn change_values(
     ensures { IfOk result (λ values. AreValuesOf (suc (suc (length (support_at (data_of steps.now.cell.now) steps.now.group))))
         (edge_value (step_at (data_of steps.now.cell.now) steps.now.group) place) values.items) }
 {
-    let pins = steps.cell.group(steps.group).support.len();
-    let values = values_of(
-        alloc,
-        pins + 2,
-        &|point: &[bool]| { value_at(steps, place, point) },
-    )?;
+    let points = 4 * point_count(steps.places);
+    let mut values = Vec::with_capacity(alloc, points)?;
+    for number in 0..points {
+        values.push(value_at(steps, place, number))?;
+    }
     Ok(values)
 }
 

@@ -9,12 +9,11 @@ ghost use Rattle.cell_tables.specs.Cubes.{function_cubes, change_cubes, cubes_of
 use crate::change_cubes::add_cubes_of_input;
 use crate::cubes::{ChangeCube, FunctionCubes, GroupCubes};
 use crate::function_cubes::function_cubes;
-use crate::points::forced_to;
 use cell_machine::Cell;
 use sqlite_items::Items;
 use std::alloc::{AllocError, Global};
-use step_tables::StepTable;
-use trit_cubes::{Trit, values_of};
+use step_tables::{StepTable, point_count};
+use trit_cubes::Trit;
 
 /// The cubes of a group.
 pub(crate) fn group_cubes(
@@ -57,8 +56,11 @@ fn forced_values(alloc: Global, steps: &StepTable<'_>) -> Result<Vec<Trit>, Allo
     ensures { IfOk result (λ values. AreValuesOf (length (support_at (data_of steps.now.cell.now) steps.now.group))
         (forced_at (step_at (data_of steps.now.cell.now) steps.now.group)) values.items) }
 {
-    let pins = steps.cell.group(steps.group).support.len();
-    let values = values_of(alloc, pins, &|point: &[bool]| { forced_to(steps, point) })?;
+    let points = point_count(steps.places);
+    let mut values = Vec::with_capacity(alloc, points)?;
+    for number in 0..points {
+        values.push(steps.forced(number))?;
+    }
     Ok(values)
 }
 

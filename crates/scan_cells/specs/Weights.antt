@@ -25,9 +25,9 @@ weighed weights point = map (has_weight point) weights
 abbrev pub output_values : CellData → ℕ → ℕ → List Trit
 output_values cell i places = map (λ k. output_value_at cell i (point_of places k)) (range_with_len 0 (2 ^ places))
 
--- the numbers that the first 256 multiples of a point have over the places with these weights
-abbrev pub numbers_of : List ℕ → ℕ → List ℕ
-numbers_of weights unit = map (λ k. number (weighed weights (unit * k))) (range_with_len 0 256)
+-- the numbers that the first so many multiples of a point have over the places with these weights
+abbrev pub numbers_of : List ℕ → ℕ → ℕ → List ℕ
+numbers_of weights unit count = map (λ k. number (weighed weights (unit * k))) (range_with_len 0 count)
 
 -- a point's number over the places with these weights is that of its low byte and that of what stands above it
 pub record IsSplit (weights : List ℕ) : Type 0 where

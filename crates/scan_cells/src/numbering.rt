@@ -22,20 +22,28 @@ fn number_at(weights: &[u32], point: u32) -> usize
 /// The points of a byte.
 const BYTE: u32 = 256;
 
-/// The points of two bytes.
-const TWO_BYTES: u32 = 65_536;
+/// The most numbers that are kept of a byte's points.
+const MOST_NUMBERS: usize = 256;
 
-/// The numbers of 256 points.
-type Numbers = Few<usize, 256>;
+/// The numbers of points of a byte.
+type Numbers = Few<usize, MOST_NUMBERS>;
 
-/// The numbers that the multiples of a point have over the places with these weights.
-fn numbers_of(weights: &[u32], unit: u32) -> Numbers
+/// How many points there are over the first eight of so many places.
+fn point_count(places: usize) -> u32
+    ensures { result ≤ 256 }
+{
+    1 << places.min(8)
+}
+
+/// The numbers that the first so many multiples of a point have over the places with these weights.
+fn numbers_of(weights: &[u32], unit: u32, count: u32) -> Numbers
     requires weights { length weights.now ≤ 10 }
     requires unit { unit ≤ 256 }
-    ensures { result ≡ numbers_of_multiples weights.now unit }
+    requires count { count ≤ 256 }
+    ensures { result ≡ numbers_of_multiples weights.now unit count }
 {
     let mut numbers = Few::new(0);
-    for k in 0..BYTE {
+    for k in 0..count {
         numbers.push(number_at(weights, unit * k));
     }
     numbers
@@ -50,8 +58,8 @@ pub struct Numbering {
     /// Those of the points with 1 among the eight places behind them alone.
     high: Numbers,
     ghost is_split: { IsSplit weights },
-    ghost are_low: { low ≡ numbers_of_multiples weights 1 },
-    ghost are_high: { high ≡ numbers_of_multiples weights 256 },
+    ghost are_low: { low ≡ numbers_of_multiples weights 1 (length low) },
+    ghost are_high: { high ≡ numbers_of_multiples weights 256 (length high) },
     ghost few: { length weights ≤ 10 },
 }
 
@@ -63,9 +71,11 @@ impl Numbering {
         ensures { result.weights ≡ map (weight_of_source places.now) support.now }
     {
         let weights = weights_of(places, support);
+        let low = point_count(places.len());
+        let high = point_count(places.len().saturating_sub(8));
         Numbering {
-            low: numbers_of(weights.as_slice(), 1),
-            high: numbers_of(weights.as_slice(), BYTE),
+            low: numbers_of(weights.as_slice(), 1, low),
+            high: numbers_of(weights.as_slice(), BYTE, high),
             weights,
         }
     }
@@ -75,11 +85,13 @@ impl Numbering {
         ensures is { result ≡ number (weighed self.now.weights point) }
         ensures small { result < 2 ^ length self.now.weights }
     {
-        if point >= TWO_BYTES {
-            return number_at(self.weights.as_slice(), point);
-        }
         let low = (point % BYTE) as usize;
         let high = (point / BYTE) as usize;
-        self.low.as_slice()[low] + self.high.as_slice()[high]
+        let lows = self.low.as_slice();
+        let highs = self.high.as_slice();
+        if low >= lows.len() || high >= highs.len() {
+            return number_at(self.weights.as_slice(), point);
+        }
+        lows[low] + highs[high]
     }
 }

@@ -10,5 +10,5 @@ mod points;
 mod step_table;
 
 pub use group_points::StateSteps;
-pub use points::point_of;
+pub use points::{point_count, point_of};
 pub use step_table::StepTable;

@@ -1,6 +1,5 @@
 //! Points of the inputs of a group.
-ghost use Rattle.std.specs.Prelude.{◌≡◌, ◌≢◌, ℕ, ◌≤◌, ◌<◌, ◌^◌, None, length, IfSome};
-ghost use Rattle.trit_cubes.specs.Filling.{number};
+ghost use Rattle.std.specs.Prelude.{◌≡◌, ◌≢◌, ℕ, ◌≤◌, ◌<◌, ◌^◌, None, IfSome};
 ghost use Rattle.trit_cubes.specs.Sets.{point_of as point_with};
 ghost use Rattle.step_tables.specs.Turned.{turned as turned_point};
 
@@ -30,20 +29,6 @@ pub fn point_count(places: usize) -> usize
     ensures few { result ≤ 256 }
 {
     1 << places
-}
-
-/// The number of a point.
-pub fn number_of(point: &[bool]) -> usize
-    requires { length point.now ≤ 8 }
-    ensures value { result ≡ number point.now }
-    ensures small { result < 2 ^ length point.now }
-{
-    let mut value = 0;
-    for behind in 0..point.len() {
-        let place = point.len() - 1 - behind;
-        value = 2 * value + usize::from(point[place]);
-    }
-    value
 }
 
 /// What a place of a point weighs in its number.

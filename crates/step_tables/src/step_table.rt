@@ -13,7 +13,7 @@ use crate::changes::{CHANGES, ChangeWords, change_words};
 use crate::group_points::{GroupPoint, GroupPoints, StateSteps, group_points, steps_between};
 use crate::input_words::{MOST_INPUTS, POINTS};
 use crate::node_words::{TableNode, trit_or_unknown};
-use crate::points::{MOST_PLACES, changed_place, number_of, point_of, turned};
+use crate::points::{MOST_PLACES, changed_place, point_of, turned};
 use cell_machine::{Cell, GroupKind};
 use statetables::StepWords;
 use trit_cubes::Trit;
@@ -40,8 +40,8 @@ pub struct StepTable<'a> {
     pub places: usize,
     kept: Kept,
     ghost inside: { group < length cell.now.groups },
-    ghost are_places: { places ≡ length (support_at (data_of cell.now) group) },
-    ghost few: { places ≤ 8 },
+    pub ghost are_places: { places ≡ length (support_at (data_of cell.now) group) },
+    pub ghost few: { places ≤ 8 },
     ghost is_kept: { IsKept (data_of cell.now) group places kept },
 }
 
@@ -159,49 +159,49 @@ impl<'a> StepTable<'a> {
         }
     }
 
-    /// The next states at a change of this place of the support to a point; where there is no such place, those where nothing
-    /// changes.
-    fn turned_steps(&self, place: usize, after: &[bool]) -> StateSteps
-        requires { length after.now ≡ length (support_at (data_of self.now.cell.now) self.now.group) }
-        ensures { result ≡ steps_between_points (data_of self.now.cell.now) self.now.group (turned_point place after.now)
-            after.now }
+    /// The next states at a change of this place of the support to the point with this number; where there is no such place, those
+    /// where nothing changes.
+    fn turned_steps(&self, place: usize, after: usize) -> StateSteps
+        requires { after < 2 ^ self.now.places }
+        ensures { result ≡ steps_between_points (data_of self.now.cell.now) self.now.group
+            (turned_point place (point_with self.now.places after)) (point_with self.now.places after) }
     {
-        let number = number_of(after);
-        let before = turned(self.places, place, number);
-        self.steps(before, number)
+        let before = turned(self.places, place, after);
+        self.steps(before, after)
     }
 
-    /// The next state at a change of this place of the support to a point, from a state; where the number is that of the
-    /// places, the next state where none changes.
-    pub fn turned(&self, place: usize, after: &[bool], state: bool) -> Trit
-        requires place { place ≤ length (support_at (data_of self.now.cell.now) self.now.group) }
-        requires after { length after.now ≡ length (support_at (data_of self.now.cell.now) self.now.group) }
-        ensures { result ≡ step_at (data_of self.now.cell.now) self.now.group (turned_point place after.now) after.now state }
+    /// The next state at a change of this place of the support to the point with this number, from a state; where there is no such
+    /// place, the next state where nothing changes.
+    pub fn turned(&self, place: usize, after: usize, state: bool) -> Trit
+        requires { after < 2 ^ self.now.places }
+        ensures { result ≡ step_at (data_of self.now.cell.now) self.now.group
+            (turned_point place (point_with self.now.places after)) (point_with self.now.places after) state }
     {
         let steps = self.turned_steps(place, after);
         if state { steps.one } else { steps.zero }
     }
 
-    /// The next state from both states at a change of this place to a point, unknown where it is not the same.
-    fn from_both(&self, place: usize, after: &[bool]) -> Trit
-        requires { length after.now ≡ length (support_at (data_of self.now.cell.now) self.now.group) }
-        ensures { result ≡ both_steps (step_at (data_of self.now.cell.now) self.now.group) after.now
-            (turned_point place after.now) }
+    /// The next state from both states at a change of this place to the point with this number, unknown where it is not the same.
+    fn from_both(&self, place: usize, after: usize) -> Trit
+        requires { after < 2 ^ self.now.places }
+        ensures { result ≡ both_steps (step_at (data_of self.now.cell.now) self.now.group)
+            (point_with self.now.places after) (turned_point place (point_with self.now.places after)) }
     {
         let steps = self.turned_steps(place, after);
         steps.zero.agreed(steps.one)
     }
 
-    /// The value to which a point forces the state: the next state from both states, and from the point itself and each that
-    /// differs from it in one place; unknown where it is not the same.
-    pub fn forced(&self, point: &[bool]) -> Trit
-        requires { length point.now ≡ length (support_at (data_of self.now.cell.now) self.now.group) }
-        ensures { result ≡ forced_at (step_at (data_of self.now.cell.now) self.now.group) point.now }
+    /// The value to which the point with this number forces the state: the next state from both states, and from the point itself
+    /// and each that differs from it in one place; unknown where it is not the same.
+    pub fn forced(&self, number: usize) -> Trit
+        requires { number < 2 ^ self.now.places }
+        ensures { result ≡ forced_at (step_at (data_of self.now.cell.now) self.now.group)
+            (point_with self.now.places number) }
     {
-        let mut value = self.from_both(point.len(), point);
-        for behind in 0..point.len() {
-            let place = point.len() - 1 - behind;
-            value = value.agreed(self.from_both(place, point));
+        let mut value = self.from_both(self.places, number);
+        for behind in 0..self.places {
+            let place = self.places - 1 - behind;
+            value = value.agreed(self.from_both(place, number));
         }
         value
     }

@@ -10,7 +10,7 @@ push-requires c =
     let long : length c.loop-k.numbers ≡ c.loop-k.k
     = ap length c.loop-k.invariant
     ∙ length-map-range_with_len (λ k. number (weighed c.args.weights.now (c.args.unit * k))) 0 c.loop-k.k in
-    omega (arith, long, c.loop-k-test.true)
+    omega (arith, long, c.loop-k-test.true, c.requires.count)
 
 pub loop-k-preserved : goal.loop-k-preserved
 loop-k-preserved c =
@@ -21,6 +21,6 @@ loop-k-preserved c =
 
 pub returns : goal.returns
 returns c =
-    let all : c.loop-k.k ≡ 256 = omega (arith, c.loop-k-test.false, c.loop-k.auto.k-end) in
+    let all : c.loop-k.k ≡ c.args.count = omega (arith, c.loop-k-test.false, c.loop-k.auto.k-end) in
     c.loop-k.invariant
     ∙ ap (λ n. map (λ k. number (weighed c.args.weights.now (c.args.unit * k))) (range_with_len 0 n)) all

@@ -1,4 +1,5 @@
-use Rattle.std.proofs.Common.{◌≡◌, ◌-◌, ◌++◌, take, drop, length}
+use Rattle.std.proofs.Common.{◌≡◌, ◌-◌, ◌++◌, take, drop}
+use Rattle.trit_cubes.specs.Sets.{point_of}
 use Rattle.cell_machine.specs.Machine.{around}
 use Rattle.cell_machine.specs.CellData.{data_of}
 use Rattle.cell_machine.specs.CellTrace.{step_at}
@@ -8,6 +9,7 @@ use Rattle.step_tables.proofs.step_table.StepTable.forced.Given as goal
 -- the common value of the points that differ in one of the last places
 abbrev pub invariant-loop-behind : goal.invariant-loop-behind
 invariant-loop-behind l =
+    let point = point_of l.self.places l.number in
     l.value
-    ≡ around (λ q. both_steps (step_at (data_of l.self.cell.now) l.self.group) l.point (take (length l.point - l.behind) l.point ++ q))
-    (drop (length l.point - l.behind) l.point)
+    ≡ around (λ q. both_steps (step_at (data_of l.self.cell.now) l.self.group) point (take (l.self.places - l.behind) point ++ q))
+    (drop (l.self.places - l.behind) point)

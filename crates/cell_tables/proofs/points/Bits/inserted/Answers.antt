@@ -1,9 +1,0 @@
-use Rattle.std.proofs.Common.{◌∙◌, append_assoc, [], ◌∷◌, take, drop}
-use Rattle.udp_tables.proofs.SymbolLemmas.{insert-parts}
-use Rattle.cell_tables.proofs.points.Bits.inserted.Goals as goal
-
-pub returns : goal.returns
-returns c =
-    rw (c.with_all-2.ensures, c.with.ensures, c.with_all.ensures, c.none.ensures, c.split_at.ensures.front, c.split_at.ensures.back)
-    (append_assoc (take c.args.place c.args.others.now) (c.args.bit ∷ []) (drop c.args.place c.args.others.now)
-    ∙ insert-parts c.args.place c.args.bit c.args.others.now c.requires.place)

@@ -1,9 +1,10 @@
 -- The masks of rows decide as the rows do, in each kind of table.
+use Rattle.std.proofs.lemmas.Bool.{cases_Bool, leb-true}
+use Rattle.std.proofs.Common.{[], ◌∷◌, None, Some, cond, inl, inr, nat_le, slice_get}
 use Rattle.std.proofs.Common.{◌≡◌, ℕ, zero, suc, ◌+◌, ◌≤◌, Bool, true, List, length, map, take}
 use Rattle.std.proofs.Common.{refl, sym, ◌∙◌, ap}
 use Rattle.std.specs.Prelude.{All}
 use Rattle.std.specs.List.{range_with_len}
-use Rattle.std.proofs.lemmas.List.{take_all}
 use Rattle.trit_cubes.specs.declared.trits.Trit.{Trit}
 use Rattle.trit_cubes.specs.declared.trits.Trit.TheVariants.{Zero, One, Unknown}
 use Rattle.udp_tables.specs.declared.table.UdpRow.{UdpRow}
@@ -19,7 +20,7 @@ use Rattle.vital_tables.specs.LookUps.{row_next as state_next}
 use Rattle.row_masks.specs.declared.row_tests.RowTest.{RowTest}
 use Rattle.row_masks.specs.declared.row_tests.RowTest.TheVariants as test
 use Rattle.row_masks.specs.declared.rows.RowMasks.{RowMasks}
-use Rattle.row_masks.specs.Masks.{row_mask, mask_at, state_masks, change_masks, row_masks, matching, first_row, deciding, decisive, by_number}
+use Rattle.row_masks.specs.Masks.{row_mask, mask_at, state_masks, change_masks, row_masks, table_masks, matching, first_row, deciding, decisive, by_number}
 use Rattle.row_masks.specs.LookUps.{udp_passes, truth_passes, state_passes}
 use Rattle.row_masks.proofs.MaskLemmas.{and-swapped, first-by, deciding-first}
 use Rattle.row_masks.proofs.ColumnLemmas.{all-matching}
@@ -31,11 +32,6 @@ state-mask passes rows Zero = refl
 state-mask passes rows One = refl
 state-mask passes rows Unknown = refl
 
--- masks of at most 64 rows are those of all rows
-few-rows : {R : Type 0} (passes : R → RowTest → Bool) (n : ℕ) (rows : List R) → length rows ≤ 64
-    → row_masks passes n (take 64 rows) ≡ row_masks passes n rows
-few-rows passes n rows few = ap (row_masks passes n) (take_all 64 rows few)
-
 -- masks have each column
 columns-counted : {R : Type 0} (passes : R → RowTest → Bool) (rows : List R) (i n : ℕ)
     → length (map (change_masks passes rows) (range_with_len i n)) ≡ n
@@ -43,13 +39,13 @@ columns-counted passes rows i zero = refl
 columns-counted passes rows i (suc n) = ap suc (columns-counted passes rows (i + 1) n)
 
 pub columns-are : {R : Type 0} (passes : R → RowTest → Bool) (rows : List R) (n count : ℕ) (masks : RowMasks)
-    → masks ≡ row_masks passes n (take 64 rows) → count ≡ n → length masks.columns ≡ count
+    → masks ≡ row_masks passes n rows → count ≡ n → length masks.columns ≡ count
 columns-are passes rows n count masks masks-is counted =
-    ap (λ (m : RowMasks). length m.columns) masks-is ∙ columns-counted passes (take 64 rows) 0 n ∙ sym counted
+    ap (λ (m : RowMasks). length m.columns) masks-is ∙ columns-counted passes rows 0 n ∙ sym counted
 
 -- the next state of a primitive
 pub next-decided : (rows : List UdpRow) (n : ℕ) (masks : RowMasks) (state : Trit) (olds news : List Trit)
-    → All (λ row. length row.inputs ≡ n) rows → length rows ≤ 64 → masks ≡ row_masks udp_passes n (take 64 rows)
+    → All (λ row. length row.inputs ≡ n) rows → length rows ≤ 64 → masks ≡ row_masks udp_passes n rows
     → length olds ≡ n → length news ≡ n
     → by_number (row_next state) rows Unknown (decisive masks state olds news) ≡ udp_next rows olds news state
 next-decided rows n masks state olds news all few masks-is lo ln =
@@ -60,18 +56,18 @@ next-decided rows n masks state olds news all few masks-is lo ln =
     = ap (λ x. matching x columns olds news) (state-mask udp_passes rows state)
     ∙ all-matching udp_passes (λ row. row.inputs) entry_matches (λ row place old new. refl) n fits rows olds news all lo ln
     ∙ (λ i. row_mask (λ row. and-swapped (fits row) (columns_match entry_matches row.inputs olds news) i) rows) in
-    (λ i. by_number (row_next state) rows Unknown (decisive ((masks-is ∙ few-rows udp_passes n rows few) i) state olds news))
+    (λ i. by_number (row_next state) rows Unknown (decisive (masks-is i) state olds news))
     ∙ ap (λ m. by_number (row_next state) rows Unknown (first_row (deciding m firsts))) found
     ∙ sym (deciding-first is_level_row (row_matches olds news state) (row_next state) rows Unknown few)
 
 -- the output of a combinational primitive
 pub level-decided : (rows : List UdpRow) (n : ℕ) (masks : RowMasks) (olds news : List Trit)
-    → All (λ row. length row.inputs ≡ n) rows → length rows ≤ 64 → masks ≡ row_masks udp_passes n (take 64 rows)
+    → All (λ row. length row.inputs ≡ n) rows → length rows ≤ 64 → masks ≡ row_masks udp_passes n rows
     → olds ≡ news → length news ≡ n
     → by_number (row_next Unknown) rows Unknown (first_row (matching masks.all masks.columns olds news)) ≡ level_output rows news
 level-decided rows n masks olds news all few masks-is still ln =
     let columns = map (change_masks udp_passes rows) (range_with_len 0 n) in
-    (λ i. let given = (masks-is ∙ few-rows udp_passes n rows few) i in
+    (λ i. let given = masks-is i in
     by_number (row_next Unknown) rows Unknown (first_row (matching given.all given.columns (still i) news)))
     ∙ ap (λ m. by_number (row_next Unknown) rows Unknown (first_row m))
     (all-matching udp_passes (λ row. row.inputs) entry_matches (λ row place old new. refl) n (λ row. true) rows news news all ln ln)
@@ -80,10 +76,10 @@ level-decided rows n masks olds news all few masks-is still ln =
 -- what a truth table gives
 pub truth-decided : (rows : List TruthRow) (masks : RowMasks) (olds news : List Trit)
     → All (λ row. length row.inputs ≡ length news) rows → length rows ≤ 64
-    → masks ≡ row_masks truth_passes (length news) (take 64 rows) → olds ≡ news
+    → masks ≡ row_masks truth_passes (length news) rows → olds ≡ news
     → by_number (λ row. row.result) rows Unknown (first_row (matching masks.all masks.columns olds news)) ≡ lookup_truth rows news
 truth-decided rows masks olds news all few masks-is still =
-    (λ i. let given = (masks-is ∙ few-rows truth_passes (length news) rows few) i in
+    (λ i. let given = masks-is i in
     by_number (λ row. row.result) rows Unknown (first_row (matching given.all given.columns (still i) news)))
     ∙ ap (λ m. by_number (λ row. row.result) rows Unknown (first_row m))
     (all-matching truth_passes (λ row. row.inputs) truth_level_matches (λ row place old new. refl) (length news) (λ row. true) rows news
@@ -93,13 +89,13 @@ truth-decided rows masks olds news all few masks-is still =
 -- the next state that a state table gives
 pub state-decided : (rows : List VStateRow) (masks : RowMasks) (state : Trit) (olds news : List Trit)
     → All (λ row. length row.inputs ≡ length news) rows → length rows ≤ 64
-    → masks ≡ row_masks state_passes (length news) (take 64 rows) → length olds ≡ length news
+    → masks ≡ row_masks state_passes (length news) rows → length olds ≡ length news
     → by_number (state_next state) rows Unknown (first_row (matching (mask_at masks.states state) masks.columns olds news))
     ≡ lookup_state rows olds news state
 state-decided rows masks state olds news all few masks-is lo =
     let fits : VStateRow → Bool = λ row. trits_match row.state state in
     let columns = map (change_masks state_passes rows) (range_with_len 0 (length news)) in
-    (λ i. let given = (masks-is ∙ few-rows state_passes (length news) rows few) i in
+    (λ i. let given = masks-is i in
     by_number (state_next state) rows Unknown (first_row (matching (mask_at given.states state) given.columns olds news)))
     ∙ ap (λ m. by_number (state_next state) rows Unknown (first_row m))
     (ap (λ x. matching x columns olds news) (state-mask state_passes rows state)
@@ -107,3 +103,19 @@ state-decided rows masks state olds news all few masks-is lo =
     lo refl
     ∙ (λ i. row_mask (λ row. and-swapped (fits row) (columns_match symbol_matches row.inputs olds news) i) rows))
     ∙ sym (first-by (state_matches olds news state) (state_next state) rows Unknown few)
+
+-- masks that are there are those of the rows, of which there are few
+pub masks-found : {R : Type 0} (passes : R → RowTest → Bool) (n : ℕ) (rows : List R) (masks : RowMasks)
+    → slice_get (table_masks passes n rows) 0 ≡ Some masks → (length rows ≤ 64) × (masks ≡ row_masks passes n rows)
+masks-found passes n rows masks found =
+    elim (cases_Bool (nat_le (length rows) 64)) [
+      | inl few ↦
+          let same : Some (row_masks passes n rows) ≡ Some masks
+          = ap (λ b. slice_get (cond b (row_masks passes n rows ∷ []) []) 0) (sym few) ∙ found in
+          let is : row_masks passes n rows ≡ masks = cc in
+          (leb-true (length rows) 64 few, sym is)
+      | inr many ↦
+          let none : None ≡ Some masks
+          = ap (λ b. slice_get (cond b (row_masks passes n rows ∷ []) []) 0) (sym many) ∙ found in
+          absurd cc
+    ]

@@ -1,5 +1,5 @@
 -- The masks of the rows of each kind of table. (This project's choice.)
-use Rattle.std.specs.Prelude.{ℕ, Bool, true, false, List, length, take, slice_get}
+use Rattle.std.specs.Prelude.{ℕ, Bool, true, false, List, length, slice_get}
 use Rattle.std.specs.Option.{option_map_or}
 use Rattle.udp_tables.specs.declared.table.Udp.{Udp}
 use Rattle.udp_tables.specs.declared.table.UdpRow.{UdpRow}
@@ -12,7 +12,7 @@ use Rattle.vital_tables.specs.Symbols.{level_matches as truth_level_matches}
 use Rattle.row_masks.specs.declared.row_tests.RowTest.{RowTest}
 use Rattle.row_masks.specs.declared.row_tests.RowTest.TheVariants as test
 use Rattle.row_masks.specs.declared.rows.RowMasks.{RowMasks}
-use Rattle.row_masks.specs.Masks.{row_masks}
+use Rattle.row_masks.specs.Masks.{table_masks}
 
 -- what a row of a primitive passes: its rows of levels decide first
 abbrev pub udp_passes : UdpRow → RowTest → Bool
@@ -35,12 +35,12 @@ state_passes row (test.State state) = trits_match row.state state
 state_passes row test.First = true
 state_passes row test.Nothing = true
 
--- the masks of the first 64 rows of a primitive, of a truth table and of a state table of so many columns
-abbrev pub udp_masks : Udp → RowMasks
-udp_masks udp = row_masks udp_passes (length udp.inputs) (take 64 udp.rows)
+-- the masks of the rows of a primitive, and of a truth table and a state table of so many columns
+abbrev pub udp_masks : Udp → List RowMasks
+udp_masks udp = table_masks udp_passes (length udp.inputs) udp.rows
 
-abbrev pub truth_masks : ℕ → List TruthRow → RowMasks
-truth_masks columns rows = row_masks truth_passes columns (take 64 rows)
+abbrev pub truth_masks : ℕ → List TruthRow → List RowMasks
+truth_masks = table_masks truth_passes
 
-abbrev pub state_masks : ℕ → List VStateRow → RowMasks
-state_masks columns rows = row_masks state_passes columns (take 64 rows)
+abbrev pub state_masks : ℕ → List VStateRow → List RowMasks
+state_masks = table_masks state_passes

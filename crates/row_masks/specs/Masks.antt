@@ -1,5 +1,5 @@
 -- Masks of the rows of a table: bit i of a mask is set where row i passes a test. (This project's choice.)
-use Rattle.std.specs.Prelude.{ℕ, ◌+◌, ◌*◌, Bool, true, false, bit_and, nat_eq, if◌then◌else◌, List, [], ◌∷◌, map}
+use Rattle.std.specs.Prelude.{ℕ, ◌+◌, ◌*◌, Bool, true, false, bit_and, nat_eq, nat_le, if◌then◌else◌, List, [], ◌∷◌, map, length}
 use Rattle.std.specs.Prelude.{Option, Some, None, slice_get}
 use Rattle.std.specs.Option.{option_map_or}
 use Rattle.std.specs.Int.{w64, trailing_zeros}
@@ -67,6 +67,10 @@ row_masks passes columns rows =
       first = row_mask (λ row. passes row test.First) rows;
       all = row_mask (λ row. passes row test.Nothing) rows;
     }
+
+-- the masks of the rows of a table of so many columns, none where there are more rows than a word has bits
+abbrev pub table_masks : {R : Type 0} → (R → RowTest → Bool) → ℕ → List R → List RowMasks
+table_masks passes columns rows = if nat_le (length rows) 64 then row_masks passes columns rows ∷ [] else []
 
 -- the rows, of those of a mask, that the columns let match where they have these values before a change and those after it
 abbrev pub matching : ℕ → List ChangeMasks → List Trit → List Trit → ℕ

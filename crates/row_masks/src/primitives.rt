@@ -3,8 +3,8 @@ ghost use Rattle.std.specs.Prelude.{◌≡◌, ◌≤◌, length};
 ghost use Rattle.trit_cubes.specs.declared.trits.Trit.TheVariants as trit;
 ghost use Rattle.udp_tables.specs.Primitive.{IsCombinational, level_output};
 ghost use Rattle.udp_tables.specs.Sequential.{HasEntries, udp_next, row_next};
-ghost use Rattle.row_masks.specs.Masks.{by_number};
-ghost use Rattle.row_masks.specs.LookUps.{udp_masks};
+ghost use Rattle.row_masks.specs.Masks.{by_number, row_masks};
+ghost use Rattle.row_masks.specs.LookUps.{udp_passes};
 
 use crate::column_values::ColumnValues;
 use crate::row_tests::{MaskedRow, RowTest};
@@ -49,7 +49,7 @@ fn next_by(rows: &[UdpRow], state: Trit, number: Option<usize>) -> Trit
 pub fn masked_next<C: ColumnValues>(udp: &Udp, masks: &RowMasks, state: Trit, values: &C) -> Trit
     requires table { HasEntries udp.now }
     requires few { length udp.now.rows ≤ 64 }
-    requires masks { masks.now ≡ udp_masks udp.now }
+    requires masks { masks.now ≡ row_masks udp_passes (length udp.now.inputs) udp.now.rows }
     requires olds { length (C.olds values.now) ≡ length udp.now.inputs }
     requires news { length (C.news values.now) ≡ length udp.now.inputs }
     ensures { result ≡ udp_next udp.now.rows (C.olds values.now) (C.news values.now) state }
@@ -62,7 +62,7 @@ pub fn masked_next<C: ColumnValues>(udp: &Udp, masks: &RowMasks, state: Trit, va
 pub fn masked_level<C: ColumnValues>(udp: &Udp, masks: &RowMasks, values: &C) -> Trit
     requires table { IsCombinational udp.now }
     requires few { length udp.now.rows ≤ 64 }
-    requires masks { masks.now ≡ udp_masks udp.now }
+    requires masks { masks.now ≡ row_masks udp_passes (length udp.now.inputs) udp.now.rows }
     requires still { C.olds values.now ≡ C.news values.now }
     requires news { length (C.news values.now) ≡ length udp.now.inputs }
     ensures { result ≡ level_output udp.now.rows (C.news values.now) }

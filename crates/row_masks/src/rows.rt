@@ -1,7 +1,7 @@
 //! The masks of a table's rows.
-ghost use Rattle.std.specs.Prelude.{◌≡◌, ◌≤◌, Option, map, length, take, IfOk};
+ghost use Rattle.std.specs.Prelude.{◌≡◌, ◌≤◌, map, length, IfOk};
 ghost use Rattle.std.specs.List.{range_with_len};
-ghost use Rattle.row_masks.specs.Masks.{row_masks, change_masks, matching, deciding, first_row, decisive};
+ghost use Rattle.row_masks.specs.Masks.{table_masks, row_masks, change_masks, matching, deciding, first_row, decisive};
 
 use crate::column_values::ColumnValues;
 use crate::first_rows::first_row;
@@ -11,7 +11,7 @@ use sqlite_items::Items;
 use std::alloc::{AllocError, Global};
 use trit_cubes::Trit;
 
-/// The masks of the first 64 rows of a table.
+/// The masks of the rows of a table.
 #[derive(Drop)]
 pub struct RowMasks {
     /// For each column those by its values.
@@ -25,21 +25,6 @@ pub struct RowMasks {
 }
 
 impl RowMasks {
-    /// The masks of the first 64 rows of a table of so many columns. `AllocError` comes only where memory is wanted and not there.
-    pub fn of<R: MaskedRow>(
-        alloc: Global,
-        rows: &[R],
-        columns: usize,
-    ) -> Result<RowMasks, AllocError>
-        ensures { IfOk result (λ masks. masks ≡ row_masks R.passes columns (take 64 rows.now)) }
-    {
-        if rows.len() <= 64 {
-            of_few(alloc, rows, columns)
-        } else {
-            of_few(alloc, &rows[..64], columns)
-        }
-    }
-
     /// The number of the first row of a mask that the columns let match, where there is one.
     pub fn first_match<C: ColumnValues>(&self, mask: u64, values: &C) -> Option<usize>
         requires olds { length self.now.columns ≡ length (C.olds values.now) }
@@ -60,8 +45,28 @@ impl RowMasks {
     }
 }
 
+/// The masks of the rows of a table of so many columns, none where there are more than 64 rows. `AllocError` comes only where
+/// memory is wanted and not there.
+pub fn masks_of<R: MaskedRow>(
+    alloc: Global,
+    rows: &[R],
+    columns: usize,
+) -> Result<Items<RowMasks>, AllocError>
+    ensures { IfOk result (λ all. all ≡ table_masks R.passes columns rows.now) }
+{
+    let mut all = Items::new(alloc);
+    if rows.len() <= 64 {
+        all.push(row_masks(alloc, rows, columns)?)?;
+    }
+    Ok(all)
+}
+
 /// The masks of the rows of a table of so many columns.
-fn of_few<R: MaskedRow>(alloc: Global, rows: &[R], columns: usize) -> Result<RowMasks, AllocError>
+fn row_masks<R: MaskedRow>(
+    alloc: Global,
+    rows: &[R],
+    columns: usize,
+) -> Result<RowMasks, AllocError>
     requires { length rows.now ≤ 64 }
     ensures { IfOk result (λ masks. masks ≡ row_masks R.passes columns rows.now) }
 {

@@ -3,8 +3,8 @@
 ghost use Rattle.std.specs.Prelude.{◌≡◌, ◌≤◌, All, length};
 ghost use Rattle.trit_cubes.specs.declared.trits.Trit.TheVariants as trit;
 ghost use Rattle.vital_tables.specs.LookUps.{lookup_truth, lookup_state, row_next};
-ghost use Rattle.row_masks.specs.Masks.{by_number};
-ghost use Rattle.row_masks.specs.LookUps.{truth_masks, state_masks};
+ghost use Rattle.row_masks.specs.Masks.{by_number, row_masks};
+ghost use Rattle.row_masks.specs.LookUps.{truth_passes, state_passes};
 
 use crate::column_values::ColumnValues;
 use crate::row_tests::{MaskedRow, RowTest};
@@ -79,7 +79,7 @@ fn next_by(rows: &[VStateRow], state: Trit, number: Option<usize>) -> Trit
 pub fn masked_truth<C: ColumnValues>(table: &TruthTable, masks: &RowMasks, values: &C) -> Trit
     requires rows { All (λ row. length row.inputs ≡ length (C.news values.now)) table.now.rows }
     requires few { length table.now.rows ≤ 64 }
-    requires masks { masks.now ≡ truth_masks (length (C.news values.now)) table.now.rows }
+    requires masks { masks.now ≡ row_masks truth_passes (length (C.news values.now)) table.now.rows }
     requires still { C.olds values.now ≡ C.news values.now }
     ensures { result ≡ lookup_truth table.now.rows (C.news values.now) }
 {
@@ -95,7 +95,7 @@ pub fn masked_state<C: ColumnValues>(
 ) -> Trit
     requires rows { All (λ row. length row.inputs ≡ length (C.news values.now)) table.now.rows }
     requires few { length table.now.rows ≤ 64 }
-    requires masks { masks.now ≡ state_masks (length (C.news values.now)) table.now.rows }
+    requires masks { masks.now ≡ row_masks state_passes (length (C.news values.now)) table.now.rows }
     requires olds { length (C.olds values.now) ≡ length (C.news values.now) }
     ensures { result ≡ lookup_state table.now.rows (C.olds values.now) (C.news values.now) state }
 {

@@ -3,7 +3,8 @@ use Rattle.std.proofs.lemmas.Bool.{cases_Bool, leb-true}
 use Rattle.std.proofs.Common.{[], ◌∷◌, None, Some, cond, inl, inr, nat_le, slice_get}
 use Rattle.std.proofs.Common.{◌≡◌, ℕ, zero, suc, ◌+◌, ◌≤◌, Bool, true, List, length, map, take}
 use Rattle.std.proofs.Common.{refl, sym, ◌∙◌, ap}
-use Rattle.std.specs.Prelude.{All}
+use Rattle.std.specs.Prelude.{All, unwrap_or, option_map}
+use Rattle.std.proofs.lemmas.Option.{slice_get-map}
 use Rattle.std.specs.List.{range_with_len}
 use Rattle.trit_cubes.specs.declared.trits.Trit.{Trit}
 use Rattle.trit_cubes.specs.declared.trits.Trit.TheVariants.{Zero, One, Unknown}
@@ -20,7 +21,7 @@ use Rattle.vital_tables.specs.LookUps.{row_next as state_next}
 use Rattle.row_masks.specs.declared.row_tests.RowTest.{RowTest}
 use Rattle.row_masks.specs.declared.row_tests.RowTest.TheVariants as test
 use Rattle.row_masks.specs.declared.rows.RowMasks.{RowMasks}
-use Rattle.row_masks.specs.Masks.{row_mask, mask_at, state_masks, change_masks, row_masks, table_masks, matching, first_row, deciding, decisive, by_number}
+use Rattle.row_masks.specs.Masks.{row_mask, mask_at, state_masks, change_masks, row_masks, table_masks, matching, first_row, deciding, decisive, by_number, AreMasks}
 use Rattle.row_masks.specs.LookUps.{udp_passes, truth_passes, state_passes}
 use Rattle.row_masks.proofs.MaskLemmas.{and-swapped, first-by, deciding-first}
 use Rattle.row_masks.proofs.ColumnLemmas.{all-matching}
@@ -105,7 +106,7 @@ state-decided rows masks state olds news all few masks-is lo =
     ∙ sym (first-by (state_matches olds news state) (state_next state) rows Unknown few)
 
 -- masks that are there are those of the rows, of which there are few
-pub masks-found : {R : Type 0} (passes : R → RowTest → Bool) (n : ℕ) (rows : List R) (masks : RowMasks)
+masks-found : {R : Type 0} (passes : R → RowTest → Bool) (n : ℕ) (rows : List R) (masks : RowMasks)
     → slice_get (table_masks passes n rows) 0 ≡ Some masks → (length rows ≤ 64) × (masks ≡ row_masks passes n rows)
 masks-found passes n rows masks found =
     elim (cases_Bool (nat_le (length rows) 64)) [
@@ -119,3 +120,13 @@ masks-found passes n rows masks found =
           = ap (λ b. slice_get (cond b (row_masks passes n rows ∷ []) []) 0) (sym many) ∙ found in
           absurd cc
     ]
+
+-- the masks of one table among those of many
+pub masks-kept : {T R : Type 0} (passes : R → RowTest → Bool) (columns : T → ℕ) (rows : T → List R) (parts : List T) (i : ℕ) (part : T)
+    (masks : List RowMasks) → masks ≡ unwrap_or (slice_get (map (λ p. table_masks passes (columns p) (rows p)) parts) i) []
+    → slice_get parts i ≡ Some part → AreMasks passes (columns part) (rows part) masks
+masks-kept {T = T} passes columns rows parts i part masks are is =
+    let own : T → List RowMasks = λ p. table_masks passes (columns p) (rows p) in
+    let all : masks ≡ own part
+    = are ∙ ap (λ o. unwrap_or o []) (slice_get-map own parts i ∙ ap (option_map own) is) in
+    record { found = λ m there. masks-found passes (columns part) (rows part) m (ap (λ ms. slice_get ms 0) (sym all) ∙ there) }

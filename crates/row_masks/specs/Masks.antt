@@ -1,5 +1,5 @@
 -- Masks of the rows of a table: bit i of a mask is set where row i passes a test. (This project's choice.)
-use Rattle.std.specs.Prelude.{ℕ, ◌+◌, ◌*◌, Bool, true, false, bit_and, nat_eq, nat_le, if◌then◌else◌, List, [], ◌∷◌, map, length}
+use Rattle.std.specs.Prelude.{◌≡◌, ◌≤◌, ℕ, ◌+◌, ◌*◌, Bool, true, false, bit_and, nat_eq, nat_le, if◌then◌else◌, List, [], ◌∷◌, map, length}
 use Rattle.std.specs.Prelude.{Option, Some, None, slice_get}
 use Rattle.std.specs.Option.{option_map_or}
 use Rattle.std.specs.Int.{w64, trailing_zeros}
@@ -94,3 +94,8 @@ decisive masks state olds news =
 abbrev pub by_number : {R V : Type 0} → (R → V) → List R → V → Option ℕ → V
 by_number value rows otherwise None = otherwise
 by_number value rows otherwise (Some k) = option_map_or value (slice_get rows k) otherwise
+
+-- where masks are there, they are those of rows of so many columns, of which there are few enough
+pub record AreMasks {R : Type 0} (passes : R → RowTest → Bool) (columns : ℕ) (rows : List R) (masks : List RowMasks) :
+    Type 0 where
+  pub found : (m : RowMasks) → slice_get masks 0 ≡ Some m → (length rows ≤ 64) × (m ≡ row_masks passes columns rows)

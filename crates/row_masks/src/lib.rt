@@ -14,6 +14,6 @@ mod vital;
 pub use column_values::{ColumnValues, ValueChange};
 pub use primitives::{masked_level, masked_next};
 pub use row_tests::{MaskedRow, RowTest};
-pub use rows::{RowMasks, masks_of};
+pub use rows::{RowMasks, masks_at, masks_of};
 pub use value_masks::{ChangeMasks, ValueMasks};
 pub use vital::{masked_state, masked_truth};

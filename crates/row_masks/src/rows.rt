@@ -1,5 +1,5 @@
 //! The masks of a table's rows.
-ghost use Rattle.std.specs.Prelude.{◌≡◌, ◌≤◌, map, length, IfOk};
+ghost use Rattle.std.specs.Prelude.{◌≡◌, ◌≤◌, map, length, IfOk, unwrap_or, slice_get, []};
 ghost use Rattle.std.specs.List.{range_with_len};
 ghost use Rattle.row_masks.specs.Masks.{table_masks, row_masks, change_masks, matching, deciding, first_row, decisive};
 
@@ -7,7 +7,7 @@ use crate::column_values::ColumnValues;
 use crate::first_rows::first_row;
 use crate::row_tests::{MaskedRow, RowTest};
 use crate::value_masks::{ChangeMasks, ValueMasks, change_masks, row_mask, state_masks};
-use sqlite_items::Items;
+use sqlite_items::{Items, at};
 use std::alloc::{AllocError, Global};
 use trit_cubes::Trit;
 
@@ -59,6 +59,16 @@ pub fn masks_of<R: MaskedRow>(
         all.push(row_masks(alloc, rows, columns)?)?;
     }
     Ok(all)
+}
+
+/// The masks of the table with this number, none where there is no such table.
+pub fn masks_at(all: &[Items<RowMasks>], number: usize) -> &[RowMasks]
+    ensures { result.now ≡ unwrap_or (slice_get all.now number) [] }
+{
+    match at(all, number) {
+        Some(masks) => masks.as_slice(),
+        None => &[],
+    }
 }
 
 /// The masks of the rows of a table of so many columns.

@@ -8,6 +8,7 @@ pub mod QuietPorts
 pub mod Wiring
 pub mod OutputPaths
 pub mod Keys
+pub mod NetChanges
 pub mod Gates
 pub mod ModuleIndexed
 pub mod ShownPorts

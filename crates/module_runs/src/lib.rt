@@ -19,6 +19,7 @@ mod net_values;
 mod output_paths;
 mod primitives;
 mod row_keys;
+mod tables;
 mod verilog_sim;
 mod wiring;
 

@@ -3,7 +3,8 @@ use crate::drivers::Drivers;
 use crate::fed_instances::FedInstances;
 use crate::gates::Gates;
 use crate::output_paths::paths_by_output;
-use crate::row_keys::keys_of_all;
+use crate::row_keys::{keys_of_all, masks_of_all};
+use row_masks::RowMasks;
 use run_parts::{DelayPlaces, Ports, input_count, input_numbers};
 use specify_blocks::{VModule, VPath};
 use sqlite_items::Items;
@@ -15,6 +16,8 @@ use udp_tables::RowKey;
 pub struct ModuleIndex {
     /// The keys of each primitive's rows.
     pub keys: Items<Items<RowKey>>,
+    /// The masks of each primitive's rows, where there are few enough.
+    pub masks: Items<Items<RowMasks>>,
     /// For each port how many inputs stand before it.
     pub numbers: Items<usize>,
     /// The drivers of the nets.
@@ -38,6 +41,7 @@ impl ModuleIndex {
         ensures { IfOk result (λ index. IsModuleIndex model.now index) }
     {
         let keys = keys_of_all(alloc, model.udps.as_slice())?;
+        let masks = masks_of_all(alloc, model.udps.as_slice())?;
         let numbers = input_numbers(alloc, model.ports.as_slice())?;
         let drivers = Drivers::of(alloc, model)?;
         let paths = paths_by_output(alloc, model.ports.len(), model.paths.as_slice())?;
@@ -50,6 +54,7 @@ impl ModuleIndex {
         let places = delay_places(alloc, model, paths.as_slice())?;
         Ok(ModuleIndex {
             keys,
+            masks,
             numbers,
             drivers,
             paths,

@@ -8,11 +8,13 @@ ghost use Rattle.module_runs.specs.FedInstances.{fed_places};
 ghost use Rattle.module_runs.specs.KeptValues.{state_places};
 
 use crate::module_index::ModuleIndex;
+use crate::tables::Table;
 use model_traces::Turned;
+use row_masks::{RowMasks, masks_at};
 use run_parts::Ports;
 use specify_blocks::{VModule, VNet, VPath};
 use sqlite_items::at;
-use udp_tables::RowKey;
+use udp_tables::{RowKey, Udp};
 
 /// A module with what is known of it: the keys of its tables, the numbers of its ports, the drivers of its nets, the paths to its
 /// ports and the instances that changes feed.
@@ -26,19 +28,41 @@ pub struct ModuleTables<'a> {
 }
 
 impl<'a> ModuleTables<'a> {
-    ghost use Rattle.std.specs.Prelude.{slice_get, Some};
-    ghost use Rattle.udp_tables.specs.declared.table.Udp.{Udp};
+    ghost use Rattle.std.specs.Prelude.{slice_get, Some, length};
+    ghost use Rattle.udp_tables.specs.declared.table.Udp.{Udp as UdpOf};
     ghost use Rattle.udp_tables.specs.Tables.{AreKept};
     ghost use Rattle.udp_tables.specs.RowKeys.{row_key};
+    ghost use Rattle.row_masks.specs.Masks.{AreMasks};
+    ghost use Rattle.row_masks.specs.LookUps.{udp_passes};
 
     /// The keys of the rows of the primitive with this number.
-    pub(crate) fn keys_at(&self, number: usize) -> &[RowKey]
-        ensures { (udp : Udp) → slice_get self.now.model.now.udps number ≡ Some udp → AreKept row_key result.now udp.rows }
+    fn keys_at(&self, number: usize) -> &[RowKey]
+        ensures { (udp : UdpOf) → slice_get self.now.model.now.udps number ≡ Some udp → AreKept row_key result.now udp.rows }
     {
         let all = self.index.keys.as_slice();
         match at(all, number) {
             Some(keys) => keys.as_slice(),
             None => &[],
+        }
+    }
+
+    /// The masks of the rows of the primitive with this number.
+    fn masks_at(&self, number: usize) -> &[RowMasks]
+        ensures { (udp : UdpOf) → slice_get self.now.model.now.udps number ≡ Some udp
+            → AreMasks udp_passes (length udp.inputs) udp.rows result.now }
+    {
+        masks_at(self.index.masks.as_slice(), number)
+    }
+
+    /// What is known of the rows of this primitive, which has this number.
+    pub(crate) fn table<'b>(&'b self, number: usize, udp: &'b Udp) -> Table<'b>
+        requires { slice_get self.now.model.now.udps number ≡ Some udp.now }
+        ensures { result.udp.now ≡ udp.now }
+    {
+        Table {
+            udp,
+            keys: self.keys_at(number),
+            masks: self.masks_at(number),
         }
     }
 

@@ -3,19 +3,19 @@
 ghost use Rattle.std.specs.Prelude.{◌≡◌, ◌≤◌, ◌<◌, length, map, take, false, IsTrue, slice_index_or};
 ghost use Rattle.trit_cubes.specs.declared.trits.Trit.TheVariants.{Unknown};
 ghost use Rattle.trit_cubes.specs.Filling.{trit_of};
-ghost use Rattle.udp_tables.specs.Tables.{AreKept};
 ghost use Rattle.udp_tables.specs.Primitive.{IsCombinational};
-ghost use Rattle.udp_tables.specs.RowKeys.{row_key};
 ghost use Rattle.module_runs.specs.Wiring.{is_table, is_joined, is_wired};
 ghost use Rattle.model_traces.specs.NetValues.{kept_state, source_value, table_value, primitive_value, instance_value};
 
 use crate::module_states::ModuleStates;
+use crate::tables::Table;
 use cell_machine::numbered_value;
+use row_masks::{ColumnValues, ValueChange, masked_level};
 use run_parts::input_value;
 use specify_blocks::{Instance, VNet};
-use sqlite_items::Items;
+use sqlite_items::{Items, at};
 use trit_cubes::Trit;
-use udp_tables::{RowKey, Udp, keyed_level};
+use udp_tables::keyed_level;
 
 /// The state of the instance at this place, unknown where there is none.
 fn kept_state(states: &[Trit], place: Option<usize>) -> Trit
@@ -50,24 +50,46 @@ fn feed(values: &ModuleStates, nets: &[VNet], room: &mut Items<Trit>)
     }
 }
 
+/// The values of the nets that feed a primitive without a state.
+#[derive(Clone, Copy)]
+struct StateNets<'a> {
+    /// The values of the inputs and the states.
+    values: &'a ModuleStates<'a>,
+    /// The nets.
+    nets: &'a [VNet],
+}
+
+impl<'a> ColumnValues for StateNets<'a> {
+    ghost use Rattle.std.specs.Prelude.{map};
+    ghost use Rattle.model_traces.specs.NetValues.{source_value};
+
+    ghost olds = { λ s. map (source_value s.values.now.tables.model.now s.values.now.inputs.now s.values.now.states.now) s.nets.now };
+
+    ghost news = { λ s. map (source_value s.values.now.tables.model.now s.values.now.inputs.now s.values.now.states.now) s.nets.now };
+
+    fn change(&self, place: usize) -> ValueChange {
+        let value = source_value(self.values, self.nets[place]);
+        ValueChange {
+            old: value,
+            new: value,
+        }
+    }
+}
+
 /// What a primitive without a state gives for the nets that feed it.
-fn table_value(
-    values: &ModuleStates,
-    nets: &[VNet],
-    udp: &Udp,
-    keys: &[RowKey],
-    room: &mut Items<Trit>,
-) -> Trit
-    requires table { IsCombinational udp.now }
-    requires entries { length nets.now ≡ length udp.now.inputs }
-    requires keys { AreKept row_key keys.now udp.now.rows }
+fn table_value(values: &ModuleStates, nets: &[VNet], table: &Table, room: &mut Items<Trit>) -> Trit
+    requires table { IsCombinational table.now.udp.now }
+    requires entries { length nets.now ≡ length table.now.udp.now.inputs }
     requires room { length nets.now ≤ length room.old }
     ensures value { result ≡ table_value values.now.tables.model.now values.now.inputs.now values.now.states.now nets.now
-        udp.now }
+        table.now.udp.now }
     ensures len { length room.new ≡ length room.old }
 {
+    if let Some(masks) = at(table.masks, 0) {
+        return masked_level(table.udp, masks, &StateNets { values, nets });
+    }
     feed(values, nets, room);
-    keyed_level(udp, keys, &room.as_slice()[..nets.len()])
+    keyed_level(table.udp, table.keys, &room.as_slice()[..nets.len()])
 }
 
 /// What a primitive drives whose instance has this state.
@@ -75,22 +97,20 @@ fn primitive_value(
     values: &ModuleStates,
     state: Trit,
     nets: &[VNet],
-    udp: &Udp,
-    keys: &[RowKey],
+    table: &Table,
     room: &mut Items<Trit>,
 ) -> Trit
-    requires table { IsTrue (is_table udp.now) }
-    requires entries { length nets.now ≡ length udp.now.inputs }
-    requires keys { AreKept row_key keys.now udp.now.rows }
+    requires table { IsTrue (is_table table.now.udp.now) }
+    requires entries { length nets.now ≡ length table.now.udp.now.inputs }
     requires room { length nets.now ≤ length room.old }
     ensures value { result ≡ primitive_value values.now.tables.model.now values.now.inputs.now values.now.states.now state
-        nets.now udp.now }
+        nets.now table.now.udp.now }
     ensures len { length room.new ≡ length room.old }
 {
-    if udp.sequential {
+    if table.udp.sequential {
         state
     } else {
-        table_value(values, nets, udp, keys, room)
+        table_value(values, nets, table, room)
     }
 }
 
@@ -114,8 +134,8 @@ pub(crate) fn instance_value(
             ..
         } => match values.tables.model.udps.get(*number) {
             Some(udp) => {
-                let keys = values.tables.keys_at(*number);
-                primitive_value(values, state, nets.as_slice(), udp, keys, room)
+                let table = values.tables.table(*number, udp);
+                primitive_value(values, state, nets.as_slice(), &table, room)
             }
             None => Trit::Unknown,
         },

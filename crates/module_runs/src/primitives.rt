@@ -1,20 +1,22 @@
 //! The next states of a module's primitives at a change of an input or of the register of the checks. `room` has place for the
 //! values of the nets that feed one instance.
-ghost use Rattle.std.specs.Prelude.{◌≡◌, ◌≤◌, ◌<◌, length, map, take, position, false, IsTrue};
+ghost use Rattle.std.specs.Prelude.{◌≡◌, ◌≤◌, ◌<◌, length, map, take, slice_set, position, false, IsTrue};
 ghost use Rattle.model_traces.specs.declared.turns.Turned.TheVariants as turned;
-ghost use Rattle.udp_tables.specs.Tables.{AreKept};
-ghost use Rattle.udp_tables.specs.RowKeys.{row_key};
+ghost use Rattle.udp_tables.specs.Sequential.{udp_next};
+ghost use Rattle.module_runs.specs.NetChanges.{entry_values};
 ghost use Rattle.module_runs.specs.Wiring.{is_table, is_joined, is_wired};
 ghost use Rattle.model_traces.specs.Primitives.{is_turned, entry_value, primitive_next, next_state, next_states};
 
 use crate::module_tables::ModuleTables;
+use crate::tables::Table;
 use crate::wiring::instance_at;
 use model_traces::{Turn, Turned};
+use row_masks::{ColumnValues, ValueChange, masked_next};
 use run_parts::{Ports, input_number, input_value};
 use specify_blocks::{Instance, VNet};
-use sqlite_items::Items;
+use sqlite_items::{Items, at};
 use trit_cubes::Trit;
-use udp_tables::{RowKey, Udp, is_input_port, keyed_next};
+use udp_tables::{is_input_port, keyed_next};
 
 /// Whether this net is what changes.
 pub(crate) fn is_turned(ports: &Ports, what: Turned, net: VNet) -> bool
@@ -80,6 +82,63 @@ fn feed(ports: &Ports, inputs: &[Trit], notifier: Trit, nets: &[VNet], room: &mu
     }
 }
 
+/// The values of the nets that feed a primitive at a change of one of them.
+#[derive(Clone, Copy)]
+struct NetChanges<'a> {
+    /// The ports of the module.
+    ports: Ports<'a>,
+    /// The value of each input after the change.
+    inputs: &'a [Trit],
+    /// That of the register of the checks.
+    notifier: Trit,
+    /// The nets.
+    nets: &'a [VNet],
+    /// The place of the net that changes.
+    place: usize,
+    /// The value that it had.
+    from: Trit,
+}
+
+impl<'a> ColumnValues for NetChanges<'a> {
+    ghost use Rattle.std.specs.Prelude.{map, slice_set};
+    ghost use Rattle.model_traces.specs.Primitives.{entry_value};
+
+    ghost olds = { λ s. slice_set (map (entry_value s.ports.list.now s.inputs.now s.notifier) s.nets.now) s.place s.from };
+
+    ghost news = { λ s. map (entry_value s.ports.list.now s.inputs.now s.notifier) s.nets.now };
+
+    fn change(&self, place: usize) -> ValueChange {
+        let new = entry_value(&self.ports, self.inputs, self.notifier, self.nets[place]);
+        let old = if place == self.place { self.from } else { new };
+        ValueChange { old, new }
+    }
+}
+
+/// The next state of a primitive at a change of one of the nets that feed it.
+fn table_next(table: &Table, state: Trit, changes: &NetChanges, room: &mut Items<Trit>) -> Trit
+    requires table { IsTrue (is_table table.now.udp.now) }
+    requires entries { length changes.now.nets.now ≡ length table.now.udp.now.inputs }
+    requires room { length changes.now.nets.now ≤ length room.old }
+    ensures next { result ≡ udp_next table.now.udp.now.rows
+        (slice_set (entry_values changes.now) changes.now.place changes.now.from) (entry_values changes.now) state }
+    ensures len { length room.new ≡ length room.old }
+{
+    if let Some(masks) = at(table.masks, 0) {
+        return masked_next(table.udp, masks, state, changes);
+    }
+    let nets = changes.nets;
+    feed(&changes.ports, changes.inputs, changes.notifier, nets, room);
+    let values = &room.as_slice()[..nets.len()];
+    keyed_next(
+        table.udp,
+        table.keys,
+        state,
+        values,
+        changes.place,
+        changes.from,
+    )
+}
+
 /// The next state of an instance of a primitive that these nets feed.
 fn primitive_next(
     ports: &Ports,
@@ -88,26 +147,30 @@ fn primitive_next(
     turn: Turn,
     nets: &[VNet],
     state: Trit,
-    udp: &Udp,
-    keys: &[RowKey],
+    table: &Table,
     room: &mut Items<Trit>,
 ) -> Trit
-    requires table { IsTrue (is_table udp.now) }
-    requires entries { length nets.now ≡ length udp.now.inputs }
-    requires keys { AreKept row_key keys.now udp.now.rows }
+    requires table { IsTrue (is_table table.now.udp.now) }
+    requires entries { length nets.now ≡ length table.now.udp.now.inputs }
     requires room { length nets.now ≤ length room.old }
-    ensures next { result ≡ primitive_next ports.now.list.now inputs.now notifier turn nets.now state udp.now }
+    ensures next { result ≡ primitive_next ports.now.list.now inputs.now notifier turn nets.now state table.now.udp.now }
     ensures len { length room.new ≡ length room.old }
 {
-    if !udp.sequential {
+    if !table.udp.sequential {
         return state;
     }
     let Some(place) = place_of(ports, turn.what, nets) else {
         return state;
     };
-    feed(ports, inputs, notifier, nets, room);
-    let values = &room.as_slice()[..nets.len()];
-    keyed_next(udp, keys, state, values, place, turn.from)
+    let changes = NetChanges {
+        ports: *ports,
+        inputs,
+        notifier,
+        nets,
+        place,
+        from: turn.from,
+    };
+    table_next(table, state, &changes, room)
 }
 
 /// The next state of an instance.
@@ -132,16 +195,16 @@ fn next_state(
             ..
         } => match tables.model.udps.get(*number) {
             Some(udp) => {
-                let keys = tables.keys_at(*number);
+                let table = tables.table(*number, udp);
+                let nets = nets.as_slice();
                 primitive_next(
                     &tables.ports(),
                     inputs,
                     notifier,
                     turn,
-                    nets.as_slice(),
+                    nets,
                     state,
-                    udp,
-                    keys,
+                    &table,
                     room,
                 )
             }

@@ -1,7 +1,9 @@
-//! The keys of the rows of a module's primitives.
+//! The keys and the masks of the rows of a module's primitives.
 ghost use Rattle.std.specs.Prelude.{◌≡◌, map, IfOk};
 ghost use Rattle.module_runs.specs.Keys.{udp_keys};
+ghost use Rattle.row_masks.specs.LookUps.{udp_masks};
 
+use row_masks::{RowMasks, masks_of};
 use sqlite_items::Items;
 use std::alloc::{AllocError, Global};
 use udp_tables::{RowKey, Udp, keys_of};
@@ -13,6 +15,20 @@ pub(crate) fn keys_of_all(alloc: Global, udps: &[Udp]) -> Result<Items<Items<Row
     let mut all = Items::new(alloc);
     for udp in udps {
         all.push(keys_of(alloc, udp)?)?;
+    }
+    Ok(all)
+}
+
+/// The masks of each primitive's rows.
+pub(crate) fn masks_of_all(
+    alloc: Global,
+    udps: &[Udp],
+) -> Result<Items<Items<RowMasks>>, AllocError>
+    ensures { IfOk result (λ masks. masks ≡ map udp_masks udps.now) }
+{
+    let mut all = Items::new(alloc);
+    for udp in udps {
+        all.push(masks_of(alloc, udp.rows.as_slice(), udp.inputs.len())?)?;
     }
     Ok(all)
 }

@@ -8,7 +8,7 @@ use udp_tables::Column;
 
 impl Trits {
     /// Whether the level stands for this value.
-    pub(crate) fn matches(self, value: Trit) -> bool
+    pub fn matches(self, value: Trit) -> bool
         ensures { result ≡ trits_match self value }
     {
         self.level().matches(value)
@@ -17,7 +17,7 @@ impl Trits {
 
 impl VSymbol {
     /// Whether the symbol matches a column with this value before and this one now.
-    pub(crate) fn matches(self, old: Trit, new: Trit) -> bool
+    pub fn matches(self, old: Trit, new: Trit) -> bool
         ensures { result ≡ symbol_matches self old new }
     {
         match self {
@@ -36,7 +36,7 @@ impl VSymbol {
 
 impl VNext {
     /// What a row gives in this state.
-    pub(crate) fn after(self, state: Trit) -> Trit
+    pub fn after(self, state: Trit) -> Trit
         ensures { result ≡ next_of state self }
     {
         match self {

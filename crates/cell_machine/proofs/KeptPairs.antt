@@ -21,7 +21,7 @@ use Rattle.cell_machine.specs.Inputs.{input_number}
 use Rattle.cell_machine.specs.Outputs.{is_zero}
 use Rattle.cell_machine.specs.Delay.{Path, least, active_delays}
 use Rattle.cell_machine.specs.CellTrace.{inputs_of, condition_names, arc_names, same_pins, is_off, is_quiet, is_active, path_of, is_between}
-use Rattle.cell_machine.specs.KeptConditions.{names_input, kept_unless}
+use Rattle.cell_machine.specs.KeptConditions.{names_input, AreForgotten}
 use Rattle.cell_machine.specs.Places.{places_from, entries_at, AreBelow}
 use Rattle.cell_machine.specs.ArcDelay.{least_delays}
 use Rattle.cell_machine.specs.ArcPlaces.{arcs_between, arcs_from, names_at, first_naming, firsts_naming}
@@ -176,14 +176,12 @@ pair-unnamed cell changed input place output i is_input is_output first none =
 -- what is kept of two pins is right when an input changes
 pub delays_changed :
     (cell : CellData) (v : List Trit) (kept next : List (Option Delays)) (changed : ℕ) (to : Trit)
-    → AreDelays cell v kept
-    → ((i : ℕ) → get_or next i None ≡ kept_unless (has (firsts_naming cell changed) i) (get_or kept i None))
-    → length next ≡ length kept
+    → AreDelays cell v kept → AreForgotten (firsts_naming cell changed) kept next
     → AreDelays cell (set v changed to) next
-delays_changed cell v kept next changed to h are long = (
-  long ∙ h.0,
+delays_changed cell v kept next changed to h left_out = (
+  left_out.len ∙ h.0,
   λ i delays e input place output is_input is_output first.
-      let left = unless-some (has (firsts_naming cell changed) i) (get_or kept i None) delays (sym (are i) ∙ e) in
+      let left = unless-some (has (firsts_naming cell changed) i) (get_or kept i None) delays (sym (left_out.each i) ∙ e) in
       let unnamed = pair-unnamed cell changed input place output i is_input is_output first left.0 in
       let pair = entries-pass (is_between cell.pins input output.pin) cell.arcs in
       h.1 i delays left.1 input place output is_input is_output first

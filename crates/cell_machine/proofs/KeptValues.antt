@@ -21,7 +21,7 @@ use Rattle.cell_machine.specs.Names.{has}
 use Rattle.cell_machine.specs.Inputs.{input_number, pin_values}
 use Rattle.cell_machine.specs.Outputs.{condition_at, is_zero}
 use Rattle.cell_machine.specs.CellTrace.{condition_names, arc_names, is_off, is_active}
-use Rattle.cell_machine.specs.KeptConditions.{arc_condition, names_input, AreKept, AreConditions, kept_unless}
+use Rattle.cell_machine.specs.KeptConditions.{arc_condition, names_input, AreKept, AreConditions, AreForgotten, kept_unless}
 use Rattle.cell_machine.specs.ArcPlaces.{arcs_naming}
 use Rattle.cell_machine.proofs.ArcDelays.{some_at, drop-at}
 use Rattle.cell_machine.proofs.EachLemmas.{get_or-default}
@@ -97,14 +97,12 @@ unless-some false k value e = (refl, e)
 
 pub kept_changed :
     (cell : CellData) (v : List Trit) (kept next : List (Option Trit)) (input : ℕ) (to : Trit)
-    → AreConditions cell.pins v cell.arcs kept
-    → ((i : ℕ) → get_or next i None ≡ kept_unless (has (arcs_naming cell input) i) (get_or kept i None))
-    → length next ≡ length kept
+    → AreConditions cell.pins v cell.arcs kept → AreForgotten (arcs_naming cell input) kept next
     → AreConditions cell.pins (set v input to) cell.arcs next
-kept_changed cell v kept next input to h are long = (
-  long ∙ h.0,
+kept_changed cell v kept next input to h left_out = (
+  left_out.len ∙ h.0,
   λ i value e arc at.
-      let left = unless-some (has (arcs_naming cell input) i) (get_or kept i None) value (sym (are i) ∙ e) in
+      let left = unless-some (has (arcs_naming cell input) i) (get_or kept i None) value (sym (left_out.each i) ∙ e) in
       let names : slice_get (arc_names cell) i ≡ Some (condition_names arc.condition)
       = slice_get-map (λ (arc : Arc). condition_names arc.condition) cell.arcs i
       ∙ ap (option_map (λ (arc : Arc). condition_names arc.condition)) at in
@@ -120,6 +118,13 @@ range-at f n i made x are found =
     let here : 0 + i ≡ i = omega arith in
     let within : i < n = omega (arith, slice_get_within made i x found, ap length are, length-map-range_with_len f 0 n) in
     sym (get_or_from_slice_get made i x x found) ∙ ap (λ xs. get_or xs i x) are ∙ get_or-map-range_with_len f 0 n i i x within here
+
+pub range-get_or :
+    {X : Type 0} (f : ℕ → X) (n i : ℕ) (made : List X) (d : X)
+    → made ≡ map f (range_with_len 0 n) → i < n → get_or made i d ≡ f i
+range-get_or f n i made d are within =
+    let here : 0 + i ≡ i = omega arith in
+    ap (λ xs. get_or xs i d) are ∙ get_or-map-range_with_len f 0 n i i d within here
 
 -- an arc with a condition
 pub active_by :

@@ -15,6 +15,7 @@ pub mod PairArcs
 pub mod KeptPairs
 pub mod KeptValues
 pub mod Tables
+pub mod ForgottenArcs
 pub mod EachLemmas
 pub mod Standing
 pub mod ForcedLemmas

@@ -8,6 +8,7 @@ use Rattle.cell_machine.specs.declared.pins.Pin.{Pin}
 use Rattle.cell_machine.specs.declared.arcs.Arc.{Arc}
 use Rattle.cell_machine.specs.Inputs.{input_number}
 use Rattle.cell_machine.specs.CellTrace.{condition_value}
+use Rattle.cell_machine.specs.Names.{has}
 
 -- the value of the condition of an arc; an arc without one counts as one whose condition is 0
 abbrev pub arc_condition : List Pin → List Trit → Option Node → Trit
@@ -35,3 +36,8 @@ AreConditions pins v arcs kept = AreKept (IsCondition pins v arcs) (length arcs)
 abbrev pub kept_unless : {V : Type 0} → Bool → Option V → Option V
 kept_unless true k = None
 kept_unless false k = k
+
+-- of the entries with these numbers nothing is kept any more, and of all others what was kept of them
+pub record AreForgotten {V : Type 0} (places : List ℕ) (old new : List (Option V)) : Type 0 where
+  pub each : (i : ℕ) → slice_index_or new i None ≡ kept_unless (has places i) (slice_index_or old i None)
+  pub len : length new ≡ length old

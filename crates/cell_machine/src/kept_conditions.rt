@@ -1,12 +1,11 @@
 //! The values of the conditions of arcs, kept as long as no input changes that they name.
-ghost use Rattle.std.specs.Prelude.{◌≡◌, ◌<◌, ℕ, length, slice_get, slice_index_or, Some, None};
+ghost use Rattle.std.specs.Prelude.{◌≡◌, ◌<◌, length, slice_get, Some};
 ghost use Rattle.cell_machine.specs.declared.arcs.Arc.{Arc as ArcOf};
-ghost use Rattle.cell_machine.specs.Names.{has};
 ghost use Rattle.cell_machine.specs.Places.{AreBelow};
 ghost use Rattle.cell_machine.specs.Values.{IsBounded};
 ghost use Rattle.cell_machine.specs.CellData.{data_of};
 ghost use Rattle.cell_machine.specs.CellTrace.{condition_names, arc_names};
-ghost use Rattle.cell_machine.specs.KeptConditions.{arc_condition as arc_condition_of, AreConditions, kept_unless};
+ghost use Rattle.cell_machine.specs.KeptConditions.{arc_condition as arc_condition_of, AreConditions, AreForgotten};
 
 use crate::cells::Cell;
 use crate::evaluation::condition_value;
@@ -59,8 +58,7 @@ fn arc_condition(
 /// Forgets what is kept of the entries with these numbers.
 pub fn forget<T: Copy>(places: &[usize], kept: &mut Items<Option<T>>)
     requires { AreBelow (length kept.old) places.now }
-    ensures each { (i : ℕ) → slice_index_or kept.new i None ≡ kept_unless (has places.now i) (slice_index_or kept.old i None) }
-    ensures len { length kept.new ≡ length kept.old }
+    ensures { AreForgotten places.now kept.old kept.new }
 {
     for i in 0..places.len() {
         kept.set(places[i], None);

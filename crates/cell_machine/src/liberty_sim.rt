@@ -14,7 +14,6 @@ use crate::cells::Cell;
 use crate::changes::Change;
 use crate::entries::entry;
 use crate::kept_arcs::KeptArcs;
-use crate::kept_conditions::forget;
 use crate::reports::report_all;
 use crate::shared::Shared;
 use crate::shown::{Shown, ShownChange, show_all};
@@ -126,10 +125,7 @@ impl<'a> CellSim for LibertySim<'a> {
         change_states(self.cell, steps, &seen, &mut self.states);
         self.times.set(pin, times);
         let places = &self.known.get().places;
-        let naming = entry(&places.naming, pin).as_slice();
-        forget(naming, &mut self.kept.conditions);
-        let firsts = entry(&places.firsts, pin).as_slice();
-        forget(firsts, &mut self.kept.delays);
+        self.kept.forget(places, pin);
         let arcs = self.known.get().arc_names.as_slice();
         let states = self.states.as_slice();
         let seen = ShownChange {

@@ -1,6 +1,5 @@
 -- Lines that show the same are printed the same, but for their tags.
-use Rattle.std.proofs.Common.{◌≡◌, ℕ, ◌+◌, Bool, true, false, ◌&&◌, List, [], ◌∷◌, ◌++◌, codes, Option, refl, ap, ◌∙◌}
-use Rattle.std.specs.Prelude.{slice_set}
+use Rattle.std.proofs.Common.{◌≡◌, ℕ, ◌+◌, Bool, true, false, ◌&&◌, List, [], ◌∷◌, ◌++◌, codes, Option, refl}
 use Rattle.std.proofs.lemmas.Bool.{and_parts}
 use Rattle.cell_machine.specs.declared.changes.Change.{Change}
 use Rattle.stimulus.specs.declared.ports.Ports.{Ports}
@@ -46,10 +45,3 @@ alike_print change ports lines e =
     let verilog = line_prints 86 change ports.inputs ports.outputs lines.liberty lines.verilog p.0 in
     let vital = line_prints 72 change ports.inputs ports.outputs lines.liberty lines.vital p.1 in
     λ i. drive_line_text 76 change ports.inputs ports.outputs lines.liberty ++ (verilog i ++ vital i)
-
--- the tag is the first byte
-pub tagged_anew : (was tag : ℕ) (change : Option Change) (inputs outputs : List (List ℕ)) (line : DriveLine) (old new : List ℕ)
-    → old ≡ drive_line_text was change inputs outputs line → new ≡ slice_set old 0 tag
-    → new ≡ drive_line_text tag change inputs outputs line
-unfolding drive_line_text
-tagged_anew was tag change inputs outputs line old new made anew = anew ∙ ap (λ text. slice_set text 0 tag) made

@@ -8,6 +8,8 @@ pub mod Entries
 pub mod Properness
 pub mod BadLines
 pub mod PlainLines
+pub mod PlainTimes
+pub mod PlainChanges
 pub mod Runs
 pub mod Compared
 pub mod ThreeTraces

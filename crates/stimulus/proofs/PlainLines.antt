@@ -34,7 +34,7 @@ pub first_line_found : (text line : List ℕ) (more : Option (Bor (List ℕ)))
 first_line_found text line None e = first_line_is text line [] e
 first_line_found text line (Some rest) e = first_line_is text line (lines_of rest.now) e
 
-each : (P Q : ℕ → Type 0) → ((byte : ℕ) → P byte → Q byte) → (xs : List ℕ) → All P xs → All Q xs
+pub each : (P Q : ℕ → Type 0) → ((byte : ℕ) → P byte → Q byte) → (xs : List ℕ) → All P xs → All Q xs
 each P Q f xs all = All-from_get_or Q xs 0 (λ i h. f (get_or xs i 0) (All-get_or P xs i 0 h all))
 
 -- a line that ends with a byte other than a carriage return
@@ -106,16 +106,25 @@ plain_found text time rest1 pin rest2 value rest c t p v =
       shorter = omega (arith, ap length whole, length-append line (10 ∷ rest));
     }
 
+-- a word that ends at a space
+pub word_ends : (text : List ℕ) (end : ℕ) → end < length text → 0 < end → All (λ (byte : ℕ). nat_le byte 32 ≡ false) (take end text)
+    → get_or text end 0 ≡ 32 → IsWordAhead text (take end text) (drop (end + 1) text)
+word_ends text end inside some solid space =
+    let long : length (take end text) ≡ end = length-take-le end text (omega (arith, inside)) in
+    let at : drop end text ≡ get_or text end 0 ∷ drop (end + 1) text = rw (add-one) (drop-cons text end 0 inside) in
+    record {
+      solid = solid;
+      some = omega (arith, long);
+      whole = sym (take-append-drop end text) ∙ ap (λ r. take end text ++ r) (at ∙ ap (λ b. b ∷ drop (end + 1) text) space);
+    }
+
 -- a word up to the first byte that is not above the space
 pub word_is : (text : List ℕ) (end : ℕ) → position (λ byte. nat_le byte 32) text ≡ Some end → 0 < end → get_or text end 0 ≡ 32
     → IsWordAhead text (take end text) (drop (end + 1) text)
 word_is text end e some space =
     let (below, here, before) = position-Some (λ byte. nat_le byte 32) text end 0 e in
     let long : length (take end text) ≡ end = length-take-le end text (omega (arith, below)) in
-    let at : drop end text ≡ get_or text end 0 ∷ drop (end + 1) text = rw (add-one) (drop-cons text end 0 below) in
-    record {
-      solid = All-from_get_or (λ (byte : ℕ). nat_le byte 32 ≡ false) (take end text) 0
-          (λ i h. let lt : i < end = omega (arith, long, h) in ap (λ b. nat_le b 32) (get_or-take end text i 0 lt) ∙ before i lt);
-      some = omega (arith, long);
-      whole = sym (take-append-drop end text) ∙ ap (λ r. take end text ++ r) (at ∙ ap (λ b. b ∷ drop (end + 1) text) space);
-    }
+    word_ends text end below some
+    (All-from_get_or (λ (byte : ℕ). nat_le byte 32 ≡ false) (take end text) 0
+    (λ i h. let lt : i < end = omega (arith, long, h) in ap (λ b. nat_le b 32) (get_or-take end text i 0 lt) ∙ before i lt))
+    space

@@ -8,7 +8,7 @@ use Rattle.cell_machine.specs.declared.changes.Change.{Change}
 use Rattle.stimulus.specs.declared.drives.Drive.{Drive}
 use Rattle.stimulus.specs.declared.drives.Drive.TheVariants.{Unknown}
 use Rattle.stimulus.specs.DriveLines.{DriveLine}
-use Rattle.stimulus.specs.TraceLine.{head_text, output_text, outputs_text, reports_text, drive_line_text}
+use Rattle.stimulus.specs.TraceLine.{head_text, output_text, outputs_text, reports_text, shown_text, drive_line_text}
 
 -- an entry and those behind it
 drop_at : {A : Type 0} (xs : List A) (place : ℕ) (x d : A) → place < length xs → x ≡ get_or xs place d
@@ -37,25 +37,42 @@ pub grown : (text more piece rest all whole : List ℕ) → more ≡ text ++ pie
 grown text more piece rest all whole e s h = ap (λ t. t ++ rest) e ∙ append_assoc text piece rest ∙ ap (λ t. text ++ t) (sym s)
     ∙ h
 
--- a text with a line behind it, from the line's parts
-pub put_together : (text : List ℕ) (tag : ℕ) (change : Option Change) (inputs outputs : List (List ℕ)) (line : DriveLine)
-    (t1 t2 t3 t4 t5 : List ℕ)
-    → t1 ≡ text ++ tag ∷ []
-    → t2 ≡ t1 ++ head_text inputs change
-    → t3 ≡ t2 ++ outputs_text outputs line.values line.delays
-    → t4 ≡ t3 ++ reports_text 1 line.reports
-    → t5 ≡ t4 ++ 10 ∷ []
-    → t5 ≡ text ++ drive_line_text tag change inputs outputs line
-unfolding drive_line_text
-put_together text tag change inputs outputs line t1 t2 t3 t4 t5 e1 e2 e3 e4 e5 =
+-- a text with what stands behind a line's tag, from its parts
+pub put_together : (text : List ℕ) (change : Option Change) (inputs outputs : List (List ℕ)) (line : DriveLine)
+    (t1 t2 t3 t4 : List ℕ)
+    → t1 ≡ text ++ head_text inputs change
+    → t2 ≡ t1 ++ outputs_text outputs line.values line.delays
+    → t3 ≡ t2 ++ reports_text 1 line.reports
+    → t4 ≡ t3 ++ 10 ∷ []
+    → t4 ≡ text ++ shown_text change inputs outputs line
+put_together text change inputs outputs line t1 t2 t3 t4 e1 e2 e3 e4 =
     let a : List ℕ = head_text inputs change in
     let b : List ℕ = outputs_text outputs line.values line.delays in
     let c : List ℕ = reports_text 1 line.reports in
-    let d : List ℕ = tag ∷ [] in
-    e5 ∙ ap (λ t. t ++ 10 ∷ []) (e4 ∙ ap (λ t. t ++ c) (e3 ∙ ap (λ t. t ++ b) (e2 ∙ ap (λ t. t ++ a) e1)))
-    ∙ append_assoc (((text ++ d) ++ a) ++ b) c (10 ∷ []) ∙ append_assoc ((text ++ d) ++ a) b (c ++ 10 ∷ [])
-    ∙ append_assoc (text ++ d) a (b ++ (c ++ 10 ∷ []))
-    ∙ append_assoc text d (a ++ (b ++ (c ++ 10 ∷ [])))
+    e4 ∙ ap (λ t. t ++ 10 ∷ []) (e3 ∙ ap (λ t. t ++ c) (e2 ∙ ap (λ t. t ++ b) e1))
+    ∙ append_assoc ((text ++ a) ++ b) c (10 ∷ []) ∙ append_assoc (text ++ a) b (c ++ 10 ∷ [])
+    ∙ append_assoc text a (b ++ (c ++ 10 ∷ []))
+
+-- a line behind a text, of its tag and what stands behind it
+pub tagged : (text : List ℕ) (tag : ℕ) (change : Option Change) (inputs outputs : List (List ℕ)) (line : DriveLine)
+    (shown new : List ℕ)
+    → shown ≡ shown_text change inputs outputs line → new ≡ text ++ tag ∷ shown
+    → new ≡ text ++ drive_line_text tag change inputs outputs line
+unfolding drive_line_text
+tagged text tag change inputs outputs line shown new is e = e ∙ ap (λ t. text ++ tag ∷ t) is
+
+-- what stands behind a tag behind a text
+pub behind_tag : (text : List ℕ) (tag : ℕ) (front whole rest : List ℕ)
+    → front ≡ text ++ tag ∷ [] → whole ≡ front ++ rest → whole ≡ text ++ tag ∷ rest
+behind_tag text tag front whole rest e f = f ∙ ap (λ t. t ++ rest) e ∙ append_assoc text (tag ∷ []) rest
+
+-- a line behind a text, where what stands behind the tag was made in two parts
+pub tagged_parts : (text : List ℕ) (tag : ℕ) (change : Option Change) (inputs outputs : List (List ℕ)) (line : DriveLine)
+    (made front pieces new : List ℕ)
+    → front ≡ made → made ++ pieces ≡ shown_text change inputs outputs line → new ≡ text ++ tag ∷ (front ++ pieces)
+    → new ≡ text ++ drive_line_text tag change inputs outputs line
+tagged_parts text tag change inputs outputs line made front pieces new same is e =
+    tagged text tag change inputs outputs line (made ++ pieces) new is (e ∙ ap (λ t. text ++ tag ∷ (t ++ pieces)) same)
 
 -- a text that was empty is what was put behind it
 pub alone : (old line new : List ℕ) → old ≡ [] → new ≡ old ++ line → new ≡ line

@@ -53,11 +53,14 @@ abbrev pub reports_text : ℕ → List Bool → List ℕ
 reports_text number [] = []
 reports_text number (reported ∷ more) = report_text number reported ++ reports_text (number + 1) more
 
--- The line: the tag, what it is on, the outputs and the reports, and a line feed.
+-- what stands behind a line's tag: what the line is on, the outputs and the reports, and a line feed
+abbrev pub shown_text : Option Change → List (List ℕ) → List (List ℕ) → DriveLine → List ℕ
+shown_text change inputs outputs line =
+    head_text inputs change ++ (outputs_text outputs line.values line.delays ++ (reports_text 1 line.reports ++ codes "\n"))
+
+-- The line: the tag, and what stands behind it.
 unfoldable pub drive_line_text : ℕ → Option Change → List (List ℕ) → List (List ℕ) → DriveLine → List ℕ
-drive_line_text tag change inputs outputs line =
-    (tag ∷ []) ++ (head_text inputs change
-    ++ (outputs_text outputs line.values line.delays ++ (reports_text 1 line.reports ++ codes "\n")))
+drive_line_text tag change inputs outputs line = (tag ∷ []) ++ shown_text change inputs outputs line
 
 -- the same of a line of values
 abbrev pub line_text : ℕ → Option Change → List (List ℕ) → List (List ℕ) → Line → List ℕ

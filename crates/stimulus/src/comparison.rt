@@ -1,5 +1,5 @@
 //! A section of three simulators: the lines of each, printed side by side, and the first change at which two of them differ.
-ghost use Rattle.std.specs.Prelude.{◌≡◌, ◌<◌, [], ◌∷◌, ◌++◌, List, length, slice_set, IfSome, IfOk, OnOk};
+ghost use Rattle.std.specs.Prelude.{◌≡◌, ◌<◌, [], ◌∷◌, ◌++◌, List, length, IfSome, IfOk, OnOk};
 ghost use Rattle.std.specs.Option.{option_copied};
 ghost use Rattle.cell_machine.specs.declared.changes.Change.{Change as ChangeOf};
 ghost use Rattle.cell_machine.specs.History.{IsProperFrom, ComesAfter};
@@ -10,9 +10,11 @@ ghost use Rattle.stimulus.specs.Comparison.{first_unlike, verdict_text, NoneUnli
 ghost use Rattle.stimulus.specs.Writes.{WritesTrace, PutsTrace};
 
 use crate::differences::same_line;
+use crate::line_pieces::Pieces;
 use crate::printing::write_full;
+use crate::trace::push_shown;
 use crate::{Ports, TraceSim, append_trace_line};
-use cell_machine::Change;
+use cell_machine::{Change, Few};
 use itoa::Buffer;
 use std::alloc::{AllocError, Global};
 use text_io::{Desk, Failed, OutSlot, Stop, write_pieces, write_whole};
@@ -162,7 +164,7 @@ fn append_lines<L: TraceSim, V: TraceSim, H: TraceSim>(
     append_own_lines(waiting, change, ports, three)
 }
 
-/// Appends the lines of three that show what this one shows: one is made in the text, and appended again under the other tags.
+/// Appends the lines of three that show what this one shows: one is made in the text, and appended under each tag.
 #[tactic(auto, unfolding(crate::specs::Comparison::lines_text))]
 fn append_common_line<S: TraceSim>(
     waiting: &mut Vec<u8>,
@@ -178,23 +180,44 @@ fn append_common_line<S: TraceSim>(
         → waiting.new.items ≡ waiting.old.items
         ++ lines_text (option_copied change.entry) ports.now (all_show ((S.machine sim.now).line h))) }
 {
+    let mut pieces = Few::new(0);
     text.clear();
-    append_trace_line(text, b'L', change, &ports.inputs, &ports.outputs, sim)?;
-    waiting.extend_from_slice(text.as_slice())?;
-    append_again(waiting, text, b'V')?;
-    append_again(waiting, text, b'H')?;
+    push_shown(
+        text,
+        &mut pieces,
+        change,
+        &ports.inputs,
+        &ports.outputs,
+        sim,
+    )?;
+    append_tagged(waiting, b'L', text.as_slice(), &pieces)?;
+    append_tagged(waiting, b'V', text.as_slice(), &pieces)?;
+    append_tagged(waiting, b'H', text.as_slice(), &pieces)?;
     Ok(())
 }
 
-/// Appends the line that was made in the text once more, with another tag: its first byte.
-fn append_again(waiting: &mut Vec<u8>, text: &mut Vec<u8>, tag: u8) -> Result<(), AllocError>
-    ensures made { text.new.items ≡ slice_set text.old.items 0 tag }
-    ensures appended { OnOk result (waiting.new.items ≡ waiting.old.items ++ text.new.items) }
+/// Appends a line with this tag, of which the rest is a text, mostly empty, and pieces that wait behind it.
+fn append_tagged(
+    waiting: &mut Vec<u8>,
+    tag: u8,
+    text: &[u8],
+    pieces: &Pieces,
+) -> Result<(), AllocError>
+    ensures { OnOk result (waiting.new.items ≡ waiting.old.items ++ tag ∷ (text.now ++ pieces.now)) }
 {
-    if let Some(first) = text.first_mut() {
-        *first = tag;
+    waiting.push(tag)?;
+    append_long(waiting, text)?;
+    waiting.extend_from_slice(pieces.as_slice())?;
+    Ok(())
+}
+
+/// Appends a text that is mostly empty.
+fn append_long(waiting: &mut Vec<u8>, text: &[u8]) -> Result<(), AllocError>
+    ensures { OnOk result (waiting.new.items ≡ waiting.old.items ++ text.now) }
+{
+    if !text.is_empty() {
+        waiting.extend_from_slice(text)?;
     }
-    waiting.extend_from_slice(text.as_slice())?;
     Ok(())
 }
 

@@ -14,6 +14,7 @@ mod line_meanings;
 mod line_pieces;
 mod lines;
 mod next_line;
+mod plain_changes;
 mod ports;
 mod printing;
 mod read;

@@ -79,7 +79,7 @@ fn input_of(found: PinFound) -> Result<usize, Cause>
 }
 
 /// The value that a word stands for.
-fn value_of(word: &[u8]) -> Option<Trit>
+pub(crate) fn value_of(word: &[u8]) -> Option<Trit>
     ensures { result ≡ value_of_word word.now }
 {
     match word {
@@ -91,7 +91,7 @@ fn value_of(word: &[u8]) -> Option<Trit>
 }
 
 /// Whether a time is after the last one, where there is a last one.
-fn is_later(at: u64, last: Option<u64>) -> bool
+pub(crate) fn is_later(at: u64, last: Option<u64>) -> bool
     ensures { result ≡ is_later_of at last }
 {
     match last {

@@ -1,4 +1,5 @@
-//! The pieces of a line, gathered before they are appended to a text: a call that appends costs more than most of them.
+//! The pieces of a line, gathered before they are appended to a text: a call that appends costs more than most of them, and so
+//! does one that gathers, which is inlined for that.
 ghost use Rattle.std.specs.Prelude.{◌≡◌, ◌++◌, [], ◌∷◌, OnOk};
 
 use cell_machine::Few;
@@ -21,6 +22,7 @@ pub(crate) fn append_pieces(text: &mut Vec<u8>, pieces: &mut Pieces) -> Result<(
 
 /// Puts a byte behind the pieces that wait.
 #[tactic(auto, using(crate::proofs::TraceTexts::gathered_first, crate::proofs::TraceTexts::gathered_next))]
+#[inline(always)]
 pub(crate) fn gather_byte(
     text: &mut Vec<u8>,
     pieces: &mut Pieces,
@@ -37,6 +39,7 @@ pub(crate) fn gather_byte(
 
 /// Puts a word behind the pieces that wait. A word that is too long to wait is appended to the text.
 #[tactic(auto, using(crate::proofs::TraceTexts::gathered_next, crate::proofs::TraceTexts::gathered_all))]
+#[inline(always)]
 pub(crate) fn gather(text: &mut Vec<u8>, pieces: &mut Pieces, word: &[u8]) -> Result<(), AllocError>
     ensures { OnOk result (text.new.items ++ pieces.new ≡ (text.old.items ++ pieces.old) ++ word.now) }
 {

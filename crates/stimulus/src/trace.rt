@@ -3,7 +3,7 @@ ghost use Rattle.std.specs.Prelude.{◌≡◌, ◌+◌, ◌<◌, ◌≤◌, ◌^
 ghost use Rattle.std.specs.Option.{option_copied};
 ghost use Rattle.cell_machine.specs.declared.changes.Change.{Change as ChangeOf};
 ghost use Rattle.stimulus.specs.TraceLine.{value_text, head_text, change_text, output_text, outputs_text, delay_text};
-ghost use Rattle.stimulus.specs.TraceLine.{report_text, reports_text, drive_line_text};
+ghost use Rattle.stimulus.specs.TraceLine.{report_text, reports_text, shown_text, drive_line_text};
 
 use crate::drives::Drive;
 use crate::line_pieces::{Pieces, append_pieces, gather, gather_byte};
@@ -56,15 +56,37 @@ pub fn append_trace_line<S: TraceSim>(
 {
     let mut pieces = Few::new(0);
     gather_byte(text, &mut pieces, tag)?;
-    push_head(text, &mut pieces, change, inputs)?;
-    push_outputs(text, &mut pieces, outputs, sim)?;
-    push_reports(text, &mut pieces, sim)?;
-    gather_byte(text, &mut pieces, b'\n')?;
+    push_shown(text, &mut pieces, change, inputs, outputs, sim)?;
     append_pieces(text, &mut pieces)?;
     Ok(())
 }
 
+/// What stands behind the tag of the line.
+#[inline(always)]
+pub(crate) fn push_shown<S: TraceSim>(
+    text: &mut Vec<u8>,
+    pieces: &mut Pieces,
+    change: Option<&Change>,
+    inputs: &Names,
+    outputs: &Names,
+    sim: &S,
+) -> Result<(), AllocError>
+    requires inputs { length inputs.now ≡ (S.machine sim.now).inputs }
+    requires outputs { length outputs.now ≡ (S.machine sim.now).outputs }
+    requires pin { IfSome change (λ change. change.now.pin < (S.machine sim.now).inputs) }
+    ensures { OnOk result ((h : List ChangeOf) → S.stands sim.now h
+        → text.new.items ++ pieces.new ≡ (text.old.items ++ pieces.old)
+        ++ shown_text (option_copied change.entry) inputs.now outputs.now ((S.machine sim.now).line h)) }
+{
+    push_head(text, pieces, change, inputs)?;
+    push_outputs(text, pieces, outputs, sim)?;
+    push_reports(text, pieces, sim)?;
+    gather_byte(text, pieces, b'\n')?;
+    Ok(())
+}
+
 /// What the line is on.
+#[inline(always)]
 fn push_head(
     text: &mut Vec<u8>,
     pieces: &mut Pieces,
@@ -84,6 +106,7 @@ fn push_head(
 
 /// A change.
 #[tactic(auto, unfolding(crate::specs::TraceLine::change_text))]
+#[inline(always)]
 fn push_change(
     text: &mut Vec<u8>,
     pieces: &mut Pieces,
@@ -103,6 +126,7 @@ fn push_change(
 }
 
 /// A word behind a space.
+#[inline(always)]
 fn push_word(text: &mut Vec<u8>, pieces: &mut Pieces, word: &[u8]) -> Result<(), AllocError>
     ensures { OnOk result (text.new.items ++ pieces.new ≡ (text.old.items ++ pieces.old) ++ (codes " " ++ word.now)) }
 {
@@ -149,6 +173,7 @@ fn push_outputs<S: TraceSim>(
 
 /// An output.
 #[tactic(auto, unfolding(crate::specs::TraceLine::output_text))]
+#[inline(always)]
 fn push_output(
     text: &mut Vec<u8>,
     pieces: &mut Pieces,
@@ -165,6 +190,7 @@ fn push_output(
 }
 
 /// The delay of an output that changed.
+#[inline(always)]
 fn push_delay(text: &mut Vec<u8>, pieces: &mut Pieces, delay: Option<u64>) -> Result<(), AllocError>
     ensures { OnOk result (text.new.items ++ pieces.new ≡ (text.old.items ++ pieces.old) ++ delay_text delay) }
 {
@@ -193,6 +219,7 @@ fn push_reports<S: TraceSim>(
 
 /// A check that may have reported, by its number from 1.
 #[tactic(auto, unfolding(crate::specs::TraceLine::report_text))]
+#[inline(always)]
 fn push_report(
     text: &mut Vec<u8>,
     pieces: &mut Pieces,

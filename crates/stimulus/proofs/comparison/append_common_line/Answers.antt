@@ -1,15 +1,13 @@
-use Rattle.std.proofs.Common.{◌∙◌, ◌++◌, ap}
 use Rattle.stimulus.specs.Comparison.{lines_text}
-use Rattle.stimulus.proofs.AlikeLines.{tagged_anew}
+use Rattle.stimulus.proofs.TraceTexts.{tagged_parts}
 use Rattle.stimulus.proofs.Runs.{three_behind}
 use Rattle.stimulus.proofs.comparison.append_common_line.Goals as goal
 
 pub returns : goal.returns
 unfolding lines_text
 returns g c = λ h s.
-    let liberty = rw c.clear.ensures.items at (c.in_ok-append_trace_line.ensures h s) in
-    let verilog = tagged_anew _ _ _ _ _ _ _ _ liberty c.in_ok-append_again.ensures.made in
-    let vital = tagged_anew _ _ _ _ _ _ _ _ verilog c.in_ok-append_again-2.ensures.made in
+    let shown = rw (c.clear.ensures.items, c.new-pieces.ensures) at (c.in_ok-push_shown.ensures h s) in
     three_behind _ _ _ _ _ _ _
-    (c.in_ok-extend_from_slice.ensures.items ∙ ap (λ t. c.args.waiting.now.items ++ t) (c.as_slice.ensures.value ∙ liberty))
-    (rw verilog at c.in_ok-append_again.ensures.appended) (rw vital at c.in_ok-append_again-2.ensures.appended)
+    (tagged_parts _ 76 _ _ _ _ _ _ _ _ c.as_slice.ensures.value shown c.in_ok-append_tagged.ensures)
+    (tagged_parts _ 86 _ _ _ _ _ _ _ _ c.as_slice-2.ensures.value shown c.in_ok-append_tagged-2.ensures)
+    (tagged_parts _ 72 _ _ _ _ _ _ _ _ c.as_slice-3.ensures.value shown c.in_ok-append_tagged-3.ensures)

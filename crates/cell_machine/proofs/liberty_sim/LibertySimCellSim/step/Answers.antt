@@ -1,21 +1,18 @@
-use Rattle.std.proofs.Common.{◌≡◌, ◌<◌, ◌∙◌, ap, sym, subst, get_or, set, length, slice_get, arith, List, ℕ, Some, None}
+use Rattle.std.proofs.Common.{◌≡◌, ◌<◌, ◌∙◌, [], ap, sym, subst, get_or, set, length, slice_get, arith, Some}
 use Rattle.std.proofs.lemmas.List.{length-set, length-map, get_or_default as get_or-default}
-use Rattle.std.proofs.lemmas.List.FromFn.{length-map-range_with_len}
 use Rattle.trit_cubes.specs.declared.trits.Trit.TheVariants.{Zero, Unknown}
 use Rattle.cell_machine.specs.declared.cell_start.CellStart.{CellStart}
 use Rattle.cell_machine.specs.Report.{any_true}
 use Rattle.cell_machine.specs.Times.{no_times, stamped}
 use Rattle.cell_machine.specs.Places.{AreBelow}
 use Rattle.cell_machine.specs.CellData.{data_of}
-use Rattle.cell_machine.specs.CellTrace.{inputs_of, arc_names}
-use Rattle.cell_machine.specs.KeptConditions.{kept_unless, names_input}
+use Rattle.cell_machine.specs.CellTrace.{inputs_of}
+use Rattle.cell_machine.specs.KeptConditions.{AreForgotten}
 use Rattle.cell_machine.specs.KeptArcs.{AreKeptArcs}
-use Rattle.cell_machine.proofs.KeptPairs.{delays_changed, firsts-below}
-use Rattle.cell_machine.specs.Names.{has}
 use Rattle.cell_machine.specs.ArcPlaces.{arcs_naming, arcs_from, firsts_naming}
 use Rattle.cell_machine.proofs.RuleLemmas.{checks_hold}
-use Rattle.cell_machine.proofs.EntryPlaces.{places-below}
-use Rattle.cell_machine.proofs.KeptValues.{kept_changed, range-at}
+use Rattle.cell_machine.proofs.KeptValues.{range-at}
+use Rattle.cell_machine.proofs.ForgottenArcs.{each-input, naming-below, pairs-below, left-is-kept}
 use Rattle.cell_machine.proofs.Standing.{change-stands}
 use Rattle.cell_machine.proofs.liberty_sim.LibertySimCellSim.step.Goals as goal
 
@@ -45,76 +42,57 @@ pub entry-requires : goal.entry-requires
 entry-requires c =
     let sim = c.args.self.now in
     let cell = data_of sim.cell.now in
-    let long = ap length sim.placed_arcs.naming_are ∙ length-map-range_with_len (arcs_naming cell) 0 (inputs_of cell) in
-    let inside : c.args.pin < length sim.known.places.naming = omega (arith, c.requires.pin, long) in
-    subst (λ (k : CellStart). c.args.pin < length k.places.naming) (sym c.get-3.ensures) inside
+    subst (λ (k : CellStart). c.args.pin < length k.places.between) (sym c.get-3.ensures)
+    (each-input cell (arcs_from cell) sim.known.places.between c.args.pin sim.placed_arcs.between_are c.requires.pin)
 
-pub entry-requires-2 : goal.entry-requires-2
-entry-requires-2 c =
+pub forget-requires-clause-naming : goal.forget-requires-clause-naming
+forget-requires-clause-naming c =
     let sim = c.args.self.now in
     let cell = data_of sim.cell.now in
-    let long = ap length sim.placed_arcs.firsts_are ∙ length-map-range_with_len (firsts_naming cell) 0 (inputs_of cell) in
-    let inside : c.args.pin < length sim.known.places.firsts = omega (arith, c.requires.pin, long) in
-    subst (λ (k : CellStart). c.args.pin < length k.places.firsts) (sym c.get-3.ensures) inside
+    subst (λ (k : CellStart). c.args.pin < length k.places.naming) (sym c.get-3.ensures)
+    (each-input cell (arcs_naming cell) sim.known.places.naming c.args.pin sim.placed_arcs.naming_are c.requires.pin)
 
-pub entry-requires-3 : goal.entry-requires-3
-entry-requires-3 c =
+pub forget-requires-clause-firsts : goal.forget-requires-clause-firsts
+forget-requires-clause-firsts c =
     let sim = c.args.self.now in
     let cell = data_of sim.cell.now in
-    let long = ap length sim.placed_arcs.between_are ∙ length-map-range_with_len (arcs_from cell) 0 (inputs_of cell) in
-    let inside : c.args.pin < length sim.known.places.between = omega (arith, c.requires.pin, long) in
-    subst (λ (k : CellStart). c.args.pin < length k.places.between) (sym c.get-3.ensures) inside
+    subst (λ (k : CellStart). c.args.pin < length k.places.firsts) (sym c.get-3.ensures)
+    (each-input cell (firsts_naming cell) sim.known.places.firsts c.args.pin sim.placed_arcs.firsts_are c.requires.pin)
 
-pub forget-requires : goal.forget-requires
-forget-requires c =
+pub forget-requires-clause-conditions : goal.forget-requires-clause-conditions
+forget-requires-clause-conditions c =
     let sim = c.args.self.now in
-    let cell = data_of sim.cell.now in
-    let stood = c.requires.time.1.0 in
-    let entry = subst (λ (k : CellStart). slice_get k.places.naming c.args.pin ≡ Some c.entry.result.now) c.get-3.ensures c.entry.ensures.is in
-    let named =
-    c.as_slice-naming.ensures ∙ range-at (arcs_naming cell) (inputs_of cell) c.args.pin sim.known.places.naming _ sim.placed_arcs.naming_are entry in
-    let long : length sim.kept.conditions ≡ length (arc_names cell) = stood.kept_are.conditions_are.0 ∙ sym (length-map cell.arcs _) in
-    subst (AreBelow (length sim.kept.conditions)) (sym named)
-    (subst (λ n. AreBelow n (arcs_naming cell c.args.pin)) (sym long) (places-below (names_input cell.pins c.args.pin) (arc_names cell)))
+    subst (λ (k : CellStart). AreBelow (length sim.kept.conditions) (get_or k.places.naming c.args.pin [])) (sym c.get-3.ensures)
+    (naming-below (data_of sim.cell.now) sim.inputs sim.known.places sim.kept c.args.pin sim.placed_arcs c.requires.time.1.0.kept_are c.requires.pin)
 
-pub forget-requires-2 : goal.forget-requires-2
-forget-requires-2 c =
+pub forget-requires-clause-delays : goal.forget-requires-clause-delays
+forget-requires-clause-delays c =
     let sim = c.args.self.now in
-    let cell = data_of sim.cell.now in
-    let stood = c.requires.time.1.0 in
-    let entry = subst (λ (k : CellStart). slice_get k.places.firsts c.args.pin ≡ Some c.entry-2.result.now) c.get-3.ensures c.entry-2.ensures.is in
-    let named =
-    c.as_slice-firsts.ensures ∙ range-at (firsts_naming cell) (inputs_of cell) c.args.pin sim.known.places.firsts _ sim.placed_arcs.firsts_are entry in
-    subst (AreBelow (length sim.kept.delays)) (sym named)
-    (subst (λ n. AreBelow n (firsts_naming cell c.args.pin)) (sym stood.kept_are.delays_are.0) (firsts-below cell c.args.pin))
+    subst (λ (k : CellStart). AreBelow (length sim.kept.delays) (get_or k.places.firsts c.args.pin [])) (sym c.get-3.ensures)
+    (pairs-below (data_of sim.cell.now) sim.inputs sim.known.places sim.kept c.args.pin sim.placed_arcs c.requires.time.1.0.kept_are c.requires.pin)
 
 pub show_all-requires-clause-places : goal.show_all-requires-clause-places
 show_all-requires-clause-places c =
     let sim = c.args.self.now in
     let cell = data_of sim.cell.now in
-    let entry = subst (λ (k : CellStart). slice_get k.places.between c.args.pin ≡ Some c.entry-3.result.now) c.get-3.ensures c.entry-3.ensures.is in
+    let entry = subst (λ (k : CellStart). slice_get k.places.between c.args.pin ≡ Some c.entry.result.now) c.get-3.ensures c.entry.ensures.is in
     range-at (arcs_from cell) (inputs_of cell) c.args.pin sim.known.places.between _ sim.placed_arcs.between_are entry
 
 pub show_all-requires-clause-kept : goal.show_all-requires-clause-kept
 show_all-requires-clause-kept c =
     let sim = c.args.self.now in
     let cell = data_of sim.cell.now in
-    let stood = c.requires.time.1.0 in
-    let naming = subst (λ (k : CellStart). slice_get k.places.naming c.args.pin ≡ Some c.entry.result.now) c.get-3.ensures c.entry.ensures.is in
-    let named =
-    c.as_slice-naming.ensures ∙ range-at (arcs_naming cell) (inputs_of cell) c.args.pin sim.known.places.naming _ sim.placed_arcs.naming_are naming in
-    let firsts = subst (λ (k : CellStart). slice_get k.places.firsts c.args.pin ≡ Some c.entry-2.result.now) c.get-3.ensures c.entry-2.ensures.is in
-    let first =
-    c.as_slice-firsts.ensures ∙ range-at (firsts_naming cell) (inputs_of cell) c.args.pin sim.known.places.firsts _ sim.placed_arcs.firsts_are firsts in
+    let left = c.forget.new.self in
     let inputs : c.as_slice-inputs.result.now ≡ set sim.inputs c.args.pin c.args.to = c.as_slice-inputs.ensures ∙ c.set.ensures in
     let conditions =
-    kept_changed cell sim.inputs sim.kept.conditions c.forget.new.kept c.args.pin c.args.to stood.kept_are.conditions_are
-    (λ i. c.forget.ensures.each i ∙ ap (λ (is : List ℕ). kept_unless (has is i) (get_or sim.kept.conditions i None)) named) c.forget.ensures.len in
+    subst (λ (k : CellStart). AreForgotten (get_or k.places.naming c.args.pin []) sim.kept.conditions left.conditions) c.get-3.ensures
+    c.forget.ensures.conditions in
     let delays =
-    delays_changed cell sim.inputs sim.kept.delays c.forget-2.new.kept c.args.pin c.args.to stood.kept_are.delays_are
-    (λ i. c.forget-2.ensures.each i ∙ ap (λ (is : List ℕ). kept_unless (has is i) (get_or sim.kept.delays i None)) first) c.forget-2.ensures.len in
-    subst (λ v. AreKeptArcs cell v (record { conditions = c.forget.new.kept; delays = c.forget-2.new.kept })) (sym inputs)
-    (record { conditions_are = conditions; delays_are = delays })
+    subst (λ (k : CellStart). AreForgotten (get_or k.places.firsts c.args.pin []) sim.kept.delays left.delays) c.get-3.ensures
+    c.forget.ensures.delays in
+    subst (λ v. AreKeptArcs cell v left) (sym inputs)
+    (left-is-kept cell sim.inputs sim.known.places sim.kept left c.args.pin c.args.to sim.placed_arcs c.requires.time.1.0.kept_are c.requires.pin
+    conditions delays)
 
 pub invariant_of-self : goal.invariant_of-self
 invariant_of-self c =

@@ -3,7 +3,7 @@ use Rattle.std.specs.Prelude.{MatchOption}
 use Rattle.stimulus.specs.Text.{lines_of}
 use Rattle.stimulus.specs.Written.{written_in}
 use Rattle.stimulus.proofs.PlainLines.{first_line_found}
-use Rattle.stimulus.proofs.next_line.any_line.Goals as goal
+use Rattle.stimulus.proofs.next_line.next_line.Goals as goal
 
 pub returns-clause-line : goal.returns-clause-line
 returns-clause-line c =

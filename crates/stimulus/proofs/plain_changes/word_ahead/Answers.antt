@@ -2,7 +2,7 @@ use Rattle.std.proofs.Common.{◌≡◌, ◌+◌, ◌<◌, sym, arith, get_or}
 use Rattle.std.proofs.lemmas.Bool.Decides.{nat_tests}
 use Rattle.std.proofs.lemmas.List.{take_rest}
 use Rattle.stimulus.proofs.PlainLines.{word_is}
-use Rattle.stimulus.proofs.next_line.word_ahead.Goals as goal
+use Rattle.stimulus.proofs.plain_changes.word_ahead.Goals as goal
 
 pub returns : goal.returns
 returns c =

@@ -1,6 +1,6 @@
 //! What many languages have at the front of bytes.
 
-ghost use Rattle.std.specs.Prelude.{◌≡◌, ◌+◌, ◌≤◌, length, drop};
+ghost use Rattle.std.specs.Prelude.{◌≡◌, ◌+◌, ◌<◌, ◌≤◌, length, drop, MatchOption, IfSome};
 ghost use Rattle.std.specs.List.{prefix_len};
 ghost use Rattle.lexer.specs.Tokens as spec;
 
@@ -9,15 +9,20 @@ use crate::classes::{Blank, ByteClass, Digit, InLine, NameByte, run_length};
 /// How many digits a number may have.
 pub(crate) const MOST_DIGITS: usize = 15;
 
-/// The offset behind the spaces, tabs and line ends that stand in a text from an offset on.
+/// The first offset in a text, from this one on, of a byte that is no space, tab or line end.
 #[inline(always)]
-pub fn behind_blanks(text: &[u8], at: usize) -> usize
+pub fn behind_blanks(text: &[u8], at: usize) -> Option<usize>
     requires { at ≤ length text.now }
-    ensures value { result ≡ at + prefix_len spec.is_blank (drop at text.now) }
-    ensures within { result ≤ length text.now }
+    ensures value { MatchOption result (at + prefix_len spec.is_blank (drop at text.now) ≡ length text.now)
+        (λ next. next ≡ at + prefix_len spec.is_blank (drop at text.now)) }
+    ensures within { IfSome result (λ next. next < length text.now) }
 {
-    let (_, rest) = text.split_at(at);
-    at + run_length::<Blank>(rest)
+    for next in at..text.len() {
+        if !Blank::contains(text[next]) {
+            return Some(next);
+        }
+    }
+    None
 }
 
 /// How many bytes of a blank, or of a comment of one line, stand at the front of these. Such a comment begins with the mark given

@@ -1,6 +1,6 @@
 //! One scanner for the texts of every language.
 
-ghost use Rattle.std.specs.Prelude.{◌≡◌, ◌<◌, ◌≤◌, ◌^◌, length, true, false, IfOk, Some, vec_len, vec_capacity};
+ghost use Rattle.std.specs.Prelude.{◌≡◌, ◌+◌, ◌<◌, ◌≤◌, ◌^◌, length, drop, true, false, IfOk, Some, vec_len, vec_capacity};
 ghost use Rattle.lexer.specs.Tokens.{scan_of};
 ghost use Rattle.lexer.specs.Spans.{LieInside, tokens_of, from_here};
 
@@ -20,9 +20,34 @@ struct Scanner<L> {
 }
 
 impl<'a, L: TokenState<'a>> Scanner<L> {
-    /// Goes behind the separator or the token that stands next, and behind the blanks that follow it. False says that neither
-    /// does. The tokens that were found so far stand apart from the scanner, so that its place can stay in registers, and have a
-    /// place for each byte of the text.
+    /// Goes behind the token of so many bytes that stands at an offset. The tokens that were found so far stand apart from the
+    /// scanner, so that its place can stay in registers, and have a place for each byte of the text.
+    #[inline(always)]
+    fn pass_token(&mut self, tokens: &mut Vec<KeptSpan>, text: &'a [u8], at: usize, count: usize)
+        requires token { count ≡ L.lexis.token_length (L.flag self.old.before) (drop at text.now) }
+        requires alone { 0 ≡ L.lexis.separator_length (drop at text.now) }
+        requires some { 0 < count }
+        requires here { at + count ≤ length text.now }
+        requires short { length text.now < 2 ^ 32 }
+        requires inside { LieInside text.now tokens.old.items }
+        requires few { vec_len tokens.old ≤ at }
+        requires room { length text.now ≤ vec_capacity tokens.old }
+        ensures goes_on { from_here L.lexis text.now tokens.new.items (L.flag self.new.before) self.new.next self.new.next ≡ from_here
+            L.lexis text.now tokens.old.items (L.flag self.old.before) at at }
+        ensures onwards { self.new.next ≡ at + count }
+        ensures inside { LieInside text.now tokens.new.items }
+        ensures few { vec_len tokens.new ≤ self.new.next }
+        ensures room { vec_capacity tokens.new ≡ vec_capacity tokens.old }
+    {
+        let (_, rest) = text.split_at(at);
+        let token = KeptSpan::new(at, count);
+        tokens.push_reserved(token);
+        self.before = self.before.after(&rest[..count]);
+        self.next = at + count;
+    }
+
+    /// Goes behind the blanks that stand next, and the separator or the token behind them. False says that there is neither, and
+    /// that the text has more. Most tokens are one byte, of which it is known at once what they say of those behind.
     #[inline(always)]
     fn step(&mut self, tokens: &mut Vec<KeptSpan>, text: &'a [u8]) -> bool
         requires here { self.old.next < length text.now }
@@ -42,22 +67,23 @@ impl<'a, L: TokenState<'a>> Scanner<L> {
         ensures few { vec_len tokens.new ≤ self.new.next }
         ensures room { vec_capacity tokens.new ≡ vec_capacity tokens.old }
     {
-        let at = self.next;
+        let Some(at) = behind_blanks(text, self.next) else {
+            self.next = text.len();
+            return true;
+        };
         let (_, rest) = text.split_at(at);
         let length = self.before.token_length(rest);
+        if length == 1 {
+            self.pass_token(tokens, text, at, 1);
+            return true;
+        }
         if length > 0 {
-            let token = KeptSpan::new(at, length);
-            tokens.push_reserved(token);
-            self.before = self.before.after(&rest[..length]);
-            self.next = behind_blanks(text, at + length);
+            self.pass_token(tokens, text, at, length);
             return true;
         }
         let skipped = L::separator_length(rest);
-        if skipped == 0 {
-            return false;
-        }
-        self.next = behind_blanks(text, at + skipped);
-        true
+        self.next = at + skipped;
+        skipped > 0
     }
 }
 

@@ -15,6 +15,7 @@ use crate::nets::is_sequential;
 use crate::terminals::has_all_inputs;
 use first_names::FirstNames;
 use grammar_reader::{Language, Read, Refusal, Stop, value_of, where_read};
+use sqlite_items::Boxed;
 use std::alloc::Global;
 use verilog_grammar::modules::{Instance, VModule};
 use verilog_tokens::is_name;
@@ -36,7 +37,7 @@ fn is_instance_start(token: &[u8]) -> bool
 
 /// What a token begins an instance of: the primitive with a number, or a buffer. None where there is no such primitive.
 fn instance_primitive(
-    names: &Option<FirstNames>,
+    names: &Option<Boxed<FirstNames>>,
     model: &Netlist,
     token: &[u8],
 ) -> Option<Option<usize>>
@@ -118,7 +119,7 @@ fn one_instance(
 fn more_instances(
     cursor: &mut Cursor,
     alloc: Global,
-    names: &Option<FirstNames>,
+    names: &Option<Boxed<FirstNames>>,
     model: &mut Netlist,
 ) -> Read<()>
     requires { MayFind udp_name names.now model.old.udps }
@@ -144,7 +145,7 @@ fn more_instances(
 fn with_instances(
     cursor: &mut Cursor,
     alloc: Global,
-    names: &Option<FirstNames>,
+    names: &Option<Boxed<FirstNames>>,
     mut model: Netlist,
 ) -> Read<Netlist>
     requires { MayFind udp_name names.now model.udps }

@@ -12,7 +12,7 @@ use crate::nets::FEW;
 use bool_functions::Names;
 use first_names::FirstNames;
 use grammar_reader::{Language, Read, Stop};
-use sqlite_items::Items;
+use sqlite_items::{Boxed, Items};
 use std::alloc::{AllocError, Global};
 use udp_tables::{Udp, VPort};
 use verilog_udp_reader::Verilog;
@@ -67,17 +67,15 @@ fn all_names<T: Named>(alloc: Global, things: &[T]) -> Result<FirstNames, AllocE
 }
 
 /// The names of these things, where there are more than a few.
-pub fn many_names<T: Named>(alloc: Global, things: &[T]) -> Read<Option<FirstNames>>
+pub fn many_names<T: Named>(alloc: Global, things: &[T]) -> Read<Option<Boxed<FirstNames>>>
     ensures first { IfOk result (λ found. MayFind T.name_of found things.now) }
     ensures memory { IfErr result (λ stop. stop ≡ Stop.Memory) }
 {
     if things.len() <= FEW {
         return Ok(None);
     }
-    match all_names(alloc, things) {
-        Ok(names) => Ok(Some(names)),
-        Err(AllocError) => Err(Stop::Memory),
-    }
+    let names = all_names(alloc, things)?;
+    Ok(Some(Boxed::new(alloc, names)?))
 }
 
 /// The number of the first of these things with a name, looked for one after another.
@@ -91,12 +89,16 @@ fn place_among<T: Named>(things: &[T], name: &[u8]) -> Option<usize>
 
 /// The number of the first of these things with a name, where these are their names, if there are more than a few.
 #[tactic(auto, using(crate::proofs::NameSearch::may_find))]
-pub fn place_of<T: Named>(kept: &Option<FirstNames>, things: &[T], name: &[u8]) -> Option<usize>
+pub fn place_of<T: Named>(
+    kept: &Option<Boxed<FirstNames>>,
+    things: &[T],
+    name: &[u8],
+) -> Option<usize>
     requires { MayFind T.name_of kept.now things.now }
     ensures { result ≡ position (λ x. bytes_eq name.now (T.name_of x)) things.now }
 {
     match kept {
-        Some(found) => found.place(name),
+        Some(found) => found.get().place(name),
         None => place_among(things, name),
     }
 }

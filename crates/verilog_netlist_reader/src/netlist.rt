@@ -7,7 +7,7 @@ use crate::name_search::{many_names, place_of};
 use crate::nets::{has_state, is_driven_already, is_wire_driven_by};
 use first_names::FirstNames;
 use grammar_reader::{Read, Stop};
-use sqlite_items::Items;
+use sqlite_items::{Boxed, Items};
 use std::alloc::Global;
 use std::marker::Model;
 use udp_tables::TimingCheck;
@@ -18,8 +18,8 @@ use verilog_grammar::modules::{Instance, VModule, VNet, VPath};
 #[derive(Drop)]
 pub struct Netlist {
     model: VModule,
-    ports: Option<FirstNames>,
-    wires: Option<FirstNames>,
+    ports: Option<Boxed<FirstNames>>,
+    wires: Option<Boxed<FirstNames>>,
     driven: DrivenNets,
 }
 

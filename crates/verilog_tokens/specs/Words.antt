@@ -1,5 +1,6 @@
 -- The words of Verilog: those of IEEE 1364-2005, annex B, in the order of the alphabet. The list is this project's.
-use Rattle.std.specs.Prelude.{ℕ, Bool, List, [], ◌∷◌, codes}
+use Rattle.std.specs.Prelude.{ℕ, Bool, false, List, [], ◌∷◌, codes}
+use Rattle.std.specs.Char.{is_ascii_lowercase}
 use Rattle.std.specs.List.{list_any}
 use Rattle.std.specs.Str.{bytes_eq}
 
@@ -30,3 +31,8 @@ verilog_words =
 -- the bytes are a word of Verilog
 unfoldable pub is_verilog_word : List ℕ → Bool
 is_verilog_word name = list_any (bytes_eq name) verilog_words
+
+-- the bytes begin with a small letter
+abbrev pub begins_small : List ℕ → Bool
+begins_small [] = false
+begins_small (b ∷ _) = is_ascii_lowercase b

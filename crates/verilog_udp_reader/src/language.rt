@@ -20,6 +20,7 @@ impl Language for Verilog {
 
     ghost is_same = { bytes_eq };
 
+    #[inline(always)]
     fn is_name(token: &[u8]) -> bool {
         is_name(token)
     }

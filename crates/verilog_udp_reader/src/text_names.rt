@@ -1,6 +1,6 @@
 //! Names that are declared, as they stand in a text.
 
-ghost use Rattle.std.specs.Prelude.{◌≡◌, ◌<◌, [], ◌∷◌, ◌++◌, false, map, take, drop, IfOk, IfErr, OnOk, OnErr};
+ghost use Rattle.std.specs.Prelude.{◌≡◌, ◌<◌, [], ◌∷◌, ◌++◌, false, map, drop, IfOk, IfErr, OnOk, OnErr};
 ghost use Rattle.std.specs.List.{list_any};
 ghost use Rattle.std.specs.Str.{bytes_eq};
 ghost use Rattle.grammar_reader.specs.Next.{next_bytes};
@@ -49,18 +49,6 @@ fn is_one(names: &[&[u8]], name: &[u8]) -> bool
         }
     }
     false
-}
-
-/// The first names of a list, which are compared one by one.
-#[tactic(auto, using(grammar_reader::proofs::Places::take_all))]
-fn near<'a, 'b>(names: &'b [&'a [u8]]) -> &'b [&'a [u8]]
-    ensures { result.now ≡ take 16 names.now }
-{
-    if names.len() <= NEAR {
-        names
-    } else {
-        &names[..NEAR]
-    }
 }
 
 /// Whether a name is in a list that finds it at once.
@@ -115,7 +103,11 @@ impl<'a> TextNames<'a> {
     pub fn has(&self, name: &[u8]) -> bool
         ensures { result ≡ is_among self.now name.now }
     {
-        is_one(near(self.names.as_slice()), name) || is_found(&self.far, name)
+        let names = self.names.as_slice();
+        if names.len() <= NEAR {
+            return is_one(names, name);
+        }
+        is_one(&names[..NEAR], name) || is_found(&self.far, name)
     }
 
     /// Puts one more name behind these, which is none of them.

@@ -4,7 +4,7 @@ ghost use Rattle.text_io.specs.Desk.{HasCause, WritesText};
 ghost use Rattle.library_audit.specs.Lines.{shape_text, values_text, arguments_text, difference_text, verdict_text, audit_line};
 ghost use Rattle.library_audit.specs.Lines.{left_out_line};
 
-use crate::words::{Known, Place, ShapeWord, TableWord, Value, Values};
+use crate::words::{Known, Place, Values, shape_word, table_word, value_text};
 use table_audit::{Difference, ShapePart, Verdict};
 use text_io::{Bytes, Decimal, Desk, Failed, Line, OutSlot, Part, Put, parts, write_part};
 use trit_cubes::Trit;
@@ -19,7 +19,7 @@ impl Part for OtherShape {
     #[tactic(auto, unfolding(crate::specs::Lines::shape_text))]
     fn put<D: Desk>(&self, line: &mut Line, desk: &mut D, slot: OutSlot) -> Put {
         let number = parts!(Bytes(b" "), Decimal(self.1 as u128), Bytes(b"\n"));
-        parts!(Bytes(b" shape "), ShapeWord(self.0), number).put(line, desk, slot)
+        parts!(Bytes(b" shape "), Bytes(shape_word(self.0)), number).put(line, desk, slot)
     }
 }
 
@@ -32,8 +32,8 @@ impl Part for BothValues {
 
     #[tactic(auto, unfolding(crate::specs::Lines::values_text))]
     fn put<D: Desk>(&self, line: &mut Line, desk: &mut D, slot: OutSlot) -> Put {
-        let model = parts!(Bytes(b" model "), Value(self.1), Bytes(b"\n"));
-        parts!(Bytes(b" cell "), Value(self.0), model).put(line, desk, slot)
+        let model = parts!(Bytes(b" model "), Bytes(value_text(self.1)), Bytes(b"\n"));
+        parts!(Bytes(b" cell "), Bytes(value_text(self.0)), model).put(line, desk, slot)
     }
 }
 
@@ -74,7 +74,7 @@ impl Part for OtherTable<'_> {
             Arguments(self.0),
             values
         );
-        parts!(Bytes(b" differs "), TableWord(self.0.part), number).put(line, desk, slot)
+        parts!(Bytes(b" differs "), Bytes(table_word(self.0.part)), number).put(line, desk, slot)
     }
 }
 

@@ -9,18 +9,7 @@ use text_io::{Bytes, Decimal, Desk, Line, OutSlot, Part, Put, parts};
 use trit_cubes::{Cube, Trit};
 
 /// What a module has of another shape than its cell.
-#[derive(Drop)]
-pub(crate) struct ShapeWord(pub ShapePart);
-
-impl Part for ShapeWord {
-    ghost text = { λ w. shape_word_of w.0 };
-
-    fn put<D: Desk>(&self, line: &mut Line, desk: &mut D, slot: OutSlot) -> Put {
-        Bytes(shape_word(self.0)).put(line, desk, slot)
-    }
-}
-
-fn shape_word(part: ShapePart) -> &'static [u8]
+pub(crate) fn shape_word(part: ShapePart) -> &'static [u8]
     ensures { result.now ≡ shape_word_of part }
 {
     match part {
@@ -36,18 +25,7 @@ fn shape_word(part: ShapePart) -> &'static [u8]
 }
 
 /// What a table with another value than the cell is for.
-#[derive(Drop)]
-pub(crate) struct TableWord(pub AuditPart);
-
-impl Part for TableWord {
-    ghost text = { λ w. table_word_of w.0 };
-
-    fn put<D: Desk>(&self, line: &mut Line, desk: &mut D, slot: OutSlot) -> Put {
-        Bytes(table_word(self.0)).put(line, desk, slot)
-    }
-}
-
-fn table_word(part: AuditPart) -> &'static [u8]
+pub(crate) fn table_word(part: AuditPart) -> &'static [u8]
     ensures { result.now ≡ table_word_of part }
 {
     match part {
@@ -60,18 +38,7 @@ fn table_word(part: AuditPart) -> &'static [u8]
 }
 
 /// A value.
-#[derive(Drop)]
-pub(crate) struct Value(pub Trit);
-
-impl Part for Value {
-    ghost text = { λ v. value_text_of v.0 };
-
-    fn put<D: Desk>(&self, line: &mut Line, desk: &mut D, slot: OutSlot) -> Put {
-        Bytes(value_text(self.0)).put(line, desk, slot)
-    }
-}
-
-fn value_text(value: Trit) -> &'static [u8]
+pub(crate) fn value_text(value: Trit) -> &'static [u8]
     ensures { result.now ≡ value_text_of value }
 {
     match value {
@@ -90,7 +57,7 @@ impl Part for Known {
 
     fn put<D: Desk>(&self, line: &mut Line, desk: &mut D, slot: OutSlot) -> Put {
         match self.0 {
-            Some(value) => Value(value).put(line, desk, slot),
+            Some(value) => Bytes(value_text(value)).put(line, desk, slot),
             None => Bytes(b"-").put(line, desk, slot),
         }
     }
@@ -136,7 +103,7 @@ impl Part for EachValue {
 
     fn put<D: Desk>(&self, line: &mut Line, desk: &mut D, slot: OutSlot) -> Put {
         for place in 0..self.0.len() {
-            let value = Value(self.0.place(place));
+            let value = Bytes(value_text(self.0.place(place)));
             parts!(Bytes(b" "), value).put(line, desk, slot)?;
         }
         Ok(())

@@ -1,7 +1,10 @@
 -- What is to be run once both files of a replay are read.
 use Rattle.std.specs.Prelude.{◌≡◌, ◌≤◌, ℕ, List, [], length, slice_get, Some, Ok, All}
 use Rattle.text_io.specs.Desk.{DeskState}
+use Rattle.cell_machine.specs.declared.changes.Change.{Change}
 use Rattle.cell_machine.specs.History.{IsProperFrom}
+use Rattle.stimulus.specs.declared.ports.Ports.{Ports}
+use Rattle.stimulus.specs.DriveLines.{DriveMachine}
 use Rattle.stimulus.specs.declared.sections.Section.{Section}
 use Rattle.stimulus.specs.PortEntries.{listed}
 use Rattle.stimulus.specs.Stimulus.{stimulus_of}
@@ -22,6 +25,13 @@ pub record CanBeRun {M : Type 0} (l : Language M) (models : List M) (section : S
   pub inputs : length (input_names (l.ports model)) ≡ (l.machine model).inputs
   pub outputs : length (output_names (l.ports model)) ≡ (l.machine model).outputs
   pub proper : IsProperFrom (l.machine model).inputs [] section.changes
+
+-- These changes can be given to a machine whose inputs and outputs have names in these ports: they are of its inputs, at times
+-- that rise strictly.
+pub record CanBeGiven (m : DriveMachine) (ports : Ports) (changes : List Change) : Type 0 where
+  pub inputs : length ports.inputs ≡ m.inputs
+  pub outputs : length ports.outputs ≡ m.outputs
+  pub proper : IsProperFrom m.inputs [] changes
 
 -- Both files were bound and read: some bytes of each were read, nothing was appended, and nothing else changed. The models
 -- are those of the bytes that were read, and the sections those of the stimulus over the models. Where the desk tells the files,

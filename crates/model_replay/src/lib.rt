@@ -12,6 +12,7 @@ mod printing;
 mod reading;
 mod run;
 mod starts;
+mod traces;
 mod verilog;
 mod verilog_sections;
 mod vital;

@@ -1,12 +1,13 @@
 //! Verilog as a language of models.
 
 use crate::starts::{known_module, start_module};
+use crate::traces::write_started;
 use crate::verilog_sections::read_driven_models;
 use cell_machine::{Change, Shared};
 use file_models::{FileModel, file_models};
 use model_files::{ModelFormat, ModelLanguage};
 use std::alloc::{AllocError, Global};
-use stimulus::{Ports, write_section};
+use stimulus::Ports;
 use table_interpreters::ModuleStart;
 use text_io::{Desk, Stop};
 use udp_tables::{ModelFault, VPort};
@@ -56,17 +57,15 @@ impl ModelLanguage for Verilog {
         ports: &Ports,
         changes: &[Change],
     ) -> Result<(), Stop> {
-        match start_module(alloc, model, start) {
-            Ok(mut sim) => write_section(
-                alloc,
-                desk,
-                b'V',
-                model.name.as_slice(),
-                ports,
-                &mut sim,
-                changes,
-            ),
-            Err(_) => Err(Stop::Memory),
-        }
+        let sim = start_module(alloc, model, start);
+        write_started(
+            alloc,
+            desk,
+            b'V',
+            model.name.as_slice(),
+            sim,
+            ports,
+            changes,
+        )
     }
 }

@@ -1,12 +1,13 @@
 //! VHDL by VITAL as a language of models.
 
 use crate::starts::{known_entity, start_entity};
+use crate::traces::write_started;
 use crate::vital_sections::read_driven_entities;
 use cell_machine::{Change, Shared};
 use file_models::{FileModel, file_models};
 use model_files::{ModelFormat, ModelLanguage};
 use std::alloc::{AllocError, Global};
-use stimulus::{Ports, write_section};
+use stimulus::Ports;
 use table_interpreters::EntityStart;
 use text_io::{Desk, Stop};
 use udp_tables::{ModelFault, VPort};
@@ -58,17 +59,15 @@ impl ModelLanguage for Vital {
         ports: &Ports,
         changes: &[Change],
     ) -> Result<(), Stop> {
-        match start_entity(alloc, model, start) {
-            Ok(mut sim) => write_section(
-                alloc,
-                desk,
-                b'H',
-                model.name.as_slice(),
-                ports,
-                &mut sim,
-                changes,
-            ),
-            Err(_) => Err(Stop::Memory),
-        }
+        let sim = start_entity(alloc, model, start);
+        write_started(
+            alloc,
+            desk,
+            b'H',
+            model.name.as_slice(),
+            sim,
+            ports,
+            changes,
+        )
     }
 }

@@ -1,11 +1,17 @@
-use Rattle.model_replay.specs.Verilog.{verilog}
-use Rattle.stimulus.proofs.Runs.{appends_nothing}
+use Rattle.model_traces.specs.ModuleTrace.{module_machine}
+use Rattle.file_models.specs.FileModels.{machine_by}
 use Rattle.model_files.proofs.ModelTraces.{model_written}
+use Rattle.std.proofs.Common.{refl}
+use Rattle.model_replay.specs.Verilog.{verilog}
 use Rattle.model_replay.proofs.verilog.VerilogModelLanguage.write_model_trace.Goals as goal
 
-pub returns-in-Ok-clause-text : goal.returns-in-Ok-clause-text
-returns-in-Ok-clause-text g c =
-    model_written verilog _ _ _ c.args.ports.now c.args.changes.now _ c.args.model.now _ c.as_slice.ensures c.in-Ok.ensures.machine c.write_section.ensures.text
+pub write_started-requires-clause-runs : goal.write_started-requires-clause-runs
+write_started-requires-clause-runs g c = (
+  machine_by module_machine c.args.model.now,
+  (c.start_module-sim.ensures.machine, record { inputs = c.requires.inputs; outputs = c.requires.outputs; proper = c.requires.proper }),
+)
 
-pub returns-in-Err-clause-text : goal.returns-in-Err-clause-text
-returns-in-Err-clause-text g c = appends_nothing _ _ _ cc
+pub returns-clause-text : goal.returns-clause-text
+returns-clause-text g c =
+    model_written verilog _ _ _ c.args.ports.now c.args.changes.now _ c.args.model.now _ c.as_slice.ensures refl
+    (c.write_started.ensures.text (machine_by module_machine c.args.model.now) c.start_module-sim.ensures.machine)

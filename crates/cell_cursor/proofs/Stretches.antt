@@ -2,19 +2,20 @@
 use Rattle.std.proofs.Common.{◌≡◌, ℕ, ◌+◌, ◌-◌, ◌<◌, ◌≤◌, nat_lt, Bool, true, false, List, [], ◌∷◌, ◌++◌, take, drop, length}
 use Rattle.std.proofs.Common.{Option, Some, None, refl, sym, ap, subst, ◌∙◌, arith}
 use Rattle.std.proofs.lemmas.Bool.Decides.{nat_tests}
-use Rattle.std.proofs.lemmas.List.{append_assoc, append-nil, length-take-le, length-drop}
+use Rattle.std.proofs.lemmas.List.{append_assoc, length-take-le, length-drop}
 use Rattle.std.proofs.Math.Seq.{take-add}
 use Rattle.liberty_text.specs.declared.token.TokenKind.{TokenKind}
 use Rattle.liberty_text.specs.declared.token.Token.{Token}
 use Rattle.liberty_text.specs.declared.scanner.Mode.{Mode}
 use Rattle.liberty_text.specs.declared.scanner.Mode.TheVariants.{Between}
 use Rattle.liberty_text.specs.Scanner.{step}
-use Rattle.liberty_text.specs.Runs.{mode_behind, tokens_ended}
+use Rattle.liberty_text.specs.Runs.{mode_behind, tokens_ended, has_mark}
 use Rattle.cell_cursor.specs.declared.part.Place.{Place}
 use Rattle.cell_cursor.specs.Braces.{depth_behind, depth_after, is_outer, has_outer, ShowsOuter, kinds_of}
-use Rattle.cell_cursor.specs.Scanned.{NoneOuterEnds, ends_by, last_kind}
+use Rattle.cell_cursor.specs.Scanned.{NoneOuterEnds, last_mark}
 use Rattle.cell_cursor.proofs.RunTokens.{AreFew, none_before_of, run_few, run_closes, counted_some, counted_none, outer_some}
-use Rattle.cell_cursor.proofs.RunTokens.{outer_none, depth_more}
+use Rattle.cell_cursor.proofs.RunTokens.{outer_none, depth_more, unmarked_plain, plain_last}
+use Rattle.cell_cursor.proofs.Depths.{kinds_append}
 
 -- some bytes, and then others
 
@@ -47,14 +48,14 @@ pub record Passed (here : Place) (ts : List Token) (mode : Mode) (at : ℕ) (mor
   pub few : depth ≤ at + count
   pub inner : has_outer here (kinds_of ts) ≡ false → NoneOuterEnds here ts mode at more (count + 1)
 
--- What is known of one more run of bytes, of which a token ends at most with the last one.
+-- What is known of one more run of bytes, of which a brace of a group or a semicolon ends at most with the last one.
 pub record Runs (mode : Mode) (at : ℕ) (left : List ℕ) (count : ℕ) (tokens tokens' : List Token) (now : Mode)
     (kind : Option TokenKind) : Type 0 where
   pub within : count ≤ length left
   pub tokens_are : tokens' ≡ tokens ++ tokens_ended mode at (take count left)
   pub mode_is : now ≡ mode_behind mode at (take count left)
-  pub none_before : (n : ℕ) → n < count → tokens_ended mode at (take n left) ≡ []
-  pub kind_is : kind ≡ last_kind (tokens_ended mode at (take count left))
+  pub none_before : (n : ℕ) → n < count → has_mark (tokens_ended mode at (take n left)) ≡ false
+  pub kind_is : kind ≡ last_mark (tokens_ended mode at (take count left))
 
 run_is_few : (mode : Mode) (at : ℕ) (left : List ℕ) (count : ℕ) (tokens tokens' : List Token) (now : Mode)
     (kind : Option TokenKind) → Runs mode at left count tokens tokens' now kind →
@@ -62,12 +63,12 @@ run_is_few : (mode : Mode) (at : ℕ) (left : List ℕ) (count : ℕ) (tokens to
 run_is_few mode at left count tokens tokens' now kind r =
     run_few mode at (take count left) (none_before_of mode at left count r.within r.none_before)
 
--- where a token has ended with the last of them nothing stands open behind it
+-- where such a mark has ended with the last of them nothing stands open behind it
 pub run_ends : {mode : Mode} {at : ℕ} {left : List ℕ} {count : ℕ} {tokens tokens' : List Token} {now : Mode} {k : TokenKind}
-    → Runs mode at left count tokens tokens' now (Some k) → ends_by k ≡ true → now ≡ Between false
-run_ends {mode} {at} {left} {count} {tokens} {tokens'} {now} {k} r ends =
+    → Runs mode at left count tokens tokens' now (Some k) → now ≡ Between false
+run_ends {mode} {at} {left} {count} {tokens} {tokens'} {now} {k} r =
     r.mode_is ∙ run_closes mode at (take count left) k (none_before_of mode at left count r.within r.none_before)
-    (sym r.kind_is) ends
+    (sym r.kind_is)
 
 last_too : (here : Place) (ts : List Token) (mode : Mode) (at : ℕ) (more : List ℕ) (count : ℕ) (tokens' : List Token)
     → NoneOuterEnds here ts mode at more count → has_outer here (kinds_of tokens') ≡ false →
@@ -95,7 +96,7 @@ module _ {here : Place} {ts : List Token} {mode : Mode} {at : ℕ} {more : List 
       ∙ ap (λ (x : Mode). tokens_ended mode at (take count more) ++ tokens_ended x (at + count) (take n left)) (sym p.mode_is)
 
   -- none of the tokens is an outer brace
-  open_before : Passed here ts mode at more count tokens m depth → has_outer here (kinds_of ts) ≡ false
+  pub open_before : Passed here ts mode at more count tokens m depth → has_outer here (kinds_of ts) ≡ false
       → has_outer here (kinds_of tokens) ≡ false
   open_before p none = ap (λ (l : List Token). has_outer here (kinds_of l)) p.tokens_are ∙ p.inner none count (omega arith)
 
@@ -137,14 +138,18 @@ module _ {here : Place} {ts : List Token} {mode : Mode} {at : ℕ} {more : List 
         by_test false t =
             let far : count + 1 ≤ n = grind (arith, nat_tests, t) in
             let n_is : n ≡ count + (n - count) = omega (arith, far) in
+            let ended = tokens_ended mode at (take count more) in
+            let new = tokens_ended m (at + count) (take (n - count) left) in
             ap (λ (k : ℕ). has_outer here (kinds_of (ts ++ tokens_ended mode at (take k more)))) n_is
-            ∙ ap (λ (l : List Token). has_outer here (kinds_of (ts ++ l)))
-            (ended_so_far left (n - count) p e ∙ ap (λ (l : List Token). tokens_ended mode at (take count more) ++ l)
-            (r.none_before (n - count) (omega (arith, far, less))) ∙ append-nil (tokens_ended mode at (take count more)))
+            ∙ ap (λ (l : List Token). has_outer here (kinds_of (ts ++ l))) (ended_so_far left (n - count) p e)
+            ∙ ap (λ (l : List Token). has_outer here (kinds_of l)) (sym (append_assoc ts ended new))
+            ∙ ap (has_outer here) (kinds_append (ts ++ ended) new)
+            ∙ plain_last here (kinds_of (ts ++ ended)) (kinds_of new)
+            (unmarked_plain new (r.none_before (n - count) (omega (arith, far, less))))
             ∙ p.inner none count (omega arith)
 
   module _ {left : List ℕ} {taken : ℕ} {tokens' : List Token} {m' : Mode} {k : TokenKind} where
-    -- a token has ended with the run
+    -- such a mark has ended with the run
     pub outer_so_far : (d : ℕ) (may : Bool) → Passed here ts mode at more count tokens m depth
         → Runs m (at + count) left taken tokens tokens' m' (Some k) → d ≡ depth_behind depth k →
         (may ≡ false → (before : ℕ) → d ≡ depth_behind before k → is_outer here before k ≡ false)
@@ -176,7 +181,7 @@ module _ {here : Place} {ts : List Token} {mode : Mode} {at : ℕ} {more : List 
           (tokens_so_far p e r);
     }
 
-  -- no token has ended with the run
+  -- none has ended with the run
   pub passed_rest : {left : List ℕ} {taken : ℕ} {tokens' : List Token} {m' : Mode}
       → Passed here ts mode at more count tokens m depth → left ≡ drop count more →
       Runs m (at + count) left taken tokens tokens' m' None → Passed here ts mode at more (count + taken) tokens' m' depth

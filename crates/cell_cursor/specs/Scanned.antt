@@ -1,14 +1,13 @@
 -- Bytes that are scanned.
-use Rattle.std.specs.Prelude.{◌≡◌, ℕ, ◌+◌, ◌<◌, Bool, true, false, List, [], ◌∷◌, ◌++◌, take, length, Option, Some, None}
+use Rattle.std.specs.Prelude.{◌≡◌, ℕ, ◌+◌, ◌<◌, false, List, [], ◌∷◌, ◌++◌, take, length, Option, Some, None, if◌then◌else◌}
 use Rattle.liberty_text.specs.declared.token.Token.{Token}
 use Rattle.liberty_text.specs.declared.token.TokenKind.{TokenKind}
-use Rattle.liberty_text.specs.declared.token.TokenKind.TheVariants.{Brace, Semicolon}
 use Rattle.liberty_text.specs.declared.token.Stop.{Stop}
 use Rattle.liberty_text.specs.declared.token.Stop.TheVariants.{End, BadByte, OpenText, OpenComment, OpenContinuation}
 use Rattle.liberty_text.specs.declared.scanner.Mode.{Mode}
 use Rattle.liberty_text.specs.declared.scanner.Mode.TheVariants.{Between}
 use Rattle.liberty_text.specs.Scanner.{run, after_tokens}
-use Rattle.liberty_text.specs.Runs.{tokens_ended}
+use Rattle.liberty_text.specs.Runs.{tokens_ended, is_group_mark}
 use Rattle.cell_cursor.specs.declared.part.Place.{Place}
 use Rattle.cell_cursor.specs.Braces.{has_outer, kinds_of}
 
@@ -45,14 +44,12 @@ stop_behind n (OpenText at) = OpenText (at + n)
 stop_behind n (OpenComment at) = OpenComment (at + n)
 stop_behind n (OpenContinuation at) = OpenContinuation (at + n)
 
--- with a token of this kind a statement may end
-abbrev pub ends_by : TokenKind → Bool
-ends_by (Brace byte) = true
-ends_by Semicolon = true
-ends_by _ = false
+-- a kind, where it is that of a brace of a group or of a semicolon
+abbrev pub mark_of : TokenKind → Option TokenKind
+mark_of kind = if is_group_mark kind then Some kind else None
 
--- the kind of the last of the tokens that end with one byte, of which there are at most two
-abbrev pub last_kind : List Token → Option TokenKind
-last_kind (t ∷ []) = Some t.kind
-last_kind (t ∷ u ∷ []) = Some u.kind
-last_kind _ = None
+-- the kind of the last of the tokens, where it is such a mark
+abbrev pub last_mark : List Token → Option TokenKind
+last_mark [] = None
+last_mark (t ∷ []) = mark_of t.kind
+last_mark (t ∷ u ∷ tokens) = last_mark (u ∷ tokens)

@@ -3,10 +3,10 @@
 ghost use Rattle.std.specs.Prelude.{◌≡◌, ℕ, true, false, ◌<◌, ◌≤◌, ◌+◌, ◌^◌, [], ◌++◌, take, length, IfOk, IfSome, OnErr};
 ghost use Rattle.liberty_text.specs.declared.scanner.Mode.TheVariants.{Between};
 ghost use Rattle.liberty_groups.specs.Lexeme.{LieInside};
-ghost use Rattle.liberty_text.specs.Runs.{mode_behind, tokens_ended};
+ghost use Rattle.liberty_text.specs.Runs.{mode_behind, tokens_ended, has_mark};
 ghost use Rattle.cell_cursor.specs.Braces.{depth_behind, depth_after, is_outer, has_outer, ShowsOuter, kinds_of};
 ghost use Rattle.cell_cursor.specs.Part.{all_scanned};
-ghost use Rattle.cell_cursor.specs.Scanned.{AreScanned, NoneOuter, NoneOuterEnds, ends_by, last_kind};
+ghost use Rattle.cell_cursor.specs.Scanned.{AreScanned, NoneOuter, NoneOuterEnds, mark_of, last_mark};
 
 use crate::watch::{Sight, Watch};
 use liberty_groups::Standing;
@@ -249,7 +249,6 @@ fn depth_behind(depth: usize, kind: TokenKind) -> usize
 
 /// Whether a statement may have ended with a token of this kind, behind which so many groups of the part are open.
 fn may_end(place: Place, kind: TokenKind, depth: usize) -> bool
-    ensures kind { result ≡ true → ends_by kind ≡ true }
     ensures outer { result ≡ false → (before : ℕ) → depth ≡ depth_behind before kind → is_outer place before kind ≡ false }
 {
     match kind {
@@ -268,10 +267,56 @@ struct Stretch {
     may_end: bool,
 }
 
-/// Scans more bytes, up to the first one with which a token ends, and that one too. How many they are, and the kind of the
-/// token that ended last, if one did.
+/// The kind of the last of these tokens, where it is a brace of a group or a semicolon.
+fn last_mark(tokens: &[Kept]) -> Option<TokenKind>
+    ensures { result ≡ last_mark tokens.now }
+{
+    match tokens {
+        [.., last] => mark_of(last.token().kind),
+        [] => None,
+    }
+}
+
+/// A kind, where it is that of a brace of a group or of a semicolon.
+fn mark_of(kind: TokenKind) -> Option<TokenKind>
+    ensures { result ≡ mark_of kind }
+{
+    match kind {
+        TokenKind::Brace(b'{') | TokenKind::Brace(b'}') | TokenKind::Semicolon => Some(kind),
+        _ => None,
+    }
+}
+
+/// Scans more bytes, up to the first one with which a token ends or, inside a group, with which a brace of a group or a semicolon
+/// ends, and that one too. How many they are.
+#[tactic(auto, using(crate::proofs::RunTokens::none_unmarked))]
+fn scan_some(
+    scanner: &mut Scanner,
+    is_inside: bool,
+    at: usize,
+    more: &[u8],
+) -> Result<usize, AllocError>
+    requires { at + length more.now < 2 ^ 64 }
+    ensures count { IfOk result (λ count. count ≤ length more.now) }
+    ensures some { IfOk result (λ count. 0 < length more.now → 0 < count) }
+    ensures tokens { IfOk result (λ count. scanner.new.tokens.items ≡ scanner.old.tokens.items
+        ++ tokens_ended scanner.old.mode at (take count more.now)) }
+    ensures mode { IfOk result (λ count. scanner.new.mode ≡ mode_behind scanner.old.mode at (take count more.now)) }
+    ensures none_before { IfOk result (λ count. (n : ℕ) → n < count
+        → has_mark (tokens_ended scanner.old.mode at (take n more.now)) ≡ false) }
+{
+    if is_inside {
+        return scanner.step_to_mark(at, more);
+    }
+    let count = scanner.step_on(at, more)?;
+    Ok(count)
+}
+
+/// Scans some bytes as `scan_some` does. How many they are, and the kind of the token that ended last, if it is a brace of a group
+/// or a semicolon.
 fn scan_token(
     scanner: &mut Scanner,
+    is_inside: bool,
     at: usize,
     more: &[u8],
 ) -> Result<(usize, Option<TokenKind>), AllocError>
@@ -281,17 +326,14 @@ fn scan_token(
     ensures tokens { IfOk result (λ run. scanner.new.tokens.items ≡ scanner.old.tokens.items
         ++ tokens_ended scanner.old.mode at (take run.0 more.now)) }
     ensures mode { IfOk result (λ run. scanner.new.mode ≡ mode_behind scanner.old.mode at (take run.0 more.now)) }
-    ensures none_before { IfOk result (λ run. (n : ℕ) → n < run.0 → tokens_ended scanner.old.mode at (take n more.now) ≡ []) }
-    ensures kind { IfOk result (λ run. run.1 ≡ last_kind (tokens_ended scanner.old.mode at (take run.0 more.now))) }
+    ensures none_before { IfOk result (λ run. (n : ℕ) → n < run.0
+        → has_mark (tokens_ended scanner.old.mode at (take n more.now)) ≡ false) }
+    ensures kind { IfOk result (λ run. run.1 ≡ last_mark (tokens_ended scanner.old.mode at (take run.0 more.now))) }
 {
     let ended = scanner.tokens().len();
-    let count = scanner.step_on(at, more)?;
-    let kind = match &scanner.tokens()[ended..] {
-        [last] => Some(last.token().kind),
-        [_, last] => Some(last.token().kind),
-        _ => None,
-    };
-    Ok((count, kind))
+    let count = scan_some(scanner, is_inside, at, more)?;
+    let mark = last_mark(&scanner.tokens()[ended..]);
+    Ok((count, mark))
 }
 
 /// Scans more bytes, up to the first one with which a token ends behind which no group of the part is open, and that one too.
@@ -322,7 +364,7 @@ fn scan_tokens(
     let mut count = 0;
     while count < more.len() {
         let (_, left) = more.split_at(count);
-        let (taken, kind) = scan_token(scanner, at + count, left)?;
+        let (taken, kind) = scan_token(scanner, open > 0, at + count, left)?;
         count += taken;
         if let Some(kind) = kind {
             open = depth_behind(open, kind);
@@ -334,6 +376,12 @@ fn scan_tokens(
                     may_end,
                 });
             }
+        } else if open == 0 {
+            return Ok(Stretch {
+                count,
+                depth: open,
+                may_end: false,
+            });
         }
     }
     Ok(Stretch {

@@ -1,14 +1,12 @@
 -- What a cursor over tokens shows, and what it keeps.
-use Rattle.std.specs.Prelude.{◌≡◌, ◌<◌, ◌+◌, ◌^◌, List, length}
-use Rattle.liberty_text.specs.Unread.{first}
+use Rattle.std.specs.Prelude.{◌<◌, ◌+◌, ◌^◌, List, length}
 use Rattle.liberty_groups.specs.declared.cursor.Cursor.TheInside.{Inside}
 use Rattle.liberty_groups.specs.Lexeme.{Lexeme, lexemes_behind, LieInside}
 
 abbrev pub lexemes_left : Inside → List Lexeme
 lexemes_left c = lexemes_behind c.before c.text.now c.left
 
--- The next token is the first that is left; the tokens lie inside the text, and the offsets of all of it are machine numbers
+-- the tokens lie inside the text, and the offsets of all of it are machine numbers
 pub record IsInside (c : Inside) : Type 0 where
-  pub next_is : c.next ≡ first c.left
   pub inside : LieInside c.text.now c.left
   pub fits : c.before + length c.text.now < 2 ^ 64

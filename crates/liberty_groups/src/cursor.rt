@@ -14,8 +14,6 @@ use std::marker::Model;
 #[derive(Drop)]
 pub struct Cursor<'a> {
     text: &'a [u8],
-    /// The first token that is left, which is asked for several times and unpacked once.
-    next: Option<Token>,
     left: Unread,
     /// How many bytes stand before the part.
     before: usize,
@@ -40,11 +38,9 @@ impl<'a> Cursor<'a> {
         requires { LieInside text.now tokens.items }
         ensures { result ≡ lexemes_of text.now tokens.items }
     {
-        let left = Unread::new(tokens);
         Cursor {
             text,
-            next: left.first(),
-            left,
+            left: Unread::new(tokens),
             before: 0,
         }
     }
@@ -55,11 +51,9 @@ impl<'a> Cursor<'a> {
         requires fits { before + length text.now < 2 ^ 64 }
         ensures { result ≡ lexemes_behind before text.now tokens.items }
     {
-        let left = Unread::new(tokens);
         Cursor {
             text,
-            next: left.first(),
-            left,
+            left: Unread::new(tokens),
             before,
         }
     }
@@ -70,7 +64,6 @@ impl<'a> Cursor<'a> {
     {
         Ok(Cursor {
             text: self.text,
-            next: self.next,
             left: self.left.again(alloc)?,
             before: self.before,
         })
@@ -110,12 +103,13 @@ impl<'a> Cursor<'a> {
             .count()
     }
 
-    /// The next token, which stays.
+    /// The next token, which stays. Where it is asked for, no more of it is unpacked than what is wanted of it.
+    #[inline(always)]
     #[tactic(auto, using(crate::proofs::Unreads::next_is, crate::proofs::Unreads::first_inside))]
     pub fn peek(&self) -> Option<Token>
         ensures { result ≡ next_token self.now }
     {
-        match self.next {
+        match self.left.first() {
             Some(token) => Some(Token {
                 kind: token.kind,
                 at: token.at + self.before,
@@ -135,20 +129,21 @@ impl<'a> Cursor<'a> {
     }
 
     /// Goes past the next token.
+    #[inline(always)]
     #[tactic(auto, using(crate::proofs::Unreads::others_are, crate::proofs::Unreads::others_inside))]
     pub fn skip(&mut self)
         ensures { self.new ≡ rest self.old }
     {
         self.left.skip();
-        self.next = self.left.first();
     }
 
     /// The bytes of the next token.
+    #[inline(always)]
     #[tactic(auto, using(crate::proofs::Unreads::bytes_are, crate::proofs::Unreads::first_inside))]
     pub fn bytes(&self) -> &'a [u8]
         ensures { result.now ≡ next_bytes self.now }
     {
-        match self.next {
+        match self.left.first() {
             Some(token) => &self.text[token.at..token.end],
             None => &[],
         }

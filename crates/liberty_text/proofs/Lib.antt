@@ -2,6 +2,7 @@ pub mod Complete
 pub mod Covered
 pub mod Firsts
 pub mod Fixeds
+pub mod Marked
 pub mod Numbers
 pub mod Packing
 pub mod Places

@@ -60,28 +60,38 @@ take_next bytes n h = rw add-one (take-suc bytes n 0 h)
 
 -- the next byte
 
-pub mode_turn : (mode : Mode) (at : ℕ) (bytes : List ℕ) (n : ℕ) (now now' : Mode) → n < length bytes
-    → NoneEnded mode at bytes n now →
+pub mode_by : (mode : Mode) (at : ℕ) (bytes : List ℕ) (n : ℕ) (now now' : Mode) → n < length bytes
+    → now ≡ mode_behind mode at (take n bytes) →
     now' ≡ (step now (at + n) (get_or bytes n 0)).0 → now' ≡ mode_behind mode at (take (n + 1) bytes)
-mode_turn mode at bytes n now now' h k e =
+mode_by mode at bytes n now now' h m e =
     let b = get_or bytes n 0 in
     let size : length (take n bytes) ≡ n = length-take-le n bytes (omega (arith, h)) in
-    e ∙ ap (λ (m : Mode). (step m (at + n) b).0) k.mode_is
+    e ∙ ap (λ (m : Mode). (step m (at + n) b).0) m
     ∙ ap (λ (i : ℕ). (step (mode_behind mode at (take n bytes)) (at + i) b).0) (sym size)
     ∙ sym (mode_next mode at (take n bytes) b)
     ∙ ap (mode_behind mode at) (sym (take_next bytes n h))
 
-ended_turn : (mode : Mode) (at : ℕ) (bytes : List ℕ) (n : ℕ) (now : Mode) → n < length bytes → NoneEnded mode at bytes n now →
-    tokens_ended mode at (take (n + 1) bytes) ≡ (step now (at + n) (get_or bytes n 0)).1
-ended_turn mode at bytes n now h k =
+pub ended_by : (mode : Mode) (at : ℕ) (bytes : List ℕ) (n : ℕ) (now : Mode) → n < length bytes
+    → now ≡ mode_behind mode at (take n bytes) →
+    tokens_ended mode at (take (n + 1) bytes) ≡ tokens_ended mode at (take n bytes) ++ (step now (at + n) (get_or bytes n 0)).1
+ended_by mode at bytes n now h m =
     let b = get_or bytes n 0 in
     let size : length (take n bytes) ≡ n = length-take-le n bytes (omega (arith, h)) in
     ap (tokens_ended mode at) (take_next bytes n h)
     ∙ tokens_next mode at (take n bytes) b
-    ∙ ap (λ (l : List Token). l ++ (step (mode_behind mode at (take n bytes)) (at + length (take n bytes)) b).1)
-    (k.none n (omega arith))
-    ∙ ap (λ (i : ℕ). (step (mode_behind mode at (take n bytes)) (at + i) b).1) size
-    ∙ ap (λ (m : Mode). (step m (at + n) b).1) (sym k.mode_is)
+    ∙ ap (λ (i : ℕ). tokens_ended mode at (take n bytes) ++ (step (mode_behind mode at (take n bytes)) (at + i) b).1) size
+    ∙ ap (λ (m : Mode). tokens_ended mode at (take n bytes) ++ (step m (at + n) b).1) (sym m)
+
+pub mode_turn : (mode : Mode) (at : ℕ) (bytes : List ℕ) (n : ℕ) (now now' : Mode) → n < length bytes
+    → NoneEnded mode at bytes n now →
+    now' ≡ (step now (at + n) (get_or bytes n 0)).0 → now' ≡ mode_behind mode at (take (n + 1) bytes)
+mode_turn mode at bytes n now now' h k e = mode_by mode at bytes n now now' h k.mode_is e
+
+ended_turn : (mode : Mode) (at : ℕ) (bytes : List ℕ) (n : ℕ) (now : Mode) → n < length bytes → NoneEnded mode at bytes n now →
+    tokens_ended mode at (take (n + 1) bytes) ≡ (step now (at + n) (get_or bytes n 0)).1
+ended_turn mode at bytes n now h k =
+    ended_by mode at bytes n now h k.mode_is
+    ∙ ap (λ (l : List Token). l ++ (step now (at + n) (get_or bytes n 0)).1) (k.none n (omega arith))
 
 pub tokens_turn : (mode : Mode) (at : ℕ) (bytes : List ℕ) (n : ℕ) (now : Mode) (first ts ts' : List Token) → n < length bytes
     → NoneEnded mode at bytes n now → ts ≡ first →

@@ -52,7 +52,7 @@ text_stays begun line at b e f =
     ∙ ap (λ q. (InText begun line q, [])) f
 
 -- a byte of a run leaves open what stands open
-stays : (now : Mode) (bytes : List ℕ) (i at : ℕ) → i < idle_run now bytes → step now at (get_or bytes i 0) ≡ (now, [])
+pub stays : (now : Mode) (bytes : List ℕ) (i at : ℕ) → i < idle_run now bytes → step now at (get_or bytes i 0) ≡ (now, [])
 stays (Between line) bytes i at h =
     blank_stays line at (get_or bytes i 0) (class_of (get_or bytes i 0)) (passes is_blank bytes i h)
 stays (InWord begun line None) bytes i at h =

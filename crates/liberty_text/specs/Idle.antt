@@ -38,3 +38,7 @@ idle_run _ bytes = 0
 -- a byte between quotes that stands for itself: no line end, and no backslash
 abbrev pub stands_for_itself : ℕ → Bool
 stands_for_itself b = not (b == 10 || b == 92)
+
+-- "{", "}" or ";"
+abbrev pub is_mark_byte : ℕ → Bool
+is_mark_byte b = b == 59 || (b == 123 || b == 125)

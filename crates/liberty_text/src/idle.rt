@@ -1,7 +1,7 @@
 //! Runs of bytes that leave what stands open as it is.
 
 ghost use Rattle.std.specs.Prelude.{◌≡◌, ◌≤◌, length};
-ghost use Rattle.liberty_text.specs.Idle.{is_blank, is_plain_in_word, is_plain_in_text, front_run, idle_run};
+ghost use Rattle.liberty_text.specs.Idle.{is_blank, is_plain_in_word, is_plain_in_text, front_run, idle_run, is_mark_byte};
 
 use crate::scanner::Mode;
 use lexer::{ByteClass, byte_table, run_length};
@@ -86,6 +86,7 @@ fn text_run(bytes: &[u8]) -> usize
 }
 
 /// How many bytes at the front leave open what stands open. No token ends with one of them.
+#[inline(always)]
 pub(crate) fn idle_run(mode: Mode, bytes: &[u8]) -> usize
     ensures value { result ≡ idle_run mode bytes.now }
     ensures within { result ≤ length bytes.now }
@@ -96,4 +97,12 @@ pub(crate) fn idle_run(mode: Mode, bytes: &[u8]) -> usize
         Mode::InText { escaped: false, .. } => text_run(bytes),
         _ => 0,
     }
+}
+
+/// Whether a byte is a brace of a group or a semicolon.
+#[inline(always)]
+pub(crate) fn is_mark_byte(byte: u8) -> bool
+    ensures { result ≡ is_mark_byte byte }
+{
+    byte == b';' || (byte == b'{' || byte == b'}')
 }

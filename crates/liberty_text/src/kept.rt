@@ -39,6 +39,7 @@ pub struct KeptScan {
 }
 
 /// The kind with a code; what stands beside the code is the byte of a brace.
+#[inline(always)]
 fn kind_by(code: u32, amount: u32) -> TokenKind
     ensures { result ≡ kind_by code amount }
 {
@@ -96,6 +97,7 @@ fn fits(kind: TokenKind, size: u32) -> bool
 }
 
 /// How many bytes a token has; what stands beside the code is the length of a Word or a text.
+#[inline(always)]
 fn size_by(code: u32, amount: u32) -> u32
     ensures { result ≡ size_by code amount }
 {
@@ -104,6 +106,7 @@ fn size_by(code: u32, amount: u32) -> u32
 
 impl Kept {
     /// The token.
+    #[inline(always)]
     pub fn token(&self) -> Token
         ensures { result ≡ self.now }
     {

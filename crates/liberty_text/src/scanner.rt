@@ -3,12 +3,12 @@
 ghost use Rattle.std.specs.Prelude.{◌≡◌, ◌++◌, ◌+◌, ◌<◌, ◌≤◌, ◌^◌, ℕ, length, take, OnOk, IfOk};
 ghost use Rattle.std.specs.Prelude.{false, [], ◌∷◌};
 ghost use Rattle.liberty_text.specs.Scanner.{class_of, token, opened, in_word_by, comment_in_word, in_text, step, closing};
-ghost use Rattle.liberty_text.specs.Runs.{mode_behind, tokens_ended};
+ghost use Rattle.liberty_text.specs.Runs.{mode_behind, tokens_ended, has_mark};
 ghost use Rattle.liberty_text.specs.declared.scanner.Mode.TheVariants.{Between};
 
 use crate::bytes_after::{after_comment_byte, after_continuation_byte, slash_at};
 use crate::class::{Class, class_of};
-use crate::idle::idle_run;
+use crate::idle::{idle_run, is_mark_byte};
 use crate::kept::{Kept, KeptScan};
 use crate::token::{Stop, TokenKind};
 use std::alloc::{AllocError, Global};
@@ -111,14 +111,14 @@ impl Scanner {
         Ok(())
     }
 
-    /// A byte between tokens. What stands open behind it.
+    /// A byte between tokens.
     #[inline(always)]
-    fn open(&mut self, line_before: bool, at: usize, byte: u8) -> Result<Mode, AllocError>
+    fn open(&mut self, line_before: bool, at: usize, byte: u8) -> Result<(), AllocError>
         requires { at + 1 < 2 ^ 64 }
-        ensures mode { IfOk result (λ mode. mode ≡ (opened line_before at byte).0) }
+        ensures mode { OnOk result (self.new.mode ≡ (opened line_before at byte).0) }
         ensures tokens { OnOk result (self.new.tokens.items ≡ self.old.tokens.items ++ (opened line_before at byte).1) }
     {
-        Ok(match class_of(byte) {
+        self.mode = match class_of(byte) {
             Class::LineEnd => Mode::Between { line_before: true },
             Class::Blank => Mode::Between { line_before },
             Class::Mark(kind) => {
@@ -137,42 +137,38 @@ impl Scanner {
                 slash: slash_at(at, byte),
             },
             Class::Bad => Mode::Stopped { at },
-        })
+        };
+        Ok(())
     }
 
-    /// A byte after those of the word that begins at `begun`. What stands open behind it.
+    /// A byte after those of the word that begins at `begun`.
     #[inline(always)]
-    fn go_on(
-        &mut self,
-        begun: usize,
-        line: bool,
-        at: usize,
-        byte: u8,
-    ) -> Result<Mode, AllocError>
+    fn go_on(&mut self, begun: usize, line: bool, at: usize, byte: u8) -> Result<(), AllocError>
         requires { at + 1 < 2 ^ 64 }
-        ensures mode { IfOk result (λ mode. mode ≡ (in_word_by begun line at byte (class_of byte)).0) }
+        ensures mode { OnOk result (self.new.mode ≡ (in_word_by begun line at byte (class_of byte)).0) }
         ensures tokens { OnOk result (self.new.tokens.items ≡ self.old.tokens.items
             ++ (in_word_by begun line at byte (class_of byte)).1) }
     {
         if class_of(byte) == Class::WordByte {
-            return Ok(Mode::InWord {
+            self.mode = Mode::InWord {
                 at: begun,
                 line_before: line,
                 slash: slash_at(at, byte),
-            });
+            };
+            return Ok(());
         }
         self.push(TokenKind::Word, begun, at, line)?;
         self.open(false, at, byte)
     }
 
-    /// The word that begins at `begun` ends before the slash of a comment. What stands open behind that.
+    /// The word that begins at `begun` ends before the slash of a comment.
     fn begin_comment(
         &mut self,
         begun: usize,
         line_before: bool,
         slash: usize,
-    ) -> Result<Mode, AllocError>
-        ensures mode { IfOk result (λ mode. mode ≡ (comment_in_word begun line_before slash).0) }
+    ) -> Result<(), AllocError>
+        ensures mode { OnOk result (self.new.mode ≡ (comment_in_word begun line_before slash).0) }
         ensures tokens { OnOk result (self.new.tokens.items ≡ self.old.tokens.items
             ++ (comment_in_word begun line_before slash).1) }
     {
@@ -180,15 +176,15 @@ impl Scanner {
         if is_word {
             self.push(TokenKind::Word, begun, slash, line_before)?;
         }
-        Ok(Mode::InComment {
+        self.mode = Mode::InComment {
             at: slash,
             line_before: line_before && !is_word,
             star: false,
-        })
+        };
+        Ok(())
     }
 
-    /// A byte of the text that begins at `begun`. What stands open behind it.
-    #[inline(always)]
+    /// A byte of the text that begins at `begun`.
     fn go_on_text(
         &mut self,
         begun: usize,
@@ -196,67 +192,60 @@ impl Scanner {
         escaped: bool,
         at: usize,
         byte: u8,
-    ) -> Result<Mode, AllocError>
+    ) -> Result<(), AllocError>
         requires { at + 1 < 2 ^ 64 }
-        ensures mode { IfOk result (λ mode. mode ≡ (in_text begun line_before escaped at byte).0) }
+        ensures mode { OnOk result (self.new.mode ≡ (in_text begun line_before escaped at byte).0) }
         ensures tokens { OnOk result (self.new.tokens.items ≡ self.old.tokens.items
             ++ (in_text begun line_before escaped at byte).1) }
     {
         if byte == b'"' && !escaped {
             self.push(TokenKind::Text, begun, at + 1, line_before)?;
-            return Ok(Mode::Between { line_before: false });
+            self.mode = Mode::Between { line_before: false };
+        } else {
+            self.mode = Mode::InText {
+                at: begun,
+                line_before,
+                escaped: byte == b'\\',
+            };
         }
-        Ok(Mode::InText {
-            at: begun,
-            line_before,
-            escaped: byte == b'\\',
-        })
-    }
-
-    /// Keeps the tokens that end with the byte at an offset, where this much stands open before it. What stands open behind it.
-    #[inline(always)]
-    fn mode_behind(&mut self, mode: Mode, at: usize, byte: u8) -> Result<Mode, AllocError>
-        requires { at + 1 < 2 ^ 64 }
-        ensures mode { IfOk result (λ behind. behind ≡ (step mode at byte).0) }
-        ensures tokens { OnOk result (self.new.tokens.items ≡ self.old.tokens.items ++ (step mode at byte).1) }
-    {
-        match mode {
-            Mode::Between { line_before } => self.open(line_before, at, byte),
-            Mode::InWord {
-                at: begun,
-                line_before,
-                slash: Some(slash),
-            } if byte == b'*' => self.begin_comment(begun, line_before, slash),
-            Mode::InWord {
-                at: begun,
-                line_before,
-                ..
-            } => self.go_on(begun, line_before, at, byte),
-            Mode::InText {
-                at: begun,
-                line_before,
-                escaped,
-            } => self.go_on_text(begun, line_before, escaped, at, byte),
-            Mode::InComment {
-                at: begun,
-                line_before,
-                star,
-            } => Ok(after_comment_byte(begun, line_before, star, byte)),
-            Mode::InContinuation {
-                at: begun,
-                line_before,
-            } => Ok(after_continuation_byte(begun, line_before, byte)),
-            Mode::Stopped { .. } => Ok(mode),
-        }
+        Ok(())
     }
 
     /// The byte at an offset, after those before it.
+    #[inline(always)]
     pub(crate) fn step(&mut self, at: usize, byte: u8) -> Result<(), AllocError>
         requires { at + 1 < 2 ^ 64 }
         ensures mode { OnOk result (self.new.mode ≡ (step self.old.mode at byte).0) }
         ensures tokens { OnOk result (self.new.tokens.items ≡ self.old.tokens.items ++ (step self.old.mode at byte).1) }
     {
-        self.mode = self.mode_behind(self.mode, at, byte)?;
+        match self.mode {
+            Mode::Between { line_before } => self.open(line_before, at, byte)?,
+            Mode::InWord {
+                at: begun,
+                line_before,
+                slash: Some(slash),
+            } if byte == b'*' => self.begin_comment(begun, line_before, slash)?,
+            Mode::InWord {
+                at: begun,
+                line_before,
+                ..
+            } => self.go_on(begun, line_before, at, byte)?,
+            Mode::InText {
+                at: begun,
+                line_before,
+                escaped,
+            } => self.go_on_text(begun, line_before, escaped, at, byte)?,
+            Mode::InComment {
+                at: begun,
+                line_before,
+                star,
+            } => self.mode = after_comment_byte(begun, line_before, star, byte),
+            Mode::InContinuation {
+                at: begun,
+                line_before,
+            } => self.mode = after_continuation_byte(begun, line_before, byte),
+            Mode::Stopped { .. } => {}
+        }
         Ok(())
     }
 
@@ -273,21 +262,46 @@ impl Scanner {
             → count ≡ length bytes.now) }
     {
         let ended = self.tokens().len();
-        let mut mode = self.mode;
         let mut done = 0;
         while done < bytes.len() {
             let (_, left) = bytes.split_at(done);
-            done += idle_run(mode, left);
+            done += idle_run(self.mode, left);
             if done < bytes.len() {
-                mode = self.mode_behind(mode, at + done, bytes[done])?;
+                self.step(at + done, bytes[done])?;
                 done += 1;
                 if self.tokens().len() != ended {
-                    self.mode = mode;
                     return Ok(done);
                 }
             }
         }
-        self.mode = mode;
+        Ok(bytes.len())
+    }
+
+    /// Reads bytes that begin at an offset, up to the first one with which a brace of a group or a semicolon ends, and that one
+    /// too. How many they are: at least one, where there are any.
+    pub fn step_to_mark(&mut self, at: usize, bytes: &[u8]) -> Result<usize, AllocError>
+        requires { at + length bytes.now < 2 ^ 64 }
+        ensures count { IfOk result (λ count. count ≤ length bytes.now) }
+        ensures some { IfOk result (λ count. 0 < length bytes.now → 0 < count) }
+        ensures mode { IfOk result (λ count. self.new.mode ≡ mode_behind self.old.mode at (take count bytes.now)) }
+        ensures tokens { IfOk result (λ count. self.new.tokens.items ≡ self.old.tokens.items
+            ++ tokens_ended self.old.mode at (take count bytes.now)) }
+        ensures none_before { IfOk result (λ count. (n : ℕ) → n < count
+            → has_mark (tokens_ended self.old.mode at (take n bytes.now)) ≡ false) }
+    {
+        let mut done = 0;
+        while done < bytes.len() {
+            let (_, left) = bytes.split_at(done);
+            done += idle_run(self.mode, left);
+            if done < bytes.len() {
+                let byte = bytes[done];
+                self.step(at + done, byte)?;
+                done += 1;
+                if is_mark_byte(byte) {
+                    return Ok(done);
+                }
+            }
+        }
         Ok(bytes.len())
     }
 

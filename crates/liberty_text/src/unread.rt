@@ -55,6 +55,7 @@ impl Unread {
 
     /// How many tokens there are.
     #[tactic(auto, using(crate::proofs::Turning::turned_length))]
+    #[inline(always)]
     pub fn len(&self) -> usize
         ensures { result ≡ length self.now }
     {
@@ -63,6 +64,7 @@ impl Unread {
 
     /// The next token, which stays.
     #[tactic(auto, using(crate::proofs::Turning::turned_first))]
+    #[inline(always)]
     pub fn first(&self) -> Option<Token>
         ensures { result ≡ first self.now }
     {
@@ -74,6 +76,7 @@ impl Unread {
 
     /// Takes off the next token.
     #[tactic(auto, using(crate::proofs::Turning::turned_others))]
+    #[inline(always)]
     pub fn skip(&mut self)
         ensures { self.new ≡ others self.old }
     {

@@ -51,7 +51,9 @@ const FULL: usize = 15;
 
 /// So many bytes fit in a block of each kind, beside their number.
 const NAME: usize = 39;
+
 const ROW: usize = 71;
+
 const WIDE_ROW: usize = 103;
 
 /// As many bytes as fit where a box would stand.
@@ -65,6 +67,7 @@ fn full(bytes: &[u8]) -> HeldBytes
 }
 
 /// A few bytes, in place or in one block.
+#[inline(always)]
 fn few(alloc: Global, bytes: &[u8]) -> Result<HeldBytes, AllocError>
     requires { length bytes.now ≤ 103 }
     ensures { IfOk result (λ held. held_bytes held ≡ bytes.now) }

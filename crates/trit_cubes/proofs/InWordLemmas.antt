@@ -1,8 +1,8 @@
 -- Sets of points as words: their parts, and the primes of a set that are inside none of other sets.
 use Rattle.std.proofs.Common.{◌≡◌, ◌==◌, ℕ, zero, suc, ◌/◌, ◌%◌, ◌^◌, ◌<◌, Bool, true, false, not, ◌&&◌, ◌||◌, nat_eq, bit_and}
-use Rattle.std.proofs.Common.{List, [], ◌∷◌, ◌++◌, map, length, refl, sym, ◌∙◌, ap, inl, inr, arith}
+use Rattle.std.proofs.Common.{List, [], ◌∷◌, ◌++◌, map, length, refl, sym, ◌∙◌, ap, inl, inr, arith, eq-eqb}
 use Rattle.std.specs.List.{filter, list_any}
-use Rattle.std.specs.Int.Bits.{and_zero_l}
+use Rattle.std.specs.Int.Bits.{and_zero_l, and_self}
 use Rattle.std.proofs.Math.Path.{fun_ext}
 use Rattle.std.proofs.Math.Nat.{zero-mod, zero-div}
 use Rattle.std.proofs.lemmas.Bool.{true≢false, and_parts, or_cases, or_right, eqb-true}
@@ -17,7 +17,7 @@ use Rattle.trit_cubes.specs.Sets.{common}
 use Rattle.trit_cubes.specs.Prime.{is_inside, is_prime, cubes_of, prime_list}
 use Rattle.trit_cubes.specs.InWords.{in_word, word_part, in_one, primes_outside}
 use Rattle.trit_cubes.proofs.ConstantLemmas.{primes-of-none}
-use Rattle.trit_cubes.proofs.ListLemmas.{among-filter, filter-map, filter-and, filter_same, any_same, any-map}
+use Rattle.trit_cubes.proofs.ListLemmas.{among-filter, filter-map, filter-and, filter_same, filter-never, any_same, any-map}
 use Rattle.trit_cubes.proofs.SplitLemmas.{half, both, is_inside-common, prime_list-outside, prime_list-same}
 
 -- the points in both words
@@ -183,10 +183,6 @@ in_one-smaller n w (g ∷ gs) c h k =
       | inr e ↦ or_right (is_inside (in_word n g) c) (in_one n gs c) (in_one-smaller n w gs c e k)
     ]
 
-filter-never : {X : Type 0} (xs : List X) → filter (λ _. false) xs ≡ []
-filter-never [] = refl
-filter-never (x ∷ xs) = filter-never xs
-
 pub outside-covered : (n w : ℕ) (gs : List ℕ) → list_any (λ g. nat_eq (bit_and w g) w) gs ≡ true → primes_outside n w gs ≡ []
 outside-covered n w gs h =
     filter_same (λ c. not (in_one n gs c)) (λ _. false) (prime_list n (in_word n w))
@@ -194,6 +190,19 @@ outside-covered n w gs h =
     let prime = (among-filter (is_prime (in_word n w)) c (cubes_of n) k).1 in
     ap not (in_one-smaller n w gs c h (and_parts (is_inside (in_word n w) c) _ prime).0))
     ∙ filter-never (prime_list n (in_word n w))
+
+-- none where the part of the set in front of which the place is fixed is that where it is free
+pub added-same : (n own both : ℕ) (parts : List ℕ) (front : List Trit) (x0 : List (List Trit)) → own ≡ both
+    → x0 ≡ x0 ++ map (λ c. front ++ c) (primes_outside n own (parts ++ both ∷ []))
+added-same n own both parts front x0 e =
+    let within : nat_eq (bit_and own both) own ≡ true
+    = eq-eqb (bit_and own both) own (ap (bit_and own) (sym e) ∙ and_self own) in
+    let covered : list_any (λ other. nat_eq (bit_and own other) own) (parts ++ both ∷ []) ≡ true
+    = list_any-append (λ other. nat_eq (bit_and own other) own) parts (both ∷ [])
+    ∙ or_right (list_any (λ other. nat_eq (bit_and own other) own) parts) (nat_eq (bit_and own both) own || false)
+    (ap (λ b. b || false) within) in
+    sym (append-nil x0)
+    ∙ ap (λ cs. x0 ++ map (λ c. front ++ c) cs) (sym (outside-covered n own (parts ++ both ∷ []) covered))
 
 -- no prime of no points
 in_word-none : (n : ℕ) (p : List Bool) → in_word n 0 p ≡ false

@@ -121,3 +121,7 @@ any-filter p q (x ∷ xs) h = cond-any p (q x) x (filter q xs) (h x) ∙ ap (λ 
 pub all_same : {X : Type 0} (p q : X → Bool) (xs : List X) → ((x : X) → p x ≡ q x) → list_all p xs ≡ list_all q xs
 all_same p q [] h = refl
 all_same p q (x ∷ xs) h = rw (h x, all_same p q xs h) refl
+
+pub filter-never : {X : Type 0} (xs : List X) → filter (λ _. false) xs ≡ []
+filter-never [] = refl
+filter-never (x ∷ xs) = filter-never xs

@@ -1,7 +1,7 @@
 //! The primes of a set by splitting it at its first place.
 
-ghost use Rattle.std.specs.Prelude.{◌≡◌, ℕ, ◌+◌, ◌*◌, ◌/◌, ◌^◌, ◌<◌, ◌≤◌, Bool, false, List, ◌∷◌, ◌&&◌, length, slice_index_or};
-ghost use Rattle.std.specs.Prelude.{IfOk, IfSome, IsNone, vec_len};
+ghost use Rattle.std.specs.Prelude.{◌≡◌, ℕ, ◌+◌, ◌*◌, ◌/◌, ◌^◌, ◌<◌, ◌≤◌, Bool, true, false, List, ◌∷◌, ◌&&◌, length};
+ghost use Rattle.std.specs.Prelude.{slice_index_or, IfOk, IfSome, IsNone, vec_len};
 ghost use Rattle.trit_cubes.specs.Sets.{has, common};
 ghost use Rattle.trit_cubes.specs.Prime.{prime_list};
 
@@ -26,6 +26,11 @@ pub fn primes(alloc: Global, n: usize, set: &[bool]) -> Result<Vec<Cube>, AllocE
     }
     let zero_half = half(alloc, set, false)?;
     let one_half = half(alloc, set, true)?;
+    if is_same(&zero_half, &one_half) {
+        let free = primes(alloc, n - 1, &zero_half)?;
+        let found = merge(alloc, &[], &[], &free)?;
+        return Ok(found);
+    }
     let both_halves = common(alloc, &zero_half, &one_half)?;
     let zero = primes(alloc, n - 1, &zero_half)?;
     let one = primes(alloc, n - 1, &one_half)?;
@@ -73,6 +78,13 @@ fn half(alloc: Global, set: &[bool], first: bool) -> Result<Vec<bool>, AllocErro
         points.push(set[2 * k + offset])?;
     }
     Ok(points)
+}
+
+/// Whether two tables are the same.
+fn is_same(one: &[bool], other: &[bool]) -> bool
+    ensures { result ≡ true → one.now ≡ other.now }
+{
+    *one == *other
 }
 
 /// The points in both sets.

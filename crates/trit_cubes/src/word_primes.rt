@@ -94,11 +94,15 @@ fn add_primes(
     let count = others.len();
     let both = part(places, Trit::Unknown, set);
     let zero = part(places, Trit::Zero, set);
-    let zeros = &parts_and(places, Trit::Zero, others, both)[..count + 1];
-    add_primes(found, front.before(Trit::Zero), places, zero, zeros)?;
+    if zero != both {
+        let zeros = &parts_and(places, Trit::Zero, others, both)[..count + 1];
+        add_primes(found, front.before(Trit::Zero), places, zero, zeros)?;
+    }
     let one = part(places, Trit::One, set);
-    let ones = &parts_and(places, Trit::One, others, both)[..count + 1];
-    add_primes(found, front.before(Trit::One), places, one, ones)?;
+    if one != both {
+        let ones = &parts_and(places, Trit::One, others, both)[..count + 1];
+        add_primes(found, front.before(Trit::One), places, one, ones)?;
+    }
     let frees = &parts_and(places, Trit::Unknown, others, both)[..count];
     add_primes(found, front.before(Trit::Unknown), places, both, frees)?;
     Ok(())

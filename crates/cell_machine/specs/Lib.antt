@@ -18,6 +18,7 @@ pub mod Places
 pub mod ArcPlaces
 pub mod KeptArcs
 pub mod OutputTables
+pub mod StillStates
 pub mod StepTables
 pub mod ArcDelay
 pub mod ShownOutputs

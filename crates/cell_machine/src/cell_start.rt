@@ -11,7 +11,7 @@ ghost use Rattle.cell_machine.specs.CellStarts.{IsCellStart};
 use crate::arc_places::ArcPlaces;
 use crate::cells::Cell;
 use crate::condition_names::{arc_names, check_names};
-use crate::group_tables::step_tables;
+use crate::group_tables::{StepTable, step_tables};
 use crate::kept_arcs::KeptArcs;
 use crate::output_tables::output_tables;
 use crate::pin_values::input_number;
@@ -32,8 +32,8 @@ pub struct CellStart {
     pub places: ArcPlaces,
     /// For each output the values of its function at all points of its support.
     pub outputs: Items<Items<Trit>>,
-    /// For each group and each place of its support the values of the group's step at all points.
-    pub steps: Items<Items<Items<Trit>>>,
+    /// For each group and each input the group's step at the input's changes, where these do not leave the state as it is.
+    pub steps: Items<Items<Option<StepTable>>>,
     /// What the outputs show.
     pub shown: Items<Shown>,
 }

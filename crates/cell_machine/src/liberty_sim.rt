@@ -103,13 +103,11 @@ impl<'a> CellSim for LibertySim<'a> {
         let times = self.times.as_slice()[pin].stamped(at, from, to);
         self.inputs.set(pin, to);
         let inputs = self.inputs.as_slice();
-        let kept = self.times.as_slice();
-        let names = self.known.get().check_names.as_slice();
         report_all(
             self.cell,
-            names,
+            self.known.get().check_names.as_slice(),
             inputs,
-            kept,
+            self.times.as_slice(),
             from,
             change,
             &mut self.reports,

@@ -1,5 +1,5 @@
 -- Changes of inputs that leave the state of a group.
-use Rattle.std.proofs.Common.{◌≡◌, ℕ, zero, suc, ◌+◌, ◌*◌, ◌^◌, ◌/◌, ◌<◌, ◌≤◌, Bool, true, false, List, [], ◌∷◌, ◌++◌, length, map, take, drop}
+use Rattle.std.proofs.Common.{◌≡◌, ℕ, zero, suc, ◌+◌, ◌*◌, ◌^◌, ◌/◌, ◌<◌, Bool, true, false, List, [], ◌∷◌, ◌++◌, length, map, take, drop}
 use Rattle.std.proofs.Common.{get_or, refl, sym, ap, ◌∙◌, subst, arith, pow-suc, Some, None, position, slice_get, length-append}
 use Rattle.std.specs.Prelude.{nat_eq, Option}
 use Rattle.std.specs.List.{list_all}
@@ -14,7 +14,7 @@ use Rattle.trit_cubes.specs.Sets.{AreValuesOf}
 use Rattle.trit_cubes.proofs.PointLemmas.{number-below}
 use Rattle.cell_machine.specs.declared.groups.StateGroup.{StateGroup}
 use Rattle.cell_machine.specs.declared.changes.Change.{Change}
-use Rattle.cell_machine.specs.declared.group_tables.StepTable.{StepTable}
+use Rattle.cell_machine.specs.declared.group_tables.InputStep.{InputStep}
 use Rattle.cell_machine.specs.declared.pins.Pin.{Pin}
 use Rattle.cell_machine.specs.CellData.{CellData}
 use Rattle.cell_machine.specs.Names.{state_name}
@@ -22,7 +22,7 @@ use Rattle.cell_machine.specs.Machine.{without, edge_value}
 use Rattle.cell_machine.specs.Inputs.{input_number, numbered_value, pin_value, pin_values}
 use Rattle.cell_machine.specs.CellTrace.{support_at, step_at, place_in, moved_at, moved}
 use Rattle.cell_machine.specs.StillStates.{leaves_state}
-use Rattle.cell_machine.specs.StepTables.{LeavesState, IsStepTable, IsStep}
+use Rattle.cell_machine.specs.StepTables.{LeavesState, IsInputStep, IsStep}
 use Rattle.cell_machine.proofs.GroupSteps.{support_at-is, step_at-is, place-inside}
 use Rattle.cell_machine.proofs.StepLemmas.{length-without}
 use Rattle.cell_machine.proofs.Tables.{moved_tabled}
@@ -159,9 +159,9 @@ without-map f zero (x ∷ xs) = refl
 without-map f (suc p) (x ∷ xs) = ap (λ r. f x ∷ r) (without-map f p xs)
 
 pub step-tabled :
-    (cell : CellData) (g : ℕ) (group : StateGroup) (v : List Trit) (from : Trit) (c : Change) (s : Trit) (table : StepTable)
+    (cell : CellData) (g : ℕ) (group : StateGroup) (v : List Trit) (from : Trit) (c : Change) (s : Trit) (table : InputStep)
     (point : List Trit) (found : Trit)
-    → slice_get cell.groups g ≡ Some group → IsStepTable cell g c.pin table
+    → slice_get cell.groups g ≡ Some group → IsInputStep cell g c.pin table
     → point ≡ from ∷ c.to ∷ (map (numbered_value v) table.others ++ s ∷ [])
     → ((f : List Bool → Trit) → AreValuesOf (length point) f table.values → found ≡ res f point)
     → found ≡ moved cell.pins (record { name = state_name (length cell.pins) g; group = group }) v from c s
@@ -182,9 +182,9 @@ pub no-step : (cell : CellData) (g input : ℕ) → LeavesState cell g input →
 no-step cell g input leaves = (λ none. leaves, λ table some. absurd (none-some table some))
 
 pub by-table :
-    (cell : CellData) (g input : ℕ) (table : StepTable) → IsStepTable cell g input table → IsStep cell g input (Some table)
+    (cell : CellData) (g input : ℕ) (table : InputStep) → IsInputStep cell g input table → IsStep cell g input (Some table)
 by-table cell g input table is =
-    (λ none. absurd (none-some table (sym none)), λ other same. subst (IsStepTable cell g input) (table-is table other same) is)
+    (λ none. absurd (none-some table (sym none)), λ other same. subst (IsInputStep cell g input) (table-is table other same) is)
   where
-    table-is : (table other : StepTable) → Some table ≡ Some other → table ≡ other
+    table-is : (table other : InputStep) → Some table ≡ Some other → table ≡ other
     table-is table other same = cc

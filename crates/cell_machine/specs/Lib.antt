@@ -23,6 +23,7 @@ pub mod StepTables
 pub mod ArcDelay
 pub mod ShownOutputs
 pub mod LibertyStands
+pub mod CheckInputs
 pub mod CellStarts
 pub mod Sized
 pub mod Each

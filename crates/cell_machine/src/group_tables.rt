@@ -93,7 +93,7 @@ fn change_values(
 
 /// The step of a group at the changes of an input of its support.
 #[derive(Drop)]
-pub struct StepTable {
+pub struct InputStep {
     /// The place of the input in the support.
     pub place: usize,
     /// The numbers of the inputs at the other places of the support, in their order.
@@ -167,7 +167,7 @@ fn input_step(
     cell: &Cell,
     group: usize,
     input: usize,
-) -> Result<Option<StepTable>, AllocError>
+) -> Result<Option<InputStep>, AllocError>
     requires { group < length cell.now.groups }
     ensures { IfOk result (IsStep (data_of cell.now) group input) }
 {
@@ -182,7 +182,7 @@ fn input_step(
     }
     let others = other_inputs(alloc, pins, support, place)?;
     let values = Items::from_vec(values);
-    Ok(Some(StepTable {
+    Ok(Some(InputStep {
         place,
         others,
         values,
@@ -195,7 +195,7 @@ fn change_tables(
     cell: &Cell,
     group: usize,
     count: usize,
-) -> Result<Items<Option<StepTable>>, AllocError>
+) -> Result<Items<Option<InputStep>>, AllocError>
     requires group { group < length cell.now.groups }
     requires count { count ≡ inputs_of (data_of cell.now) }
     ensures { IfOk result (AreChangeTables (data_of cell.now) group) }
@@ -212,7 +212,7 @@ fn change_tables(
 pub fn step_tables(
     alloc: Global,
     cell: &Cell,
-) -> Result<Items<Items<Option<StepTable>>>, AllocError>
+) -> Result<Items<Items<Option<InputStep>>>, AllocError>
     ensures { IfOk result (AreStepTables (data_of cell.now)) }
 {
     let count = input_number(cell.pins.as_slice(), cell.pins.len());

@@ -4,6 +4,7 @@ ghost use Rattle.cell_machine.specs.Report.{any_true};
 ghost use Rattle.cell_machine.specs.CellData.{data_of};
 ghost use Rattle.cell_machine.specs.CellTrace.{inputs_of, cell_machine_of};
 ghost use Rattle.cell_machine.specs.CellStarts.{IsCellStart};
+ghost use Rattle.cell_machine.specs.CheckInputs.{check_inputs};
 ghost use Rattle.cell_machine.specs.ArcPlaces.{AreArcPlaces};
 ghost use Rattle.cell_machine.specs.OutputTables.{AreOutputTables};
 ghost use Rattle.cell_machine.specs.StepTables.{AreStepTables};
@@ -37,6 +38,7 @@ pub struct LibertySim<'a> {
     reports: Items<bool>,
     shown: Items<Shown>,
     kept: KeptArcs,
+    ghost numbered_checks: { known.check_inputs ≡ check_inputs (data_of cell.now) },
     ghost tabled_outputs: { AreOutputTables (data_of cell.now) known.outputs },
     ghost placed_arcs: { AreArcPlaces (data_of cell.now) known.places },
     ghost tabled_steps: { AreStepTables (data_of cell.now) known.steps },
@@ -105,7 +107,7 @@ impl<'a> CellSim for LibertySim<'a> {
         let inputs = self.inputs.as_slice();
         report_all(
             self.cell,
-            self.known.get().check_names.as_slice(),
+            self.known.get(),
             inputs,
             self.times.as_slice(),
             from,

@@ -14,7 +14,7 @@ use crate::changes::Change;
 use crate::entries::entry;
 use crate::few::Few;
 use crate::fillings::forced_filled;
-use crate::group_tables::StepTable;
+use crate::group_tables::InputStep;
 use crate::pin_values::{numbered_value, support_values};
 use crate::tabled::tabled;
 use sqlite_items::Items;
@@ -52,7 +52,7 @@ fn change_point(others: &[usize], seen: &SeenChange, state: Trit) -> Few<Trit, 1
 /// The next state of a group where no check reports.
 fn moved(
     cell: &Cell,
-    tables: &Items<Items<Option<StepTable>>>,
+    tables: &Items<Items<Option<InputStep>>>,
     i: usize,
     seen: &SeenChange,
     state: Trit,
@@ -88,7 +88,7 @@ fn violated(cell: &Cell, i: usize, inputs: &[Trit]) -> Trit
 /// The next state of a group at a change of an input: forced where some check reports, else moved.
 fn state_step(
     cell: &Cell,
-    tables: &Items<Items<Option<StepTable>>>,
+    tables: &Items<Items<Option<InputStep>>>,
     i: usize,
     seen: &SeenChange,
     state: Trit,
@@ -111,7 +111,7 @@ fn state_step(
 /// Takes the states of all groups over a change: where it is no event they stay.
 pub fn change_states(
     cell: &Cell,
-    tables: &Items<Items<Option<StepTable>>>,
+    tables: &Items<Items<Option<InputStep>>>,
     seen: &SeenChange,
     states: &mut Items<Trit>,
 )
@@ -131,7 +131,7 @@ pub fn change_states(
 /// Takes the states of all groups over an event.
 fn step_states(
     cell: &Cell,
-    tables: &Items<Items<Option<StepTable>>>,
+    tables: &Items<Items<Option<InputStep>>>,
     seen: &SeenChange,
     states: &mut Items<Trit>,
 )

@@ -1,5 +1,5 @@
-use Rattle.std.proofs.Common.{◌≡◌, ℕ, List, Option, Some, length, slice_get}
-use Rattle.cell_machine.specs.declared.group_tables.StepTable.{StepTable}
+use Rattle.std.proofs.Common.{◌≡◌, ℕ, Option, Some, length, slice_get}
+use Rattle.cell_machine.specs.declared.group_tables.InputStep.{InputStep}
 use Rattle.cell_machine.specs.CellData.{data_of}
 use Rattle.cell_machine.specs.StepTables.{IsStep}
 use Rattle.cell_machine.proofs.group_tables.change_tables.Given as goal
@@ -8,5 +8,5 @@ use Rattle.cell_machine.proofs.group_tables.change_tables.Given as goal
 abbrev pub invariant-loop-input : goal.invariant-loop-input
 invariant-loop-input l = record {
   one_each : length l.tables ≡ l.input;
-  are : (input : ℕ) (step : Option StepTable) → slice_get l.tables input ≡ Some step → IsStep (data_of l.cell) l.group input step;
+  are : (input : ℕ) (step : Option InputStep) → slice_get l.tables input ≡ Some step → IsStep (data_of l.cell) l.group input step;
 }

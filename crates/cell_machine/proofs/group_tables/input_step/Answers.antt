@@ -1,8 +1,7 @@
-use Rattle.std.proofs.Common.{◌≡◌, ◌<◌, ◌≤◌, ◌∙◌, ℕ, List, sym, ap, subst, length, arith, suc, map}
+use Rattle.std.proofs.Common.{◌∙◌, ℕ, List, sym, ap, subst, length, arith, suc}
 use Rattle.std.specs.Prelude.{nat_eq}
 use Rattle.std.proofs.lemmas.List.{length-map}
 use Rattle.std.proofs.lemmas.List.Quantifiers.{position-Some}
-use Rattle.trit_cubes.specs.declared.trits.Trit.{Trit}
 use Rattle.trit_cubes.specs.Sets.{AreValuesOf}
 use Rattle.cell_machine.specs.CellData.{data_of}
 use Rattle.cell_machine.specs.Inputs.{input_number}

@@ -1,7 +1,6 @@
-use Rattle.std.proofs.Common.{◌≡◌, ◌∙◌, ◌++◌, ◌+◌, suc, ℕ, List, [], sym, ap, take, drop, map, length}
+use Rattle.std.proofs.Common.{◌≡◌, ◌∙◌, ◌++◌, suc, sym, ap, take, drop, map}
 use Rattle.std.proofs.lemmas.List.{map-append}
 use Rattle.cell_machine.specs.Inputs.{input_number}
-use Rattle.cell_machine.specs.Machine.{without}
 use Rattle.cell_machine.proofs.Tables.{without_parts, drop_more_one, tail_all}
 use Rattle.cell_machine.proofs.group_tables.other_inputs.Goals as goal
 

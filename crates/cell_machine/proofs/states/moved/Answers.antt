@@ -2,9 +2,8 @@ use Rattle.std.proofs.Common.{◌≡◌, ◌∙◌, ap, sym, subst, refl, Bool, 
 use Rattle.trit_cubes.specs.declared.trits.Trit.{Trit}
 use Rattle.trit_cubes.specs.Resolution.{res}
 use Rattle.trit_cubes.specs.Sets.{AreValuesOf}
-use Rattle.cell_machine.specs.declared.group_tables.StepTable.{StepTable}
 use Rattle.cell_machine.specs.CellData.{data_of}
-use Rattle.cell_machine.specs.StepTables.{IsStepTable}
+use Rattle.cell_machine.specs.StepTables.{IsInputStep}
 use Rattle.cell_machine.proofs.StillStates.{step-tabled}
 use Rattle.cell_machine.proofs.states.moved.Goals as goal
 
@@ -18,7 +17,7 @@ change_point-point-requires c =
     let cell = data_of c.args.cell.now in
     let pin = c.args.seen.now.change.pin in
     let steps = c.requires.tables.are_tables c.args.i c.entry.result.now c.entry.ensures.is in
-    let is : IsStepTable cell c.args.i pin c.in-Some.table
+    let is : IsInputStep cell c.args.i pin c.in-Some.table
     = (steps.are_steps pin c.entry-2.result.now c.entry-2.ensures.is).1 c.in-Some.table c.in-Some.is in
     omega (arith, is.few, ap length c.as_slice.ensures)
 
@@ -27,7 +26,7 @@ returns-in-Some c = λ group e.
     let cell = data_of c.args.cell.now in
     let seen = c.args.seen.now in
     let steps = c.requires.tables.are_tables c.args.i c.entry.result.now c.entry.ensures.is in
-    let is : IsStepTable cell c.args.i seen.change.pin c.in-Some.table
+    let is : IsInputStep cell c.args.i seen.change.pin c.in-Some.table
     = (steps.are_steps seen.change.pin c.entry-2.result.now c.entry-2.ensures.is).1 c.in-Some.table c.in-Some.is in
     let point = c.as_slice-in-Some-2.ensures ∙ rw c.as_slice.ensures at c.change_point-point.ensures in
     step-tabled cell c.args.i group seen.inputs.now seen.from seen.change c.args.state c.in-Some.table c.as_slice-in-Some-2.result.now c.tabled.result e is

@@ -21,4 +21,5 @@ pub mod Standing
 pub mod ForcedLemmas
 pub mod PlaceLemmas
 pub mod StillLemmas
+pub mod StillStates
 pub mod TraceLemmas

@@ -134,9 +134,9 @@ holds_of_more P [] x h new (suc p) v e = absurd cc
 holds_of_more P (y ∷ xs) x h new zero v e = h zero v e
 holds_of_more P (y ∷ xs) x h new (suc p) v e = holds_of_more (λ q. P (suc q)) xs x (λ q w. h (suc q) w) new p v e
 
--- the point of a change, by its parts
+-- parts of a list
 
-drop_more_one : {X : Type 0} (p : ℕ) (xs : List X) → drop 1 (drop p xs) ≡ drop (suc p) xs
+pub drop_more_one : {X : Type 0} (p : ℕ) (xs : List X) → drop 1 (drop p xs) ≡ drop (suc p) xs
 drop_more_one zero xs = refl
 drop_more_one (suc p) [] = refl
 drop_more_one (suc p) (x ∷ xs) = drop_more_one p xs
@@ -144,11 +144,3 @@ drop_more_one (suc p) (x ∷ xs) = drop_more_one p xs
 pub tail_all : {X : Type 0} (xs : List X) → take (length xs - 1) (drop 1 xs) ≡ drop 1 xs
 tail_all [] = refl
 tail_all (x ∷ xs) = let few : suc (length xs) - 1 ≡ length xs = omega arith in ap (λ n. take n xs) few ∙ take-length xs
-
-pub change_parts :
-    (values : List Trit) (p : ℕ) (a b s : Trit) (before at behind : List Trit)
-    → before ≡ take p values → at ≡ drop p values → behind ≡ drop 1 at
-    → ((a ∷ b ∷ before) ++ behind) ++ s ∷ [] ≡ a ∷ b ∷ (without p values ++ s ∷ [])
-change_parts values p a b s before at behind e f g =
-    let rest : behind ≡ drop (suc p) values = g ∙ (ap (drop 1) f ∙ drop_more_one p values) in
-    (λ i. ((a ∷ b ∷ e i) ++ rest i) ++ s ∷ []) ∙ ap (λ r. a ∷ b ∷ (r ++ s ∷ [])) (sym (without_parts p values))

@@ -18,10 +18,12 @@ pub mod Places
 pub mod ArcPlaces
 pub mod KeptArcs
 pub mod OutputTables
+pub mod StillStates
 pub mod StepTables
 pub mod ArcDelay
 pub mod ShownOutputs
 pub mod LibertyStands
+pub mod CheckInputs
 pub mod CellStarts
 pub mod Sized
 pub mod Each

@@ -7,11 +7,12 @@ ghost use Rattle.cell_machine.specs.CellData.{data_of};
 ghost use Rattle.cell_machine.specs.OutputTables.{AreOutputTables};
 ghost use Rattle.cell_machine.specs.LibertyStands.{shown_after};
 ghost use Rattle.cell_machine.specs.CellStarts.{IsCellStart};
+ghost use Rattle.cell_machine.specs.CheckInputs.{check_inputs};
 
 use crate::arc_places::ArcPlaces;
 use crate::cells::Cell;
 use crate::condition_names::{arc_names, check_names};
-use crate::group_tables::step_tables;
+use crate::group_tables::{InputStep, step_tables};
 use crate::kept_arcs::KeptArcs;
 use crate::output_tables::output_tables;
 use crate::pin_values::input_number;
@@ -24,6 +25,8 @@ use trit_cubes::Trit;
 /// What is known of a cell before any change, which all its simulators begin with.
 #[derive(Drop)]
 pub struct CellStart {
+    /// For each check the number of the input at whose changes it may report.
+    pub check_inputs: Items<usize>,
     /// For each check the pins that its condition names.
     pub check_names: Items<Items<usize>>,
     /// For each arc the pins that its condition names.
@@ -32,8 +35,8 @@ pub struct CellStart {
     pub places: ArcPlaces,
     /// For each output the values of its function at all points of its support.
     pub outputs: Items<Items<Trit>>,
-    /// For each group and each place of its support the values of the group's step at all points.
-    pub steps: Items<Items<Items<Trit>>>,
+    /// For each group and each input the group's step at the input's changes, where these do not leave the state as it is.
+    pub steps: Items<Items<Option<InputStep>>>,
     /// What the outputs show.
     pub shown: Items<Shown>,
 }
@@ -44,6 +47,7 @@ impl CellStart {
     pub fn of(alloc: Global, cell: &Cell) -> Result<CellStart, AllocError>
         ensures { IfOk result (λ start. IsCellStart (data_of cell.now) start) }
     {
+        let check_inputs = check_inputs(alloc, cell)?;
         let check_names = check_names(alloc, cell)?;
         let arc_names = arc_names(alloc, cell)?;
         let outputs = output_tables(alloc, cell)?;
@@ -51,6 +55,7 @@ impl CellStart {
         let shown = first_shown(alloc, cell, &outputs)?;
         let places = ArcPlaces::of(alloc, cell, arc_names.as_slice())?;
         Ok(CellStart {
+            check_inputs,
             check_names,
             arc_names,
             places,
@@ -59,6 +64,17 @@ impl CellStart {
             shown,
         })
     }
+}
+
+/// The number of the input of each check's second event.
+fn check_inputs(alloc: Global, cell: &Cell) -> Result<Items<usize>, AllocError>
+    ensures { IfOk result (λ inputs. inputs ≡ check_inputs (data_of cell.now)) }
+{
+    let mut inputs = Items::new(alloc);
+    for i in 0..cell.checks.len() {
+        inputs.push(input_number(cell.pins.as_slice(), cell.check(i).second.pin))?;
+    }
+    Ok(inputs)
 }
 
 /// What a cell's outputs show before any change. `outputs` are the values of their functions at all points.

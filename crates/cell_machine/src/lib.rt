@@ -50,7 +50,7 @@ pub use entries::entry;
 pub use evaluation::output_at;
 pub use few::Few;
 pub use group_steps::{boolean_step, forced};
-pub use group_tables::change_value;
+pub use group_tables::{InputStep, change_value};
 pub use groups::{Both, Clocked, Gated, GroupKind, StateGroup};
 pub use kept_arcs::KeptArcs;
 pub use laws::{

@@ -4,6 +4,7 @@ ghost use Rattle.cell_machine.specs.Report.{any_true};
 ghost use Rattle.cell_machine.specs.CellData.{data_of};
 ghost use Rattle.cell_machine.specs.CellTrace.{inputs_of, cell_machine_of};
 ghost use Rattle.cell_machine.specs.CellStarts.{IsCellStart};
+ghost use Rattle.cell_machine.specs.CheckInputs.{check_inputs};
 ghost use Rattle.cell_machine.specs.ArcPlaces.{AreArcPlaces};
 ghost use Rattle.cell_machine.specs.OutputTables.{AreOutputTables};
 ghost use Rattle.cell_machine.specs.StepTables.{AreStepTables};
@@ -37,6 +38,7 @@ pub struct LibertySim<'a> {
     reports: Items<bool>,
     shown: Items<Shown>,
     kept: KeptArcs,
+    ghost numbered_checks: { known.check_inputs ≡ check_inputs (data_of cell.now) },
     ghost tabled_outputs: { AreOutputTables (data_of cell.now) known.outputs },
     ghost placed_arcs: { AreArcPlaces (data_of cell.now) known.places },
     ghost tabled_steps: { AreStepTables (data_of cell.now) known.steps },
@@ -103,13 +105,11 @@ impl<'a> CellSim for LibertySim<'a> {
         let times = self.times.as_slice()[pin].stamped(at, from, to);
         self.inputs.set(pin, to);
         let inputs = self.inputs.as_slice();
-        let kept = self.times.as_slice();
-        let names = self.known.get().check_names.as_slice();
         report_all(
             self.cell,
-            names,
+            self.known.get(),
             inputs,
-            kept,
+            self.times.as_slice(),
             from,
             change,
             &mut self.reports,

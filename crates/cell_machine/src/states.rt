@@ -1,34 +1,24 @@
 //! The states of a cell at a change of an input.
-ghost use Rattle.std.specs.Prelude.{◌≡◌, ◌<◌, ◌≤◌, [], ◌∷◌, ◌++◌, not, length, slice_get, Some, if◌then◌else◌};
+ghost use Rattle.std.specs.Prelude.{◌≡◌, ◌<◌, ◌≤◌, [], ◌∷◌, ◌++◌, not, length, map, slice_get, Some, if◌then◌else◌};
 ghost use Rattle.trit_cubes.specs.Filling.{same};
 ghost use Rattle.cell_machine.specs.declared.groups.StateGroup.{StateGroup as StateGroupOf};
 ghost use Rattle.cell_machine.specs.Names.{state_name};
 ghost use Rattle.cell_machine.specs.Each.{each};
 ghost use Rattle.cell_machine.specs.CellData.{data_of};
-ghost use Rattle.cell_machine.specs.Inputs.{pin_values};
-ghost use Rattle.cell_machine.specs.Machine.{without};
+ghost use Rattle.cell_machine.specs.Inputs.{numbered_value as numbered_value_of};
 ghost use Rattle.cell_machine.specs.StepTables.{AreStepTables};
-ghost use Rattle.cell_machine.specs.CellTrace.{place_in, moved, violated, state_step, named_groups};
+ghost use Rattle.cell_machine.specs.CellTrace.{inputs_of, moved, violated, state_step, named_groups};
 
 use crate::cells::Cell;
 use crate::changes::Change;
 use crate::entries::entry;
 use crate::few::Few;
 use crate::fillings::forced_filled;
-use crate::pin_values::{input_number, support_values};
-use crate::pins::Pin;
+use crate::group_tables::InputStep;
+use crate::pin_values::{numbered_value, support_values};
 use crate::tabled::tabled;
 use sqlite_items::Items;
 use trit_cubes::Trit;
-
-/// The place of the changed input in a support, where it is there.
-fn place_in(pins: &[Pin], support: &[usize], change: Change) -> Option<usize>
-    ensures { result ≡ place_in pins.now support.now change }
-{
-    support
-        .iter()
-        .position(|pin| input_number(pins, *pin) == change.pin)
-}
 
 /// A change of an input as the states see it.
 #[derive(Clone, Copy)]
@@ -43,27 +33,18 @@ pub struct SeenChange<'a> {
     pub change: Change,
 }
 
-/// The point of a change of an input at this place of a support: its value before, its value after, those of the other inputs,
-/// and the state.
-fn change_point(
-    pins: &[Pin],
-    support: &[usize],
-    place: usize,
-    seen: &SeenChange,
-    state: Trit,
-) -> Few<Trit, 10>
-    requires few { length support.now ≤ 8 }
-    requires place { place < length support.now }
-    ensures { result ≡ seen.now.from ∷ seen.now.change.to ∷ (without place (pin_values pins.now seen.now.inputs.now support.now)
+/// The point of a change of an input: its value before, its value after, those of the other inputs, and the state.
+fn change_point(others: &[usize], seen: &SeenChange, state: Trit) -> Few<Trit, 10>
+    requires { length others.now ≤ 7 }
+    ensures { result ≡ seen.now.from ∷ seen.now.change.to ∷ (map (numbered_value_of seen.now.inputs.now) others.now
         ++ state ∷ []) }
 {
-    let values = support_values(pins, seen.inputs, support);
-    let (before, at) = values.as_slice().split_at(place);
     let mut point = Few::new(Trit::Unknown);
     point.push(seen.from);
     point.push(seen.change.to);
-    point.append(before);
-    point.append(&at[1..]);
+    for other in others {
+        point.push(numbered_value(seen.inputs, *other));
+    }
     point.push(state);
     point
 }
@@ -71,24 +52,25 @@ fn change_point(
 /// The next state of a group where no check reports.
 fn moved(
     cell: &Cell,
-    tables: &Items<Items<Items<Trit>>>,
+    tables: &Items<Items<Option<InputStep>>>,
     i: usize,
     seen: &SeenChange,
     state: Trit,
 ) -> Trit
     requires tables { AreStepTables (data_of cell.now) tables.now }
     requires inside { i < length cell.now.groups }
+    requires pin { seen.now.change.pin < inputs_of (data_of cell.now) }
     ensures { (group : StateGroupOf) → slice_get cell.now.groups i ≡ Some group
         → result ≡ moved cell.now.pins (record { name = state_name (length cell.now.pins) i; group = group }) seen.now.inputs.now
         seen.now.from seen.now.change state }
 {
-    let pins = cell.pins.as_slice();
-    let support = cell.group(i).support.as_slice();
-    let Some(place) = place_in(pins, support, seen.change) else {
-        return state;
-    };
-    let point = change_point(pins, support, place, seen, state);
-    tabled(entry(entry(tables, i), place).as_slice(), point.as_slice())
+    match entry(entry(tables, i), seen.change.pin) {
+        Some(table) => {
+            let point = change_point(table.others.as_slice(), seen, state);
+            tabled(table.values.as_slice(), point.as_slice())
+        }
+        None => state,
+    }
 }
 
 /// The state of a group where some check reports.
@@ -106,13 +88,14 @@ fn violated(cell: &Cell, i: usize, inputs: &[Trit]) -> Trit
 /// The next state of a group at a change of an input: forced where some check reports, else moved.
 fn state_step(
     cell: &Cell,
-    tables: &Items<Items<Items<Trit>>>,
+    tables: &Items<Items<Option<InputStep>>>,
     i: usize,
     seen: &SeenChange,
     state: Trit,
 ) -> Trit
     requires tables { AreStepTables (data_of cell.now) tables.now }
     requires inside { i < length cell.now.groups }
+    requires pin { seen.now.change.pin < inputs_of (data_of cell.now) }
     ensures { (group : StateGroupOf) → slice_get cell.now.groups i ≡ Some group
         → result ≡ state_step seen.now.reported cell.now.pins
         (record { name = state_name (length cell.now.pins) i; group = group }) seen.now.inputs.now seen.now.from seen.now.change
@@ -128,12 +111,13 @@ fn state_step(
 /// Takes the states of all groups over a change: where it is no event they stay.
 pub fn change_states(
     cell: &Cell,
-    tables: &Items<Items<Items<Trit>>>,
+    tables: &Items<Items<Option<InputStep>>>,
     seen: &SeenChange,
     states: &mut Items<Trit>,
 )
     requires tables { AreStepTables (data_of cell.now) tables.now }
     requires one_each { length states.old ≡ length cell.now.groups }
+    requires pin { seen.now.change.pin < inputs_of (data_of cell.now) }
     ensures changed { states.new ≡ (if not (same seen.now.from seen.now.change.to)
         then each (λ g s. state_step seen.now.reported cell.now.pins g seen.now.inputs.now seen.now.from seen.now.change s)
         (named_groups (data_of cell.now)) states.old else states.old) }
@@ -147,12 +131,13 @@ pub fn change_states(
 /// Takes the states of all groups over an event.
 fn step_states(
     cell: &Cell,
-    tables: &Items<Items<Items<Trit>>>,
+    tables: &Items<Items<Option<InputStep>>>,
     seen: &SeenChange,
     states: &mut Items<Trit>,
 )
     requires tables { AreStepTables (data_of cell.now) tables.now }
     requires one_each { length states.old ≡ length cell.now.groups }
+    requires pin { seen.now.change.pin < inputs_of (data_of cell.now) }
     ensures stepped { states.new ≡ each
         (λ g s. state_step seen.now.reported cell.now.pins g seen.now.inputs.now seen.now.from seen.now.change s)
         (named_groups (data_of cell.now)) states.old }

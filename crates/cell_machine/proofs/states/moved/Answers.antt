@@ -1,37 +1,43 @@
-use Rattle.std.proofs.Common.{◌≡◌, ◌∙◌, sym, ap, suc, length, List, subst, arith}
+use Rattle.std.proofs.Common.{◌≡◌, ◌∙◌, ap, sym, subst, refl, Bool, List, length, arith}
 use Rattle.trit_cubes.specs.declared.trits.Trit.{Trit}
+use Rattle.trit_cubes.specs.Resolution.{res}
 use Rattle.trit_cubes.specs.Sets.{AreValuesOf}
-use Rattle.cell_machine.specs.declared.groups.StateGroup.{StateGroup}
-use Rattle.cell_machine.specs.Machine.{edge_value}
 use Rattle.cell_machine.specs.CellData.{data_of}
-use Rattle.cell_machine.specs.CellTrace.{support_at, step_at}
-use Rattle.cell_machine.proofs.GroupSteps.{support_at-is, place-inside}
-use Rattle.cell_machine.proofs.Tables.{moved_tabled}
+use Rattle.cell_machine.specs.StepTables.{IsInputStep}
+use Rattle.cell_machine.proofs.StillStates.{step-tabled}
 use Rattle.cell_machine.proofs.states.moved.Goals as goal
 
 pub entry-requires-2 : goal.entry-requires-2
 entry-requires-2 c =
-    let cell = data_of c.args.cell.now in
-    let group = c.group.result.now in
-    let place = rw (c.as_slice-pins.ensures, c.as_slice-support.ensures) at c.in-Some.ensures in
-    let inside = place-inside cell.pins group.support c.args.seen.now.change c.in-Some.place place in
-    let tables = c.requires.tables.are_tables c.args.i c.entry.result.now c.entry.ensures.is in
-    let support = ap length (support_at-is cell c.args.i group c.group.ensures.is) in
-    omega (arith, inside, tables.one_each, support)
+    let steps = c.requires.tables.are_tables c.args.i c.entry.result.now c.entry.ensures.is in
+    omega (arith, steps.one_each, c.requires.pin)
 
-pub returns : goal.returns
-returns c = λ group e.
+pub change_point-point-requires : goal.change_point-point-requires
+change_point-point-requires c =
+    let cell = data_of c.args.cell.now in
+    let pin = c.args.seen.now.change.pin in
+    let steps = c.requires.tables.are_tables c.args.i c.entry.result.now c.entry.ensures.is in
+    let is : IsInputStep cell c.args.i pin c.in-Some.table
+    = (steps.are_steps pin c.entry-2.result.now c.entry-2.ensures.is).1 c.in-Some.table c.in-Some.is in
+    omega (arith, is.few, ap length c.as_slice.ensures)
+
+pub returns-in-Some : goal.returns-in-Some
+returns-in-Some c = λ group e.
     let cell = data_of c.args.cell.now in
     let seen = c.args.seen.now in
-    let same : c.group.result.now ≡ group = cc (c.group.ensures.is, e) in
-    let support : c.as_slice-support.result.now ≡ group.support = c.as_slice-support.ensures ∙ ap (λ (g : StateGroup). g.support) same in
-    let place = rw (c.as_slice-pins.ensures, support) at c.in-Some.ensures in
-    let inside = place-inside cell.pins group.support seen.change c.in-Some.place place in
-    let point = rw (c.as_slice-pins.ensures, support) at c.change_point-point.ensures in
-    let tables = c.requires.tables.are_tables c.args.i c.entry.result.now c.entry.ensures.is in
-    let known = tables.are_values c.in-Some.place c.entry-2.result.now c.entry-2.ensures.is in
-    moved_tabled cell c.args.i group seen.inputs.now seen.from seen.change c.args.state c.in-Some.place c.as_slice.result.now c.as_slice-2.result.now
-    c.tabled.result e (sym place) inside (c.as_slice-2.ensures ∙ point)
-    (subst (λ (values : List Trit). AreValuesOf (suc (suc (length (support_at cell c.args.i)))) (edge_value (step_at cell c.args.i) c.in-Some.place) values)
-    (sym c.as_slice.ensures) known)
-    c.tabled.ensures
+    let steps = c.requires.tables.are_tables c.args.i c.entry.result.now c.entry.ensures.is in
+    let is : IsInputStep cell c.args.i seen.change.pin c.in-Some.table
+    = (steps.are_steps seen.change.pin c.entry-2.result.now c.entry-2.ensures.is).1 c.in-Some.table c.in-Some.is in
+    let point = c.as_slice-in-Some-2.ensures ∙ rw c.as_slice.ensures at c.change_point-point.ensures in
+    step-tabled cell c.args.i group seen.inputs.now seen.from seen.change c.args.state c.in-Some.table c.as_slice-in-Some-2.result.now c.tabled.result e is
+    point
+    (subst (λ (values : List Trit). (f : List Bool → Trit) → AreValuesOf (length c.as_slice-in-Some-2.result.now) f values → c.tabled.result ≡ res f c.as_slice-in-Some-2.result.now)
+    c.as_slice-in-Some.ensures c.tabled.ensures)
+
+pub returns-in-None : goal.returns-in-None
+returns-in-None c = λ group e.
+    let cell = data_of c.args.cell.now in
+    let seen = c.args.seen.now in
+    let steps = c.requires.tables.are_tables c.args.i c.entry.result.now c.entry.ensures.is in
+    let leaves = (steps.are_steps seen.change.pin c.entry-2.result.now c.entry-2.ensures.is).0 c.in-None.is in
+    sym (leaves group e seen.inputs.now seen.from seen.change c.args.state refl)

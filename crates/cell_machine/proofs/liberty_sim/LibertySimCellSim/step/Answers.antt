@@ -28,8 +28,8 @@ returns-clause-stands c = λ h st.
     (c.stamped-times.ensures
     ∙ ap (λ xs. stamped c.args.at (get_or c.as_slice.result.now c.args.pin Zero) c.args.to (get_or xs c.args.pin no_times))
     c.as_slice-2.ensures) in
-    let reports = rw (c.as_slice-inputs.ensures, c.as_slice-kept.ensures) at c.report_all.ensures in
-    let reported = c.any_true-reported.ensures ∙ ap any_true c.as_slice-3.ensures in
+    let reports = rw (c.as_slice-inputs.ensures, c.as_slice-3.ensures) at c.report_all.ensures in
+    let reported = c.any_true-reported.ensures ∙ ap any_true c.as_slice-4.ensures in
     let states = rw (reported, c.as_slice-inputs.ensures) at c.change_states.ensures.changed in
     let shown = rw (c.as_slice-inputs.ensures, c.as_slice-states.ensures) at c.show_all.ensures.stepped in
     let kept = rw c.as_slice-inputs.ensures at c.show_all.ensures.kept in
@@ -98,6 +98,7 @@ pub invariant_of-self : goal.invariant_of-self
 invariant_of-self c =
     let sim = c.args.self.now in
     record {
+      numbered_checks = sim.numbered_checks;
       tabled_outputs = sim.tabled_outputs;
       placed_arcs = sim.placed_arcs;
       tabled_steps = sim.tabled_steps;

@@ -26,7 +26,7 @@ impl ByteClass for Blank {
 
     #[inline(always)]
     fn contains(byte: u8) -> bool {
-        matches!(byte, b' ' | b'\t' | b'\n')
+        is_blank(byte)
     }
 }
 
@@ -84,6 +84,23 @@ fn is_name_byte(byte: u8) -> bool
     ensures { result ≡ spec.is_name_byte byte }
 {
     NAME_BYTES[usize::from(byte)]
+}
+
+macro_rules! blank {
+    ($b:expr) => {
+        $b == b' ' || $b == b'\t' || $b == b'\n'
+    };
+}
+
+/// Of each byte, whether it is a space, a tab or a line end.
+static BLANKS: [bool; 256] = byte_table!(blank);
+
+/// Whether a byte is a space, a tab or a line end, by one look.
+#[inline(always)]
+fn is_blank(byte: u8) -> bool
+    ensures { result ≡ spec.is_blank byte }
+{
+    BLANKS[usize::from(byte)]
 }
 
 /// How many bytes of a class stand at the front of these.

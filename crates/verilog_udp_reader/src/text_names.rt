@@ -40,6 +40,7 @@ impl<'a> Model for TextNames<'a> {
 }
 
 /// Whether a name is one of these.
+#[inline(always)]
 fn is_one(names: &[&[u8]], name: &[u8]) -> bool
     ensures { result ≡ list_any (bytes_eq name.now) (map (λ other. other.now) names.now) }
 {

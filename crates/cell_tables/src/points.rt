@@ -47,8 +47,8 @@ fn weighed(value: bool, weight: usize) -> usize
     if value { weight } else { 0 }
 }
 
-/// The number of the point that this value, put in at a place of the point with the number `others`, makes. Place i of a point weighs
-/// 2 to the power i.
+/// The number of the point that this value, put in at a place of the point with the number `others`, makes. Place i of a
+/// point weighs 2 to the power i.
 fn inserted(place: usize, value: bool, others: usize) -> usize
     requires place { place ≤ 8 }
     requires others { others < 256 }
@@ -58,8 +58,8 @@ fn inserted(place: usize, value: bool, others: usize) -> usize
     2 * others + weighed(value, weight) - others % weight
 }
 
-/// What the step of a group gives at a change of the input at `place`, at the point with this number of the value before, the value
-/// after, the other inputs and the state.
+/// What the step of a group gives at a change of the input at `place`, at the point with this number of the value before, the
+/// value after, the other inputs and the state.
 pub(crate) fn value_at(steps: &StepTable<'_>, place: usize, number: usize) -> Trit
     requires place { place < steps.now.places }
     requires number { number < 1024 }

@@ -6,20 +6,12 @@ use Rattle.std.specs.Int.{div_ceil}
 use Rattle.std.proofs.lemmas.Bool.Decides.{nat_tests}
 use Rattle.std.proofs.lemmas.Int.{ints}
 use Rattle.std.proofs.lemmas.Grind.{div_ceil_times}
-use Rattle.std.proofs.Math.Nat.{pow-suc, pow-le-pow_right, one-le-pow, mul-le-mul_right, lt_of_mul-lt-mul_right, lt-div-mul-add}
+use Rattle.std.proofs.Math.Nat.{pow-le-pow_right, one-le-pow, mul-le-mul_right, lt_of_mul-lt-mul_right, lt-div-mul-add}
 use Rattle.std.proofs.Math.Nat.{div-add-mod}
 use Rattle.liberty_text.specs.declared.decimal.Fixed.{Fixed}
 use Rattle.liberty_text.specs.declared.time.Unit.{Unit}
 use Rattle.liberty_text.specs.Time.{time_exponent, times_ten, over_ten, IsRoundedUp, IsTooLong, bounded, scaled, rounded_up}
 use Rattle.liberty_text.specs.Time.{picoseconds_of}
-
--- one more power of ten is below 2 to the 64 up to the nineteenth
-pub power_step : (i n : ℕ) → i < n → n ≤ 18 → (10 ^ i * 10 < 2 ^ 64) × (10 ^ (i + 1) ≡ 10 ^ i * 10)
-power_step i n h few =
-    let ten : 0 < 10 = omega arith in
-    let below : i ≤ 17 = omega arith in
-    let power = pow-le-pow_right ten below in
-    (omega (arith, power), rw add-one (pow-suc 10 i))
 
 -- a number of parts is at most the whole
 pub quotient_part : (n p m : ℕ) → m ≤ n / p → m * p ≤ n

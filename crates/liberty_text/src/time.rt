@@ -33,17 +33,35 @@ fn unit_exponent(unit: Unit) -> i16
     }
 }
 
+/// Ten to the numbers up to 18.
+const POWERS: [u64; 19] = [
+    1,
+    10,
+    100,
+    1_000,
+    10_000,
+    100_000,
+    1_000_000,
+    10_000_000,
+    100_000_000,
+    1_000_000_000,
+    10_000_000_000,
+    100_000_000_000,
+    1_000_000_000_000,
+    10_000_000_000_000,
+    100_000_000_000_000,
+    1_000_000_000_000_000,
+    10_000_000_000_000_000,
+    100_000_000_000_000_000,
+    1_000_000_000_000_000_000,
+];
+
 /// Ten to a number.
-#[tactic(auto, using(crate::proofs::Times::power_step))]
 fn power_of_ten(exponent: u16) -> u64
     requires { exponent ≤ 18 }
     ensures { result ≡ 10 ^ exponent }
 {
-    let mut power = 1;
-    for _place in 0..exponent {
-        power *= 10;
-    }
-    power
+    POWERS[exponent as usize]
 }
 
 /// A number, where it is a time that is not above the greatest.

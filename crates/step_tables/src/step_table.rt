@@ -159,8 +159,8 @@ impl<'a> StepTable<'a> {
         }
     }
 
-    /// The next states at a change of this place of the support to the point with this number; where there is no such place, those
-    /// where nothing changes.
+    /// The next states at a change of this place of the support to the point with this number; where there is no such place,
+    /// those where nothing changes.
     fn turned_steps(&self, place: usize, after: usize) -> StateSteps
         requires { after < 2 ^ self.now.places }
         ensures { result ≡ steps_between_points (data_of self.now.cell.now) self.now.group
@@ -170,8 +170,8 @@ impl<'a> StepTable<'a> {
         self.steps(before, after)
     }
 
-    /// The next state at a change of this place of the support to the point with this number, from a state; where there is no such
-    /// place, the next state where nothing changes.
+    /// The next state at a change of this place of the support to the point with this number, from a state; where there is no
+    /// such place, the next state where nothing changes.
     pub fn turned(&self, place: usize, after: usize, state: bool) -> Trit
         requires { after < 2 ^ self.now.places }
         ensures { result ≡ step_at (data_of self.now.cell.now) self.now.group

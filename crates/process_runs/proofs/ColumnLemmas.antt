@@ -1,6 +1,7 @@
 -- The columns of a table, as they are written.
-use Rattle.std.proofs.Common.{◌≡◌, ◌+◌, ◌≤◌, true, List, [], ◌∷◌, ◌++◌, length, map, set, take, refl, ap, sym, ◌∙◌, arith}
+use Rattle.std.proofs.Common.{◌≡◌, ℕ, zero, suc, ◌+◌, ◌-◌, ◌<◌, ◌≤◌, Bool, true, false, slice_get, Some, List, [], ◌∷◌, ◌++◌, length, map, set, take, refl, ap, sym, ◌∙◌, arith}
 use Rattle.std.proofs.Common.{if◌then◌else◌}
+use Rattle.std.proofs.lemmas.List.{length-map}
 use Rattle.trit_cubes.specs.declared.trits.Trit.{Trit}
 use Rattle.udp_tables.specs.declared.models.VPort.{VPort}
 use Rattle.vital_models.specs.declared.model.VState.{VState}
@@ -28,3 +29,32 @@ violated-front state ports violation inputs old room e many front =
     ∙ front
     ∙ ap (λ xs. xs ++ map (input_value ports inputs) state.inputs) (first-set old violation some)
     ∙ ap (λ b. violated b violation (map (input_value ports inputs) state.inputs)) (sym e)
+
+-- a table has its columns
+length-violated : (b : Bool) (v : Trit) (xs : List Trit) (n : ℕ) → length xs ≡ n
+    → length (violated b v xs) ≡ (if b then n + 1 else n)
+length-violated true v xs n e = omega arith
+length-violated false v xs n e = e
+
+pub length-columns : (state : VState) (ports : List VPort) (violation : Trit) (inputs : List Trit)
+    → length (columns ports violation inputs state) ≡ columns_of state
+length-columns state ports violation inputs =
+    length-violated state.violation violation (map (input_value ports inputs) state.inputs) (length state.inputs)
+    (length-map state.inputs (input_value ports inputs))
+
+-- the columns of a table without one of the violation
+pub violated-off : (b : Bool) (v : Trit) (xs : List Trit) → b ≡ false → violated b v xs ≡ xs
+violated-off true v xs e = absurd cc
+violated-off false v xs e = refl
+
+-- the column of the violation
+pub violated-first : (b : Bool) (v : Trit) (xs : List Trit) → b ≡ true → slice_get (violated b v xs) 0 ≡ Some v
+violated-first true v xs e = refl
+violated-first false v xs e = absurd cc
+
+-- the others behind it
+pub violated-later : (b : Bool) (v : Trit) (xs : List Trit) (place : ℕ) → b ≡ true → 0 < place
+    → slice_get (violated b v xs) place ≡ slice_get xs (place - 1)
+violated-later true v xs zero e some = absurd (omega arith)
+violated-later true v xs (suc place) e some = let back : place ≡ suc place - 1 = omega arith in ap (slice_get xs) back
+violated-later false v xs place e some = absurd cc

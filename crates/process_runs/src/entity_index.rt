@@ -1,5 +1,5 @@
 //! What a simulator knows of its entity before any change.
-use crate::entity_words::EntityWords;
+use crate::entity_words::{EntityMasks, EntityWords};
 use crate::fed_conditions::fed_conditions;
 use cell_machine::entry;
 use run_parts::{DelayPlaces, Ports, input_count, input_numbers};
@@ -12,6 +12,8 @@ use vital_models::VEntity;
 pub struct EntityIndex {
     /// The words of the rows of its tables.
     pub words: EntityWords,
+    /// The masks of the rows of its tables.
+    pub masks: EntityMasks,
     /// For each port how many inputs stand before it.
     pub numbers: Items<usize>,
     /// For each input the places of the conditions that it feeds.
@@ -29,6 +31,7 @@ impl EntityIndex {
         ensures { IfOk result (λ index. IsEntityIndex model.now index) }
     {
         let words = EntityWords::of(alloc, model)?;
+        let masks = EntityMasks::of(alloc, model)?;
         let numbers = input_numbers(alloc, model.ports.as_slice())?;
         let ports = Ports {
             list: model.ports.as_slice(),
@@ -38,6 +41,7 @@ impl EntityIndex {
         let places = delay_places(alloc, model)?;
         Ok(EntityIndex {
             words,
+            masks,
             numbers,
             fed,
             places,

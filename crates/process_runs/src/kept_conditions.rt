@@ -34,7 +34,7 @@ fn value_of(
         &tables.ports(),
         inputs,
         truth,
-        tables.condition_words(i),
+        tables.condition_rows(i),
         room,
     )
 }

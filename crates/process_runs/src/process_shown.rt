@@ -4,6 +4,8 @@ ghost use Rattle.cell_machine.specs.Each.{each};
 ghost use Rattle.udp_tables.specs.Tables.{AreKept as AreWords};
 ghost use Rattle.vital_models.specs.Sound.{IsOutput, IsSound};
 ghost use Rattle.vital_models.specs.RowWords.{truth_words};
+ghost use Rattle.row_masks.specs.Masks.{AreMasks};
+ghost use Rattle.row_masks.specs.LookUps.{truth_passes};
 ghost use Rattle.run_parts.specs.KeptDelays.{AreKept};
 ghost use Rattle.process_runs.specs.EntityRooms.{source_count, HasRoom};
 ghost use Rattle.process_runs.specs.EntitySteps.{output_first, output_step};
@@ -11,7 +13,7 @@ ghost use Rattle.process_runs.specs.KeptConditions.{condition_values};
 ghost use Rattle.process_runs.specs.NumberedPaths.{numbered_paths};
 ghost use Rattle.process_runs.specs.TableWords.{value_rows};
 
-use crate::entity_tables::EntityTables;
+use crate::entity_tables::{EntityTables, KnownRows};
 use crate::entity_values::EntityValues;
 use crate::process_delays::least_delay;
 use crate::process_values::output_value;
@@ -20,16 +22,15 @@ use run_parts::{KeptDelays, OutputChange, ShownPort};
 use sqlite_items::Items;
 use std::alloc::{AllocError, Global};
 use trit_cubes::Trit;
-use udp_tables::RowWords;
 use vital_models::VOutput;
 
-/// What the output with this number shows after a change of an input. The rows of its table have these words where they are kept.
+/// What the output with this number shows after a change of an input. This is known of the rows of its table.
 fn output_step(
     values: &EntityValues,
     input: usize,
     number: usize,
     output: &VOutput,
-    words: &[RowWords],
+    known: KnownRows,
     was: ShownPort,
     delays: &mut KeptDelays,
     room: &mut Items<Trit>,
@@ -37,7 +38,8 @@ fn output_step(
     requires sound { IsSound values.now.tables.model.now }
     requires output { IsOutput values.now.tables.model.now output.now }
     requires is { slice_get values.now.tables.model.now.outputs number ≡ Some output.now }
-    requires words { AreWords truth_words words.now (value_rows output.now.value) }
+    requires words { AreWords truth_words known.words.now (value_rows output.now.value) }
+    requires masks { AreMasks truth_passes (source_count output.now.value) (value_rows output.now.value) known.masks.now }
     requires kept { AreKept (numbered_paths values.now.tables.model.now values.now.inputs.now) delays.old }
     requires room { HasRoom (length room.old) values.now.tables.model.now }
     requires columns { source_count output.now.value ≤ length room.old }
@@ -46,7 +48,7 @@ fn output_step(
     ensures kept { AreKept (numbered_paths values.now.tables.model.now values.now.inputs.now) delays.new }
     ensures len { length room.new ≡ length room.old }
 {
-    let value = output_value(values, &output.value, words, room);
+    let value = output_value(values, &output.value, known, room);
     let change = OutputChange {
         input,
         port: output.port,
@@ -85,9 +87,9 @@ pub(crate) fn show_entity(
 {
     for i in 0..shown.len() {
         let output = entry(&values.tables.model.outputs, i);
-        let words = values.tables.output_words(i);
+        let known = values.tables.output_rows(i);
         let was = shown.as_slice()[i];
-        let now = output_step(values, input, i, output, words, was, delays, room);
+        let now = output_step(values, input, i, output, known, was, delays, room);
         shown.set(i, now);
     }
 }
@@ -108,8 +110,8 @@ fn show_start(
     let mut shown = Items::new(alloc);
     for i in 0..values.tables.model.outputs.len() {
         let output = entry(&values.tables.model.outputs, i);
-        let words = values.tables.output_words(i);
-        let value = output_value(values, &output.value, words, room);
+        let known = values.tables.output_rows(i);
+        let value = output_value(values, &output.value, known, room);
         shown.push(ShownPort {
             port: output.port,
             value,

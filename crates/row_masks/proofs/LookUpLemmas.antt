@@ -1,7 +1,7 @@
 -- The masks of rows decide as the rows do, in each kind of table.
 use Rattle.std.proofs.lemmas.Bool.{cases_Bool, leb-true}
 use Rattle.std.proofs.Common.{[], ◌∷◌, None, Some, cond, inl, inr, nat_le, slice_get}
-use Rattle.std.proofs.Common.{◌≡◌, ℕ, zero, suc, ◌+◌, ◌≤◌, Bool, true, List, length, map, take}
+use Rattle.std.proofs.Common.{◌≡◌, ℕ, zero, suc, ◌+◌, ◌≤◌, Bool, true, List, length, map}
 use Rattle.std.proofs.Common.{refl, sym, ◌∙◌, ap}
 use Rattle.std.specs.Prelude.{All, unwrap_or, option_map}
 use Rattle.std.proofs.lemmas.Option.{slice_get-map}

@@ -30,8 +30,8 @@ pub struct ChangeMasks {
 
 impl ValueMasks {
     /// The mask for a value.
-    pub fn at(self, value: Trit) -> u64
-        ensures { result ≡ mask_at self value }
+    pub fn at(&self, value: Trit) -> u64
+        ensures { result ≡ mask_at self.now value }
     {
         match value {
             Trit::Zero => self.zero,
@@ -43,8 +43,8 @@ impl ValueMasks {
 
 impl ChangeMasks {
     /// The mask for a column that goes from one value to another, or keeps its value.
-    pub fn at(self, old: Trit, new: Trit) -> u64
-        ensures { result ≡ masks_at self old new }
+    pub fn at(&self, old: Trit, new: Trit) -> u64
+        ensures { result ≡ masks_at self.now old new }
     {
         match old {
             Trit::Zero => self.from_zero.at(new),

@@ -21,7 +21,10 @@ loop-i-preserved c =
     }
 
 pub output_value-value-requires-clause-words : goal.output_value-value-requires-clause-words
-output_value-value-requires-clause-words c = c.output_words-words.ensures c.entry-output.result.now c.entry-output.ensures.is
+output_value-value-requires-clause-words c = c.output_rows-known.ensures.words c.entry-output.result.now c.entry-output.ensures.is
+
+pub output_value-value-requires-clause-masks : goal.output_value-value-requires-clause-masks
+output_value-value-requires-clause-masks c = c.output_rows-known.ensures.masks c.entry-output.result.now c.entry-output.ensures.is
 
 pub output_value-value-requires-clause-value : goal.output_value-value-requires-clause-value
 output_value-value-requires-clause-value c =

@@ -28,7 +28,10 @@ returns-clause-stepped c =
     ∙ c.loop-i.invariant.whole
 
 pub next_state-next-requires-clause-words : goal.next_state-next-requires-clause-words
-next_state-next-requires-clause-words c = c.state_words-words.ensures c.entry-table.result.now c.entry-table.ensures.is
+next_state-next-requires-clause-words c = c.state_rows-known.ensures.words c.entry-table.result.now c.entry-table.ensures.is
+
+pub next_state-next-requires-clause-masks : goal.next_state-next-requires-clause-masks
+next_state-next-requires-clause-masks c = c.state_rows-known.ensures.masks c.entry-table.result.now c.entry-table.ensures.is
 
 pub next_state-next-requires-clause-table : goal.next_state-next-requires-clause-table
 next_state-next-requires-clause-table c =

@@ -197,6 +197,7 @@ fn append_common_line<S: TraceSim>(
 }
 
 /// Appends a line with this tag, of which the rest is a text, mostly empty, and pieces that wait behind it.
+#[inline(always)]
 fn append_tagged(
     waiting: &mut Vec<u8>,
     tag: u8,
@@ -212,6 +213,7 @@ fn append_tagged(
 }
 
 /// Appends a text that is mostly empty.
+#[inline(always)]
 fn append_long(waiting: &mut Vec<u8>, text: &[u8]) -> Result<(), AllocError>
     ensures { OnOk result (waiting.new.items ≡ waiting.old.items ++ text.now) }
 {

@@ -148,6 +148,7 @@ fn value_letter(value: Drive) -> u8
 }
 
 /// The outputs, in order.
+#[inline(always)]
 fn push_outputs<S: TraceSim>(
     text: &mut Vec<u8>,
     pieces: &mut Pieces,
@@ -203,6 +204,7 @@ fn push_delay(text: &mut Vec<u8>, pieces: &mut Pieces, delay: Option<u64>) -> Re
 }
 
 /// The checks that reported.
+#[inline(always)]
 fn push_reports<S: TraceSim>(
     text: &mut Vec<u8>,
     pieces: &mut Pieces,

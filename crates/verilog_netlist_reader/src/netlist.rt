@@ -14,7 +14,7 @@ use udp_tables::TimingCheck;
 use verilog_grammar::modules::{Instance, VModule, VNet, VPath};
 
 /// A module. Contracts see it alone. Beside it stand the names of its ports, where there are more than a few, those of its wires
-/// likewise, and which nets are driven.
+/// likewise, and which nets are driven. The names are boxed, since few modules have them and each is moved from part to part.
 #[derive(Drop)]
 pub struct Netlist {
     model: VModule,

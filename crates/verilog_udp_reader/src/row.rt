@@ -141,6 +141,7 @@ fn pair(cursor: &mut Cursor<'_>) -> Read<Entry>
 }
 
 /// An entry, behind its first token.
+#[inline(always)]
 fn entry_after(cursor: &mut Cursor<'_>, first: &[u8]) -> Read<Entry>
     ensures { Reads (read (spec.entry_after first.now) cursor.old) result cursor.new }
 {

@@ -100,6 +100,7 @@ impl<'a> TextNames<'a> {
     }
 
     /// Whether a name is one of these, in the time of one look-up.
+    #[inline(always)]
     #[tactic(auto, using(crate::proofs::NearNames::shown_parted))]
     pub fn has(&self, name: &[u8]) -> bool
         ensures { result ≡ is_among self.now name.now }
@@ -112,6 +113,7 @@ impl<'a> TextNames<'a> {
     }
 
     /// Puts one more name behind these, which is none of them.
+    #[inline(always)]
     #[tactic(auto, using(crate::proofs::NearNames::shown_push))]
     pub fn add(&mut self, name: &'a [u8]) -> Result<(), Stop>
         requires { is_among self.old name.now ≡ false }

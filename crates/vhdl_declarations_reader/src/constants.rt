@@ -1,6 +1,6 @@
 //! The constants of an architecture, which are tables. (IEEE 1076-1993, 4.3.1.1; IEEE 1076.4-2000, the VITAL table types.)
 
-ghost use Rattle.std.specs.Prelude.{◌≡◌, ◌&&◌, nat_eq, length, IfOk, codes};
+ghost use Rattle.std.specs.Prelude.{◌≡◌, ◌&&◌, nat_eq, length, codes};
 ghost use Rattle.std.specs.Option.{option_map};
 ghost use Rattle.grammar_rules.specs.Rule.{Then};
 ghost use Rattle.grammar_reader.specs.Reading.{read, Reads, ReadsAs};
@@ -12,10 +12,10 @@ use crate::state_rows::state_table;
 use crate::truth_rows::truth_table;
 use grammar_reader::{Read, Refusal, RepeatedPart, Stop, where_read, while_next, with_end};
 use sqlite_items::Items;
-use std::alloc::{AllocError, Global};
+use std::alloc::Global;
 use vhdl_grammar::Tables;
-use vhdl_scope::{Cursor, Vhdl, is_numbered};
-use vhdl_tokens::is_name;
+use vhdl_scope::{Cursor, Vhdl};
+use vhdl_tokens::{is_name, is_numbered_name};
 use vital_models::TruthTable;
 
 /// What the next constant is a table of.
@@ -27,36 +27,32 @@ pub enum ConstantOf {
     Condition,
 }
 
-/// The constant that a name declares behind these. An `Err` comes only where memory is wanting.
-fn constant_of(
-    alloc: Global,
-    tables: &Tables,
-    token: &[u8],
-) -> Result<Option<ConstantOf>, AllocError>
-    ensures { IfOk result (λ found. option_map constant_kind found ≡ spec.constant_of tables.now token.now) }
+/// The constant that a name declares behind these.
+fn constant_of(tables: &Tables, token: &[u8]) -> Option<ConstantOf>
+    ensures { option_map constant_kind result ≡ spec.constant_of tables.now token.now }
 {
     let before = tables.states.as_slice().len() + tables.outputs.as_slice().len();
-    if is_numbered(alloc, token, b"k_", before + 1)? {
-        return Ok(Some(ConstantOf::StateOrOutput));
+    if is_numbered_name(token, b"k_", before + 1) {
+        return Some(ConstantOf::StateOrOutput);
     }
     if tables.outputs.len() != 0 {
-        return Ok(None);
+        return None;
     }
-    if is_numbered(alloc, token, b"c_", tables.conditions.as_slice().len() + 1)? {
-        return Ok(Some(ConstantOf::Condition));
+    if is_numbered_name(token, b"c_", tables.conditions.as_slice().len() + 1) {
+        return Some(ConstantOf::Condition);
     }
-    Ok(None)
+    None
 }
 
 /// The name of the next constant.
 #[tactic(auto, using(crate::proofs::NextConstant::constant_some, crate::proofs::NextConstant::constant_none, grammar_reader::proofs::Values::known_other))]
-fn constant_name(cursor: &mut Cursor<'_>, alloc: Global, tables: &Tables) -> Read<ConstantOf>
+fn constant_name(cursor: &mut Cursor<'_>, tables: &Tables) -> Read<ConstantOf>
     ensures { ReadsAs constant_kind (read (known (spec.constant_of tables.now)) cursor.old) result cursor.new }
 {
     if !is_name(cursor.bytes()) {
         return Err(Stop::Refused(Refusal::Syntax));
     }
-    let Some(of) = constant_of(alloc, tables, cursor.bytes())? else {
+    let Some(of) = constant_of(tables, cursor.bytes()) else {
         return Err(Stop::Refused(Refusal::Undefined));
     };
     cursor.skip();
@@ -113,7 +109,7 @@ fn state_or_output(cursor: &mut Cursor<'_>, alloc: Global, tables: &mut Tables) 
 fn constant(cursor: &mut Cursor<'_>, alloc: Global, tables: &mut Tables) -> Read<()>
     ensures { ReadsAs (λ _. tables.new) (read (spec.constant tables.old) cursor.old) result cursor.new }
 {
-    let of = constant_name(cursor, alloc, tables)?;
+    let of = constant_name(cursor, tables)?;
     cursor.expect(b":")?;
     match of {
         ConstantOf::StateOrOutput => state_or_output(cursor, alloc, tables),

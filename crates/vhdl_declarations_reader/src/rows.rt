@@ -1,6 +1,6 @@
 //! Rows of tables, of any kind. (IEEE 1076.4-2000, the VITAL table types.)
 
-ghost use Rattle.std.specs.Prelude.{[], ◌∷◌, ◌++◌};
+ghost use Rattle.std.specs.Prelude.{◌≡◌, ◌≤◌, [], ◌∷◌, ◌++◌, length, take, IfOk};
 ghost use Rattle.grammar_reader.specs.declared.refusal.Refusal.TheVariants.{Syntax};
 ghost use Rattle.grammar_reader.specs.Reading.{read, Token, Reads, ReadsAs};
 ghost use Rattle.vhdl_grammar.specs.VhdlTables as tables;
@@ -14,7 +14,7 @@ use vhdl_scope::{Cursor, Vhdl};
 
 /// A row of a table: its entries, and what they are as a row.
 pub trait TableRow: Drop {
-    ghost use Rattle.std.specs.Prelude.{◌≡◌, ℕ, Bool, List, Option, IfOk};
+    ghost use Rattle.std.specs.Prelude.{◌≡◌, ℕ, Bool, List, Option};
     ghost use Rattle.grammar_rules.specs.Reading.{Outcome};
     ghost use Rattle.grammar_reader.specs.declared.refusal.Refusal.{Refusal};
     ghost use Rattle.grammar_reader.specs.Reading.{Reads};
@@ -28,17 +28,45 @@ pub trait TableRow: Drop {
 
     ghost is_as_long: { List Self → Self → Bool };
 
-    /// The entries of a row, behind its bracket.
-    fn entries(cursor: &mut Cursor<'_>, alloc: Global) -> Read<Items<Self::Entry>>
+    /// The entries of a row, behind its bracket and behind these rows. There is room for no more than such a row has.
+    fn entries(cursor: &mut Cursor<'_>, alloc: Global, rows: &[Self]) -> Read<Items<Self::Entry>>
         ensures { Reads (entries cursor.old) result cursor.new };
 
-    /// The row that these entries are. An `Err` comes only where memory is wanting.
-    fn row_of(alloc: Global, found: &[Self::Entry]) -> Result<Option<Self>, AllocError>
-        ensures { IfOk result (λ row. row ≡ row_of found.now) };
+    /// The row that these entries are.
+    fn row_of(found: Items<Self::Entry>) -> Option<Self>
+        ensures { result ≡ row_of found };
 
     /// Whether a row behind these is as long as the first of them.
     fn is_as_long(rows: &[Self], row: &Self) -> bool
         ensures { result ≡ is_as_long rows.now row.now };
+}
+
+/// For how many entries the first row of a table has room at first.
+const SOME_ENTRIES: usize = 8;
+
+/// No entries, with room for those of a row that has so many inputs, as the rows before it have. Where there are none, there is
+/// room for some.
+pub fn no_entries<E>(alloc: Global, inputs: usize) -> Result<Items<E>, AllocError>
+    ensures { IfOk result (λ none. none ≡ []) }
+{
+    let room = if inputs == 0 {
+        SOME_ENTRIES
+    } else {
+        inputs.saturating_add(2)
+    };
+    Ok(Items::from_vec(Vec::with_capacity(alloc, room)?))
+}
+
+/// The first of some entries, so many of them.
+#[tactic(auto, using(crate::proofs::Entries::without_last, grammar_reader::proofs::Places::take_all))]
+pub fn first_entries<E: Drop>(mut entries: Items<E>, count: usize) -> Items<E>
+    requires { count ≤ length entries }
+    ensures { result ≡ take count entries }
+{
+    for _turn in count..entries.len() {
+        let _last = entries.pop();
+    }
+    entries
 }
 
 /// The end of a row, where its entries are this row, behind these rows.
@@ -64,9 +92,8 @@ fn a_row<R: TableRow>(cursor: &mut Cursor<'_>, alloc: Global, rows: &[R]) -> Rea
         cursor.new }
 {
     cursor.expect(b"(")?;
-    let entries = R::entries(cursor, alloc)?;
-    let row = R::row_of(alloc, entries.as_slice())?;
-    row_end(cursor, rows, row)
+    let entries = R::entries(cursor, alloc, rows)?;
+    row_end(cursor, rows, R::row_of(entries))
 }
 
 /// A row of a table.

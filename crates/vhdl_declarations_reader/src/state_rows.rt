@@ -1,18 +1,18 @@
 //! The tables of states. (IEEE 1076.4-2000, VitalStateTableType.)
 
-ghost use Rattle.std.specs.Prelude.{[]};
+ghost use Rattle.std.specs.Prelude.{◌≡◌, []};
 ghost use Rattle.grammar_reader.specs.declared.refusal.Refusal.TheVariants.{Syntax};
 ghost use Rattle.grammar_reader.specs.Reading.{read, Token, Reads};
 ghost use Rattle.vhdl_grammar.specs.VhdlRules as rules;
 ghost use Rattle.vhdl_grammar.specs.VhdlTables as spec;
 
-use crate::rows::{NextRow, TableRow};
+use crate::rows::{NextRow, TableRow, first_entries, no_entries};
 use crate::symbols::{has_edge, is_edge, result_at, state_at, symbol_of};
 use grammar_reader::{Read, Refusal, RepeatedPart, Stop, one_or_more, with_end};
 use sqlite_items::Items;
-use std::alloc::{AllocError, Global};
-use vhdl_scope::{Cursor, Vhdl, elements};
-use vital_models::{VStateRow, VStateTable, VSymbol};
+use std::alloc::Global;
+use vhdl_scope::{Cursor, Vhdl, elements, state_width};
+use vital_models::{Trits, VNext, VStateRow, VStateTable, VSymbol};
 
 /// A symbol of a row, behind these.
 fn a_symbol(cursor: &mut Cursor<'_>, symbols: &[VSymbol]) -> Read<VSymbol>
@@ -45,6 +45,24 @@ impl RepeatedPart<Vhdl> for NextSymbol {
     }
 }
 
+/// The row of these inputs, where it has a state and what it gives.
+fn state_row_with(
+    inputs: Items<VSymbol>,
+    state: Option<Trits>,
+    next: Option<VNext>,
+) -> Option<VStateRow>
+    ensures { result ≡ spec.state_row_with inputs state next }
+{
+    match (state, next) {
+        (Some(state), Some(result)) => Some(VStateRow {
+            inputs,
+            state,
+            result,
+        }),
+        _ => None,
+    }
+}
+
 impl TableRow for VStateRow {
     type Entry = VSymbol;
 
@@ -55,26 +73,21 @@ impl TableRow for VStateRow {
     ghost is_as_long = { spec.is_as_long_as_state_rows };
 
     #[tactic(auto, unfolding(vhdl_grammar::specs::VhdlTables::symbols))]
-    fn entries(cursor: &mut Cursor<'_>, alloc: Global) -> Read<Items<VSymbol>> {
-        one_or_more(cursor, b",", &NextSymbol, Items::new(alloc))
+    fn entries(cursor: &mut Cursor<'_>, alloc: Global, rows: &[VStateRow]) -> Read<Items<VSymbol>> {
+        let none = no_entries(alloc, state_width(rows))?;
+        one_or_more(cursor, b",", &NextSymbol, none)
     }
 
-    fn row_of(alloc: Global, found: &[VSymbol]) -> Result<Option<VStateRow>, AllocError> {
+    fn row_of(found: Items<VSymbol>) -> Option<VStateRow>
+        ensures { result ≡ spec.state_row_of found }
+    {
         if found.len() <= 2 {
-            return Ok(None);
+            return None;
         }
         let columns = found.len() - 2;
-        let Some(state) = state_at(found, columns) else {
-            return Ok(None);
-        };
-        let Some(result) = result_at(found, columns + 1) else {
-            return Ok(None);
-        };
-        Ok(Some(VStateRow {
-            inputs: Items::from_slice(alloc, &found[..columns])?,
-            state,
-            result,
-        }))
+        let state = state_at(found.as_slice(), columns);
+        let next = result_at(found.as_slice(), columns + 1);
+        state_row_with(first_entries(found, columns), state, next)
     }
 
     fn is_as_long(rows: &[VStateRow], row: &VStateRow) -> bool {

@@ -1,17 +1,17 @@
 //! Truth tables. (IEEE 1076.4-2000, VitalTruthTableType.)
 
-ghost use Rattle.std.specs.Prelude.{[]};
+ghost use Rattle.std.specs.Prelude.{◌≡◌, []};
 ghost use Rattle.grammar_reader.specs.Reading.{read, Reads};
 ghost use Rattle.grammar_reader.specs.Words.{valued};
 ghost use Rattle.vhdl_grammar.specs.VhdlRules as rules;
 ghost use Rattle.vhdl_grammar.specs.VhdlTables as spec;
 
-use crate::rows::{NextRow, TableRow};
+use crate::rows::{NextRow, TableRow, first_entries, no_entries};
 use crate::symbols::{level_of, value_of};
 use grammar_reader::{Read, RepeatedPart, one_or_more, with_end};
 use sqlite_items::Items;
-use std::alloc::{AllocError, Global};
-use vhdl_scope::{Cursor, Vhdl, elements};
+use std::alloc::Global;
+use vhdl_scope::{Cursor, Vhdl, elements, truth_width};
 use vital_models::{Trits, TruthRow, TruthTable};
 
 /// A level of a row.
@@ -50,22 +50,25 @@ impl TableRow for TruthRow {
     ghost is_as_long = { spec.is_as_long_as_truth_rows };
 
     #[tactic(auto, unfolding(vhdl_grammar::specs::VhdlTables::levels))]
-    fn entries(cursor: &mut Cursor<'_>, alloc: Global) -> Read<Items<Trits>> {
-        one_or_more(cursor, b",", &NextLevel, Items::new(alloc))
+    fn entries(cursor: &mut Cursor<'_>, alloc: Global, rows: &[TruthRow]) -> Read<Items<Trits>> {
+        let none = no_entries(alloc, truth_width(rows))?;
+        one_or_more(cursor, b",", &NextLevel, none)
     }
 
-    fn row_of(alloc: Global, found: &[Trits]) -> Result<Option<TruthRow>, AllocError> {
+    fn row_of(found: Items<Trits>) -> Option<TruthRow>
+        ensures { result ≡ spec.truth_row_of found }
+    {
         if found.len() <= 1 {
-            return Ok(None);
+            return None;
         }
         let columns = found.len() - 1;
         let Some(result) = found.get(columns).and_then(|level| value_of(*level)) else {
-            return Ok(None);
+            return None;
         };
-        Ok(Some(TruthRow {
-            inputs: Items::from_slice(alloc, &found[..columns])?,
+        Some(TruthRow {
+            inputs: first_entries(found, columns),
             result,
-        }))
+        })
     }
 
     fn is_as_long(rows: &[TruthRow], row: &TruthRow) -> bool {

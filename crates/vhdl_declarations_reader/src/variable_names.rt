@@ -10,10 +10,9 @@ ghost use Rattle.vhdl_declarations_reader.specs.Kinds.{variable_kind};
 ghost use Rattle.vhdl_declarations_reader.specs.declared.variable_names.VariableOf.TheVariants as kind;
 
 use grammar_reader::{Read, Refusal, Stop};
-use std::alloc::{AllocError, Global};
 use vhdl_grammar::{Tables, Variables};
-use vhdl_scope::{Cursor, Ports, is_numbered};
-use vhdl_tokens::is_name;
+use vhdl_scope::{Cursor, Ports};
+use vhdl_tokens::{is_name, is_numbered_name};
 
 /// What a variable is of.
 #[derive(Clone, Copy)]
@@ -54,48 +53,45 @@ pub fn is_last_false(flags: &[bool]) -> bool
     }
 }
 
-/// The variable that a name declares behind these. An `Err` comes only where memory is wanting.
+/// The variable that a name declares behind these.
 fn variable_of(
-    alloc: Global,
     ports: &Ports,
     tables: &Tables,
     variables: &Variables,
     token: &[u8],
-) -> Result<Option<VariableOf>, AllocError>
-    ensures value { IfOk result (λ found. option_map variable_kind found ≡ spec.variable_of ports.now tables.now variables.now
-        token.now) }
-    ensures within { IfOk result (λ found. found ≡ Some kind.State → variables.now.states < length tables.now.states) }
+) -> Option<VariableOf>
+    ensures value { option_map variable_kind result ≡ spec.variable_of ports.now tables.now variables.now token.now }
+    ensures within { result ≡ Some kind.State → variables.now.states < length tables.now.states }
 {
     if is_before_states(variables) && !variables.violation {
         let number = variables.periods.as_slice().len() + 1;
-        if is_numbered(alloc, token, b"x_", number)? {
-            return Ok(Some(VariableOf::Check));
+        if is_numbered_name(token, b"x_", number) {
+            return Some(VariableOf::Check);
         }
     }
     if awaits_violation(variables) {
-        return Ok(None);
+        return None;
     }
     if variables.states < tables.states.as_slice().len() {
-        if is_numbered(alloc, token, b"s_", variables.states + 1)? {
-            return Ok(Some(VariableOf::State));
+        if is_numbered_name(token, b"s_", variables.states + 1) {
+            return Some(VariableOf::State);
         }
-        return Ok(None);
+        return None;
     }
     let outputs = variables.glitches.as_slice().len();
-    if outputs < ports.outputs().len() && is_numbered(alloc, token, b"z_", outputs + 1)? {
-        return Ok(Some(VariableOf::Output));
+    if outputs < ports.outputs().len() && is_numbered_name(token, b"z_", outputs + 1) {
+        return Some(VariableOf::Output);
     }
-    if is_last_false(variables.glitches.as_slice()) && is_numbered(alloc, token, b"g_", outputs)? {
-        return Ok(Some(VariableOf::Glitch));
+    if is_last_false(variables.glitches.as_slice()) && is_numbered_name(token, b"g_", outputs) {
+        return Some(VariableOf::Glitch);
     }
-    Ok(None)
+    None
 }
 
 /// The name of the next variable.
 #[tactic(auto, using(crate::proofs::NextVariable::violation, crate::proofs::NextVariable::other, crate::proofs::NextVariable::some, crate::proofs::NextVariable::none))]
 pub fn variable_name(
     cursor: &mut Cursor<'_>,
-    alloc: Global,
     ports: &Ports,
     tables: &Tables,
     variables: &Variables,
@@ -111,7 +107,7 @@ pub fn variable_name(
     if !is_name(cursor.bytes()) {
         return Err(Stop::Refused(Refusal::Syntax));
     }
-    let Some(of) = variable_of(alloc, ports, tables, variables, cursor.bytes())? else {
+    let Some(of) = variable_of(ports, tables, variables, cursor.bytes()) else {
         return Err(Stop::Refused(Refusal::Undefined));
     };
     cursor.skip();

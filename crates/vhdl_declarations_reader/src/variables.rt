@@ -38,21 +38,21 @@ fn first_data(is_period: bool) -> &'static [u8]
 }
 
 /// The name of the data of the next check.
-fn data_name(cursor: &mut Cursor<'_>, alloc: Global, variables: &Variables) -> Read<()>
+fn data_name(cursor: &mut Cursor<'_>, variables: &Variables) -> Read<()>
     ensures { Reads (read (rules.this_name (Some (rules.numbered (codes "d_") (length variables.now.periods + 1)))) cursor.old)
         result cursor.new }
 {
     let number = variables.periods.as_slice().len() + 1;
-    numbered(cursor, alloc, true, b"d_", number)
+    numbered(cursor, true, b"d_", number)
 }
 
 /// The variables of a check, behind the name of the first of them: whether its data are those of a pulse or of a period.
 #[tactic(auto, unfolding(vhdl_grammar::specs::VhdlDeclarations::check_variables))]
-fn check_variables(cursor: &mut Cursor<'_>, alloc: Global, variables: &Variables) -> Read<bool>
+fn check_variables(cursor: &mut Cursor<'_>, variables: &Variables) -> Read<bool>
     ensures { ReadsAs (spec.with_check variables.now) (read (spec.check_variables variables.now) cursor.old) result cursor.new }
 {
     expect_all(cursor, &[b":", b"X01", b":=", b"'0'", b";", b"variable"])?;
-    data_name(cursor, alloc, variables)?;
+    data_name(cursor, variables)?;
     cursor.expect(b":")?;
     let is_period = period_type(cursor)?;
     expect_all(cursor, &[b":=", first_data(is_period), b";"])?;
@@ -61,12 +61,7 @@ fn check_variables(cursor: &mut Cursor<'_>, alloc: Global, variables: &Variables
 
 /// The variables of the next state, behind the name of the first of them.
 #[tactic(auto, unfolding(vhdl_grammar::specs::VhdlDeclarations::state_variables))]
-fn state_variables(
-    cursor: &mut Cursor<'_>,
-    alloc: Global,
-    tables: &Tables,
-    variables: &Variables,
-) -> Read<()>
+fn state_variables(cursor: &mut Cursor<'_>, tables: &Tables, variables: &Variables) -> Read<()>
     requires { variables.now.states < length tables.now.states }
     ensures { ReadsAs (λ _. spec.with_state variables.now) (read (spec.state_variables tables.now variables.now) cursor.old)
         result cursor.new }
@@ -76,7 +71,7 @@ fn state_variables(
         cursor,
         &[b":", b"std_logic", b":=", b"'X'", b";", b"variable"],
     )?;
-    numbered(cursor, alloc, true, b"p_", variables.states + 1)?;
+    numbered(cursor, true, b"p_", variables.states + 1)?;
     expect_all(cursor, &[b":", b"std_logic_vector", b"("])?;
     this_number(cursor, 1)?;
     cursor.expect(b"to")?;
@@ -106,7 +101,6 @@ pub fn set_last(flags: &mut Items<bool>) -> Result<(), AllocError>
 #[tactic(auto, unfolding(vhdl_grammar::specs::VhdlDeclarations::variable, vhdl_grammar::specs::VhdlDeclarations::violation_variable, vhdl_grammar::specs::VhdlDeclarations::output_variable, vhdl_grammar::specs::VhdlDeclarations::glitch_variable))]
 fn variable(
     cursor: &mut Cursor<'_>,
-    alloc: Global,
     ports: &Ports,
     tables: &Tables,
     variables: &mut Variables,
@@ -114,9 +108,9 @@ fn variable(
     ensures { ReadsAs (λ _. variables.new) (read (spec.variable ports.now tables.now variables.old) cursor.old) result
         cursor.new }
 {
-    match variable_name(cursor, alloc, ports, tables, variables)? {
+    match variable_name(cursor, ports, tables, variables)? {
         VariableOf::Check => {
-            let is_period = check_variables(cursor, alloc, variables)?;
+            let is_period = check_variables(cursor, variables)?;
             variables.periods.push(is_period)?;
             Ok(())
         }
@@ -127,7 +121,7 @@ fn variable(
         }
         VariableOf::State => {
             let _bound = tables.states.as_slice().len();
-            state_variables(cursor, alloc, tables, variables)?;
+            state_variables(cursor, tables, variables)?;
             variables.states += 1;
             Ok(())
         }
@@ -147,7 +141,6 @@ fn variable(
 /// A variable of a process over these ports and tables, behind its word.
 #[derive(Drop)]
 struct NextVariable<'a> {
-    alloc: Global,
     ports: &'a Ports,
     tables: &'a Tables,
 }
@@ -159,7 +152,7 @@ impl RepeatedPart<Vhdl> for NextVariable<'_> {
 
     #[tactic(auto, using(grammar_reader::proofs::WithRest::reads_before))]
     fn next(&self, cursor: &mut Cursor<'_>, mut variables: Variables) -> Read<Variables> {
-        let rest = variable(cursor, self.alloc, self.ports, self.tables, &mut variables);
+        let rest = variable(cursor, self.ports, self.tables, &mut variables);
         where_read(variables, rest)
     }
 }
@@ -189,11 +182,7 @@ pub fn variables(
         states: 0,
         glitches: Items::new(alloc),
     };
-    let next = NextVariable {
-        alloc,
-        ports,
-        tables,
-    };
+    let next = NextVariable { ports, tables };
     let all = while_next(cursor, b"variable", &next, none)?;
     cursor.go_on_where(are_declared(ports, tables, &all))?;
     Ok(all)

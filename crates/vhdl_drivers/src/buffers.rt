@@ -60,36 +60,31 @@ pub(crate) fn process_start(
 }
 
 /// The name of a word and a number.
-pub(crate) fn numbered_word(
-    cursor: &mut Cursor,
-    alloc: Global,
-    word: &[u8],
-    number: usize,
-) -> Read<()>
+pub(crate) fn numbered_word(cursor: &mut Cursor, word: &[u8], number: usize) -> Read<()>
     ensures { Reads (read (spec.numbered_name word.now number) cursor.old) result cursor.new }
 {
-    numbered(cursor, alloc, true, word, number)
+    numbered(cursor, true, word, number)
 }
 
 /// The buffer of the driven output with this number, from 1.
 #[tactic(auto, unfolding(crate::specs::DriverSections::buffer))]
-fn buffer(cursor: &mut Cursor, alloc: Global, number: usize) -> Read<()>
+fn buffer(cursor: &mut Cursor, number: usize) -> Read<()>
     ensures { Reads (read (spec.buffer number) cursor.old) result cursor.new }
 {
-    numbered_word(cursor, alloc, b"z_", number)?;
+    numbered_word(cursor, b"z_", number)?;
     expect_all(cursor, &[b":=", b"VitalBUFIF1", b"("])?;
-    numbered_word(cursor, alloc, b"d_", number)?;
+    numbered_word(cursor, b"d_", number)?;
     cursor.expect(b",")?;
-    numbered_word(cursor, alloc, b"e_", number)?;
+    numbered_word(cursor, b"e_", number)?;
     expect_all(cursor, &[b")", b";"])
 }
 
 /// The buffers of so many driven outputs.
-pub(crate) fn buffers(cursor: &mut Cursor, alloc: Global, count: usize) -> Read<()>
+pub(crate) fn buffers(cursor: &mut Cursor, count: usize) -> Read<()>
     ensures { Reads (read (spec.buffers 1 count) cursor.old) result cursor.new }
 {
     for i in 0..count {
-        buffer(cursor, alloc, i + 1)?;
+        buffer(cursor, i + 1)?;
     }
     Ok(())
 }

@@ -15,13 +15,13 @@ use vhdl_scope::Cursor;
 
 /// The assignment of the driven output with this number, from 0, and this name, which has no paths.
 #[tactic(auto, unfolding(crate::specs::DriverSections::assignment))]
-fn assignment(cursor: &mut Cursor, alloc: Global, number: usize, name: &[u8]) -> Read<()>
+fn assignment(cursor: &mut Cursor, number: usize, name: &[u8]) -> Read<()>
     requires { number < 2 ^ 63 }
     ensures { Reads (read (spec.assignment number name.now) cursor.old) result cursor.new }
 {
     cursor.this_name(name)?;
     cursor.expect(b"<=")?;
-    numbered_word(cursor, alloc, b"z_", number + 1)?;
+    numbered_word(cursor, b"z_", number + 1)?;
     cursor.expect(b";")
 }
 
@@ -59,7 +59,7 @@ impl Outputs<'_> {
         if has_glitch(self.glitches, number) {
             return path_call(cursor, self.alloc, self.ports, number, name, found);
         }
-        assignment(cursor, self.alloc, number, name)?;
+        assignment(cursor, number, name)?;
         Ok(found)
     }
 

@@ -80,18 +80,18 @@ fn text_of_name(cursor: &mut Cursor, name: &[u8]) -> Read<()>
 
 /// The start of the call of the paths of the driven output with this number, from 0, and this name.
 #[tactic(auto, unfolding(crate::specs::DriverSections::path_call_start))]
-fn path_call_start(cursor: &mut Cursor, alloc: Global, number: usize, name: &[u8]) -> Read<()>
+fn path_call_start(cursor: &mut Cursor, number: usize, name: &[u8]) -> Read<()>
     requires { number < 2 ^ 63 }
     ensures { Reads (read (spec.path_call_start number name.now) cursor.old) result cursor.new }
 {
     expect_all(cursor, &[b"(", b"OutSignal", b"=>"])?;
     cursor.this_name(name)?;
     expect_all(cursor, &[b",", b"GlitchData", b"=>"])?;
-    numbered_word(cursor, alloc, b"g_", number + 1)?;
+    numbered_word(cursor, b"g_", number + 1)?;
     expect_all(cursor, &[b",", b"OutSignalName", b"=>"])?;
     text_of_name(cursor, name)?;
     expect_all(cursor, &[b",", b"OutTemp", b"=>"])?;
-    numbered_word(cursor, alloc, b"z_", number + 1)?;
+    numbered_word(cursor, b"z_", number + 1)?;
     expect_all(cursor, &[b",", b"Paths", b"=>", b"("])
 }
 
@@ -109,7 +109,7 @@ pub(crate) fn path_call(
     ensures { Reads (read (spec.path_call ports.now number name.now found) cursor.old) result cursor.new }
 {
     cursor.this_name(b"VitalPathDelay01")?;
-    path_call_start(cursor, alloc, number, name)?;
+    path_call_start(cursor, number, name)?;
     let own = drive_paths(cursor, alloc, ports, number)?;
     expect_all(
         cursor,

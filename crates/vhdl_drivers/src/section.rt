@@ -28,7 +28,7 @@ fn statements(
     ensures { Reads (read (spec.statements ports.now drives.now glitches.now) cursor.old) result cursor.new }
 {
     cursor.expect(b"begin")?;
-    buffers(cursor, alloc, drives.len())?;
+    buffers(cursor, drives.len())?;
     let names = driven_names(alloc, ports, drives)?;
     let outputs = Outputs {
         alloc,

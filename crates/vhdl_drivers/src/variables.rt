@@ -1,78 +1,56 @@
 //! The variables of a driver's process, by recursive descent. (IEEE 1076-1993, 4.3.1.3.)
 
-ghost use Rattle.std.specs.Prelude.{◌≡◌, IfOk};
+ghost use Rattle.std.specs.Prelude.{◌≡◌};
 ghost use Rattle.grammar_reader.specs.Reading.{read, Reads, ReadsAs};
 ghost use Rattle.vhdl_grammar.specs.VhdlRules.{known};
 ghost use Rattle.vhdl_drivers.specs.DriverSections as spec;
 
 use grammar_reader::{Read, RepeatedPart, where_read, while_next};
 use sqlite_items::Items;
-use std::alloc::{AllocError, Global};
+use std::alloc::Global;
 use vhdl_declarations_reader::{is_last_false, set_last};
-use vhdl_scope::{Cursor, Vhdl, expect_all, is_numbered};
+use vhdl_scope::{Cursor, Vhdl, expect_all};
+use vhdl_tokens::is_numbered_name;
 
-/// Whether a name is that of the value of the next of so many driven outputs, behind these. An `Err` comes only where memory is
-/// wanting.
-fn is_next_value(
-    alloc: Global,
-    driven: usize,
-    glitches: &[bool],
-    token: &[u8],
-) -> Result<bool, AllocError>
-    ensures { IfOk result (λ next. next ≡ spec.is_next_value driven glitches.now token.now) }
+/// Whether a name is that of the value of the next of so many driven outputs, behind these.
+fn is_next_value(driven: usize, glitches: &[bool], token: &[u8]) -> bool
+    ensures { result ≡ spec.is_next_value driven glitches.now token.now }
 {
     let declared = glitches.len();
-    if declared >= driven {
-        return Ok(false);
-    }
-    is_numbered(alloc, token, b"z_", declared + 1)
+    declared < driven && is_numbered_name(token, b"z_", declared + 1)
 }
 
-/// Whether a name is that of the delays of the last of these outputs. An `Err` comes only where memory is wanting.
-fn is_last_delays(alloc: Global, glitches: &[bool], token: &[u8]) -> Result<bool, AllocError>
-    ensures { IfOk result (λ last. last ≡ spec.is_last_delays glitches.now token.now) }
+/// Whether a name is that of the delays of the last of these outputs.
+fn is_last_delays(glitches: &[bool], token: &[u8]) -> bool
+    ensures { result ≡ spec.is_last_delays glitches.now token.now }
 {
-    if !is_last_false(glitches) {
-        return Ok(false);
-    }
-    is_numbered(alloc, token, b"g_", glitches.len())
+    is_last_false(glitches) && is_numbered_name(token, b"g_", glitches.len())
 }
 
-/// Whether the variable of this name is that of an output's delays, where it may stand behind these of so many driven outputs. An
-/// `Err` comes only where memory is wanting.
-fn variable_of(
-    alloc: Global,
-    driven: usize,
-    glitches: &[bool],
-    token: &[u8],
-) -> Result<Option<bool>, AllocError>
-    ensures { IfOk result (λ found. found ≡ spec.variable_of driven glitches.now token.now) }
+/// Whether the variable of this name is that of an output's delays, where it may stand behind these of so many driven outputs.
+fn variable_of(driven: usize, glitches: &[bool], token: &[u8]) -> Option<bool>
+    ensures { result ≡ spec.variable_of driven glitches.now token.now }
 {
-    if is_next_value(alloc, driven, glitches, token)? {
-        return Ok(Some(false));
+    if is_next_value(driven, glitches, token) {
+        return Some(false);
     }
-    Ok(is_last_delays(alloc, glitches, token)?.then_some(true))
+    is_last_delays(glitches, token).then_some(true)
 }
 
 /// The name of the next variable.
-fn variable_name(cursor: &mut Cursor, alloc: Global, driven: usize, glitches: &[bool]) -> Read<bool>
+fn variable_name(cursor: &mut Cursor, driven: usize, glitches: &[bool]) -> Read<bool>
     ensures { Reads (read (known (spec.variable_of driven glitches.now)) cursor.old) result cursor.new }
 {
-    let found = variable_of(alloc, driven, glitches, cursor.bytes())?;
+    let found = variable_of(driven, glitches, cursor.bytes());
     cursor.known(found)
 }
 
 /// A variable, behind its word, which stands behind these then.
 #[tactic(auto, unfolding(crate::specs::DriverSections::driven_variable, crate::specs::DriverSections::value_variable, crate::specs::DriverSections::delays_variable))]
-fn driven_variable(
-    cursor: &mut Cursor,
-    alloc: Global,
-    driven: usize,
-    glitches: &mut Items<bool>,
-) -> Read<()>
+fn driven_variable(cursor: &mut Cursor, driven: usize, glitches: &mut Items<bool>) -> Read<()>
     ensures { ReadsAs (λ _. glitches.new) (read (spec.driven_variable driven glitches.old) cursor.old) result cursor.new }
 {
-    if variable_name(cursor, alloc, driven, glitches.as_slice())? {
+    if variable_name(cursor, driven, glitches.as_slice())? {
         expect_all(cursor, &[b":", b"VitalGlitchDataType", b";"])?;
         set_last(glitches)?;
     } else {
@@ -85,7 +63,6 @@ fn driven_variable(
 /// A variable of a driver with so many driven outputs, behind its word.
 #[derive(Drop)]
 struct DrivenVariable {
-    alloc: Global,
     driven: usize,
 }
 
@@ -96,7 +73,7 @@ impl RepeatedPart<Vhdl> for DrivenVariable {
 
     #[tactic(auto, using(grammar_reader::proofs::WithRest::reads_before))]
     fn next(&self, cursor: &mut Cursor<'_>, mut glitches: Items<bool>) -> Read<Items<bool>> {
-        let rest = driven_variable(cursor, self.alloc, self.driven, &mut glitches);
+        let rest = driven_variable(cursor, self.driven, &mut glitches);
         where_read(glitches, rest)
     }
 }
@@ -110,8 +87,8 @@ pub(crate) fn driven_variables(
 ) -> Read<Items<bool>>
     ensures { Reads (read (spec.driven_variables driven) cursor.old) result cursor.new }
 {
-    let next = DrivenVariable { alloc, driven };
-    let glitches = while_next(cursor, b"variable", &next, Items::new(alloc))?;
+    let none = Items::new(alloc);
+    let glitches = while_next(cursor, b"variable", &DrivenVariable { driven }, none)?;
     cursor.go_on_where(glitches.len() == driven)?;
     Ok(glitches)
 }

@@ -88,15 +88,15 @@ fn glitch_name(cursor: &mut Cursor, scope: &Declarations, output: usize) -> Read
         cursor.old) result cursor.new }
 {
     let has_paths = has_glitch(scope, output);
-    numbered(cursor, scope.alloc(), has_paths, b"g_", output + 1)
+    numbered(cursor, has_paths, b"g_", output + 1)
 }
 
 /// The variable of the output with this number, from 0.
-fn value_name(cursor: &mut Cursor, alloc: Global, output: usize) -> Read<()>
+fn value_name(cursor: &mut Cursor, output: usize) -> Read<()>
     requires { output < 2 ^ 63 }
     ensures { Reads (read (rules.this_name (Some (rules.numbered (codes "z_") (output + 1)))) cursor.old) result cursor.new }
 {
-    numbered(cursor, alloc, true, b"z_", output + 1)
+    numbered(cursor, true, b"z_", output + 1)
 }
 
 /// The start of the path call of the output with this number, behind its word.
@@ -112,7 +112,7 @@ fn path_call_start(cursor: &mut Cursor, scope: &Declarations, output: usize) -> 
     expect_all(cursor, &[b",", b"OutSignalName", b"=>"])?;
     output_text(cursor, scope, output)?;
     expect_all(cursor, &[b",", b"OutTemp", b"=>"])?;
-    value_name(cursor, scope.alloc(), output)?;
+    value_name(cursor, output)?;
     cursor.expect(b",")
 }
 
@@ -124,11 +124,11 @@ fn next_start(cursor: &mut Cursor, scope: &Declarations, lines: &[Items<HPath>])
 }
 
 /// The variable of the output behind these lines of other outputs.
-fn next_value_name(cursor: &mut Cursor, alloc: Global, lines: &[Items<HPath>]) -> Read<()>
+fn next_value_name(cursor: &mut Cursor, lines: &[Items<HPath>]) -> Read<()>
     ensures { Reads (read (rules.this_name (Some (rules.numbered (codes "z_") (length lines.now + 1)))) cursor.old) result
         cursor.new }
 {
-    value_name(cursor, alloc, lines.len())
+    value_name(cursor, lines.len())
 }
 
 /// A path call, behind its word, whose line stands behind those of other outputs then.
@@ -152,7 +152,7 @@ fn path_call(cursor: &mut Cursor, scope: &Declarations, lines: &mut Lines) -> Re
 fn assigned_value(cursor: &mut Cursor, alloc: Global, lines: &mut Lines) -> Read<()>
     ensures { ReadsAs (λ _. lines.new) (read (spec.assigned_value lines.old) cursor.old) result cursor.new }
 {
-    next_value_name(cursor, alloc, lines.0.as_slice())?;
+    next_value_name(cursor, lines.0.as_slice())?;
     cursor.expect(b";")?;
     lines.0.push(Items::new(alloc))?;
     Ok(())

@@ -22,7 +22,7 @@ fn source_of(scope: &Declarations, token: &[u8]) -> Result<Option<Source>, Alloc
     if let Some(port) = input_of(scope.ports(), token)? {
         return Ok(Some(Source::Pin(port)));
     }
-    match place_among(scope.alloc(), b"s_", scope.tables().states.len(), token)? {
+    match place_among(b"s_", scope.tables().states.len(), token) {
         Some(state) => Ok(Some(Source::State(state))),
         None => Ok(None),
     }

@@ -1,6 +1,6 @@
 //! The assignments of the variables of outputs. (IEEE 1076.4-2000, VitalTruthTable; IEEE 1076-1993, 8.5.)
 
-ghost use Rattle.std.specs.Prelude.{◌≡◌, ◌+◌, [], nat_lt, nat_eq, length, IfOk, codes};
+ghost use Rattle.std.specs.Prelude.{◌≡◌, ◌+◌, [], nat_lt, nat_eq, length, codes};
 ghost use Rattle.grammar_reader.specs.Reading.{read, Reads, ReadsAs, Many, Choice};
 ghost use Rattle.grammar_reader.specs.Words.{valued};
 ghost use Rattle.vhdl_tokens.specs.Spelling.{is_same};
@@ -12,12 +12,9 @@ use crate::assigned::Values;
 use crate::sources::sources_of;
 use grammar_reader::{Read, Refusal, Stop};
 use sqlite_items::Items;
-use std::alloc::{AllocError, Global};
 use vhdl_grammar::Assigned;
-use vhdl_scope::{
-    Cursor, Declarations, either_word, expect_all, is_numbered, numbered, truth_width,
-};
-use vhdl_tokens::is_name;
+use vhdl_scope::{Cursor, Declarations, either_word, expect_all, numbered, truth_width};
+use vhdl_tokens::{is_name, is_numbered_name};
 
 /// How many inputs the table of an output with this number has.
 fn output_width(scope: &Declarations, table: usize) -> usize
@@ -37,7 +34,7 @@ fn table_name(cursor: &mut Cursor, scope: &Declarations, table: usize) -> Read<(
         return Err(Stop::Refused(cursor.no_name()));
     }
     let before = scope.tables().states.as_slice().len() + table;
-    numbered(cursor, scope.alloc(), true, b"k_", before + 1)
+    numbered(cursor, true, b"k_", before + 1)
 }
 
 /// A look-up of the table of an output, behind its word.
@@ -107,12 +104,11 @@ fn awaits_value(scope: &Declarations, values: &Values) -> bool
     values.len() < scope.ports().outputs().len()
 }
 
-/// Whether a token is the name of the variable behind these values. An `Err` comes only where memory is wanting.
-fn is_value_name(alloc: Global, token: &[u8], values: &Values) -> Result<bool, AllocError>
-    ensures { IfOk result (λ same. same ≡ is_same token.now (rules.numbered (codes "z_") (length values.now + 1))) }
+/// Whether a token is the name of the variable behind these values.
+fn is_value_name(token: &[u8], values: &Values) -> bool
+    ensures { result ≡ is_same token.now (rules.numbered (codes "z_") (length values.now + 1)) }
 {
-    let number = values.len() + 1;
-    is_numbered(alloc, token, b"z_", number)
+    is_numbered_name(token, b"z_", values.len() + 1)
 }
 
 /// Puts the values that follow behind these.
@@ -129,7 +125,7 @@ fn more_values(cursor: &mut Cursor, scope: &Declarations, values: &mut Values) -
         if !is_name(cursor.bytes()) {
             break;
         }
-        if !is_value_name(scope.alloc(), cursor.bytes(), values)? {
+        if !is_value_name(cursor.bytes(), values) {
             return Err(Stop::Refused(Refusal::Undefined));
         }
         cursor.skip();

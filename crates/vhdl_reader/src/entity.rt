@@ -1,7 +1,9 @@
 //! Entities of a text, by recursive descent. (IEEE 1076-1993, 1.1 and 1.2; IEEE 1076.4-2000.)
 
 ghost use Rattle.std.specs.Prelude.{◌≡◌};
+ghost use Rattle.std.specs.List.{list_any};
 ghost use Rattle.grammar_reader.specs.Reading.{read, Reads, ReadsAs};
+ghost use Rattle.vhdl_declarations_reader.specs.udp_tables.declared.models.VPort.{VPort};
 ghost use Rattle.vhdl_declarations_reader.specs.vhdl_grammar.VhdlDeclarations.{input_names};
 ghost use Rattle.vhdl_declarations_reader.specs.vhdl_grammar.VhdlRules as rules;
 ghost use Rattle.vhdl_declarations_reader.specs.vhdl_grammar.VhdlText as spec;
@@ -20,27 +22,27 @@ use vhdl_declarations_reader::entities::VEntity;
 use vhdl_declarations_reader::grammar::{Assigned, Columns};
 use vhdl_declarations_reader::primitives::VPort;
 use vhdl_declarations_reader::words::{Cursor, Declarations, Vhdl, expect_all};
-use vhdl_declarations_reader::{input_names, packages, scope_of};
+use vhdl_declarations_reader::{packages, scope_of};
 use vhdl_outputs_reader::{output_lines, values_of};
 use vhdl_statements_reader::{Checks, all_checks, state_calls, violation};
 use vhdl_tokens::is_name;
 
-/// The wait at the end of a process in which these names are its sensitivity list, if there are none. (IEEE 1076-1993, 8.1.)
-fn last_wait_of(cursor: &mut Cursor, names: &[Items<u8>]) -> Read<()>
-    ensures { Reads (read (spec.last_wait names.now) cursor.old) result cursor.new }
+/// Whether one of these ports is an input.
+fn has_input(ports: &[VPort]) -> bool
+    ensures { result ≡ list_any (λ (port : VPort). port.input) ports.now }
 {
-    match names {
-        [] => expect_all(cursor, &[b"wait", b";"]),
-        _ => Ok(()),
-    }
+    ports.iter().any(|port| port.input)
 }
 
-/// The wait at the end of a process, if none of these ports is an input.
-fn last_wait(cursor: &mut Cursor, alloc: Global, ports: &[VPort]) -> Read<()>
+/// The wait at the end of a process, if none of these ports is an input. (IEEE 1076-1993, 8.1.)
+#[tactic(auto, using(crate::proofs::LastWait::no_input, crate::proofs::LastWait::some_input))]
+fn last_wait(cursor: &mut Cursor, ports: &[VPort]) -> Read<()>
     ensures { Reads (read (spec.last_wait (input_names ports.now)) cursor.old) result cursor.new }
 {
-    let names = input_names(alloc, ports)?;
-    last_wait_of(cursor, names.as_slice())
+    if has_input(ports) {
+        return Ok(());
+    }
+    expect_all(cursor, &[b"wait", b";"])
 }
 
 /// Whether each condition was looked up.
@@ -55,7 +57,7 @@ fn are_looked_up(scope: &Declarations, uses: &[Items<usize>]) -> bool
 fn entity_end(cursor: &mut Cursor, scope: &Declarations, uses: &[Items<usize>]) -> Read<()>
     ensures { Reads (read (spec.entity_end scope.now uses.now) cursor.old) result cursor.new }
 {
-    last_wait(cursor, scope.alloc(), scope.ports().as_slice())?;
+    last_wait(cursor, scope.ports().as_slice())?;
     cursor.expect_where(are_looked_up(scope, uses), Refusal::Undriven, b"end")?;
     expect_all(cursor, &[b"process", b";", b"end", b"vital", b";"])
 }

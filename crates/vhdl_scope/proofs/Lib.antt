@@ -1,5 +1,4 @@
 pub mod NextWords
 pub mod LoweredNames
-pub mod SameBytes
 pub mod EitherWords
 pub mod NextPlaces

@@ -1,5 +1,5 @@
 -- The names that are numbered, by their numbers.
-use Rattle.std.proofs.Common.{◌≡◌, ℕ, zero, suc, ◌-◌, ◌^◌, ◌<◌, ◌≤◌, Bool, true, false, nat_eq, List, [], ◌∷◌, ◌++◌, length, drop}
+use Rattle.std.proofs.Common.{◌≡◌, ℕ, zero, suc, ◌-◌, ◌^◌, ◌<◌, ◌≤◌, Bool, true, false, nat_eq, List, [], ◌∷◌, ◌++◌, length, drop, get_or}
 use Rattle.std.proofs.Common.{Option, Some, None, if◌then◌else◌, refl, sym, ap, subst, ◌∙◌, arith, decimal}
 use Rattle.std.specs.Char.{is_ascii_digit, to_ascii_lowercase}
 use Rattle.std.specs.Str.{bytes_eq, str_eq_ignore_ascii_case}
@@ -35,23 +35,42 @@ same_lower x y e =
     by_kind (is_character x) (bytes_eq x y) (str_eq_ignore_ascii_case x y) (lowered x ≡ lowered y)
     (λ h. ap lowered ((bytes_eq-Decides x y).0 h)) (λ h. (bytes_eq-Decides (lowered x) (lowered y)).0 h) e
 
+lower_digit : (c d : ℕ) → is_ascii_digit d ≡ true → to_ascii_lowercase c ≡ d → c ≡ d
+lower_digit c d h e = grind (arith, nat_tests, h, e)
+
+-- digits in lower case are the digits
+lower_digits : (y ds : List ℕ) → AllDigits 10 ds → lowered y ≡ ds → y ≡ ds
+lower_digits [] ds h e = e
+lower_digits (c ∷ y) [] h e = absurd cc
+lower_digits (c ∷ y) (d ∷ ds) h e =
+    let range = digit_from_value d h.0 in
+    let digit : is_ascii_digit d ≡ true = grind (arith, nat_tests, range) in
+    ap (λ (x : ℕ). x ∷ y) (lower_digit c d digit (ap (λ (l : List ℕ). get_or l 0 0) e))
+    ∙ ap (λ (l : List ℕ). d ∷ l) (lower_digits y ds h.1 (ap (λ (l : List ℕ). drop 1 l) e))
+
+drop_lowered : (n : ℕ) (x : List ℕ) → lowered (drop n x) ≡ drop n (lowered x)
+drop_lowered zero x = refl
+drop_lowered (suc n) [] = refl
+drop_lowered (suc n) (c ∷ x) = drop_lowered n x
+
 -- the number of a numbered name stands behind its word
-number_stands : (word x : List ℕ) (n : ℕ) → n < 2 ^ 64 → is_same x (numbered word n) ≡ true
-    → drop (length word) (lowered x) ≡ decimal n
+number_stands : (word x : List ℕ) (n : ℕ) → n < 2 ^ 64 → is_same x (numbered word n) ≡ true → drop (length word) x ≡ decimal n
 number_stands word x n h e =
-    ap (λ (l : List ℕ). drop (length word) l) (same_lower x (numbered word n) e ∙ map-append to_ascii_lowercase word (decimal n))
+    let digits = (decimal_is_IsNumeral n h).0.1 in
+    lower_digits (drop (length word) x) (decimal n) digits
+    (drop_lowered (length word) x
+    ∙ ap (λ (l : List ℕ). drop (length word) l) (same_lower x (numbered word n) e ∙ map-append to_ascii_lowercase word (decimal n))
     ∙ ap (λ (k : ℕ). drop k (lowered word ++ lowered (decimal n))) (sym (length-map word to_ascii_lowercase))
-    ∙ drop-append_seam (lowered word) (lowered (decimal n)) ∙ digits_lower (decimal n) (decimal_is_IsNumeral n h).0.1
+    ∙ drop-append_seam (lowered word) (lowered (decimal n)) ∙ digits_lower (decimal n) digits)
 
 -- only this number may be the token's
 abbrev pub IsOnly : List ℕ → List ℕ → Option ℕ → Type 0
 IsOnly word x found = (n : ℕ) → n < 2 ^ 64 → is_same x (numbered word n) ≡ true → found ≡ Some n
 
 -- the number that was found behind as many bytes as the word has is the only one
-pub only_number : (word x lower : List ℕ) (found : Option ℕ) → lower ≡ lowered x
-    → ((n : ℕ) → n < 2 ^ 64 → drop (length word) lower ≡ decimal n → found ≡ Some n) → IsOnly word x found
-only_number word x lower found same there n h e =
-    there n h (ap (λ (l : List ℕ). drop (length word) l) same ∙ number_stands word x n h e)
+pub only_number : (word x : List ℕ) (found : Option ℕ)
+    → ((n : ℕ) → n < 2 ^ 64 → drop (length word) x ≡ decimal n → found ≡ Some n) → IsOnly word x found
+only_number word x found there n h e = there n h (number_stands word x n h e)
 
 if_same : (b : Bool) (place other outcome : Option ℕ) → (b ≡ true → place ≡ outcome) → (b ≡ false → other ≡ outcome)
     → (if b then place else other) ≡ outcome

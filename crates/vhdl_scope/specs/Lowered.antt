@@ -1,5 +1,5 @@
 -- Names that are found whatever the case of their letters: lists of them in lower case.
-use Rattle.std.specs.Prelude.{◌≡◌, ℕ, List, map}
+use Rattle.std.specs.Prelude.{◌≡◌, ℕ, List, map, drop}
 use Rattle.std.specs.List.{list_any}
 use Rattle.std.specs.Str.{bytes_eq}
 use Rattle.vhdl_grammar.specs.udp_tables.declared.models.VPort.{VPort}
@@ -15,7 +15,7 @@ all_lowered names = map lowered names
 abbrev pub HaveSame : List (List ℕ) → List (List ℕ) → Type 0
 HaveSame names others = (name : List ℕ) → list_any (bytes_eq name) names ≡ list_any (bytes_eq name) (all_lowered others)
 
--- what is kept beside ports: their names in lower case, and the numbers of the outputs, both in order
+-- what is kept beside ports: the names in lower case of those behind the first 16, and the numbers of the outputs, both in order
 pub record AreKeptOf (ports : List VPort) (names : List (List ℕ)) (outputs : List ℕ) : Type 0 where
-  pub named : names ≡ all_lowered (port_names ports)
+  pub named : names ≡ all_lowered (port_names (drop 16 ports))
   pub counted : outputs ≡ output_ports_from 0 ports

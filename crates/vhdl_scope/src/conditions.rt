@@ -1,7 +1,7 @@
 //! The calls that look up conditions. (IEEE 1076.4-2000, VitalTruthTable.)
 
 ghost use Rattle.std.specs.Prelude.{◌≡◌, ℕ, ◌+◌, ◌-◌, ◌<◌, ◌^◌, if◌then◌else◌, min, length, drop, slice_get, Option, Some, None};
-ghost use Rattle.std.specs.Prelude.{IfOk, decimal};
+ghost use Rattle.std.specs.Prelude.{decimal};
 ghost use Rattle.grammar_reader.specs.Reading.{read, Reads, ReadsAs};
 ghost use Rattle.vhdl_tokens.specs.Spelling.{is_same};
 ghost use Rattle.vhdl_grammar.specs.VhdlRules as rules;
@@ -13,10 +13,11 @@ use crate::language::{Cursor, Vhdl};
 use crate::names::{input_at, inputs, list_end};
 use crate::ports::Ports;
 use crate::widths::truth_width;
-use crate::words::{expect_all, is_numbered};
+use crate::words::expect_all;
 use grammar_reader::{Read, RepeatedPart};
 use sqlite_items::Items;
-use std::alloc::{AllocError, Global};
+use std::alloc::Global;
+use vhdl_tokens::is_numbered_name;
 
 /// The lists of the inputs of the conditions that were looked up so far, in the order of the conditions' numbers.
 pub type Uses = Items<Items<usize>>;
@@ -35,46 +36,33 @@ fn number_behind(word: &[u8], token: &[u8]) -> Option<usize>
     }
 }
 
-/// The place, from 0, of the name of a word with this number, where a token is that name. An `Err` comes only where memory is
-/// wanting.
-fn place_at(
-    alloc: Global,
-    word: &[u8],
-    number: usize,
-    token: &[u8],
-) -> Result<Option<usize>, AllocError>
+/// The place, from 0, of the name of a word with this number, where a token is that name.
+fn place_at(word: &[u8], number: usize, token: &[u8]) -> Option<usize>
     requires { 0 < number }
-    ensures { IfOk result (λ place. place ≡ (if is_same token.now (rules.numbered word.now number) then Some (number - 1)
-        else None)) }
+    ensures { result ≡ (if is_same token.now (rules.numbered word.now number) then Some (number - 1) else None) }
 {
-    if is_numbered(alloc, token, word, number)? {
-        Ok(Some(number - 1))
+    if is_numbered_name(token, word, number) {
+        Some(number - 1)
     } else {
-        Ok(None)
+        None
     }
 }
 
 /// Which, from 0, of the names of a word with the numbers from 1 up to this one a token is, in time of no more than the token's
-/// length. An `Err` comes only where memory is wanting.
-pub fn place_among(
-    alloc: Global,
-    word: &[u8],
-    most: usize,
-    token: &[u8],
-) -> Result<Option<usize>, AllocError>
-    ensures { IfOk result (λ place. place ≡ rules.place_among word.now most token.now) }
+/// length. It takes no memory.
+pub fn place_among(word: &[u8], most: usize, token: &[u8]) -> Option<usize>
+    ensures { result ≡ rules.place_among word.now most token.now }
 {
-    let lowered = token.to_ascii_lowercase(alloc)?;
-    match number_behind(word, &lowered) {
-        None => Ok(None),
+    match number_behind(word, token) {
+        None => None,
         Some(number) => {
             if number == 0 {
-                return Ok(None);
+                return None;
             }
             if number > most {
-                return Ok(None);
+                return None;
             }
-            place_at(alloc, word, number, token)
+            place_at(word, number, token)
         }
     }
 }
@@ -88,29 +76,22 @@ fn last_condition(scope: &Declarations, uses: &[Items<usize>]) -> usize
     if next < all { next } else { all }
 }
 
-/// The condition of a name: one that was looked up before, or the next one, where there is one. An `Err` comes only where memory
-/// is wanting.
-fn condition_of(
-    alloc: Global,
-    scope: &Declarations,
-    uses: &[Items<usize>],
-    token: &[u8],
-) -> Result<Option<usize>, AllocError>
-    ensures { IfOk result (λ found. found ≡ spec.condition_of scope.now uses.now token.now) }
+/// The condition of a name: one that was looked up before, or the next one, where there is one.
+fn condition_of(scope: &Declarations, uses: &[Items<usize>], token: &[u8]) -> Option<usize>
+    ensures { result ≡ spec.condition_of scope.now uses.now token.now }
 {
-    place_among(alloc, b"c_", last_condition(scope, uses), token)
+    place_among(b"c_", last_condition(scope, uses), token)
 }
 
 /// The name of a condition.
 fn condition_name(
     cursor: &mut Cursor<'_>,
-    alloc: Global,
     scope: &Declarations,
     uses: &[Items<usize>],
 ) -> Read<usize>
     ensures { Reads (read (rules.known (spec.condition_of scope.now uses.now)) cursor.old) result cursor.new }
 {
-    let found = condition_of(alloc, scope, uses, cursor.bytes())?;
+    let found = condition_of(scope, uses, cursor.bytes());
     cursor.known(found)
 }
 
@@ -218,7 +199,7 @@ pub fn condition(
     ensures { ReadsAs (λ number. (number, uses.new)) (read (spec.condition scope.now uses.old) cursor.old) result cursor.new }
 {
     expect_all(cursor, &[b"(", b"TruthTable", b"=>"])?;
-    let number = condition_name(cursor, alloc, scope, uses.as_slice())?;
+    let number = condition_name(cursor, scope, uses.as_slice())?;
     expect_all(cursor, &[b",", b"DataIn", b"=>", b"("])?;
     list_of(cursor, alloc, scope, uses, number)?;
     cursor.expect(b")")?;

@@ -22,7 +22,5 @@ pub use names::{an_input, input_of, list_end};
 pub use ports::Ports;
 pub use vhdl_grammar as grammar;
 pub use vhdl_grammar::{entities, primitives};
-pub use widths::{truth_width, width_at};
-pub use words::{
-    either_word, expect_all, is_number_token, is_numbered, numbered, this_number, time,
-};
+pub use widths::{state_width, truth_width, width_at};
+pub use words::{either_word, expect_all, is_number_token, numbered, this_number, time};

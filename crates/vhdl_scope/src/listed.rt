@@ -8,8 +8,8 @@ use sqlite_items::Items;
 use std::alloc::{AllocError, Global};
 use std::marker::Model;
 
-/// How many numbers of a list are compared one by one.
-const NEAR: usize = 16;
+/// How many things of a list are compared one by one.
+pub(crate) const NEAR: usize = 16;
 
 /// Numbers in the order in which they were listed. Contracts see the list of them. The first of them are compared one by one,
 /// which takes no memory; those behind them stand in a set too.
@@ -41,15 +41,15 @@ fn is_listed(numbers: &[usize], number: usize) -> bool
     false
 }
 
-/// The first numbers of a list, which are compared one by one.
+/// The first things of a list, which are compared one by one.
 #[tactic(auto, using(grammar_reader::proofs::Places::take_all))]
-fn near(numbers: &[usize]) -> &[usize]
-    ensures { result.now ≡ take 16 numbers.now }
+pub(crate) fn near<T>(things: &[T]) -> &[T]
+    ensures { result.now ≡ take 16 things.now }
 {
-    if numbers.len() <= NEAR {
-        numbers
+    if things.len() <= NEAR {
+        things
     } else {
-        &numbers[..NEAR]
+        &things[..NEAR]
     }
 }
 

@@ -1,9 +1,14 @@
 //! The ports of an entity, with a list that finds a name at once.
 
-ghost use Rattle.std.specs.Prelude.{◌≡◌, [], ◌∷◌, ◌++◌, if◌then◌else◌, IfOk};
+ghost use Rattle.std.specs.Prelude.{◌≡◌, [], ◌∷◌, ◌++◌, if◌then◌else◌, true, false, drop, IfOk, IfErr};
+ghost use Rattle.vhdl_tokens.specs.Tokens.{is_name};
+ghost use Rattle.vhdl_grammar.specs.VhdlRules.{is_among};
+ghost use Rattle.vhdl_grammar.specs.VhdlDeclarations.{port_names};
 ghost use Rattle.vhdl_grammar.specs.VhdlNames.{port_of};
+ghost use Rattle.vhdl_scope.specs.Lowered.{all_lowered};
 
 use crate::language::Vhdl;
+use crate::listed::{NEAR, near};
 use bool_functions::Names;
 use grammar_reader::{Language, Stop};
 use sqlite_items::Items;
@@ -11,13 +16,14 @@ use std::alloc::{AllocError, Global};
 use std::marker::Model;
 use vhdl_grammar::primitives::VPort;
 
-/// Ports in the order of their text. Contracts see the list of them. Beside them stand their names in lower case, since a name is
-/// the same whatever the case of its letters (IEEE 1076-1993, 13.3.1), and the numbers of the outputs.
+/// Ports in the order of their text. Contracts see the list of them. The first of them are compared one by one, which takes no
+/// memory; the names of those behind them stand in lower case in a list that finds each at once, since a name is the same whatever
+/// the case of its letters (IEEE 1076-1993, 13.3.1). Beside them stand the numbers of the outputs.
 #[derive(Drop)]
 pub struct Ports {
     alloc: Global,
     ports: Items<VPort>,
-    lowered: Names,
+    far: Names,
     outputs: Items<usize>,
 }
 
@@ -30,7 +36,7 @@ impl Model for Ports {
 
     ghost view = { λ p. p.ports };
 
-    ghost invariant = { λ p. AreKeptOf p.ports p.lowered p.outputs };
+    ghost invariant = { λ p. AreKeptOf p.ports p.far p.outputs };
 }
 
 /// The numbers of outputs, and the number of a port behind them where it is an output. An `Err` comes only where memory is
@@ -48,8 +54,23 @@ fn outputs_with(
     Ok(outputs)
 }
 
-/// How many ports are compared one by one.
-const FEW: usize = 16;
+/// Adds the name of one more port behind these to the list of those that are not compared one by one, where it is one of them.
+fn add_far(alloc: Global, far: &mut Names, ports: &[VPort], port: &VPort) -> Result<(), Stop>
+    requires kept { far.old ≡ all_lowered (port_names (drop 16 ports.now)) }
+    requires named { is_name port.now.name ≡ true }
+    requires fresh { is_among (port_names ports.now) port.now.name ≡ false }
+    ensures added { IfOk result (λ _. far.new ≡ all_lowered (port_names (drop 16 (ports.now ++ port.now ∷ [])))) }
+    ensures memory { IfErr result (λ stop. stop ≡ Stop.Memory) }
+{
+    if ports.len() < NEAR {
+        return Ok(());
+    }
+    let lowered = port.name.as_slice().to_ascii_lowercase(alloc)?;
+    match far.add(&lowered) {
+        Ok(_) => Ok(()),
+        Err(_) => Err(Stop::Memory),
+    }
+}
 
 /// The number of the port with this name, looked for one after another.
 fn number_among(ports: &[VPort], name: &[u8]) -> Option<usize>
@@ -61,7 +82,7 @@ fn number_among(ports: &[VPort], name: &[u8]) -> Option<usize>
 }
 
 impl Ports {
-    ghost use Rattle.std.specs.Prelude.{◌≡◌, [], ◌∷◌, ◌++◌, true, false, IfOk, IfErr};
+    ghost use Rattle.std.specs.Prelude.{◌≡◌, [], ◌∷◌, ◌++◌, true, false, take, None, IfOk, IfErr};
     ghost use Rattle.vhdl_grammar.specs.udp_tables.declared.models.VPort.{VPort};
     ghost use Rattle.vhdl_grammar.specs.vital_models.Sound.{output_ports_from};
     ghost use Rattle.vhdl_tokens.specs.Tokens.{is_name};
@@ -76,7 +97,7 @@ impl Ports {
         Ports {
             alloc,
             ports: Items::new(alloc),
-            lowered: Names::new(alloc),
+            far: Names::new(alloc),
             outputs: Items::new(alloc),
         }
     }
@@ -105,11 +126,25 @@ impl Ports {
     pub fn number(&self, name: &[u8]) -> Result<Option<usize>, AllocError>
         ensures { is_name name.now ≡ true → IfOk result (λ found. found ≡ port_of self.now name.now) }
     {
-        if self.ports.len() <= FEW {
-            return Ok(number_among(self.ports.as_slice(), name));
+        match number_among(near(self.ports.as_slice()), name) {
+            Some(number) => Ok(Some(number)),
+            None => self.far_number(name),
+        }
+    }
+
+    /// The same, where the first ports do not have the name.
+    fn far_number(&self, name: &[u8]) -> Result<Option<usize>, AllocError>
+        requires { port_of (take 16 self.now) name.now ≡ None }
+        ensures { is_name name.now ≡ true → IfOk result (λ found. found ≡ port_of self.now name.now) }
+    {
+        if self.ports.len() <= NEAR {
+            return Ok(None);
         }
         let lowered = name.to_ascii_lowercase(self.alloc)?;
-        Ok(self.lowered.number(&lowered))
+        match self.far.number(&lowered) {
+            Some(number) => Ok(Some(NEAR + number)),
+            None => Ok(None),
+        }
     }
 
     /// Whether a name is that of one of these ports. An `Err` comes only where memory is wanting.
@@ -131,19 +166,16 @@ impl Ports {
         let Ports {
             alloc,
             mut ports,
-            mut lowered,
+            mut far,
             outputs,
         } = self;
-        let name = port.name.as_slice().to_ascii_lowercase(alloc)?;
-        let Ok(_) = lowered.add(&name) else {
-            return Err(Stop::Memory);
-        };
+        add_far(alloc, &mut far, ports.as_slice(), &port)?;
         let outputs = outputs_with(outputs, ports.len(), port.input)?;
         ports.push(port)?;
         Ok(Ports {
             alloc,
             ports,
-            lowered,
+            far,
             outputs,
         })
     }

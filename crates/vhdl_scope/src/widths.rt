@@ -8,7 +8,7 @@ use vhdl_grammar::Tables;
 use vhdl_grammar::entities::{TruthRow, VStateRow};
 
 /// How many inputs the first row of a state's table has.
-fn state_width(rows: &[VStateRow]) -> usize
+pub fn state_width(rows: &[VStateRow]) -> usize
     ensures { result ≡ tables.state_width rows.now }
 {
     match rows.first() {

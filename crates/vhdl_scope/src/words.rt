@@ -1,7 +1,6 @@
 //! Words, numbers and times at the next token.
 
-ghost use Rattle.std.specs.Prelude.{◌≡◌, map, IfOk};
-ghost use Rattle.vhdl_tokens.specs.Spelling.{is_same};
+ghost use Rattle.std.specs.Prelude.{◌≡◌, map};
 ghost use Rattle.vhdl_grammar.specs.VhdlRules as spec;
 ghost use Rattle.grammar_reader.specs.Reading.{read, Reads};
 ghost use Rattle.grammar_reader.specs.Words.{valued};
@@ -9,8 +8,7 @@ ghost use Rattle.vhdl_scope.specs.EitherWord.{either_word};
 
 use crate::language::Cursor;
 use grammar_reader::{Read, Refusal, Stop};
-use std::alloc::{AllocError, Global};
-use vhdl_tokens::{is_same, number_of, numbered_name};
+use vhdl_tokens::{is_name, is_numbered_name, number_of};
 
 /// Tokens that must stand next, one behind the other.
 #[tactic(auto, using(crate::proofs::NextWords::expect_next, crate::proofs::NextWords::expect_other))]
@@ -88,31 +86,19 @@ pub fn time(cursor: &mut Cursor<'_>) -> Read<u64>
 }
 
 /// The name with this number, where it is the next one.
-pub fn numbered(
-    cursor: &mut Cursor<'_>,
-    alloc: Global,
-    is_next: bool,
-    word: &[u8],
-    number: usize,
-) -> Read<()>
+#[tactic(auto, using(crate::proofs::NextWords::named_fits, crate::proofs::NextWords::named_misfit, crate::proofs::NextWords::named_other))]
+pub fn numbered(cursor: &mut Cursor<'_>, is_next: bool, word: &[u8], number: usize) -> Read<()>
     ensures { Reads (read (spec.this_name (spec.numbered_where is_next word.now number)) cursor.old) result cursor.new }
 {
     if !is_next {
         return Err(Stop::Refused(cursor.no_name()));
     }
-    let name = numbered_name(alloc, word, number)?;
-    cursor.this_name(name.as_slice())
-}
-
-/// Whether a token is the name with this number. An `Err` comes only where memory is wanting.
-pub fn is_numbered(
-    alloc: Global,
-    token: &[u8],
-    word: &[u8],
-    number: usize,
-) -> Result<bool, AllocError>
-    ensures { IfOk result (λ same. same ≡ is_same token.now (spec.numbered word.now number)) }
-{
-    let name = numbered_name(alloc, word, number)?;
-    Ok(is_same(token, name.as_slice()))
+    if !is_name(cursor.bytes()) {
+        return Err(Stop::Refused(Refusal::Syntax));
+    }
+    if !is_numbered_name(cursor.bytes(), word, number) {
+        return Err(Stop::Refused(Refusal::Undefined));
+    }
+    cursor.skip();
+    Ok(())
 }

@@ -9,7 +9,6 @@ ghost use Rattle.vhdl_grammar.specs.VhdlChecks as spec;
 
 use cell_machine::{CheckKind, Edge};
 use grammar_reader::Read;
-use std::alloc::Global;
 use vhdl_scope::{
     Cursor, Declarations, Uses, an_input, condition, either_word, expect_all, numbered, time,
 };
@@ -26,12 +25,12 @@ fn has_data(scope: &Declarations, is_period: bool, check: usize) -> bool
 }
 
 /// The variable that tells of the check with this number, from 0, of so many.
-pub fn report(cursor: &mut Cursor, alloc: Global, checks: usize, check: usize) -> Read<()>
+pub fn report(cursor: &mut Cursor, checks: usize, check: usize) -> Read<()>
     requires { check < 2 ^ 63 }
     ensures { Reads (read (rules.this_name (rules.numbered_where (nat_lt check checks) (codes "x_") (check + 1))) cursor.old)
         result cursor.new }
 {
-    numbered(cursor, alloc, check < checks, b"x_", check + 1)
+    numbered(cursor, check < checks, b"x_", check + 1)
 }
 
 /// The variable that tells of the check with this number, from 0, of those that are declared.
@@ -42,7 +41,7 @@ fn declared_report(cursor: &mut Cursor, scope: &Declarations, check: usize) -> R
         cursor.new }
 {
     let checks = scope.variables().periods.len();
-    report(cursor, scope.alloc(), checks, check)
+    report(cursor, checks, check)
 }
 
 /// The data of the check with this number, from 0, which are of this type.
@@ -52,7 +51,7 @@ fn data(cursor: &mut Cursor, scope: &Declarations, is_period: bool, check: usize
         (rules.numbered_where (spec.has_data scope.now is_period check) (codes "d_") (check + 1))) cursor.old) result cursor.new }
 {
     let is_there = has_data(scope, is_period, check);
-    numbered(cursor, scope.alloc(), is_there, b"d_", check + 1)
+    numbered(cursor, is_there, b"d_", check + 1)
 }
 
 /// The variables of the check with this number, from 0, and the input that is tested.

@@ -9,14 +9,12 @@ use crate::columns::columns_of;
 use crate::limits::report;
 use grammar_reader::{Read, RepeatedPart, Stop, one_or_more, while_next};
 use sqlite_items::Items;
-use std::alloc::Global;
 use vhdl_grammar::Columns;
 use vhdl_scope::{Cursor, Declarations, Vhdl, expect_all, numbered};
 
 /// The report of a check that stands behind those of so many, of this many checks.
 #[derive(Drop)]
 struct NextReport {
-    alloc: Global,
     checks: usize,
     ghost few: { checks < 2 ^ 63 },
 }
@@ -31,19 +29,19 @@ impl RepeatedPart<Vhdl> for NextReport {
         if before >= self.checks {
             return Err(Stop::Refused(cursor.no_name()));
         }
-        report(cursor, self.alloc, self.checks, before)?;
+        report(cursor, self.checks, before)?;
         Ok(before + 1)
     }
 }
 
 /// The reports of so many checks, in order.
 #[tactic(auto, unfolding(vhdl_grammar::specs::VhdlChecks::any_report))]
-fn any_report(cursor: &mut Cursor, alloc: Global, checks: usize) -> Read<()>
+fn any_report(cursor: &mut Cursor, checks: usize) -> Read<()>
     requires { checks < 2 ^ 63 }
     ensures { Reads (read (spec.any_report checks) cursor.old) result cursor.new }
 {
     expect_all(cursor, &[b"viol", b":="])?;
-    let count = one_or_more(cursor, b"or", &NextReport { alloc, checks }, 0)?;
+    let count = one_or_more(cursor, b"or", &NextReport { checks }, 0)?;
     cursor.go_on_where(count == checks)?;
     cursor.expect(b";")
 }
@@ -57,7 +55,7 @@ pub fn violation(cursor: &mut Cursor, scope: &Declarations) -> Read<()>
     if checks == 0 {
         return Ok(());
     }
-    any_report(cursor, scope.alloc(), checks)
+    any_report(cursor, checks)
 }
 
 /// The name of a word for the state with this number, from 0.
@@ -68,7 +66,7 @@ fn state_word(cursor: &mut Cursor, scope: &Declarations, word: &[u8], state: usi
         cursor.new }
 {
     let is_there = state < scope.tables().states.len();
-    numbered(cursor, scope.alloc(), is_there, word, state + 1)
+    numbered(cursor, is_there, word, state + 1)
 }
 
 /// The variables and the table of the next state, behind these calls and the word of this one.

@@ -1,11 +1,11 @@
 -- The second bytes of the words of VHDL.
 use Rattle.std.proofs.Common.{◌≡◌, ℕ, Bool, true, false, not, List, [], ◌∷◌, ◌<◌, length, get_or, refl, sym, ap, ◌∙◌, arith}
 use Rattle.std.specs.Prelude.{codes}
-use Rattle.std.specs.Char.{to_ascii_lowercase}
 use Rattle.std.specs.List.{list_all, list_any}
 use Rattle.std.specs.Str.{bytes_eq, str_eq_ignore_ascii_case, str_to_ascii_lowercase}
 use Rattle.std.proofs.lemmas.Slice.Eq.{bytes_eq-Decides}
 use Rattle.std.specs.Cmp.{first_so as and_left, second_so as and_right}
+use Rattle.vhdl_tokens.specs.SecondBytes.{is_second_of_no_word}
 use Rattle.vhdl_tokens.specs.Tokens.{is_one_of}
 use Rattle.vhdl_tokens.specs.Words.{vhdl_words, used_words, is_reserved, is_used, is_vhdl_word}
 
@@ -57,10 +57,8 @@ short (a ∷ []) h = no_word (a ∷ []) refl
 short (a ∷ b ∷ bs) h = absurd (omega arith)
 
 -- a longer one, whose second byte is one of these
-pub second : (name : List ℕ) (l : ℕ) (found : Bool) → 1 < length name → l ≡ to_ascii_lowercase (get_or name 1 0)
-    → found ≡ is_one_of (codes "dgjkqvwz123456789_") l → not found ≡ false →
-    is_vhdl_word name ≡ false
-second [] l found h k f e = absurd (omega arith)
-second (a ∷ []) l found h k f e = absurd (omega arith)
-second (a ∷ b ∷ bs) l found h k f e =
-    no_word (a ∷ b ∷ bs) (ap (λ x. not (is_one_of (codes "dgjkqvwz123456789_") x)) (sym k) ∙ ap not (sym f) ∙ e)
+pub second : (name : List ℕ) → 1 < length name → not (is_second_of_no_word (get_or name 1 0)) ≡ false
+    → is_vhdl_word name ≡ false
+second [] h e = absurd (omega arith)
+second (a ∷ []) h e = absurd (omega arith)
+second (a ∷ b ∷ bs) h e = no_word (a ∷ b ∷ bs) e

@@ -6,3 +6,4 @@ pub mod Spans
 pub mod Numbers
 pub mod Cover
 pub mod Spelling
+pub mod SecondBytes

@@ -17,7 +17,7 @@ mod words;
 pub use kept::{is_free, is_identifier, is_numbered, is_plain};
 pub use laws::tokens_are_lawful;
 pub use lexer::{is_number, number_of};
-pub use numbered::numbered_name;
+pub use numbered::{is_numbered_name, numbered_name};
 pub use scanner::{LastToken, scan};
 pub use spelling::{is_name, is_quoted, is_same, is_string};
 pub use words::{is_same_name, is_vhdl_word};

@@ -1,5 +1,7 @@
-//! Names that take the place of those that are not kept.
-ghost use Rattle.std.specs.Prelude.{◌≡◌, ◌++◌, decimal, IfOk};
+//! Names that are a word followed by a number.
+ghost use Rattle.std.specs.Prelude.{◌≡◌, ◌&&◌, ◌++◌, decimal, IfOk};
+ghost use Rattle.std.specs.Str.{bytes_eq, str_eq_ignore_ascii_case};
+ghost use Rattle.vhdl_tokens.specs.Spelling.{is_character, is_same};
 
 use itoa::Buffer;
 use sqlite_items::Items;
@@ -15,4 +17,51 @@ pub fn numbered_name(alloc: Global, word: &[u8], number: usize) -> Result<Items<
     name.extend_from_slice(word)?;
     name.extend_from_slice(digits)?;
     Ok(Items::from_vec(name))
+}
+
+/// Whether a token is a character literal, or a tick.
+fn is_character(token: &[u8]) -> bool
+    ensures { result ≡ is_character token.now }
+{
+    match token.first() {
+        None => false,
+        Some(first) => *first == b'\'',
+    }
+}
+
+/// Whether both parts of a token are these.
+fn are_parts(front: &[u8], behind: &[u8], word: &[u8], rest: &[u8]) -> bool
+    ensures { result ≡ (bytes_eq front.now word.now && bytes_eq behind.now rest.now) }
+{
+    front == word && behind == rest
+}
+
+/// Whether both parts of a token are these, whatever the case of their letters.
+fn are_same_parts(front: &[u8], behind: &[u8], word: &[u8], rest: &[u8]) -> bool
+    ensures { result ≡ (str_eq_ignore_ascii_case front.now word.now && str_eq_ignore_ascii_case behind.now rest.now) }
+{
+    front.eq_ignore_ascii_case(word) && behind.eq_ignore_ascii_case(rest)
+}
+
+/// Whether a token stands for a word followed by these bytes. It takes no memory.
+#[tactic(auto, using(crate::proofs::SameBytes::unlike_joined))]
+fn is_joined(token: &[u8], word: &[u8], rest: &[u8]) -> bool
+    ensures { result ≡ is_same token.now (word.now ++ rest.now) }
+{
+    if token.len() < word.len() {
+        return false;
+    }
+    let (front, behind) = token.split_at(word.len());
+    if is_character(token) {
+        return are_parts(front, behind, word, rest);
+    }
+    are_same_parts(front, behind, word, rest)
+}
+
+/// Whether a token stands for a word followed by a number. It takes no memory.
+pub fn is_numbered_name(token: &[u8], word: &[u8], number: usize) -> bool
+    ensures { result ≡ is_same token.now (word.now ++ decimal number) }
+{
+    let mut buffer = Buffer::new();
+    is_joined(token, word, buffer.format(number).as_bytes())
 }

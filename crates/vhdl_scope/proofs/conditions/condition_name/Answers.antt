@@ -5,4 +5,4 @@ use Rattle.vhdl_scope.proofs.conditions.condition_name.Goals as goal
 pub returns : goal.returns
 returns c =
     c.known.ensures (condition_of c.args.scope.now c.args.uses.now)
-    (λ _. c.in_ok-found.ensures ∙ ap (condition_of c.args.scope.now c.args.uses.now) c.bytes.ensures)
+    (λ _. c.condition_of-found.ensures ∙ ap (condition_of c.args.scope.now c.args.uses.now) c.bytes.ensures)

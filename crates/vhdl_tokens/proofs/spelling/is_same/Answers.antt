@@ -1,6 +1,6 @@
 use Rattle.std.proofs.Common.{sym, ◌∙◌, ne_eqb, length}
-use Rattle.vhdl_scope.proofs.SameBytes.{unlike}
-use Rattle.vhdl_scope.proofs.language.stands_for.Goals as goal
+use Rattle.vhdl_tokens.proofs.SameBytes.{unlike}
+use Rattle.vhdl_tokens.proofs.spelling.is_same.Goals as goal
 
 pub returns-else-token-word : goal.returns-else-token-word
 returns-else-token-word c =

@@ -2,13 +2,13 @@
 use Rattle.std.proofs.Common.{◌≡◌, ℕ, ◌<◌, ◌≤◌, Bool, true, false, refl, sym, ap, ◌∙◌, arith, Option, Some, None}
 use Rattle.std.specs.Prelude.{⊤, nat_le, min, if◌then◌else◌}
 use Rattle.std.proofs.lemmas.Bool.{lt-ltb, le-ltb, ne_eqb, eq-eqb, leb-true, leb-false}
-use Rattle.cell_machine.specs.Delay.{lesser, least}
+use Rattle.cell_machine.specs.Delay.{lesser}
 use Rattle.cell_machine.proofs.LeastLemmas.{lesser_none}
 use Rattle.cell_reader.specs.declared.refusal.Reason.{Reason}
 use Rattle.cell_reader.specs.declared.refusal.Refusal.{Refusal}
 use Rattle.cell_reader.specs.ReasonWords.{number_of_reason}
 use Rattle.cell_reader.specs.Refusals.{refused_or}
-use Rattle.three_state_cells.specs.Refusals.{decides, first_of_two}
+use Rattle.three_state_cells.specs.Refusals.{first_of_two}
 
 -- A refusal, if there is one, has a number above this.
 abbrev pub IsAbove : ℕ → Option Refusal → Type 0

@@ -1,6 +1,6 @@
 -- The offsets of checks and arcs of pins behind the limit are no less than that of the first of these pins, so that they don't
 -- decide where a limit is passed.
-use Rattle.std.proofs.Common.{◌≡◌, ℕ, ◌+◌, ◌<◌, ◌≤◌, min, suc, zero, Bool, true, false, ◌&&◌, List, [], ◌∷◌, ◌++◌, length, map}
+use Rattle.std.proofs.Common.{◌≡◌, ℕ, ◌+◌, ◌≤◌, min, suc, zero, Bool, true, false, ◌&&◌, List, [], ◌∷◌, ◌++◌, length, map}
 use Rattle.std.proofs.Common.{if◌then◌else◌, refl, sym, ap, ◌∙◌, arith, codes, Option, Some, None}
 use Rattle.std.specs.Prelude.{flat_map, nat_le, bytes_eq}
 use Rattle.std.specs.Option.{option_map_or}
@@ -22,9 +22,9 @@ use Rattle.cell_machine.specs.CellRules.{is_input_pin}
 use Rattle.cell_machine.specs.Delay.{lesser, least}
 use Rattle.timing_arcs.specs.declared.subject.Subject.{Subject}
 use Rattle.timing_arcs.specs.Making.{checks_in, arcs_in}
-use Rattle.timing_arcs.specs.Merging.{Placed, same_path, firsts_after, merged_at}
+use Rattle.timing_arcs.specs.Merging.{Placed, same_path, firsts_after}
 use Rattle.timing_arcs.specs.Timing as timing
-use Rattle.cell_attributes.specs.Limits.{first_past, place_of_group}
+use Rattle.cell_attributes.specs.Limits.{first_past}
 use Rattle.cell_reader.specs.PinTimings.{subject_at, places_from, arc_at_of}
 use Rattle.trimmed_cells.specs.Trimmed.{place_in, is_behind, all_behind, has_one, untimed, is_trimmed, trimmed_pin, stands_behind}
 use Rattle.trimmed_cells.proofs.Untimed.{same_at}

@@ -1,5 +1,5 @@
 -- What is wrong in the timing of the pins of a cell is wrong in that of the trimmed cell or in that of the trimmed pins.
-use Rattle.std.proofs.Common.{◌≡◌, ℕ, ◌+◌, ◌<◌, min, Bool, true, false, List, [], ◌∷◌, ◌++◌, if◌then◌else◌, refl, sym, ap, ◌∙◌, arith}
+use Rattle.std.proofs.Common.{◌≡◌, ℕ, ◌+◌, min, Bool, true, false, List, [], ◌∷◌, ◌++◌, if◌then◌else◌, refl, sym, ap, ◌∙◌, arith}
 use Rattle.std.proofs.Common.{Option, Some, None, Ok}
 use Rattle.std.specs.Prelude.{flat_map}
 use Rattle.liberty_groups.specs.declared.tree.Group.{Group}
@@ -12,7 +12,7 @@ use Rattle.timing_arcs.specs.Timing.{malformed_at, unknown_names_at, own_conditi
 use Rattle.timing_arcs.specs.Timing.{unless_at, timing_of, reading_answer}
 use Rattle.cell_reader.specs.declared.refusal.Reason.TheVariants as reason
 use Rattle.cell_reader.specs.declared.refusal.Refusal.{Refusal}
-use Rattle.cell_reader.specs.PinTimings.{Answer, subject_at, places_from}
+use Rattle.cell_reader.specs.PinTimings.{subject_at, places_from}
 use Rattle.cell_reader.specs.Refusals.{refused_or}
 use Rattle.cell_reader.specs.Written.{own_conditions_of}
 use Rattle.cell_reader.proofs.AsWritten.{own_conditions_same}

@@ -1,6 +1,6 @@
 -- A trimmed group and what is wrong in the timing that it lost, as they are made of the statements of a cell.
 use Rattle.std.proofs.Common.{◌≡◌, ℕ, suc, ◌+◌, ◌<◌, ◌≤◌, ◌^◌, true, List, [], ◌∷◌, ◌++◌, length, refl, sym, ap, ◌∙◌, subst, arith}
-use Rattle.std.proofs.Common.{append-nil, if◌then◌else◌, Option, Some, None, Result, IfOk}
+use Rattle.std.proofs.Common.{append-nil, if◌then◌else◌, Option, Some, None}
 use Rattle.std.specs.Prelude.{flat_map}
 use Rattle.std.specs.List.{fold}
 use Rattle.std.proofs.lemmas.Bool.{lt-ltb}
@@ -15,7 +15,6 @@ use Rattle.bus_texts.specs.Vectors.{cell_vectors}
 use Rattle.bank_cells.specs.Refusals.{has_many}
 use Rattle.bank_cells.specs.Copies.{with_items}
 use Rattle.bank_cells.specs.Gathered.{gathered_item, gathered_cell, gathered}
-use Rattle.cell_machine.specs.Delay.{least, lesser}
 use Rattle.timing_arcs.specs.declared.subject.Subject.{Subject}
 use Rattle.cell_attributes.specs.Groups.{pin_groups}
 use Rattle.cell_attributes.specs.Pins.{owners_of}
@@ -23,11 +22,10 @@ use Rattle.cell_reader.specs.declared.refusal.Reason.TheVariants as reason
 use Rattle.cell_reader.specs.declared.refusal.Refusal.{Refusal}
 use Rattle.cell_reader.specs.ReasonWords.{number_of_reason}
 use Rattle.cell_reader.specs.CellTexts.{subject_of, IsEarlyUnmet}
-use Rattle.cell_reader.specs.Refusals.{refusal_of}
 use Rattle.core_groups.specs.Outputs.{three_state_outputs, CanBeNumbered}
 use Rattle.three_state_cells.specs.Refusals.{first_of_two, refusal_by, driven_refusal}
 use Rattle.three_state_cells.proofs.Deciding.{refused_early}
-use Rattle.trimmed_cells.specs.Trimmed.{trimmed_pin, trimmed_items, trimmed, is_in_order, owners_among, wrong_with}
+use Rattle.trimmed_cells.specs.Trimmed.{trimmed_items, trimmed, is_in_order, owners_among, wrong_with}
 use Rattle.trimmed_cells.specs.Sinks.{nothing_held, after_all, nothing_trimmed, after_trimmed, after_wrong}
 use Rattle.trimmed_cells.specs.declared.trimmed_items.AllItems.{AllItems}
 use Rattle.trimmed_cells.specs.declared.trimmed_items.TrimmedItems.{TrimmedItems}

@@ -1,12 +1,11 @@
 -- A cell with more pins than the limit is refused as it is trimmed, or for what is wrong in the timing of the trimmed pins.
-use Rattle.std.proofs.Common.{◌≡◌, ℕ, ◌+◌, ◌-◌, ◌<◌, ◌≤◌, suc, zero, Bool, true, false, List, [], ◌∷◌, ◌++◌, length, map, filter, drop, refl, sym, ap}
-use Rattle.std.proofs.Common.{◌∙◌, subst, arith, if◌then◌else◌, Option, Some, None}
+use Rattle.std.proofs.Common.{◌≡◌, ℕ, ◌+◌, ◌-◌, ◌<◌, suc, zero, Bool, true, false, List, [], ◌∷◌, ◌++◌, length, map, filter, drop, refl, sym, ap}
+use Rattle.std.proofs.Common.{◌∙◌, arith, if◌then◌else◌, Option, Some, None}
 use Rattle.std.specs.Prelude.{flat_map, is_some, take}
 use Rattle.std.specs.List.{list_all}
 use Rattle.std.proofs.lemmas.List.{take-append-drop, map-append, append_assoc, length-drop, length-map, length-take-le}
 use Rattle.std.proofs.lemmas.List.Folds.{flat_map-map}
 use Rattle.liberty_text.specs.declared.time.Unit.{Unit}
-use Rattle.liberty_groups.specs.declared.tree.Value.{Value}
 use Rattle.liberty_groups.specs.declared.tree.Item.{Item}
 use Rattle.liberty_groups.specs.declared.tree.Item.TheOpen.{Group-F}
 use Rattle.liberty_groups.specs.declared.tree.Item.TheViews.{out-roll-Group}
@@ -26,24 +25,23 @@ use Rattle.cell_attributes.specs.Pins.{pins_in, pins_of, owners_in, owners_of}
 use Rattle.cell_attributes.specs.States.{states_in, states_of}
 use Rattle.cell_attributes.specs.Scans.{direction_in, directions, three_state_in, three_states, bank_in, banks, left_out_in}
 use Rattle.cell_attributes.specs.Scans.{left_out_states, clear_preset_in, clear_presets, no_function_in, no_functions}
-use Rattle.cell_attributes.specs.Declarations.{Declared, declared_in, declared_of, clashes_after, duplicates, bad_name_in, bad_names}
+use Rattle.cell_attributes.specs.Declarations.{declared_in, declared_of, clashes_after, duplicates, bad_name_in, bad_names}
 use Rattle.cell_attributes.specs.Vocabulary.{Entry, Vocabulary, firsts_after, state_entries, pin_entries, entry_names}
 use Rattle.cell_attributes.specs.Vocabulary.{entry_classes, entry_targets, vocabulary}
 use Rattle.cell_attributes.specs.Texts.{malformed_at, unknown_at}
 use Rattle.cell_attributes.specs.TextFaults.{malformed_in, unknown_in}
 use Rattle.cell_attributes.specs.StateReadings.{state_reading}
 use Rattle.cell_attributes.specs.Outputs.{pin_text}
-use Rattle.cell_attributes.specs.CellLaws.{readings_of, texts_of}
+use Rattle.cell_attributes.specs.CellLaws.{texts_of}
 use Rattle.cell_attributes.specs.Limits.{first_past, place_of_group, state_at}
-use Rattle.cell_reader.specs.declared.refusal.Reason.{Reason}
 use Rattle.cell_reader.specs.declared.refusal.Reason.TheVariants as reason
 use Rattle.cell_reader.specs.declared.refusal.Refusal.{Refusal}
 use Rattle.cell_reader.specs.PinTimings.{subject_at, arc_at_of, places_from}
 use Rattle.cell_reader.specs.CellTexts.{subject_with, subject_of}
 use Rattle.cell_reader.specs.Written.{coupled_of, own_conditions_of, no_support_of}
 use Rattle.cell_reader.specs.Refusals.{refused_or, timing_places, wrong_texts, malformed, unknown_names, coupled}
-use Rattle.cell_reader.specs.Refusals.{own_conditions, numbers, limits_by, limits, udp_inputs, reasons_of, refusal_of}
-use Rattle.core_groups.specs.Outputs.{ThreeStateOutput, is_three_state, outputs_from, three_state_outputs}
+use Rattle.cell_reader.specs.Refusals.{own_conditions, numbers, limits, udp_inputs, reasons_of, refusal_of}
+use Rattle.core_groups.specs.Outputs.{is_three_state, outputs_from, three_state_outputs}
 use Rattle.three_state_cells.specs.Refusals.{first_of_two, refusal_by, driven_refusal}
 use Rattle.cell_reader.proofs.Refused.{least_none, all_unmet}
 use Rattle.cell_reader.proofs.PartCounts.{within_limits}
@@ -57,7 +55,7 @@ use Rattle.trimmed_cells.proofs.Owners.{trimmed_owners, next_pins, owners_trimme
 use Rattle.trimmed_cells.proofs.Places.{commuted, again, dropped, IsPart, malformed_part, unknown_part, own_part, numbers_part, places_least}
 use Rattle.trimmed_cells.proofs.Places.{by_kinds, wrong_by_kinds}
 use Rattle.trimmed_cells.proofs.Limits.{past, MakesAbove, checks_above, arcs_above, places_above, all_whole, past_all}
-use Rattle.trimmed_cells.proofs.Reasons.{later_by, all_joined}
+use Rattle.trimmed_cells.proofs.Reasons.{all_joined}
 use Rattle.trimmed_cells.specs.Trimmed.{untimed}
 
 -- what the states and the texts of a cell hang on

@@ -9,30 +9,26 @@ use Rattle.liberty_groups.specs.declared.tree.Item.{Item, out-Item}
 use Rattle.liberty_groups.specs.declared.tree.Item.TheOpen.{Item-F, Group-F}
 use Rattle.liberty_groups.specs.declared.tree.Item.TheOpen as layer
 use Rattle.liberty_groups.specs.declared.tree.Item.TheViews.{out-roll-Group}
-use Rattle.liberty_groups.specs.declared.tree.Group.{Group, roll-Group}
+use Rattle.liberty_groups.specs.declared.tree.Group.{Group}
 use Rattle.liberty_groups.specs.Attributes.{Attribute, simple_named, group_named, attributes_named, groups_named, last_or}
 use Rattle.liberty_groups.specs.Attributes.{attribute_of}
-use Rattle.cell_machine.specs.declared.checks.CheckKind.TheVariants as kind
-use Rattle.cell_machine.specs.declared.checks.Edge.TheVariants.{Any, Rise, Fall}
 use Rattle.cell_machine.specs.declared.pins.Direction.{Direction}
 use Rattle.cell_machine.specs.declared.pins.Direction.TheVariants as direction
 use Rattle.cell_machine.specs.CellRules.{is_input_pin}
 use Rattle.timing_arcs.specs.declared.subject.Subject.{Subject}
-use Rattle.timing_arcs.specs.Merging.{merged_at}
 use Rattle.timing_arcs.specs.Timing as timing
 use Rattle.cell_attributes.specs.declared.vocabulary.Class.{Class}
 use Rattle.cell_attributes.specs.declared.declarations.Role.TheVariants.{Bearer, Plain}
 use Rattle.cell_attributes.specs.States.{StateName, states_in}
 use Rattle.cell_attributes.specs.Vocabulary.{Vocabulary, is_bound, class_as, entry_with, pin_entry, pin_entries, internal_class}
 use Rattle.cell_attributes.specs.Declarations.{Declared, is_internal, says, declared_pin, declared_in, declared_state}
-use Rattle.cell_attributes.specs.Groups.{is_pin, is_state, is_bank}
-use Rattle.cell_attributes.specs.Pins.{direction_as, direction_of, pin_as, pins_in}
+use Rattle.cell_attributes.specs.Groups.{is_pin, is_state}
+use Rattle.cell_attributes.specs.Pins.{direction_as, direction_of, pins_in}
 use Rattle.cell_attributes.specs.Scans.{place_or, place_unless, is_output_group, direction_in, three_state_in}
 use Rattle.cell_attributes.specs.Scans.{bank_in, left_out_in, no_function_in}
 use Rattle.cell_attributes.specs.Outputs.{node_as, output_with, pin_text_as, pin_text}
 use Rattle.core_groups.specs.Outputs.{is_three_state}
 use Rattle.core_groups.proofs.Statements.{attributes_kept}
-use Rattle.cell_reader.specs.PinTimings.{arc_at_of}
 use Rattle.cell_reader.specs.Written as written
 use Rattle.trimmed_cells.specs.Trimmed.{is_no_timing, untimed}
 

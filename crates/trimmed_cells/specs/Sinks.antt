@@ -1,5 +1,5 @@
 -- What is held of the statements of a cell that were handed on so far.
-use Rattle.std.specs.Prelude.{ℕ, ◌+◌, ◌-◌, ◌^◌, min, Bool, true, not, ◌&&◌, List, [], ◌∷◌, ◌++◌, Option, None, if◌then◌else◌}
+use Rattle.std.specs.Prelude.{◌+◌, ◌-◌, ◌^◌, min, true, not, ◌&&◌, [], ◌∷◌, ◌++◌, Option, None, if◌then◌else◌}
 use Rattle.liberty_groups.specs.declared.tree.Item.{Item, out-Item}
 use Rattle.liberty_groups.specs.declared.tree.Item.TheOpen.{Item-F}
 use Rattle.liberty_groups.specs.declared.tree.Item.TheOpen as layer

@@ -1,5 +1,4 @@
 use Rattle.std.proofs.Common.{◌≡◌, IfOk, subst}
-use Rattle.bank_cells.specs.Gathered.{gathered_cell}
 use Rattle.trimmed_cells.proofs.ReadLemmas.{made_whole}
 use Rattle.trimmed_cells.proofs.read.whole_group.Goals as goal
 

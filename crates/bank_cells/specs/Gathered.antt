@@ -1,6 +1,6 @@
 -- The expanded group of a cell in which neighbouring pins of a bus or bundle are one pin group with all their names, where they
 -- have the same statements.
-use Rattle.std.specs.Prelude.{◌≡◌, List, [], ◌∷◌, flat_map, Some, None, Result, Ok, Err}
+use Rattle.std.specs.Prelude.{List, [], ◌∷◌, flat_map}
 use Rattle.std.specs.Prelude.{if◌then◌else◌}
 use Rattle.liberty_groups.specs.declared.tree.Item.{Item, out-Item}
 use Rattle.liberty_groups.specs.declared.tree.Item.TheOpen.{Item-F}
@@ -10,9 +10,7 @@ use Rattle.liberty_groups.specs.declared.tree.Group.{Group, roll-Group}
 use Rattle.bus_texts.specs.declared.bus_types.BusType.{BusType}
 use Rattle.bus_texts.specs.declared.vectors.Vector.{Vector}
 use Rattle.bus_texts.specs.Vectors.{is_bank, pin_vectors, cell_vectors}
-use Rattle.bank_cells.specs.declared.expansion.BankFault.{BankFault}
-use Rattle.bank_cells.specs.declared.expansion.BankFault.TheVariants.{Refused, Memory}
-use Rattle.bank_refusals.specs.Refusals.{is_pins, has_many, bank_refusal}
+use Rattle.bank_refusals.specs.Refusals.{is_pins, has_many}
 use Rattle.bank_cells.specs.Expanded.{bank_states, single_group}
 use Rattle.bank_cells.specs.Runs.{members_of, pins_of}
 
@@ -42,10 +40,3 @@ gathered_cell types cell =
 -- One without buses, bundles and banks stays as it is.
 unfoldable pub gathered : List BusType → Group → Group
 gathered types cell = if has_many cell then gathered_cell types cell else cell
-
--- What gathering answers: the gathered group, where nothing refuses to expand the cell, or why the cell is refused, or that
--- memory was wanting.
-abbrev pub Gathers : List BusType → Group → Result Group BankFault → Type 0
-Gathers types cell (Ok group) = (bank_refusal types cell ≡ None) × (group ≡ gathered types cell)
-Gathers types cell (Err (Refused refusal)) = bank_refusal types cell ≡ Some refusal
-Gathers types cell (Err Memory) = Unit {0}

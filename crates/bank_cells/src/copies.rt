@@ -7,11 +7,7 @@ use sqlite_items::Items;
 use std::alloc::{AllocError, Global};
 
 /// A group with these statements, which is like another one in all else.
-pub(crate) fn with_items(
-    alloc: Global,
-    like: &Group,
-    items: Items<Item>,
-) -> Result<Group, AllocError>
+pub fn with_items(alloc: Global, like: &Group, items: Items<Item>) -> Result<Group, AllocError>
     ensures { IfOk result (λ group. group ≡ with_items_of like.now items) }
 {
     Ok(Group {

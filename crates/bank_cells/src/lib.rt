@@ -10,9 +10,11 @@ mod rewritten;
 mod room;
 mod runs;
 mod shared;
+mod sink;
 mod states;
 mod timings;
 
-pub use bank_refusals::{BankReason, BankRefusal, has_many, refusal};
-pub use expansion::BankFault;
+pub use bank_refusals::{BankReason, BankRefusal, bank_refusal, has_many, refusal};
+pub use copies::with_items;
 pub use gathered::gather;
+pub use sink::ItemSink;

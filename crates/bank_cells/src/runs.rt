@@ -1,14 +1,15 @@
 //! The pin groups of a bus or bundle, of which neighbouring members with the same statements have one together.
 ghost use Rattle.std.specs.Prelude.{◌≡◌, ◌++◌, IfOk, OnOk, map};
+ghost use Rattle.std.specs.List.{fold};
 ghost use Rattle.bank_cells.specs.Runs as spec;
 
 use crate::inner_pins::{InnerPin, all_shared_stay, judged_pins, same_of_all};
 use crate::pins::member_pin_items;
 use crate::shared::{Shared, shared_items};
+use crate::sink::ItemSink;
 use bank_refusals::{Member, inner_pins};
 use bus_texts::{Vector, Vectors};
 use liberty_groups::{Group, Item, Value, Values, copy_arguments, copy_text};
-use sqlite_items::Items;
 use std::alloc::{AllocError, Global};
 
 /// Adds the members of a bus or bundle of one name.
@@ -138,34 +139,33 @@ impl<'a> Statements<'a> {
     }
 
     /// Adds the pin group of neighbours with the same statements.
-    fn add_run(
+    fn add_run<S: ItemSink>(
         &self,
         alloc: Global,
-        found: &mut Items<Item>,
+        found: &mut S,
         run: &Run<'_>,
     ) -> Result<(), AllocError>
         requires { spec.AreOfOneGroup self.now }
         ensures { OnOk result
-            (found.new ≡ found.old ++ spec.run_pins self.now.vectors.now self.now.group.now (spec.shown_run run.now)) }
+            (found.new ≡ fold S.after found.old (spec.run_pins self.now.vectors.now self.now.group.now (spec.shown_run run.now))) }
     {
         let pin = self.run_pin(alloc, run)?;
-        found.push(Item::Inner(pin))?;
-        Ok(())
+        found.take(alloc, Item::Inner(pin))
     }
 
     /// Goes on to the next member. Where it has other statements than the neighbours before it, their pin group is added.
-    fn add_member(
+    fn add_member<S: ItemSink>(
         &self,
         alloc: Global,
-        found: &mut Items<Item>,
+        found: &mut S,
         run: &mut Run<'a>,
         member: Member<'a>,
     ) -> Result<(), AllocError>
         requires { spec.AreOfOneGroup self.now }
         ensures found { OnOk result
             (found.new
-            ≡ found.old
-            ++ spec.ended_by self.now.vectors.now self.now.group.now (spec.shown_run run.old) (spec.shown_member member.entry)) }
+            ≡ fold S.after found.old
+            (spec.ended_by self.now.vectors.now self.now.group.now (spec.shown_run run.old) (spec.shown_member member.entry))) }
         ensures run { OnOk result
             (spec.shown_run run.new
             ≡ spec.run_after self.now.vectors.now self.now.group.now (spec.shown_run run.old) (spec.shown_member member.entry)) }
@@ -179,18 +179,18 @@ impl<'a> Statements<'a> {
     }
 
     /// Adds the pin groups of these neighbours and of the members behind them.
-    fn add_rest(
+    fn add_rest<S: ItemSink>(
         &self,
         alloc: Global,
-        found: &mut Items<Item>,
+        found: &mut S,
         run: &mut Run<'a>,
         rest: &[Member<'a>],
     ) -> Result<(), AllocError>
         requires { spec.AreOfOneGroup self.now }
         ensures { OnOk result
             (found.new
-            ≡ found.old
-            ++ spec.pins_from self.now.vectors.now self.now.group.now (spec.shown_run run.old) (map spec.shown_member rest.now)) }
+            ≡ fold S.after found.old
+            (spec.pins_from self.now.vectors.now self.now.group.now (spec.shown_run run.old) (map spec.shown_member rest.now))) }
     {
         for member in rest {
             self.add_member(alloc, found, run, *member)?;
@@ -199,16 +199,16 @@ impl<'a> Statements<'a> {
     }
 
     /// Adds the pin groups of members.
-    fn add_all(
+    fn add_all<S: ItemSink>(
         &self,
         alloc: Global,
-        found: &mut Items<Item>,
+        found: &mut S,
         members: &[Member<'a>],
     ) -> Result<(), AllocError>
         requires { spec.AreOfOneGroup self.now }
         ensures { OnOk result
             (found.new
-            ≡ found.old ++ spec.pins_of self.now.vectors.now self.now.group.now (map spec.shown_member members.now)) }
+            ≡ fold S.after found.old (spec.pins_of self.now.vectors.now self.now.group.now (map spec.shown_member members.now))) }
     {
         match members.split_first() {
             None => Ok(()),
@@ -221,14 +221,15 @@ impl<'a> Statements<'a> {
 }
 
 /// Adds the pin groups that these buses or bundles make, whose group this is.
-pub(crate) fn add_pins(
+pub(crate) fn add_pins<S: ItemSink>(
     alloc: Global,
-    found: &mut Items<Item>,
+    found: &mut S,
     vectors: &Vectors,
     group: &Group,
     several: &[Vector],
 ) -> Result<(), AllocError>
-    ensures { OnOk result (found.new ≡ found.old ++ spec.pins_of vectors.now group.now (spec.members_of several.now)) }
+    ensures { OnOk result
+        (found.new ≡ fold S.after found.old (spec.pins_of vectors.now group.now (spec.members_of several.now))) }
 {
     let members = members_of(alloc, several)?;
     let statements = Statements::of_group(alloc, vectors, group)?;

@@ -1,14 +1,15 @@
 //! The states of single bits that a bank becomes.
-ghost use Rattle.std.specs.Prelude.{◌≡◌, ◌++◌, IfOk, OnOk, map};
+ghost use Rattle.std.specs.Prelude.{◌≡◌, IfOk, OnOk, map};
+ghost use Rattle.std.specs.List.{fold};
 ghost use Rattle.bus_texts.specs.Vectors.{shown_bank, positions as positions_of};
 ghost use Rattle.bank_cells.specs.Expanded as spec;
 
 use crate::rewritten::state_items;
+use crate::sink::ItemSink;
 use bank_refusals::Place;
 use bus_texts::{Bank, Vectors, is_called, member_name, positions};
 use liberty_groups::{Arguments, Group, Item, Value, Values, copy_text, value_of};
 use small_bytes::SmallBytes;
-use sqlite_items::Items;
 use std::alloc::{AllocError, Global};
 
 /// The name of the state groups that a bank becomes.
@@ -60,33 +61,36 @@ fn bank_state(
 }
 
 /// Adds the states of a bank at these positions.
-fn add_states(
+fn add_states<S: ItemSink>(
     alloc: Global,
-    found: &mut Items<Item>,
+    found: &mut S,
     vectors: &Vectors,
     group: &Group,
     bank: Bank<'_>,
     bits: &[u16],
 ) -> Result<(), AllocError>
-    ensures { OnOk result (found.new ≡ found.old ++ map (spec.bank_item vectors.now group.now (shown_bank bank.entry)) bits.now) }
+    ensures { OnOk result
+        (found.new ≡ fold S.after found.old (map (spec.bank_item vectors.now group.now (shown_bank bank.entry)) bits.now)) }
 {
     for bit in bits {
-        found.push(Item::Inner(bank_state(alloc, vectors, group, bank, *bit)?))?;
+        let state = bank_state(alloc, vectors, group, bank, *bit)?;
+        found.take(alloc, Item::Inner(state))?;
     }
     Ok(())
 }
 
 /// Adds all states of a bank.
-pub(crate) fn add_bank(
+pub(crate) fn add_bank<S: ItemSink>(
     alloc: Global,
-    found: &mut Items<Item>,
+    found: &mut S,
     vectors: &Vectors,
     group: &Group,
     bank: Bank<'_>,
 ) -> Result<(), AllocError>
     ensures { OnOk result
         (found.new
-        ≡ found.old ++ map (spec.bank_item vectors.now group.now (shown_bank bank.entry)) (positions_of bank.entry.width)) }
+        ≡ fold S.after found.old
+        (map (spec.bank_item vectors.now group.now (shown_bank bank.entry)) (positions_of bank.entry.width))) }
 {
     let bits = positions(alloc, bank.width)?;
     add_states(alloc, found, vectors, group, bank, bits.as_slice())

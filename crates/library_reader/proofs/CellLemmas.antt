@@ -1,5 +1,5 @@
 -- The next cell of a library.
-use Rattle.std.proofs.Common.{◌≡◌, ℕ, Bool, true, false, List, [], ◌∷◌, Option, Some, None, Result, Err, IfOk, IfErr, refl, sym}
+use Rattle.std.proofs.Common.{◌≡◌, ℕ, Bool, true, false, List, [], ◌∷◌, Option, Some, None, Result, IfOk, IfErr, refl, sym}
 use Rattle.std.proofs.Common.{◌∙◌, ap, subst, if◌then◌else◌}
 use Rattle.liberty_text.specs.declared.time.Unit.{Unit}
 use Rattle.liberty_groups.specs.declared.tree.Group.{Group}
@@ -8,18 +8,15 @@ use Rattle.cell_reader.specs.declared.fault.CellFault.{CellFault}
 use Rattle.cell_reader.specs.CellTexts.{Tells}
 use Rattle.bus_texts.specs.declared.bus_types.BusType.{BusType}
 use Rattle.bank_cells.specs.declared.refusal.BankRefusal.{BankRefusal}
-use Rattle.bank_cells.specs.declared.expansion.BankFault.{BankFault}
-use Rattle.bank_cells.specs.declared.expansion.BankFault.TheVariants as bank_fault
 use Rattle.bank_cells.specs.Refusals.{has_many, first_refusal, bank_refusal}
 use Rattle.bank_cells.specs.Expanded.{expanded_cell, expanded}
-use Rattle.bank_cells.specs.Gathered.{Gathers}
 use Rattle.three_state_cells.specs.declared.driven_cell.DrivenCell.{DrivenCell}
 use Rattle.three_state_cells.specs.CoreGroups.{core_group}
 use Rattle.three_state_cells.specs.Outputs.{ThreeStateOutput, three_state_outputs}
 use Rattle.three_state_cells.specs.DrivenCells.{DrivenData, driven_data_of, data_by, floating_of, driven_data}
 use Rattle.three_state_cells.specs.Refusals.{driven_refusal}
 use Rattle.library_reader.specs.declared.progress.Progress.{Progress}
-use Rattle.library_reader.specs.BankRefusals.{cell_fault, refusal_by}
+use Rattle.library_reader.specs.BankRefusals.{cell_refusal, refusal_by}
 use Rattle.library_reader.specs.LibraryCells.{vital_name}
 use Rattle.library_reader.specs.Progress.{next_number, next_bits, next_refusal, next_data, next_entity}
 use Rattle.library_reader.specs.NextCells.{IsAcceptedNext}
@@ -97,11 +94,10 @@ unfolding bank_refusal
 plain_unrefused types group e = ap (λ (many : Bool). if many then first_refusal types group else None) e
 
 -- without an expanded group it is refused for that
-pub unexpanded : (p : Progress) (group : Group) (fault : BankFault) → Gathers p.types group (Err fault)
-    → Tells (next_refusal p group) (cell_fault fault)
+pub unexpanded : (p : Progress) (group : Group) (refusal : BankRefusal) → bank_refusal p.types group ≡ Some refusal
+    → next_refusal p group ≡ Some (cell_refusal refusal)
 unfolding next_refusal
-unexpanded p group (bank_fault.Refused refusal) h = ap (λ b. refusal_by b (driven_refusal p.unit p.names (next_bits p group))) h
-unexpanded p group bank_fault.Memory h = tt
+unexpanded p group refusal h = ap (λ b. refusal_by b (driven_refusal p.unit p.names (next_bits p group))) h
 
 -- nothing refuses the next cell
 pub accepted_next : (p : Progress) (group : Group) (cell : DrivenCell) (entity : List ℕ)

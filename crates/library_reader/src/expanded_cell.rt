@@ -1,16 +1,16 @@
 //! The next cell of a library, whose group is expanded to single bits.
-ghost use Rattle.std.specs.Prelude.{◌≡◌, ◌+◌, ◌<◌, ◌^◌, false, None, IfOk, IfErr};
+ghost use Rattle.std.specs.Prelude.{◌≡◌, ◌+◌, ◌<◌, ◌^◌, true, false, None, IfOk, IfErr};
 ghost use Rattle.bank_cells.specs.Refusals.{has_many};
 ghost use Rattle.cell_reader.specs.CellTexts.{Tells};
 ghost use Rattle.three_state_cells.specs.DrivenCells.{driven_data_of};
-ghost use Rattle.library_reader.specs.BankRefusals.{cell_reason, cell_fault};
+ghost use Rattle.library_reader.specs.BankRefusals.{cell_reason, cell_refusal};
 ghost use Rattle.library_reader.specs.Progress.{next_refusal, next_data};
 
 use crate::progress::Progress;
-use bank_cells::{BankFault, BankReason, gather, has_many};
+use bank_cells::{BankReason, BankRefusal, bank_refusal, has_many};
 use cell_reader::{CellFault, Reason, Refusal};
 use liberty_groups::Group;
-use std::alloc::Global;
+use std::alloc::{AllocError, Global};
 use three_state_cells::{DrivenCell, read_driven};
 
 /// A reason not to expand the group of a cell, as a reason to refuse the cell.
@@ -23,31 +23,38 @@ fn cell_reason(reason: BankReason) -> Reason
     }
 }
 
-/// Why there is no expanded group, as why there is no cell.
-fn cell_fault(fault: BankFault) -> CellFault
-    ensures { result ≡ cell_fault fault }
+/// A reason not to expand the group of a cell, with its place, as a reason to refuse the cell.
+fn cell_refusal(refusal: BankRefusal) -> Refusal
+    ensures { result ≡ cell_refusal refusal }
 {
-    match fault {
-        BankFault::Refused(refusal) => CellFault::Refused(Refusal {
-            reason: cell_reason(refusal.reason),
-            at: refusal.at,
-        }),
-        BankFault::Memory => CellFault::Memory,
+    Refusal {
+        reason: cell_reason(refusal.reason),
+        at: refusal.at,
     }
 }
 
 /// The next cell, which has buses, bundles or banks. Where they are not expanded it is refused for that, and else as the cell of
-/// the expanded group, as which the gathered one is read. `Memory` comes only where memory is wanting.
+/// the expanded group. `Memory` comes only where memory is wanting.
 fn read_bits(alloc: Global, progress: &Progress, group: &Group) -> Result<DrivenCell, CellFault>
-    requires { progress.now.accepted + progress.now.refused + 1 < 2 ^ 64 }
+    requires many { has_many group.now ≡ true }
+    requires few { progress.now.accepted + progress.now.refused + 1 < 2 ^ 64 }
     ensures cell { IfOk result (λ cell. driven_data_of cell ≡ next_data progress.now group.now) }
     ensures accepted { IfOk result (λ _. next_refusal progress.now group.now ≡ None) }
     ensures refused { IfErr result (Tells (next_refusal progress.now group.now)) }
 {
     let number = progress.next_number();
-    match gather(alloc, group, &progress.types) {
-        Ok(gathered) => read_driven(alloc, &gathered, number, progress.unit, &progress.names),
-        Err(fault) => Err(cell_fault(fault)),
+    let types = &progress.types;
+    match bank_refusal(alloc, types, group) {
+        Ok(None) => trimmed_cells::read_expanded(
+            alloc,
+            types,
+            group,
+            number,
+            progress.unit,
+            &progress.names,
+        ),
+        Ok(Some(refusal)) => Err(CellFault::Refused(cell_refusal(refusal))),
+        Err(AllocError) => Err(CellFault::Memory),
     }
 }
 

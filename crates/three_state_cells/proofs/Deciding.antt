@@ -91,7 +91,7 @@ early_numbers earlier cell =
 late_by_number :
     (subject : Subject) (earlier : List (List ℕ)) (cell : Group) (told : Refusal) (early : Option Refusal)
     → first_refusal (early_reasons earlier cell) ≡ early → IsEarly early → refusal_of subject earlier cell ≡ Some told
-    → 7 < number_of_reason told.reason → first_refusal (early_reasons earlier cell) ≡ None
+    → 6 < number_of_reason told.reason → first_refusal (early_reasons earlier cell) ≡ None
 late_by_number subject earlier cell told None e k h more = e
 late_by_number subject earlier cell told (Some other) e k h more =
     let met : refusal_of subject earlier cell ≡ Some other = early_decides subject earlier cell other e in
@@ -101,7 +101,7 @@ late_by_number subject earlier cell told (Some other) e k h more =
 
 pub refused_early :
     (subject : Subject) (earlier : List (List ℕ)) (cell : Group) (told : Refusal)
-    → refusal_of subject earlier cell ≡ Some told → 7 < number_of_reason told.reason → IsEarlyUnmet cell
+    → refusal_of subject earlier cell ≡ Some told → 6 < number_of_reason told.reason → IsEarlyUnmet cell
 refused_early subject earlier cell told h more = (
   earlier,
   late_by_number subject earlier cell told (first_refusal (early_reasons earlier cell)) refl

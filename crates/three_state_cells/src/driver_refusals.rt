@@ -23,7 +23,7 @@ fn decides(one: Refusal, other: Refusal) -> bool
 }
 
 /// What decides of a refusal and of another one, if there is one.
-pub(crate) fn first_with(one: Refusal, other: Option<Refusal>) -> Refusal
+pub fn first_with(one: Refusal, other: Option<Refusal>) -> Refusal
     ensures { Some result ≡ first_of_two_of (Some one) other }
 {
     match other {
@@ -32,8 +32,8 @@ pub(crate) fn first_with(one: Refusal, other: Option<Refusal>) -> Refusal
     }
 }
 
-/// What decides of two refusals.
-fn first_of_two(one: Option<Refusal>, other: Option<Refusal>) -> Option<Refusal>
+/// What decides of two refusals, of which each may be absent.
+pub fn first_of_two(one: Option<Refusal>, other: Option<Refusal>) -> Option<Refusal>
     ensures { result ≡ first_of_two_of one other }
 {
     match one {

@@ -10,5 +10,6 @@ mod read;
 mod subjects;
 
 pub use driven_cell::DrivenCell;
+pub use driver_refusals::{first_of_two, first_with};
 pub use laws::{core_pins_are, drivers_are_of_cores, drivers_keep_limits};
-pub use read::read_driven;
+pub use read::{read_driven, subject_of};

@@ -44,7 +44,8 @@ fn cell_pins(alloc: Global, cell: &Group) -> Result<Items<Pin>, AllocError>
 }
 
 /// The pins of a cell without Z, with the time unit of its library, where nothing refuses it before its texts are read.
-fn subject_of(alloc: Global, cell: &Group, unit: Option<Unit>) -> Result<Subject, AllocError>
+/// `AllocError` comes only where memory is wanting.
+pub fn subject_of(alloc: Global, cell: &Group, unit: Option<Unit>) -> Result<Subject, AllocError>
     requires { IsEarlyUnmet cell.now }
     ensures { IfOk result (λ subject. subject ≡ subject_of_cell unit cell.now) }
 {

@@ -11,5 +11,5 @@ returns-then-number c =
 
 pub delay_refusal-requires-clause-early : goal.delay_refusal-requires-clause-early
 delay_refusal-requires-clause-early c =
-    let large : 7 < number_of_reason c.args.refusal.reason = omega arith in
+    let large : 6 < number_of_reason c.args.refusal.reason = omega arith in
     refused_early (subject_of c.args.unit c.args.core.now) c.requires.told.0 c.args.core.now c.args.refusal c.requires.told.1 large

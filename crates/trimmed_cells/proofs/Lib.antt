@@ -1,0 +1,10 @@
+pub mod Untimed
+pub mod Deciding
+pub mod Groups
+pub mod Owners
+pub mod Places
+pub mod Limits
+pub mod Reasons
+pub mod Refused
+pub mod Sinks
+pub mod ReadLemmas

@@ -1,0 +1,134 @@
+-- A cell with more pins than the limit, of which pins behind the limit lose their timing groups, and what is wrong in these. (This
+-- project's rule: such a cell is refused, by its number of pins or by a reason with a lesser number.)
+use Rattle.std.specs.Prelude.{ℕ, ◌+◌, Bool, true, false, not, ◌&&◌, nat_le, List, [], ◌∷◌, length, filter, flat_map, drop, codes}
+use Rattle.std.specs.Prelude.{Option, Some, None, Ok, Err, if◌then◌else◌}
+use Rattle.std.specs.List.{list_all}
+use Rattle.liberty_groups.specs.declared.tree.Value.{Value}
+use Rattle.liberty_groups.specs.declared.tree.Item.{Item, out-Item}
+use Rattle.liberty_groups.specs.declared.tree.Item.TheOpen.{Item-F}
+use Rattle.liberty_groups.specs.declared.tree.Item.TheOpen as layer
+use Rattle.liberty_groups.specs.declared.tree.Item.TheVariants as made
+use Rattle.liberty_groups.specs.declared.tree.Group.{Group, roll-Group}
+use Rattle.timing_arcs.specs.declared.subject.Subject.{Subject}
+use Rattle.timing_arcs.specs.declared.fault.TimingFault.TheVariants as fault
+use Rattle.timing_arcs.specs.Timing.{reading_answer}
+use Rattle.cell_attributes.specs.Groups.{is_called, is_pin, inner_groups}
+use Rattle.cell_attributes.specs.Pins.{owners_in, owners_of}
+use Rattle.cell_reader.specs.declared.refusal.Reason.{Reason}
+use Rattle.cell_reader.specs.declared.refusal.Reason.TheVariants as reason
+use Rattle.cell_reader.specs.declared.refusal.Refusal.{Refusal}
+use Rattle.cell_reader.specs.PinTimings.{Answer, subject_at}
+use Rattle.three_state_cells.specs.Refusals.{first_of_two}
+
+-- The offset of a statement.
+abbrev pub place_in : Item-F Item Group → ℕ
+place_in (layer.Simple name value at) = at
+place_in (layer.Complex name arguments at) = at
+place_in (layer.Inner group) = group.at
+
+-- No statement of a group stands before this offset.
+abbrev pub is_behind : ℕ → Item → Bool
+is_behind at item = nat_le at (place_in (out-Item item))
+
+abbrev pub all_behind : ℕ → Group → Bool
+all_behind at group = list_all (is_behind at) group.items
+
+-- A group without its timing groups.
+abbrev pub is_no_timing : Item-F Item Group → Bool
+is_no_timing (layer.Simple name value at) = true
+is_no_timing (layer.Complex name arguments at) = true
+is_no_timing (layer.Inner group) = not (is_called (codes "timing") group)
+
+abbrev pub untimed : Group → Group
+untimed group =
+    roll-Group (record {
+      name = group.name;
+      arguments = group.arguments;
+      items = filter (λ item. is_no_timing (out-Item item)) group.items;
+      at = group.at;
+    })
+
+-- A pin group is trimmed where it makes one pin, which stands behind the limit, and none of its statements stands before it.
+abbrev pub has_one : List Value → Bool
+has_one (value ∷ []) = true
+has_one [] = false
+has_one (value ∷ other ∷ more) = false
+
+abbrev pub is_trimmed : ℕ → Group → Bool
+is_trimmed pin group = nat_le 64 pin && (is_pin group && (has_one group.arguments && all_behind group.at group))
+
+abbrev pub trimmed_pin : ℕ → Group → Group
+trimmed_pin pin group = if is_trimmed pin group then untimed group else group
+
+abbrev pub is_trimmed_item : ℕ → Item-F Item Group → Bool
+is_trimmed_item pin (layer.Simple name value at) = false
+is_trimmed_item pin (layer.Complex name arguments at) = false
+is_trimmed_item pin (layer.Inner group) = is_trimmed pin group
+
+-- How many pins a group of a cell makes.
+abbrev pub pins_made : Group → ℕ
+pins_made group = if is_pin group then length group.arguments else 0
+
+abbrev pub pins_in_item : Item-F Item Group → ℕ
+pins_in_item (layer.Simple name value at) = 0
+pins_in_item (layer.Complex name arguments at) = 0
+pins_in_item (layer.Inner group) = pins_made group
+
+-- The statements of a cell, trimmed, where the first pin has this number.
+abbrev pub trimmed_item : ℕ → Item-F Item Group → Item
+trimmed_item pin (layer.Simple name value at) = made.Simple name value at
+trimmed_item pin (layer.Complex name arguments at) = made.Complex name arguments at
+trimmed_item pin (layer.Inner group) = made.Inner (trimmed_pin pin group)
+
+abbrev pub trimmed_items : ℕ → List Item → List Item
+trimmed_items pin [] = []
+trimmed_items pin (item ∷ items) =
+    trimmed_item pin (out-Item item) ∷ trimmed_items (pin + pins_in_item (out-Item item)) items
+
+abbrev pub trimmed : Group → Group
+trimmed cell =
+    roll-Group (record {
+      name = cell.name;
+      arguments = cell.arguments;
+      items = trimmed_items 0 cell.items;
+      at = cell.at;
+    })
+
+-- There are pins behind the limit, and no group of one of them, and no statement of it, stands before that of the first.
+abbrev pub stands_behind : ℕ → Group → Bool
+stands_behind at owner = nat_le at owner.at && all_behind at owner
+
+abbrev pub are_behind : List Group → Bool
+are_behind [] = false
+are_behind (first ∷ owners) = list_all (stands_behind first.at) (first ∷ owners)
+
+abbrev pub is_in_order : Group → Bool
+is_in_order cell = are_behind (drop 64 (owners_of cell))
+
+-- What is wrong in the timing of a trimmed pin, as reading it tells.
+abbrev pub refused_for : Reason → ℕ → Option Refusal
+refused_for r at = Some (record { reason = r; at = at })
+
+abbrev pub timing_told : Answer → Option Refusal
+timing_told (Ok timing) = None
+timing_told (Err (fault.Malformed at)) = refused_for reason.Malformed at
+timing_told (Err (fault.UnknownName at)) = refused_for reason.UnknownName at
+timing_told (Err (fault.OwnCondition at)) = refused_for reason.OwnCondition at
+timing_told (Err (fault.Number at)) = refused_for reason.Number at
+
+abbrev pub wrong_pin : Subject → ℕ → Group → Option Refusal
+wrong_pin cell pin owner = if is_trimmed pin owner then timing_told (reading_answer (subject_at cell pin) owner) else None
+
+-- What decides of a refusal and of all that is wrong in the timing of trimmed pins, where these groups make the pins from this
+-- number on.
+abbrev pub wrong_with : Subject → Option Refusal → ℕ → List Group → Option Refusal
+wrong_with cell found pin [] = found
+wrong_with cell found pin (owner ∷ owners) =
+    wrong_with cell (first_of_two found (wrong_pin cell pin owner)) (pin + 1) owners
+
+-- what decides of all that is wrong in the timing of the trimmed pins that statements of a cell make
+abbrev pub owners_among : List Item → List Group
+owners_among items = flat_map owners_in (filter is_pin (inner_groups items))
+
+abbrev pub wrong_timing : Subject → List Item → Option Refusal
+wrong_timing cell items = wrong_with cell None 0 (owners_among items)

@@ -13,7 +13,7 @@ use Rattle.liberty_groups.specs.declared.tree.Group.{Group}
 use Rattle.cell_attributes.specs.Groups.{is_called, is_pin, is_state, inner_of, inner_groups}
 use Rattle.cell_attributes.specs.Scans.{bank_in}
 use Rattle.cell_attributes.specs.Declarations.{declared_in}
-use Rattle.gathered_cells.proofs.Lists.{of_pins}
+use Rattle.trimmed_cells.proofs.Lists.{of_pins}
 use Rattle.trimmed_cells.specs.Trimmed.{has_one, all_behind, untimed, is_trimmed, trimmed_pin, pins_made, pins_in_item}
 use Rattle.trimmed_cells.specs.Trimmed.{trimmed_item, trimmed_items}
 use Rattle.trimmed_cells.proofs.Untimed.{same_is_pin, same_is_state, same_bank, same_declared}

@@ -8,3 +8,13 @@ pub mod Reasons
 pub mod Refused
 pub mod Sinks
 pub mod ReadLemmas
+pub mod Single
+pub mod Lists
+pub mod Cells
+pub mod GatheredRefused
+pub mod GatheredPlaces
+pub mod Cores
+pub mod Delays
+pub mod Floating
+pub mod Members
+pub mod GatheredReads

@@ -45,7 +45,7 @@ use Rattle.core_groups.specs.Outputs.{is_three_state, outputs_from, three_state_
 use Rattle.three_state_cells.specs.Refusals.{first_of_two, refusal_by, driven_refusal}
 use Rattle.cell_reader.proofs.Refused.{least_none, all_unmet}
 use Rattle.cell_reader.proofs.PartCounts.{within_limits}
-use Rattle.gathered_cells.proofs.Lists.{of_pins}
+use Rattle.trimmed_cells.proofs.Lists.{of_pins}
 use Rattle.trimmed_cells.specs.Trimmed.{stands_behind, are_behind, is_in_order, trimmed_pin, trimmed_items, trimmed, wrong_with}
 use Rattle.trimmed_cells.proofs.Untimed.{same_at, same_directions, same_three_states, same_left_out, same_no_function, same_text}
 use Rattle.trimmed_cells.proofs.Untimed.{same_pins, same_entries, same_floating}

@@ -1,5 +1,5 @@
 use Rattle.bank_cells.specs.Gathered.{gathered_cell}
-use Rattle.gathered_cells.proofs.ReadLemmas.{same_cell, same_accepted, same_refused}
+use Rattle.trimmed_cells.proofs.GatheredReads.{same_cell, same_accepted, same_refused}
 use Rattle.trimmed_cells.proofs.ReadLemmas.{gathered_many}
 use Rattle.trimmed_cells.proofs.read.read_expanded.Goals as goal
 

@@ -10,8 +10,8 @@ use Rattle.three_state_cells.specs.Refusals.{driven_refusal}
 use Rattle.bus_texts.specs.declared.bus_types.BusType.{BusType}
 use Rattle.bank_cells.specs.Expanded.{expanded}
 use Rattle.bank_cells.specs.Gathered.{gathered}
-use Rattle.gathered_cells.specs.Laws.{IsReadAs}
-use Rattle.gathered_cells.proofs.Members.{gathered_read}
+use Rattle.trimmed_cells.specs.Gathering.{IsReadAs}
+use Rattle.trimmed_cells.proofs.Members.{gathered_read}
 
 module _
     (types : List BusType) (cell group : Group) (unit : Option Unit) (number : ℕ) (earlier : List (List ℕ))

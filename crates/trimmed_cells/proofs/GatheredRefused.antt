@@ -42,12 +42,12 @@ use Rattle.cell_reader.specs.Written.{coupled_of, own_conditions_of, wide_condit
 use Rattle.cell_reader.specs.Refusals.{refused_or, timing_answers, timing_places, malformed, unknown_names, coupled}
 use Rattle.cell_reader.specs.Refusals.{own_conditions, numbers, limits, udp_inputs, refusal_of, left_out_of}
 use Rattle.three_state_cells.specs.DrivenCells.{DrivenData, plain_of, data_by}
-use Rattle.gathered_cells.proofs.Single.{single, its_pin, its_entry, same_text, same_directions, same_three_states, same_left_out}
-use Rattle.gathered_cells.proofs.Single.{same_no_function, same_wide_output, same_malformed, same_unknown, same_own, same_wide}
-use Rattle.gathered_cells.proofs.Single.{same_numbers, same_check_at, same_arc_at}
-use Rattle.gathered_cells.proofs.Lists.{apart, of_pins, by_name, least_join, least_same, states_apart, banks_apart}
-use Rattle.gathered_cells.proofs.Lists.{declared_apart}
-use Rattle.gathered_cells.proofs.Cells.{places_apart, answers_apart, left_out_apart, outputs_apart, offsets_apart, at_apart}
+use Rattle.trimmed_cells.proofs.Single.{single, its_pin, its_entry, same_text, same_directions, same_three_states, same_left_out}
+use Rattle.trimmed_cells.proofs.Single.{same_no_function, same_wide_output, same_malformed, same_unknown, same_own, same_wide}
+use Rattle.trimmed_cells.proofs.Single.{same_numbers, same_check_at, same_arc_at}
+use Rattle.trimmed_cells.proofs.Lists.{apart, of_pins, by_name, least_join, least_same, states_apart, banks_apart}
+use Rattle.trimmed_cells.proofs.Lists.{declared_apart}
+use Rattle.trimmed_cells.proofs.Cells.{places_apart, answers_apart, left_out_apart, outputs_apart, offsets_apart, at_apart}
 
 -- what the states, the texts and the outputs of a cell hang on
 record Known : Type 0 where

@@ -15,8 +15,8 @@ use Rattle.liberty_groups.specs.declared.tree.Group.{Group, roll-Group}
 use Rattle.cell_attributes.specs.Groups.{is_called, is_pin, inner_of, inner_groups}
 use Rattle.core_groups.specs.Outputs.{is_three_state, three_state_outputs}
 use Rattle.core_groups.specs.CoreGroups.{stays_in_core, core_pin, core_statement_as, core_statement, enable_pins, core_group}
-use Rattle.gathered_cells.proofs.Single.{single, same_floating}
-use Rattle.gathered_cells.proofs.Lists.{apart, apart_by, apart_in, apart_append, some_name}
+use Rattle.trimmed_cells.proofs.Single.{single, same_floating}
+use Rattle.trimmed_cells.proofs.Lists.{apart, apart_by, apart_in, apart_append, some_name}
 
 -- a group of the cell as it stands in the core
 abbrev pub in_core : Group → Group

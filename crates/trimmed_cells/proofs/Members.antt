@@ -22,9 +22,9 @@ use Rattle.bank_cells.specs.Runs.{Member, members_along, members_in, members_of,
 use Rattle.bank_cells.specs.Runs.{run_pin, run_pins, run_with, pins_from, pins_of}
 use Rattle.bank_cells.specs.Gathered.{gathered_group, gathered_as, gathered_item, gathered_cell, gathered}
 use Rattle.bank_cells.proofs.AlikeLemmas.{same_items}
-use Rattle.gathered_cells.specs.Laws.{IsReadAs}
-use Rattle.gathered_cells.proofs.Lists.{apart, apart_in, apart_append}
-use Rattle.gathered_cells.proofs.Floating.{read_alike}
+use Rattle.trimmed_cells.specs.Gathering.{IsReadAs}
+use Rattle.trimmed_cells.proofs.Lists.{apart, apart_in, apart_append}
+use Rattle.trimmed_cells.proofs.Floating.{read_alike}
 
 -- A pin with one name is apart already.
 abbrev pin_with : Value → List Item → ℕ → Group

@@ -17,9 +17,9 @@ use Rattle.cell_attributes.specs.Vocabulary.{Vocabulary}
 use Rattle.cell_attributes.specs.Building.{output_in, outputs_from}
 use Rattle.cell_attributes.specs.Limits.{place_of_group}
 use Rattle.core_groups.specs.Outputs.{ThreeStateOutput, is_three_state, outputs_from as floating_from}
-use Rattle.gathered_cells.proofs.Single.{single, same_at, same_answer, same_output, same_left_out_timing, same_floating}
-use Rattle.gathered_cells.proofs.Single.{its_owner}
-use Rattle.gathered_cells.proofs.Lists.{apart, told, of_pins, of_pins_join, one_of, several_of, each_name}
+use Rattle.trimmed_cells.proofs.Single.{single, same_at, same_answer, same_output, same_left_out_timing, same_floating}
+use Rattle.trimmed_cells.proofs.Single.{its_owner}
+use Rattle.trimmed_cells.proofs.Lists.{apart, told, of_pins, of_pins_join, one_of, several_of, each_name}
 
 -- A pin: its group, and its name among those of the group.
 pub record Owner : Type 0 where

@@ -19,13 +19,13 @@ use Rattle.three_state_cells.specs.DrivenCells.{core_name, floating_of, data_by,
 use Rattle.three_state_cells.specs.Refusals.{first_of_two, driver_refusal, floating_refusal, refusal_by, driven_refusal}
 use Rattle.three_state_cells.specs.Laws.{enable_outputs}
 use Rattle.three_state_cells.proofs.CorePins.{core_pins_are}
-use Rattle.gathered_cells.specs.Laws.{IsReadAs}
-use Rattle.gathered_cells.proofs.Single.{timings_in, same_items, same_attribute, same_driver_answer}
-use Rattle.gathered_cells.proofs.Lists.{apart_in, of_pins}
-use Rattle.gathered_cells.proofs.Cells.{Floating, alone, whole, output_by, floats_apart}
-use Rattle.gathered_cells.proofs.Refused.{both, same_pins, same_subject, refused_alike, data_alike}
-use Rattle.gathered_cells.proofs.Cores.{in_core, core_arguments, core_at, core_apart}
-use Rattle.gathered_cells.proofs.Delays.{refusal_apart}
+use Rattle.trimmed_cells.specs.Gathering.{IsReadAs}
+use Rattle.trimmed_cells.proofs.Single.{timings_in, same_items, same_attribute, same_driver_answer}
+use Rattle.trimmed_cells.proofs.Lists.{apart_in, of_pins}
+use Rattle.trimmed_cells.proofs.Cells.{Floating, alone, whole, output_by, floats_apart}
+use Rattle.trimmed_cells.proofs.GatheredRefused.{both, same_pins, same_subject, refused_alike, data_alike}
+use Rattle.trimmed_cells.proofs.Cores.{in_core, core_arguments, core_at, core_apart}
+use Rattle.trimmed_cells.proofs.Delays.{refusal_apart}
 
 -- Whatever is made of three-state outputs is the same of each alone.
 abbrev each_alone : List Floating → List ThreeStateOutput

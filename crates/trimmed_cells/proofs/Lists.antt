@@ -15,7 +15,7 @@ use Rattle.cell_attributes.specs.Groups.{is_called, is_pin, is_state, inner_of, 
 use Rattle.cell_attributes.specs.States.{states_in}
 use Rattle.cell_attributes.specs.Scans.{bank_in}
 use Rattle.cell_attributes.specs.Declarations.{Declared, declared_pin, declared_in, declared_state}
-use Rattle.gathered_cells.proofs.Single.{single, is_one_pin, is_no_state, no_bank_in, its_declared}
+use Rattle.trimmed_cells.proofs.Single.{single, is_one_pin, is_no_state, no_bank_in, its_declared}
 
 -- A pin group becomes one for each of its names.
 abbrev pub apart_by : Bool → Group → List Group

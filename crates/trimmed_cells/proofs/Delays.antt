@@ -20,9 +20,9 @@ use Rattle.cell_reader.specs.declared.refusal.Refusal.{Refusal}
 use Rattle.cell_reader.specs.PinTimings.{subject_at}
 use Rattle.core_groups.specs.Outputs.{is_three_state}
 use Rattle.three_state_cells.specs.Refusals.{decides, first_of_two, wrong_group, refusal_with, driver_refusal}
-use Rattle.gathered_cells.proofs.Single.{single, its_name, same_floating, same_wrong_delays_of}
-use Rattle.gathered_cells.proofs.Lists.{apart, of_pins, split, pins_split}
-use Rattle.gathered_cells.proofs.Places.{direction_at, same_wrong_delays}
+use Rattle.trimmed_cells.proofs.Single.{single, its_name, same_floating, same_wrong_delays_of}
+use Rattle.trimmed_cells.proofs.Lists.{apart, of_pins, split, pins_split}
+use Rattle.trimmed_cells.proofs.GatheredPlaces.{direction_at, same_wrong_delays}
 
 -- Of a refusal and another one that is told twice the same decides as where it is told once.
 either : (b : Bool) (one : Refusal) → Some (if b then one else one) ≡ Some one

@@ -1,17 +1,14 @@
 -- What the code for a group's rows builds is what the definitions say.
-use Rattle.std.proofs.Common.{◌≡◌, ℕ, zero, suc, ◌+◌, ◌-◌, ◌<◌, ◌≤◌, Bool, false, true, not, List, [], ◌∷◌, ◌++◌, map, take, drop}
+use Rattle.std.proofs.Common.{◌≡◌, ℕ, zero, suc, ◌+◌, ◌<◌, ◌≤◌, Bool, false, true, not, List, [], ◌∷◌, ◌++◌, map, drop}
 use Rattle.std.proofs.Common.{length, get_or, refl, sym, ◌∙◌, ap, arith, flat_map}
-use Rattle.std.proofs.Math.Bool.{beq}
-use Rattle.std.proofs.lemmas.Bool.{true≢false}
 use Rattle.std.proofs.lemmas.List.{drop_more}
 use Rattle.trit_cubes.specs.declared.trits.Trit.{Trit}
 use Rattle.trit_cubes.specs.Filling.{trit_of}
 use Rattle.trit_cubes.specs.Resolution.{res}
 use Rattle.bool_functions.specs.declared.tree.Node.{Node}
 use Rattle.cell_machine.specs.declared.arcs.Arc.{Arc}
-use Rattle.cell_machine.specs.Machine.{Step, insert, init, last, edge_value}
+use Rattle.cell_machine.specs.Machine.{insert}
 use Rattle.step_tables.specs.Turned.{turned}
-use Rattle.udp_tables.proofs.SymbolLemmas.{length-init}
 use Rattle.udp_tables.specs.Conditions.{arc_conditions, added, added_all}
 
 -- conditions of two lists, one after the other
@@ -36,61 +33,11 @@ pub added-twice :
 added-twice none some all fs gs e f g =
     e ∙ ap (λ ts. added_all ts gs) (f ∙ ap (λ ts. added_all ts fs) g) ∙ sym (added_all-append [] fs gs)
 
--- a list less its last entry, and that entry
-pub init-take : {X : Type 0} (x : X) (xs : List X) → take (length xs) (x ∷ xs) ≡ init (x ∷ xs)
-init-take x [] = refl
-init-take x (y ∷ ys) = ap (λ zs. x ∷ zs) (init-take y ys)
-
-pub last-at : {X : Type 0} (x d e : X) (xs : List X) → get_or (x ∷ xs) (length xs) d ≡ last e (x ∷ xs)
-last-at x d e [] = refl
-last-at x d e (y ∷ ys) = last-at y d e ys
-
 -- a known point has its value
 pub res-known : (f : List Bool → Trit) (p : List Bool) → res f (map trit_of p) ≡ f p
 res-known f [] = refl
 res-known f (false ∷ p) = res-known (λ q. f (false ∷ q)) p
 res-known f (true ∷ p) = res-known (λ q. f (true ∷ q)) p
-
--- The step at a point of a change, by the parts of the point.
-pub edge_value-parts :
-    (step : Step) (p : ℕ) (point : List Bool)
-    → 3 ≤ length point
-    → step (insert p (get_or point 0 false) (take (length point - 1 - 2) (drop 2 point)))
-    (insert p (get_or point 1 false) (take (length point - 1 - 2) (drop 2 point))) (get_or point (length point - 1) false)
-    ≡ edge_value step p point
-edge_value-parts step p [] l = absurd (omega arith)
-edge_value-parts step p (old ∷ []) l = absurd (omega arith)
-edge_value-parts step p (old ∷ new ∷ []) l = absurd (omega arith)
-edge_value-parts step p (old ∷ new ∷ r ∷ rest) l =
-    let few : length (old ∷ new ∷ r ∷ rest) - 1 - 2 ≡ length rest = omega arith in
-    let place : length (old ∷ new ∷ r ∷ rest) - 1 ≡ suc (suc (length rest)) = omega arith in
-    let others : take (length (old ∷ new ∷ r ∷ rest) - 1 - 2) (r ∷ rest) ≡ init (r ∷ rest)
-    = ap (λ k. take k (r ∷ rest)) few ∙ init-take r rest in
-    let state : get_or (old ∷ new ∷ r ∷ rest) (length (old ∷ new ∷ r ∷ rest) - 1) false ≡ last false (r ∷ rest)
-    = ap (λ k. get_or (old ∷ new ∷ r ∷ rest) k false) place ∙ last-at r false false rest in
-    λ i. step (insert p old (others i)) (insert p new (others i)) (state i)
-
-pub length-others : (point : List Bool) → 3 ≤ length point
-    → suc (length (take (length point - 1 - 2) (drop 2 point))) + 2 ≡ length point
-length-others [] l = absurd (omega arith)
-length-others (old ∷ []) l = absurd (omega arith)
-length-others (old ∷ new ∷ []) l = absurd (omega arith)
-length-others (old ∷ new ∷ r ∷ rest) l =
-    let few : length (old ∷ new ∷ r ∷ rest) - 1 - 2 ≡ length rest = omega arith in
-    omega (arith, ap length (ap (λ k. take k (r ∷ rest)) few ∙ init-take r rest), length-init r rest)
-
--- values that a test finds equal
-pub beq-same : (a b : Bool) → beq a b ≡ true → a ≡ b
-beq-same true true e = refl
-beq-same true false e = absurd (true≢false (sym e))
-beq-same false true e = absurd (true≢false (sym e))
-beq-same false false e = refl
-
-pub beq-other : (a b : Bool) → beq a b ≡ false → not b ≡ a
-beq-other true true e = absurd (true≢false e)
-beq-other true false e = refl
-beq-other false true e = refl
-beq-other false false e = absurd (true≢false e)
 
 -- the place of an inserted value turned
 pub turned-insert : (p : ℕ) (b : Bool) (xs : List Bool) → p ≤ length xs → turned p (insert p b xs) ≡ insert p (not b) xs

@@ -1,5 +1,5 @@
 -- The columns of a table, as they are written.
-use Rattle.std.proofs.Common.{◌≡◌, ℕ, zero, suc, ◌+◌, ◌-◌, ◌<◌, ◌≤◌, Bool, true, false, slice_get, Some, List, [], ◌∷◌, ◌++◌, length, map, set, take, refl, ap, sym, ◌∙◌, arith}
+use Rattle.std.proofs.Common.{◌≡◌, ℕ, ◌+◌, ◌≤◌, Bool, true, false, List, [], ◌∷◌, ◌++◌, length, map, set, take, refl, ap, sym, ◌∙◌, arith}
 use Rattle.std.proofs.Common.{if◌then◌else◌}
 use Rattle.std.proofs.lemmas.List.{length-map}
 use Rattle.trit_cubes.specs.declared.trits.Trit.{Trit}
@@ -41,20 +41,3 @@ pub length-columns : (state : VState) (ports : List VPort) (violation : Trit) (i
 length-columns state ports violation inputs =
     length-violated state.violation violation (map (input_value ports inputs) state.inputs) (length state.inputs)
     (length-map state.inputs (input_value ports inputs))
-
--- the columns of a table without one of the violation
-pub violated-off : (b : Bool) (v : Trit) (xs : List Trit) → b ≡ false → violated b v xs ≡ xs
-violated-off true v xs e = absurd cc
-violated-off false v xs e = refl
-
--- the column of the violation
-pub violated-first : (b : Bool) (v : Trit) (xs : List Trit) → b ≡ true → slice_get (violated b v xs) 0 ≡ Some v
-violated-first true v xs e = refl
-violated-first false v xs e = absurd cc
-
--- the others behind it
-pub violated-later : (b : Bool) (v : Trit) (xs : List Trit) (place : ℕ) → b ≡ true → 0 < place
-    → slice_get (violated b v xs) place ≡ slice_get xs (place - 1)
-violated-later true v xs zero e some = absurd (omega arith)
-violated-later true v xs (suc place) e some = let back : place ≡ suc place - 1 = omega arith in ap (slice_get xs) back
-violated-later false v xs place e some = absurd cc

@@ -1,5 +1,5 @@
 -- Masks of rows: their size, their bits, and the first row of a mask.
-use Rattle.std.proofs.Common.{◌≡◌, ◌≢◌, ℕ, zero, suc, ◌+◌, ◌*◌, ◌-◌, ◌/◌, ◌^◌, ◌<◌, ◌≤◌, Bool, true, false, not, ◌&&◌}
+use Rattle.std.proofs.Common.{◌≡◌, ◌≢◌, ℕ, zero, suc, ◌+◌, ◌*◌, ◌/◌, ◌^◌, ◌<◌, ◌≤◌, Bool, true, false, not, ◌&&◌}
 use Rattle.std.proofs.Common.{bit_and, cond, List, [], ◌∷◌, length, drop, slice_get, Some, None, refl, sym, ◌∙◌, ap, subst}
 use Rattle.std.proofs.Common.{inl, inr, arith, pow-suc, w64, length-drop}
 use Rattle.std.specs.Prelude.{All}
@@ -23,21 +23,6 @@ row_mask-below f (row ∷ rows) = rw pow-suc (omega (arith, bit-below (f row), r
 -- masks of few rows are words
 pub row_mask-fits : {R : Type 0} (f : R → Bool) (rows : List R) (n : ℕ) → length rows ≤ n → row_mask f rows < 2 ^ n
 row_mask-fits f rows n few = let most : 2 ^ length rows ≤ 2 ^ n = pow_mono few in omega (arith, row_mask-below f rows)
-
--- the mask of the rows from one on, that row apart
-mask-step : {R : Type 0} (f : R → Bool) (rows : List R) (i : ℕ) (row : R) → slice_get rows i ≡ Some row
-    → row_mask f (drop i rows) ≡ bit (f row) + 2 * row_mask f (drop (suc i) rows)
-mask-step f [] i row is = absurd cc
-mask-step f (x ∷ rows) zero row is = let same : x ≡ row = cc in ap (λ r. bit (f r) + 2 * row_mask f rows) same
-mask-step f (x ∷ rows) (suc i) row is = mask-step f rows i row is
-
--- the mask of one row more
-pub mask-more : {R : Type 0} (f : R → Bool) (rows : List R) (left : ℕ) (row : R) (b m : ℕ)
-    → 0 < left → slice_get rows (left - 1) ≡ Some row → b ≡ bit (f row) → m ≡ row_mask f (drop left rows)
-    → b + 2 * m ≡ row_mask f (drop (left - 1) rows)
-mask-more f rows left row b m some is bit-is m-is =
-    let next : left ≡ suc (left - 1) = omega arith in
-    (λ i. bit-is i + 2 * (m-is ∙ ap (λ n. row_mask f (drop n rows)) next) i) ∙ sym (mask-step f rows (left - 1) row is)
 
 -- there is room for one row more
 pub mask-room : {R : Type 0} (f : R → Bool) (rows : List R) (left m : ℕ) → 0 < left → length rows ≤ 64 → left ≤ length rows

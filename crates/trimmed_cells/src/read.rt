@@ -99,6 +99,7 @@ fn with_lost_timing(
         ≡ first_of_two_of (Some refusal)
         (wrong_with (subject_of_cell unit group.now) None 0 (owners_of_cell (gathered_cell types.now cell.now)))) }
 {
+    // only the clauses speak of the names of the cells before
     let _earlier = earlier;
     if refusal.reason.number() < Reason::Malformed.number() {
         return Ok(refusal);

@@ -45,7 +45,7 @@ fn read_bits(alloc: Global, progress: &Progress, group: &Group) -> Result<Driven
     let number = progress.next_number();
     let types = &progress.types;
     match bank_refusal(alloc, types, group) {
-        Ok(None) => trimmed_cells::read_expanded(
+        Ok(None) => three_state_cells::read_expanded(
             alloc,
             types,
             group,

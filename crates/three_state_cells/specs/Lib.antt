@@ -7,3 +7,6 @@ pub mod Drivers
 pub mod DrivenCells
 pub mod CoreReadings
 pub mod Laws
+pub mod Trimmed
+pub mod Sinks
+pub mod Gathering

@@ -1,0 +1,179 @@
+//! Pin groups behind the limit of pins without their timing groups.
+ghost use Rattle.std.specs.Prelude.{◌≡◌, IfOk, filter, map, drop};
+ghost use Rattle.std.specs.List.{list_all};
+ghost use Rattle.liberty_groups.specs.declared.tree.Item.{out-Item};
+ghost use Rattle.three_state_cells.specs.Trimmed as spec;
+
+use bank_cells::with_items;
+use cell_attributes::groups::{is_called, is_pin};
+use cell_attributes::limits::MOST_PINS;
+use liberty_groups::{Group, Item, Value, copy_item};
+use sqlite_items::Items;
+use std::alloc::{AllocError, Global};
+
+/// The offset of a statement.
+fn place_in(item: &Item) -> usize
+    ensures { result ≡ spec.place_in (out-Item item.now) }
+{
+    match item {
+        Item::Simple { at, .. } | Item::Complex { at, .. } => *at,
+        Item::Inner(group) => group.at,
+    }
+}
+
+/// Whether no statement of a group stands before this offset.
+fn all_behind(at: usize, group: &Group) -> bool
+    ensures { result ≡ spec.all_behind at group.now }
+{
+    for item in group.items.as_slice() {
+        if place_in(item) < at {
+            return false;
+        }
+    }
+    true
+}
+
+/// Whether a statement is no timing group.
+fn is_no_timing(item: &Item) -> bool
+    ensures { result ≡ spec.is_no_timing (out-Item item.now) }
+{
+    match item {
+        Item::Simple { .. } | Item::Complex { .. } => true,
+        Item::Inner(group) => !is_called(group, b"timing"),
+    }
+}
+
+/// Copies of those of these statements that are no timing groups.
+fn kept_items(alloc: Global, items: &[Item]) -> Result<Items<Item>, AllocError>
+    ensures { IfOk result (λ kept. kept ≡ filter (λ item. spec.is_no_timing (out-Item item)) items.now) }
+{
+    let mut kept = Items::new(alloc);
+    for item in items {
+        if is_no_timing(item) {
+            kept.push(copy_item(alloc, item)?)?;
+        }
+    }
+    Ok(kept)
+}
+
+/// A group without its timing groups.
+fn untimed(alloc: Global, group: &Group) -> Result<Group, AllocError>
+    ensures { IfOk result (λ made. made ≡ spec.untimed group.now) }
+{
+    with_items(alloc, group, kept_items(alloc, group.items.as_slice())?)
+}
+
+/// Whether there is one argument.
+fn has_one(arguments: &[Value]) -> bool
+    ensures { result ≡ spec.has_one arguments.now }
+{
+    match arguments {
+        [_] => true,
+        _ => false,
+    }
+}
+
+/// Whether a group loses its timing groups, where so many pins stand before it: it makes one pin behind the limit, and none of its
+/// statements stands before it.
+pub(crate) fn is_trimmed(pin: usize, group: &Group) -> bool
+    ensures { result ≡ spec.is_trimmed pin group.now }
+{
+    MOST_PINS <= pin
+        && is_pin(group)
+        && has_one(group.arguments.as_slice())
+        && all_behind(group.at, group)
+}
+
+/// Whether a statement of a cell is such a group.
+pub(crate) fn is_trimmed_item(pin: usize, item: &Item) -> bool
+    ensures { result ≡ spec.is_trimmed_item pin (out-Item item.now) }
+{
+    match item {
+        Item::Simple { .. } | Item::Complex { .. } => false,
+        Item::Inner(group) => is_trimmed(pin, group),
+    }
+}
+
+/// A group as it is where so many pins stand before it.
+fn trimmed_pin(alloc: Global, pin: usize, group: Group) -> Result<Group, AllocError>
+    ensures { IfOk result (λ made. made ≡ spec.trimmed_pin pin group) }
+{
+    if is_trimmed(pin, &group) {
+        untimed(alloc, &group)
+    } else {
+        Ok(group)
+    }
+}
+
+/// A statement of a cell as it is where so many pins stand before it.
+pub(crate) fn trimmed_item(alloc: Global, pin: usize, item: Item) -> Result<Item, AllocError>
+    ensures { IfOk result (λ made. made ≡ spec.trimmed_item pin (out-Item item)) }
+{
+    match item {
+        Item::Simple { name, value, at } => Ok(Item::Simple { name, value, at }),
+        Item::Complex {
+            name,
+            arguments,
+            at,
+        } => Ok(Item::Complex {
+            name,
+            arguments,
+            at,
+        }),
+        Item::Inner(group) => Ok(Item::Inner(trimmed_pin(alloc, pin, group)?)),
+    }
+}
+
+/// How many pins a group of a cell makes.
+fn pins_made(group: &Group) -> usize
+    ensures { result ≡ spec.pins_made group.now }
+{
+    if is_pin(group) {
+        group.arguments.len()
+    } else {
+        0
+    }
+}
+
+/// How many pins a statement of a cell makes.
+pub(crate) fn pins_in_item(item: &Item) -> usize
+    ensures { result ≡ spec.pins_in_item (out-Item item.now) }
+{
+    match item {
+        Item::Simple { .. } | Item::Complex { .. } => 0,
+        Item::Inner(group) => pins_made(group),
+    }
+}
+
+/// Whether all of these groups, and all of their statements, stand no less far than this offset.
+fn all_stand_behind(at: usize, owners: &[&Group]) -> bool
+    ensures { result ≡ list_all (spec.stands_behind at) (map (λ owner. owner.now) owners.now) }
+{
+    for owner in owners {
+        if owner.at < at || !all_behind(at, owner) {
+            return false;
+        }
+    }
+    true
+}
+
+/// Whether there are such groups, and none of them, and no statement of one, stands before the first.
+fn first_stands_first(owners: &[&Group]) -> bool
+    ensures { result ≡ spec.are_behind (map (λ owner. owner.now) owners.now) }
+{
+    match owners.split_first() {
+        None => false,
+        Some((first, _)) => all_stand_behind(first.at, owners),
+    }
+}
+
+/// Whether there are pins behind the limit, where these groups make all pins, and none of the groups of these, and no statement of
+/// one, stands before the first of the groups.
+pub(crate) fn are_behind(owners: &[&Group]) -> bool
+    ensures { result ≡ spec.are_behind (drop 64 (map (λ owner. owner.now) owners.now)) }
+{
+    if owners.len() <= MOST_PINS {
+        return false;
+    }
+    first_stands_first(&owners[MOST_PINS..])
+}

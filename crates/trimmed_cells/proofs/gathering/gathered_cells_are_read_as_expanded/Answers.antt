@@ -1,5 +1,0 @@
-use Rattle.trimmed_cells.proofs.Members.{gathered_read}
-use Rattle.trimmed_cells.proofs.gathering.gathered_cells_are_read_as_expanded.Goals as goal
-
-pub returns : goal.returns
-returns c = gathered_read

@@ -18,7 +18,7 @@ use Rattle.specify_blocks.specs.declared.model.VModule.{VModule}
 use Rattle.specify_blocks.specs.Generated.{pin_net}
 use Rattle.model_traces.specs.PortNumbers.{input_event}
 use Rattle.model_traces.specs.NetValues.{source_value, net_value}
-use Rattle.model_traces.specs.CheckTimes.{is_enabled}
+use Rattle.model_traces.specs.CheckReports.{is_enabled}
 use Rattle.model_traces.specs.ModuleFits.{FitsCheck}
 use Rattle.table_audit.specs.module_terminals.Terminals.{condition_nets}
 use Rattle.table_audit.specs.module_shapes.Shape.{cell_inputs, port_inputs, both_or_neither}

@@ -21,7 +21,7 @@ use Rattle.vital_models.specs.declared.model.VOutput.{VOutput}
 use Rattle.udp_tables.specs.declared.timing_checks.TimingCheck.{TimingCheck}
 use Rattle.vital_models.specs.declared.model.VEntity.{VEntity}
 use Rattle.vital_models.specs.LookUps.{lookup_state}
-use Rattle.model_traces.specs.PortNumbers.{input_event}
+use Rattle.run_parts.specs.PortNumbers.{input_event}
 use Rattle.model_traces.specs.ProcessValues.{output_value}
 use Rattle.model_traces.specs.SignalTimes.{check_reports}
 use Rattle.model_traces.specs.GatedPaths.{paths_from}

@@ -23,8 +23,8 @@ use Rattle.udp_tables.specs.declared.models.VPort.{VPort}
 use Rattle.udp_tables.specs.declared.timing_checks.TimingCheck.{TimingCheck}
 use Rattle.udp_tables.specs.Ports.{port_number}
 use Rattle.udp_tables.specs.TimingChecks.{check_by}
-use Rattle.model_traces.specs.PortNumbers.{input_number, input_event}
-use Rattle.model_traces.specs.CheckEvents.{opening_event}
+use Rattle.run_parts.specs.PortNumbers.{input_number, input_event}
+use Rattle.run_parts.specs.CheckEvents.{opening_event}
 use Rattle.model_traces.specs.CheckFits.{MeasuresSame}
 use Rattle.model_traces.specs.FitLists.{FitEach}
 use Rattle.model_traces.proofs.TraceLemmas.{still-reports, start-reports, trace-same}

@@ -51,7 +51,7 @@ use Rattle.vital_models.specs.Generated.{has_violation, ports_at, state_table, s
 use Rattle.vital_models.specs.Generated.{source_at, place_of, all_zero, gate_by, path_of, output_of, check_of, entity_of}
 use Rattle.vital_models.specs.Laws.{StatesAreMachines, OutputsResolve, ConditionsResolve}
 use Rattle.vital_models.proofs.PortFacts.{ports-sides}
-use Rattle.model_traces.specs.PortNumbers.{input_number, input_value}
+use Rattle.run_parts.specs.PortNumbers.{input_number, input_value}
 use Rattle.model_traces.specs.ProcessValues.{truth_value, condition_value, is_enabled, source_value, output_value}
 use Rattle.model_traces.specs.GatedPaths.{gate_holds, path_at, begins_at}
 use Rattle.model_traces.specs.ProcessRun.{columns}

@@ -60,10 +60,10 @@ use Rattle.vital_models.specs.Ports.{ports_of as vital_ports}
 use Rattle.vital_models.proofs.PortFacts.{ports-sides, outputs-sides, output_ports as entity_output_ports}
 use Rattle.vital_models.proofs.PortFacts as vital
 use Rattle.model_traces.specs.declared.turns.Turned.TheVariants as turned
-use Rattle.model_traces.specs.PortNumbers.{input_number, input_value, output_ports}
+use Rattle.run_parts.specs.PortNumbers.{input_number, input_value, output_ports}
 use Rattle.model_traces.specs.NetValues.{kept_state, source_value, primitive_value, instance_value, value_from, net_value}
 use Rattle.model_traces.specs.Primitives.{is_turned, entry_value, next_at, primitive_next}
-use Rattle.model_traces.specs.CheckTimes.{is_enabled}
+use Rattle.model_traces.specs.CheckReports.{is_enabled}
 use Rattle.model_traces.specs.PathDelays.{is_off, is_quiet, is_active, path_at, is_between}
 use Rattle.model_traces.specs.ModuleRun.{turn_of, toggled}
 use Rattle.model_traces.specs.SequentialStates.{states_among}

@@ -23,10 +23,10 @@ use Rattle.specify_blocks.specs.declared.model.VModule.{VModule}
 use Rattle.specify_blocks.specs.Nets.{has_state}
 use Rattle.model_traces.specs.declared.turns.Turned.TheVariants as turned
 use Rattle.model_traces.specs.declared.module_run.ModuleRun.{ModuleRun}
-use Rattle.model_traces.specs.PortNumbers.{output_ports}
+use Rattle.run_parts.specs.PortNumbers.{output_ports}
 use Rattle.model_traces.specs.NetValues.{net_value}
 use Rattle.model_traces.specs.Primitives.{next_state}
-use Rattle.model_traces.specs.CheckTimes.{check_reports}
+use Rattle.model_traces.specs.CheckReports.{check_reports}
 use Rattle.model_traces.specs.ModuleRun.{HasEach, turn_of, toggled, entered, kept, notified, shaken, reports_at, happened}
 use Rattle.model_traces.specs.ModuleRun.{run_after}
 use Rattle.model_traces.specs.PathDelays.{paths_between}

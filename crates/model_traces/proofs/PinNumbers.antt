@@ -21,7 +21,7 @@ use Rattle.udp_tables.specs.declared.models.VPort.{VPort}
 use Rattle.specify_blocks.specs.Ports.{is_port, port_number, port_of, ports_from}
 use Rattle.vital_models.proofs.PortFacts.{sides, inputs_of, port_number-cons}
 use Rattle.vital_models.proofs.PortFacts as vital
-use Rattle.model_traces.specs.PortNumbers.{is_input as is_input_of, input_count, input_number, output_by, outputs_from}
+use Rattle.run_parts.specs.PortNumbers.{is_input as is_input_of, input_count, input_number, output_by, outputs_from}
 use Rattle.model_traces.proofs.PlaceLemmas.{equal-numbers}
 
 -- how many of the sides are inputs

@@ -22,8 +22,8 @@ use Rattle.vital_models.specs.declared.model.VState.{VState}
 use Rattle.vital_models.specs.declared.model.VEntity.{VEntity}
 use Rattle.vital_models.specs.LookUps.{lookup_state}
 use Rattle.vital_models.specs.Sound.{has_events}
-use Rattle.model_traces.specs.PortNumbers.{input_count, input_event}
-use Rattle.model_traces.specs.CheckEvents.{second_of, opening_event}
+use Rattle.run_parts.specs.PortNumbers.{input_count, input_event}
+use Rattle.run_parts.specs.CheckEvents.{second_of, opening_event}
 use Rattle.model_traces.specs.SignalTimes.{SignalTimes, has_reference, test_event, reference_event, is_high, pulse_end, edge_time}
 use Rattle.model_traces.specs.SignalTimes.{no_times_by, no_times, timed, later_event, earlier_time}
 use Rattle.model_traces.specs.SignalTimes as signal_times

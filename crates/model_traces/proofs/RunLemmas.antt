@@ -17,9 +17,9 @@ use Rattle.udp_tables.specs.declared.models.VPort.{VPort}
 use Rattle.udp_tables.specs.declared.timing_checks.TimingCheck.{TimingCheck}
 use Rattle.specify_blocks.specs.declared.model.VModule.{VModule}
 use Rattle.model_traces.specs.declared.module_run.ModuleRun.{ModuleRun}
-use Rattle.model_traces.specs.PortNumbers.{input_count, input_event}
-use Rattle.model_traces.specs.CheckEvents.{second_of, opening_event}
-use Rattle.model_traces.specs.CheckTimes.{stamped, same_edge, opened_by, opened}
+use Rattle.run_parts.specs.PortNumbers.{input_count, input_event}
+use Rattle.run_parts.specs.CheckEvents.{second_of, opening_event}
+use Rattle.run_parts.specs.CheckTimes.{stamped, same_edge, opened_by, opened}
 use Rattle.cell_machine.specs.Times.{no_times}
 use Rattle.model_traces.specs.ModuleRun.{entered, kept, notified, shaken, reports_at, happened, run_after}
 use Rattle.model_traces.specs.Laws.{last_stamps, RunHoldsInputs, RunKeepsLastEvents}

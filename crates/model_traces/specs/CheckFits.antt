@@ -5,7 +5,7 @@ use Rattle.cell_machine.specs.CellData.{CellData}
 use Rattle.cell_machine.specs.CellTrace as cell
 use Rattle.udp_tables.specs.declared.models.VPort.{VPort}
 use Rattle.udp_tables.specs.declared.timing_checks.TimingCheck.{TimingCheck}
-use Rattle.model_traces.specs.PortNumbers.{input_event}
+use Rattle.run_parts.specs.PortNumbers.{input_event}
 
 -- the kind, the limit and the events of the cell's check over the numbers of inputs
 pub record MeasuresSame (d : CellData) (ports : List VPort) (k : Check) (j : TimingCheck) : Type 0 where

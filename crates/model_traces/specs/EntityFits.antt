@@ -17,7 +17,7 @@ use Rattle.vital_models.specs.declared.model.VEntity.{VEntity}
 use Rattle.vital_models.specs.LookUps.{lookup_state}
 use Rattle.vital_models.specs.Sound.{has_events}
 use Rattle.model_traces.specs.FitLists.{FitEach}
-use Rattle.model_traces.specs.PortNumbers.{input_count}
+use Rattle.run_parts.specs.PortNumbers.{input_count}
 use Rattle.model_traces.specs.CheckFits.{MeasuresSame}
 use Rattle.model_traces.specs.ProcessValues.{is_enabled, output_value}
 use Rattle.model_traces.specs.GatedPaths.{paths_from}

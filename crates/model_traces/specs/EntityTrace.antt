@@ -5,7 +5,7 @@ use Rattle.cell_machine.specs.declared.changes.Change.{Change}
 use Rattle.cell_machine.specs.Lines.{Line, shown_line, trace, Machine, machine_by}
 use Rattle.vital_models.specs.declared.model.VOutput.{VOutput}
 use Rattle.vital_models.specs.declared.model.VEntity.{VEntity}
-use Rattle.model_traces.specs.PortNumbers.{input_count}
+use Rattle.run_parts.specs.PortNumbers.{input_count}
 use Rattle.model_traces.specs.ProcessValues.{output_value}
 use Rattle.model_traces.specs.GatedPaths.{delay_at}
 use Rattle.model_traces.specs.ProcessRun.{process_after, step_reports}

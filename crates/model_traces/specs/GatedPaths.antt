@@ -11,7 +11,7 @@ use Rattle.vital_models.specs.declared.model.HGate.TheVariants as gate
 use Rattle.vital_models.specs.declared.model.HPath.{HPath}
 use Rattle.vital_models.specs.declared.model.VOutput.{VOutput}
 use Rattle.vital_models.specs.declared.model.VEntity.{VEntity}
-use Rattle.model_traces.specs.PortNumbers.{input_number}
+use Rattle.run_parts.specs.PortNumbers.{input_number}
 use Rattle.model_traces.specs.ProcessValues.{condition_value}
 
 -- whether all these conditions are 0

@@ -9,8 +9,8 @@ use Rattle.cell_machine.specs.Report.{last_event}
 use Rattle.udp_tables.specs.declared.models.VPort.{VPort}
 use Rattle.udp_tables.specs.declared.timing_checks.TimingCheck.{TimingCheck}
 use Rattle.specify_blocks.specs.declared.model.VModule.{VModule}
-use Rattle.model_traces.specs.PortNumbers.{input_count, input_event}
-use Rattle.model_traces.specs.CheckEvents.{second_of}
+use Rattle.run_parts.specs.PortNumbers.{input_count, input_event}
+use Rattle.run_parts.specs.CheckEvents.{second_of}
 use Rattle.model_traces.specs.ModuleRun.{run_after}
 
 -- the times of a check's last events in a history of n inputs

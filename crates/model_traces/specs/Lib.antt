@@ -1,8 +1,6 @@
-pub mod PortNumbers
 pub mod NetValues
 pub mod Primitives
-pub mod CheckEvents
-pub mod CheckTimes
+pub mod CheckReports
 pub mod PathDelays
 pub mod ModuleRun
 pub mod Laws
@@ -20,3 +18,6 @@ pub mod CheckFits
 pub mod ModuleFits
 pub mod EntityFits
 pub mod Agreement
+pub use Rattle.run_parts.specs.PortNumbers as PortNumbers
+pub use Rattle.run_parts.specs.CheckEvents as CheckEvents
+pub use Rattle.run_parts.specs.CheckTimes as CheckTimes

@@ -16,10 +16,10 @@ use Rattle.udp_tables.specs.declared.timing_checks.TimingCheck.{TimingCheck}
 use Rattle.specify_blocks.specs.declared.model.VModule.{VModule}
 use Rattle.model_traces.specs.declared.turns.Turned.TheVariants as turned
 use Rattle.model_traces.specs.FitLists.{FitEach}
-use Rattle.model_traces.specs.PortNumbers.{input_count, output_ports}
+use Rattle.run_parts.specs.PortNumbers.{input_count, output_ports}
 use Rattle.model_traces.specs.NetValues.{net_value}
 use Rattle.model_traces.specs.Primitives.{next_state}
-use Rattle.model_traces.specs.CheckTimes.{is_enabled}
+use Rattle.model_traces.specs.CheckReports.{is_enabled}
 use Rattle.model_traces.specs.CheckFits.{MeasuresSame}
 use Rattle.model_traces.specs.PathDelays.{paths_between}
 use Rattle.model_traces.specs.ModuleRun.{turn_of, toggled}

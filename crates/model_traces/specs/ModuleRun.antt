@@ -10,9 +10,10 @@ use Rattle.specify_blocks.specs.declared.model.VModule.{VModule}
 use Rattle.model_traces.specs.declared.turns.Turned.TheVariants as turned
 use Rattle.model_traces.specs.declared.turns.Turn.{Turn}
 use Rattle.model_traces.specs.declared.module_run.ModuleRun.{ModuleRun}
-use Rattle.model_traces.specs.PortNumbers.{input_count}
+use Rattle.run_parts.specs.PortNumbers.{input_count}
 use Rattle.model_traces.specs.Primitives.{next_states}
-use Rattle.model_traces.specs.CheckTimes.{stamped, check_reports}
+use Rattle.model_traces.specs.CheckReports.{check_reports}
+use Rattle.run_parts.specs.CheckTimes.{stamped}
 use Rattle.cell_machine.specs.Times.{no_times}
 
 -- before any change: all inputs, states and the register are X, and no time is kept (this project's rule)

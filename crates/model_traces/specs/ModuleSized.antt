@@ -11,9 +11,10 @@ use Rattle.cell_machine.proofs.EachLemmas.{length-each as each-long}
 use Rattle.specify_blocks.specs.declared.model.VModule.{VModule}
 use Rattle.model_traces.specs.declared.turns.Turned.TheVariants as turned
 use Rattle.model_traces.specs.declared.module_run.ModuleRun.{ModuleRun}
-use Rattle.model_traces.specs.PortNumbers.{output_ports}
+use Rattle.run_parts.specs.PortNumbers.{output_ports}
 use Rattle.model_traces.specs.Primitives.{next_state}
-use Rattle.model_traces.specs.CheckTimes.{stamped, check_reports}
+use Rattle.model_traces.specs.CheckReports.{check_reports}
+use Rattle.run_parts.specs.CheckTimes.{stamped}
 use Rattle.cell_machine.specs.Times.{no_times}
 use Rattle.model_traces.specs.ModuleRun.{HasEach, start_run, turn_of, entered, kept, toggled, notified, shaken, reports_at}
 use Rattle.model_traces.specs.ModuleRun.{happened, run_after}

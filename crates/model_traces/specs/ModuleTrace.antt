@@ -6,7 +6,7 @@ use Rattle.cell_machine.specs.Lines.{Line, shown_line, trace, Machine, machine_b
 use Rattle.specify_blocks.specs.declared.model.VNet.TheVariants as net
 use Rattle.specify_blocks.specs.declared.model.VModule.{VModule}
 use Rattle.model_traces.specs.declared.module_run.ModuleRun.{ModuleRun}
-use Rattle.model_traces.specs.PortNumbers.{input_count, output_ports}
+use Rattle.run_parts.specs.PortNumbers.{input_count, output_ports}
 use Rattle.model_traces.specs.NetValues.{net_value}
 use Rattle.model_traces.specs.PathDelays.{delay_at}
 use Rattle.model_traces.specs.ModuleRun.{run_after, step_reports}

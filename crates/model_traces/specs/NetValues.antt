@@ -14,7 +14,7 @@ use Rattle.specify_blocks.specs.declared.model.Instance.{Instance}
 use Rattle.specify_blocks.specs.declared.model.Instance.TheVariants as instance
 use Rattle.specify_blocks.specs.declared.model.VModule.{VModule}
 use Rattle.specify_blocks.specs.Nets.{same_net, net_driven}
-use Rattle.model_traces.specs.PortNumbers.{input_value}
+use Rattle.run_parts.specs.PortNumbers.{input_value}
 
 -- the place of the instance that drives a net, where there is one
 abbrev pub driver : List Instance → VNet → Option ℕ

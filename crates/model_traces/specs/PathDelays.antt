@@ -11,7 +11,7 @@ use Rattle.specify_blocks.specs.declared.model.Gate.{Gate}
 use Rattle.specify_blocks.specs.declared.model.Gate.TheVariants as gate
 use Rattle.specify_blocks.specs.declared.model.VPath.{VPath}
 use Rattle.specify_blocks.specs.declared.model.VModule.{VModule}
-use Rattle.model_traces.specs.PortNumbers.{input_number}
+use Rattle.run_parts.specs.PortNumbers.{input_number}
 use Rattle.model_traces.specs.NetValues.{net_value}
 
 -- whether two paths have the same two ports

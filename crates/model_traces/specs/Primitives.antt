@@ -18,7 +18,7 @@ use Rattle.udp_tables.specs.Ports.{is_input_port}
 use Rattle.model_traces.specs.declared.turns.Turned.{Turned}
 use Rattle.model_traces.specs.declared.turns.Turned.TheVariants as turned
 use Rattle.model_traces.specs.declared.turns.Turn.{Turn}
-use Rattle.model_traces.specs.PortNumbers.{input_number, input_value}
+use Rattle.run_parts.specs.PortNumbers.{input_number, input_value}
 
 -- whether this net is what changes
 abbrev pub is_turned : List VPort → Turned → VNet → Bool

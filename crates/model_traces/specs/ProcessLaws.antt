@@ -8,9 +8,9 @@ use Rattle.udp_tables.specs.declared.models.VPort.{VPort}
 use Rattle.udp_tables.specs.declared.timing_checks.TimingCheck.{TimingCheck}
 use Rattle.vital_models.specs.declared.model.VEntity.{VEntity}
 use Rattle.vital_models.specs.Sound.{has_events}
-use Rattle.model_traces.specs.PortNumbers.{input_event}
+use Rattle.run_parts.specs.PortNumbers.{input_event}
 use Rattle.model_traces.specs.Laws.{HoldInputs, KeepLastEvents}
-use Rattle.model_traces.specs.CheckEvents.{second_of, opening_event}
+use Rattle.run_parts.specs.CheckEvents.{second_of, opening_event}
 use Rattle.model_traces.specs.SignalTimes.{SignalTimes, Pair, Edges, has_reference, test_event, reference_event, later_event}
 use Rattle.model_traces.specs.SignalTimes.{earlier_time}
 use Rattle.model_traces.specs.ProcessRun.{all_columns, process_after}

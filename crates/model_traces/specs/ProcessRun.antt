@@ -13,7 +13,7 @@ use Rattle.udp_tables.specs.declared.timing_checks.TimingCheck.{TimingCheck}
 use Rattle.vital_models.specs.declared.model.VEntity.{VEntity}
 use Rattle.vital_models.specs.LookUps.{lookup_state}
 use Rattle.vital_models.specs.Rows.{violated}
-use Rattle.model_traces.specs.PortNumbers.{input_count, input_value}
+use Rattle.run_parts.specs.PortNumbers.{input_count, input_value}
 use Rattle.model_traces.specs.SignalTimes.{SignalTimes, no_times, timed, check_reports}
 
 -- what a run holds: the value of each input, each state, for each state the columns with which its table was looked up last, and

@@ -14,7 +14,7 @@ use Rattle.vital_models.specs.declared.model.OutValue.{OutValue}
 use Rattle.vital_models.specs.declared.model.OutValue.TheVariants as value
 use Rattle.vital_models.specs.declared.model.VEntity.{VEntity}
 use Rattle.vital_models.specs.LookUps.{lookup_truth}
-use Rattle.model_traces.specs.PortNumbers.{input_value}
+use Rattle.run_parts.specs.PortNumbers.{input_value}
 
 -- what a truth table of input ports gives
 abbrev pub truth_value : List VPort → List Trit → VTruth → Trit

@@ -14,8 +14,8 @@ use Rattle.cell_machine.specs.Times.{renewed}
 use Rattle.udp_tables.specs.declared.models.VPort.{VPort}
 use Rattle.udp_tables.specs.declared.timing_checks.TimingCheck.{TimingCheck}
 use Rattle.vital_models.specs.declared.model.VEntity.{VEntity}
-use Rattle.model_traces.specs.PortNumbers.{input_event}
-use Rattle.model_traces.specs.CheckEvents.{second_of}
+use Rattle.run_parts.specs.PortNumbers.{input_event}
+use Rattle.run_parts.specs.CheckEvents.{second_of}
 use Rattle.model_traces.specs.ProcessValues.{is_enabled}
 
 -- The times that a check keeps.

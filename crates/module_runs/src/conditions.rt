@@ -5,7 +5,7 @@ use specify_blocks::VNet;
 use trit_cubes::Trit;
 
 impl<'a> Conditions for ModuleValues<'a> {
-    ghost use Rattle.model_traces.specs.CheckTimes.{is_enabled};
+    ghost use Rattle.model_traces.specs.CheckReports.{is_enabled};
 
     ghost counts = { λ v. is_enabled v.tables.model.now v.inputs.now v.states.now };
 

@@ -8,7 +8,7 @@ use Rattle.std.proofs.lemmas.List.Sums.{count_by_more_no, count_by_more_yes}
 use Rattle.std.proofs.lemmas.List.FromFn.{get_or-map-range_with_len, length-map-range_with_len, map-range_with_len_more}
 use Rattle.std.proofs.lemmas.Option.{slice_get_within, get_or_from_slice_get, slice_get_cases}
 use Rattle.udp_tables.specs.declared.models.VPort.{VPort}
-use Rattle.model_traces.specs.PortNumbers.{is_input, input_count, input_number}
+use Rattle.run_parts.specs.PortNumbers.{is_input, input_count, input_number}
 use Rattle.run_parts.specs.InputNumbers.{input_numbers}
 
 -- the number in the list is that of the port

@@ -8,8 +8,8 @@ use Rattle.cell_machine.specs.Edges.{moves}
 use Rattle.cell_machine.specs.Times.{renewed}
 use Rattle.udp_tables.specs.declared.models.VPort.{VPort}
 use Rattle.udp_tables.specs.declared.timing_checks.TimingCheck.{TimingCheck}
-use Rattle.model_traces.specs.PortNumbers.{input_number}
-use Rattle.model_traces.specs.CheckTimes.{stamped}
+use Rattle.run_parts.specs.PortNumbers.{input_number}
+use Rattle.run_parts.specs.CheckTimes.{stamped}
 
 pub unstamped : (ports : List VPort) (a : Trit) (c : Change) (k : TimingCheck) (s : Times)
     → nat_eq c.pin (input_number ports k.first.pin) ≡ false → nat_eq c.pin (input_number ports k.second.pin) ≡ false

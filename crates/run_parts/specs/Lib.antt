@@ -1,3 +1,6 @@
+pub mod PortNumbers
+pub mod CheckEvents
+pub mod CheckTimes
 pub mod InputNumbers
 pub mod KeptDelays
 pub mod LeastPath

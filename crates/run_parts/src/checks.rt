@@ -3,8 +3,8 @@ ghost use Rattle.std.specs.Prelude.{◌≡◌, ◌<◌, ◌&&◌, length, nat_eq
 ghost use Rattle.cell_machine.specs.Each.{each};
 ghost use Rattle.cell_machine.specs.Edges.{moves};
 ghost use Rattle.cell_machine.specs.Report.{happens};
-ghost use Rattle.model_traces.specs.PortNumbers.{input_event, input_number};
-ghost use Rattle.model_traces.specs.CheckTimes.{stamped, opened, reports_where};
+ghost use Rattle.run_parts.specs.PortNumbers.{input_event, input_number};
+ghost use Rattle.run_parts.specs.CheckTimes.{stamped, opened, reports_where};
 
 use crate::conditions::Conditions;
 use crate::ports::{Ports, input_number};

@@ -1,6 +1,6 @@
 //! The ports of a model by their direction.
 ghost use Rattle.std.specs.Prelude.{◌≡◌, IfOk};
-ghost use Rattle.model_traces.specs.PortNumbers.{input_count, input_number, input_value};
+ghost use Rattle.run_parts.specs.PortNumbers.{input_count, input_number, input_value};
 ghost use Rattle.run_parts.specs.InputNumbers.{input_numbers};
 
 use cell_machine::numbered_value;

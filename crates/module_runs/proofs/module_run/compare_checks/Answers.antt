@@ -1,6 +1,7 @@
 use Rattle.std.proofs.Common.{◌∙◌}
 use Rattle.cell_machine.specs.Each.{each}
-use Rattle.model_traces.specs.CheckTimes.{is_enabled, reports_where}
+use Rattle.model_traces.specs.CheckReports.{is_enabled}
+use Rattle.model_traces.specs.CheckTimes.{reports_where}
 use Rattle.module_runs.proofs.module_run.compare_checks.Goals as goal
 
 pub returns-clause-reports : goal.returns-clause-reports

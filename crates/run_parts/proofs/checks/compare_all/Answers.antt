@@ -1,7 +1,7 @@
 use Rattle.std.proofs.Common.{◌<◌, ◌≤◌, ap, ◌∙◌, length, arith}
 use Rattle.std.proofs.lemmas.List.{length-set}
 use Rattle.std.proofs.lemmas.Option.{slice_get-get_or}
-use Rattle.model_traces.specs.CheckTimes.{reports_where}
+use Rattle.run_parts.specs.CheckTimes.{reports_where}
 use Rattle.run_parts.proofs.Fronts.{front-step, front-done}
 use Rattle.run_parts.proofs.checks.compare_all.Goals as goal
 

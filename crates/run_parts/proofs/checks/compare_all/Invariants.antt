@@ -1,6 +1,6 @@
 use Rattle.std.proofs.Common.{◌≡◌, take, length}
 use Rattle.cell_machine.specs.Each.{each}
-use Rattle.model_traces.specs.CheckTimes.{reports_where}
+use Rattle.run_parts.specs.CheckTimes.{reports_where}
 use Rattle.run_parts.proofs.checks.compare_all.Given as goal
 
 -- the reports of the checks so far stand in front

@@ -2,7 +2,7 @@ use Rattle.std.proofs.Common.{◌<◌, sym, ap, ◌∙◌, length, arith}
 use Rattle.std.proofs.lemmas.List.{length-set}
 use Rattle.std.proofs.lemmas.Option.{slice_get-get_or}
 use Rattle.cell_machine.proofs.EachLemmas.{each-kept, each-done}
-use Rattle.model_traces.specs.CheckTimes.{stamped}
+use Rattle.run_parts.specs.CheckTimes.{stamped}
 use Rattle.run_parts.proofs.checks.stamp_all.Goals as goal
 
 pub loop-i-preserved : goal.loop-i-preserved

@@ -1,6 +1,6 @@
 use Rattle.std.proofs.Common.{◌≡◌, ◌++◌, take, drop, length}
 use Rattle.cell_machine.specs.Each.{each}
-use Rattle.model_traces.specs.CheckTimes.{stamped}
+use Rattle.run_parts.specs.CheckTimes.{stamped}
 use Rattle.run_parts.proofs.checks.stamp_all.Given as goal
 
 -- the kept times so far and the new ones of the rest give the new ones of all

@@ -1,7 +1,7 @@
 use Rattle.std.proofs.Common.{◌≡◌, ◌≤◌, ◌+◌, ◌<◌, ◌∙◌, ap, length, arith, refl}
 use Rattle.std.proofs.lemmas.Option.{slice_get_read}
 use Rattle.udp_tables.specs.declared.models.VPort.{VPort}
-use Rattle.model_traces.specs.PortNumbers.{input_number}
+use Rattle.run_parts.specs.PortNumbers.{input_number}
 use Rattle.run_parts.proofs.PortLemmas.{one-input, no-input, more-numbers}
 use Rattle.run_parts.proofs.ports.input_numbers.Goals as goal
 use Rattle.run_parts.proofs.ports.input_numbers.Goals.{then-ports-i, else-ports-i}

@@ -1,6 +1,6 @@
 use Rattle.std.proofs.Common.{◌≡◌, ◌≤◌, map}
 use Rattle.std.specs.List.{range_with_len}
-use Rattle.model_traces.specs.PortNumbers.{input_number}
+use Rattle.run_parts.specs.PortNumbers.{input_number}
 use Rattle.run_parts.proofs.ports.input_numbers.Given as goal
 
 -- the numbers so far, and how many inputs stand before the next port

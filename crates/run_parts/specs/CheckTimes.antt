@@ -1,5 +1,5 @@
--- When the timing checks of a module report, by the times that they keep. (IEEE 1364-2005, clause 15.)
-use Rattle.std.specs.Prelude.{ℕ, Bool, true, false, ◌&&◌, List, Option, Some, None}
+-- When the timing checks of a model report, by the times that they keep, in both languages. (IEEE 1364-2005, clause 15.)
+use Rattle.std.specs.Prelude.{ℕ, Bool, true, false, ◌&&◌, List, Option}
 use Rattle.trit_cubes.specs.declared.trits.Trit.{Trit}
 use Rattle.cell_machine.specs.declared.changes.Change.{Change}
 use Rattle.cell_machine.specs.declared.times.Times.{Times}
@@ -7,14 +7,10 @@ use Rattle.cell_machine.specs.declared.checks.Edge.TheVariants as edge
 use Rattle.cell_machine.specs.Edges.{is_rise}
 use Rattle.cell_machine.specs.Report.{is_period, happens, is_within}
 use Rattle.cell_machine.specs.Times.{renewed}
-use Rattle.cell_machine.specs.Outputs.{is_one}
 use Rattle.udp_tables.specs.declared.models.VPort.{VPort}
-use Rattle.specify_blocks.specs.declared.model.VNet.TheVariants as net
 use Rattle.udp_tables.specs.declared.timing_checks.TimingCheck.{TimingCheck}
-use Rattle.specify_blocks.specs.declared.model.VModule.{VModule}
-use Rattle.model_traces.specs.PortNumbers.{input_event}
-use Rattle.model_traces.specs.CheckEvents.{second_of}
-use Rattle.model_traces.specs.NetValues.{net_value}
+use Rattle.run_parts.specs.PortNumbers.{input_event}
+use Rattle.run_parts.specs.CheckEvents.{second_of}
 
 -- The times that a check keeps after a change of an input that had the value a: of its last first event, and of the last
 -- possible rise and the last possible fall of its second event's input.
@@ -40,18 +36,9 @@ opened_by false a c s = s.event
 abbrev pub opened : TimingCheck → Trit → Change → Times → Option ℕ
 opened k a c s = opened_by (is_period k.kind) a c s
 
--- Whether a check's condition lets it count: there is none, or its net is 1. (IEEE 1364-2005, clause 15.5: `&&&`.)
-abbrev pub is_enabled : VModule → List Trit → List Trit → Option ℕ → Bool
-is_enabled m inputs states None = true
-is_enabled m inputs states (Some w) = is_one (net_value m inputs states (net.Wire w))
-
 -- Whether a check reports at a change of an input that had the value a, by which conditions let their checks count and by the
 -- times kept before: the change is its second event, its condition lets it count, and the kept time lies less than the limit
 -- before.
 abbrev pub reports_where : List VPort → (Option ℕ → Bool) → Trit → Change → TimingCheck → Times → Bool
 reports_where ports counts a c k s =
     happens (input_event ports k.second) a c && (counts k.condition && is_within c.at k.limit (opened k a c s))
-
--- the same of a check of a module, by the inputs and states after the change
-abbrev pub check_reports : VModule → List Trit → List Trit → Trit → Change → TimingCheck → Times → Bool
-check_reports m inputs states = reports_where m.ports (is_enabled m inputs states)

@@ -10,8 +10,8 @@ ghost use Rattle.caught_models.specs.Caught.{is_caught};
 
 use crate::traces::{are_unlike, both_started};
 use cell_machine::{Cell, Change, LibertySim};
+use process_runs::VitalSim;
 use std::alloc::{AllocError, Global};
-use table_interpreters::VitalSim;
 use vital_models::VEntity;
 
 /// Whether the trace of an entity on these changes is unlike that of the cell. `AllocError` comes only where memory is wanting.

@@ -10,9 +10,9 @@ ghost use Rattle.caught_models.specs.Caught.{is_caught};
 
 use crate::traces::{are_unlike, both_started};
 use cell_machine::{Cell, Change, LibertySim};
+use module_runs::VerilogSim;
 use specify_blocks::VModule;
 use std::alloc::{AllocError, Global};
-use table_interpreters::VerilogSim;
 
 /// Whether the trace of a module on these changes is unlike that of the cell. `AllocError` comes only where memory is wanting.
 pub fn is_module_caught(

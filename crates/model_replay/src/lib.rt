@@ -22,9 +22,10 @@ pub use laws::{
     entities_have_own_names, modules_have_own_names, plain_entities_read_as_before,
     plain_modules_read_as_before, well_formed_entities_have_own_names,
 };
+pub use module_runs::ModuleStart;
+pub use process_runs::EntityStart;
 pub use run::replay_models;
 pub use starts::{known_entity, known_module, start_entity, start_module};
-pub use table_interpreters::{EntityStart, ModuleStart};
 pub use verilog::Verilog;
 pub use verilog_sections::{read_driven_models, read_verilog_driver};
 pub use vital::Vital;

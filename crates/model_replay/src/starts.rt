@@ -5,15 +5,16 @@ ghost use Rattle.vital_models.specs.Sound as entities_of;
 ghost use Rattle.model_traces.specs.ModuleTrace.{module_machine};
 ghost use Rattle.model_traces.specs.EntityTrace.{entity_machine};
 ghost use Rattle.file_models.specs.FileModels.{machine_by, IsRunnable};
-ghost use Rattle.table_interpreters.specs.ModuleStarts.{IsModuleStart};
-ghost use Rattle.table_interpreters.specs.EntityStarts.{IsEntityStart};
+ghost use Rattle.module_runs.specs.ModuleStarts.{IsModuleStart};
+ghost use Rattle.process_runs.specs.EntityStarts.{IsEntityStart};
 
 use cell_machine::Shared;
 use driven_traces::DrivenSim;
 use file_models::FileModel;
+use module_runs::{ModuleStart, VerilogSim};
+use process_runs::{EntityStart, VitalSim};
 use std::alloc::{AllocError, Global};
 use stimulus::TraceSim;
-use table_interpreters::{EntityStart, ModuleStart, VerilogSim, VitalSim};
 use verilog_grammar::modules::VModule;
 use vital_models::VEntity;
 

@@ -6,9 +6,9 @@ use crate::verilog_sections::read_driven_models;
 use cell_machine::{Change, Shared};
 use file_models::{FileModel, file_models};
 use model_files::{ModelFormat, ModelLanguage};
+use module_runs::ModuleStart;
 use std::alloc::{AllocError, Global};
 use stimulus::Ports;
-use table_interpreters::ModuleStart;
 use text_io::{Desk, Stop};
 use udp_tables::{ModelFault, VPort};
 use verilog_grammar::modules::VModule;
@@ -18,7 +18,7 @@ pub struct Verilog;
 
 impl ModelLanguage for Verilog {
     ghost use Rattle.model_replay.specs.Verilog.{verilog};
-    ghost use Rattle.table_interpreters.specs.ModuleStarts.{IsModuleStart};
+    ghost use Rattle.module_runs.specs.ModuleStarts.{IsModuleStart};
 
     type Model = FileModel<VModule>;
 

@@ -6,9 +6,9 @@ use crate::vital_sections::read_driven_entities;
 use cell_machine::{Change, Shared};
 use file_models::{FileModel, file_models};
 use model_files::{ModelFormat, ModelLanguage};
+use process_runs::EntityStart;
 use std::alloc::{AllocError, Global};
 use stimulus::Ports;
-use table_interpreters::EntityStart;
 use text_io::{Desk, Stop};
 use udp_tables::{ModelFault, VPort};
 use vhdl_grammar::texts_are_well_formed;
@@ -19,7 +19,7 @@ pub struct Vital;
 
 impl ModelLanguage for Vital {
     ghost use Rattle.model_replay.specs.Vital.{vital};
-    ghost use Rattle.table_interpreters.specs.EntityStarts.{IsEntityStart};
+    ghost use Rattle.process_runs.specs.EntityStarts.{IsEntityStart};
 
     type Model = FileModel<VEntity>;
 

@@ -21,7 +21,7 @@ use Rattle.run_outcome.specs.declared.status.Status.TheVariants as status
 use Rattle.run_outcome.specs.Outcome.{Outcome}
 use Rattle.run_outcome.specs.Status.{status_where}
 use Rattle.run_outcome.specs.FileSteps.{answer_where, outcome_by}
-use Rattle.library_report.specs.LibraryAnswer.{answer_by}
+use Rattle.library_reader.specs.LibraryAnswer.{answer_by}
 use Rattle.model_files.specs.Limits.{model_limit}
 use Rattle.model_files.specs.ModelAnswer.{long_model_stop, models_or_stop, models_in_text, model_answer}
 use Rattle.model_replay.specs.Verilog.{verilog, verilog_models}

@@ -24,7 +24,7 @@ use Rattle.run_outcome.specs.FileSteps.{FileIsTaken, FileEndsRun}
 use Rattle.run_outcome.specs.FilesRead.{HasRead}
 use Rattle.run_outcome.proofs.FileLaws.{words_before}
 use Rattle.run_outcome.proofs.FilesReadLaws.{nothing_read, one_more, ends_there, stops_between, reports_all}
-use Rattle.library_report.specs.LibraryAnswer.{library_answer}
+use Rattle.library_reader.specs.LibraryAnswer.{library_answer}
 use Rattle.model_files.specs.ModelAnswer.{model_answer}
 use Rattle.model_replay.specs.Verilog.{verilog}
 use Rattle.library_audit.specs.Audits.{audits_text, any_differs}

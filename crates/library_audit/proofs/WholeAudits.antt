@@ -4,7 +4,7 @@ use Rattle.library_reader.specs.LibraryCells.{CellEntry}
 use Rattle.specify_blocks.specs.declared.model.VModule.{VModule}
 use Rattle.file_models.specs.declared.file_model.FileModel.{FileModel}
 use Rattle.run_outcome.specs.FileSteps.{outcome_by}
-use Rattle.library_report.specs.LibraryAnswer.{library_answer}
+use Rattle.library_reader.specs.LibraryAnswer.{library_answer}
 use Rattle.model_files.specs.ModelAnswer.{model_answer}
 use Rattle.model_replay.specs.Verilog.{verilog}
 use Rattle.library_audit.specs.Outcome.{audits_outcome, behind_cells, audit_outcome}

@@ -6,7 +6,7 @@ use Rattle.library_reader.specs.LibraryCells.{CellEntry, Accepted, Refused}
 use Rattle.specify_blocks.specs.declared.model.VModule.{VModule}
 use Rattle.file_models.specs.declared.file_model.FileModel.{FileModel}
 use Rattle.run_outcome.specs.declared.status.Status.TheVariants.{Done}
-use Rattle.library_report.specs.LibraryAnswer.{library_answer}
+use Rattle.library_reader.specs.LibraryAnswer.{library_answer}
 use Rattle.model_files.specs.ModelAnswer.{model_answer}
 use Rattle.model_replay.specs.Verilog.{verilog}
 use Rattle.table_audit.specs.declared.verdicts.Verdict.TheVariants.{Same}

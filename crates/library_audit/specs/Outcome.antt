@@ -12,7 +12,7 @@ use Rattle.run_outcome.specs.Written.{in_report}
 use Rattle.run_outcome.specs.Binding.{Files, bytes_at}
 use Rattle.run_outcome.specs.Outcome.{Outcome}
 use Rattle.run_outcome.specs.FileSteps.{outcome_by}
-use Rattle.library_report.specs.LibraryAnswer.{library_answer}
+use Rattle.library_reader.specs.LibraryAnswer.{library_answer}
 use Rattle.model_files.specs.ModelAnswer.{model_answer}
 use Rattle.model_replay.specs.Verilog.{verilog}
 use Rattle.library_audit.specs.Audits.{audits_text, any_differs}

@@ -6,8 +6,7 @@ ghost use Rattle.library_audit.specs.Outcome.{audit_files, audit_of};
 ghost use Rattle.library_audit.specs.Reads.{ReadsFiles};
 
 use crate::modules::{NamedModules, names_of};
-use library_reader::LibraryCell;
-use library_report::read_library;
+use library_reader::{LibraryCell, read_library};
 use model_files::read_model_file;
 use model_replay::Verilog;
 use run_outcome::Status;

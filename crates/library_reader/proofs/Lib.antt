@@ -5,3 +5,5 @@ pub mod Following
 pub mod KeptLemmas
 pub mod WrittenLemmas
 pub mod FoldLemmas
+pub mod Examples
+pub mod LibraryFileLemmas

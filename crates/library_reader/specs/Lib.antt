@@ -9,3 +9,7 @@ pub mod KeptCells
 pub mod WrittenItems
 pub mod Reached
 pub mod Folds
+pub mod ReportLines
+pub mod LeftOutLines
+pub mod FaultLines
+pub mod LibraryAnswer

@@ -37,7 +37,7 @@ use Rattle.simulation_catalog.specs.Sections.{SectionsCanBeCompared}
 use Rattle.model_files.specs.StimulusAnswer.{stimulus_answer}
 use Rattle.simulation_catalog.specs.FaultLines.{cause_stop}
 use Rattle.library_simulation.specs.declared.simulation.ModelsRead.{ModelsRead}
-use Rattle.library_report.specs.LibraryAnswer.{library_answer}
+use Rattle.library_reader.specs.LibraryAnswer.{library_answer}
 use Rattle.model_files.specs.ModelAnswer.{model_answer}
 use Rattle.library_simulation.specs.Simulate.{simulate_files, model_files, simulate_of, behind_cells, behind_modules}
 use Rattle.library_simulation.specs.Simulate.{behind_entities, behind_models}

@@ -5,7 +5,6 @@ pub mod KnownBesides
 pub use Rattle.model_replay.specs.Verilog as Verilog
 pub use Rattle.model_replay.specs.Vital as Vital
 pub use Rattle.file_models.specs as file_models
-pub use Rattle.library_report.specs as library_report
 pub use Rattle.library_reader.specs as library_reader
 pub use Rattle.model_files.specs as model_files
 pub use Rattle.simulation_catalog.specs as simulation_catalog

@@ -17,7 +17,7 @@ use Rattle.simulation_catalog.specs.Catalog.{cells_named}
 use Rattle.simulation_catalog.specs.Ends.{sections_outcome}
 use Rattle.model_files.specs.StimulusAnswer.{stimulus_answer}
 use Rattle.simulation_catalog.specs.FaultLines.{cause_stop}
-use Rattle.library_report.specs.LibraryAnswer.{library_answer}
+use Rattle.library_reader.specs.LibraryAnswer.{library_answer}
 use Rattle.model_files.specs.ModelAnswer.{model_answer}
 
 -- the files of `simulate`: the library, the Verilog file, the VHDL file and the stimulus

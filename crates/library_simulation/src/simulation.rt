@@ -8,8 +8,7 @@ ghost use Rattle.library_simulation.specs.Simulate.{simulate_files, simulate_of}
 ghost use Rattle.library_simulation.specs.Simulations.{ReadsModels, ReadsSimulation};
 
 use file_models::FileModel;
-use library_reader::LibraryCell;
-use library_report::read_library;
+use library_reader::{LibraryCell, read_library};
 use model_files::{read_model_file, read_stimulus_file};
 use model_replay::{Verilog, Vital, entities_have_own_names};
 use run_outcome::Status;

@@ -5,7 +5,7 @@ use Rattle.cell_reader.specs.declared.refusal.Refusal.{Refusal}
 use Rattle.three_state_cells.specs.declared.driven_cell.DrivenCell.{DrivenCell}
 use Rattle.three_state_cells.specs.DrivenCells.{driven_data_of}
 use Rattle.cell_attributes.specs.Groups.{cell_name}
-use Rattle.library_report.specs.CellLines.{refused_line}
+use Rattle.library_reader.specs.ReportLines.{refused_line}
 use Rattle.library_reader.specs.declared.progress.Progress.{Progress}
 use Rattle.library_reader.specs.Progress.{next_number, next_refusal, next_entity}
 use Rattle.library_reader.specs.NextCells.{IsAcceptedNext, IsNext}

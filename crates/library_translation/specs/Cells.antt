@@ -24,8 +24,8 @@ use Rattle.scan_cells.specs.TestGroup.{test_of}
 use Rattle.scan_cells.specs.Functional.{functional_view}
 use Rattle.scan_cells.specs.Comparison.{agreement}
 use Rattle.scan_cells.specs.TestLines.{test_line}
-use Rattle.library_report.specs.CellLines.{accepted_line, refused_line}
-use Rattle.library_report.specs.LeftOutLines.{left_out_lines, left_out_file_line}
+use Rattle.library_reader.specs.ReportLines.{accepted_line, refused_line}
+use Rattle.library_reader.specs.LeftOutLines.{left_out_lines, left_out_file_line}
 use Rattle.run_outcome.specs.Written.{Written, in_verilog, in_vital, in_report, joined}
 use Rattle.library_reader.specs.declared.progress.Progress.{Progress}
 use Rattle.library_reader.specs.Progress.{next_number, next_refusal, next_data, next_entity}

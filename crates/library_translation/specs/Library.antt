@@ -6,8 +6,8 @@ use Rattle.text_io.specs.declared.slots.InSlot.TheVariants.{Library}
 use Rattle.text_io.specs.declared.slots.OutSlot.TheVariants.{Faults}
 use Rattle.text_io.specs.Desk.{DeskState, took, wrote, IsPrefix}
 use Rattle.verilog_writer.specs.Model.{prelude_text}
-use Rattle.library_report.specs.CellLines.{totals_line}
-use Rattle.library_report.specs.FaultLines.{library_fault_line, library_too_long_line}
+use Rattle.library_reader.specs.ReportLines.{totals_line}
+use Rattle.library_reader.specs.FaultLines.{library_fault_line, library_too_long_line}
 use Rattle.run_outcome.specs.declared.status.Status.{Status}
 use Rattle.run_outcome.specs.declared.status.Status.TheVariants as status
 use Rattle.text_io.specs.declared.stop.Stop.{Stop}

@@ -8,7 +8,7 @@ ghost use Rattle.library_translation.specs.Cells.{ModelsAreBound, accepted_lines
 use crate::models::write_models;
 use crate::test_lines::write_test;
 use liberty_groups::Group;
-use library_report::{write_accepted_cell, write_left_out_groups};
+use library_reader::{write_accepted_cell, write_left_out_groups};
 use std::alloc::Global;
 use text_io::{Desk, Failed, Stop};
 use three_state_cells::DrivenCell;

@@ -5,7 +5,7 @@ ghost use Rattle.text_io.specs.declared.slots.InSlot.TheVariants.{Library};
 ghost use Rattle.text_io.specs.declared.slots.OutSlot.TheVariants.{VerilogText, VitalText};
 ghost use Rattle.text_io.specs.Desk.{is_bound, StopsWithCause};
 ghost use Rattle.run_outcome.specs.Written.{in_report};
-ghost use Rattle.library_report.specs.LeftOutLines.{left_out_file_line};
+ghost use Rattle.library_reader.specs.LeftOutLines.{left_out_file_line};
 ghost use Rattle.library_reader.specs.Endings.{library_limit};
 ghost use Rattle.library_reader.specs.Progress.{no_progress};
 ghost use Rattle.library_translation.specs.Cells.{ModelsAreBound, cell_written};
@@ -15,8 +15,10 @@ use crate::cells::write_accepted;
 use crate::stopped::stopped;
 use cell_attributes::groups::cell_name;
 use liberty_groups::Group;
-use library_reader::{Ending, ItemWriter, NextCell, NothingKept, Progress, fold_items};
-use library_report::{write_left_out_file, write_refused_cell};
+use library_reader::{
+    Ending, ItemWriter, NextCell, NothingKept, Progress, fold_items, write_left_out_file,
+    write_refused_cell,
+};
 use std::alloc::Global;
 use text_io::{Desk, Stop};
 

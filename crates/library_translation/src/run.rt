@@ -15,8 +15,7 @@ ghost use Rattle.library_translation.specs.Library.{status_at, Finishes, Transla
 ghost use Rattle.library_translation.specs.Runs.{translate_files, RunsTranslation};
 
 use crate::items::handle_items;
-use library_reader::{Ending, Progress};
-use library_report::{write_library_fault, write_library_too_long, write_totals};
+use library_reader::{Ending, Progress, write_library_fault, write_library_too_long, write_totals};
 use run_outcome::Status;
 use std::alloc::Global;
 use text_io::{Desk, Failed, InSlot, OutSlot, Stop};

@@ -37,7 +37,7 @@ use Rattle.library_simulation.specs.library_reader.declared.ending.NotWhole.TheV
 use Rattle.library_simulation.specs.library_reader.Endings.{library_limit, ending_of}
 use Rattle.library_simulation.specs.library_reader.KeptCells.{cells_by}
 use Rattle.library_translation.specs.Library.{translate_outcome}
-use Rattle.library_simulation.specs.library_report.LibraryAnswer.{library_answer, answer_by, library_stop}
+use Rattle.library_simulation.specs.library_reader.LibraryAnswer.{library_answer, answer_by, library_stop}
 use Rattle.library_simulation.specs.Simulate.{behind_cells, behind_modules, behind_entities}
 use Rattle.library_simulation.proofs.OwnNames.{modules_apart, entities_apart}
 use Rattle.translate_cmd.specs.Agreement.{own_catalog, Agrees, OwnModelsAgree}

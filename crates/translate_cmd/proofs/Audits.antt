@@ -18,7 +18,7 @@ use Rattle.library_simulation.specs.library_reader.declared.ending.Ending.{Endin
 use Rattle.library_simulation.specs.library_reader.declared.ending.Ending.TheVariants as ending
 use Rattle.library_simulation.specs.library_reader.Endings.{library_limit, ending_of}
 use Rattle.library_simulation.specs.library_reader.KeptCells.{cells_by}
-use Rattle.library_simulation.specs.library_report.LibraryAnswer.{answer_by, library_answer}
+use Rattle.library_simulation.specs.library_reader.LibraryAnswer.{answer_by, library_answer}
 use Rattle.library_simulation.specs.model_files.Limits.{model_limit}
 use Rattle.library_simulation.specs.model_files.ModelNames.{model_names}
 use Rattle.library_simulation.specs.model_files.ModelAnswer.{long_model_stop, models_or_stop, models_in_text, model_answer}

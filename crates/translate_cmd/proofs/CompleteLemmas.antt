@@ -33,7 +33,7 @@ use Rattle.library_simulation.specs.library_reader.Progress.{no_progress}
 use Rattle.library_simulation.specs.simulation_catalog.Catalog.{cells_named}
 use Rattle.library_simulation.specs.simulation_catalog.Comparisons.{any_differs}
 use Rattle.library_simulation.specs.simulation_catalog.Ends.{sections_outcome}
-use Rattle.library_simulation.specs.library_report.LibraryAnswer.{answer_by}
+use Rattle.library_simulation.specs.library_reader.LibraryAnswer.{answer_by}
 use Rattle.library_simulation.specs.Simulate.{simulate_files, simulate_outcome}
 use Rattle.library_simulation.proofs.model_files.WholeAnswers.{model_whole, stimulus_whole}
 use Rattle.library_simulation.proofs.WholeSimulations.{simulated_whole}

@@ -11,7 +11,7 @@ use Rattle.library_simulation.specs.library_reader.declared.ending.Ending.{Endin
 use Rattle.library_simulation.specs.library_reader.declared.ending.Ending.TheVariants as ending
 use Rattle.library_simulation.specs.library_reader.Endings.{library_limit, ending_of}
 use Rattle.library_simulation.specs.library_reader.KeptCells.{cells_by}
-use Rattle.library_simulation.specs.library_report.LibraryAnswer.{answer_by, library_answer}
+use Rattle.library_simulation.specs.library_reader.LibraryAnswer.{answer_by, library_answer}
 use Rattle.library_translation.specs.Library.{translate_outcome}
 use Rattle.written_driven_models.specs.specify_blocks.declared.model.VModule.{VModule}
 use Rattle.written_driven_models.specs.specify_blocks.Generated.{module_of}

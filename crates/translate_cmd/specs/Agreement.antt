@@ -18,7 +18,7 @@ use Rattle.library_simulation.specs.library_reader.KeptCells.{kept_cells}
 use Rattle.library_simulation.specs.library_reader.Progress.{no_progress}
 use Rattle.library_translation.specs.Library.{translate_outcome}
 use Rattle.library_simulation.specs.model_files.Limits.{model_limit, stimulus_limit}
-use Rattle.library_simulation.specs.library_report.LibraryAnswer.{library_answer}
+use Rattle.library_simulation.specs.library_reader.LibraryAnswer.{library_answer}
 use Rattle.library_simulation.specs.Simulate.{simulate_outcome}
 use Rattle.translate_cmd.specs.Complete.{IsWholeLibrary}
 

@@ -13,7 +13,7 @@ use Rattle.library_simulation.specs.file_models.declared.file_model.FileModel.{F
 use Rattle.library_simulation.specs.library_reader.LibraryCells.{CellEntry, Accepted, Refused}
 use Rattle.run_outcome.specs.declared.status.Status.TheVariants as status
 use Rattle.run_outcome.specs.Outcome.{Outcome}
-use Rattle.library_simulation.specs.library_report.LibraryAnswer.{library_answer}
+use Rattle.library_simulation.specs.library_reader.LibraryAnswer.{library_answer}
 use Rattle.library_translation.specs.Library.{translate_outcome}
 use Rattle.library_simulation.specs.model_files.ModelAnswer.{model_answer}
 use Rattle.library_simulation.specs.Verilog.{verilog}

@@ -1,7 +1,7 @@
 use Rattle.library_reader.specs.declared.ending.NotWhole.TheVariants as not_whole
-use Rattle.library_report.specs.LibraryAnswer.{library_stop}
+use Rattle.library_reader.specs.LibraryAnswer.{library_stop}
 use Rattle.run_outcome.proofs.FileStepLaws.{told_so}
-use Rattle.library_report.proofs.reading.tell_not_whole.Goals as goal
+use Rattle.library_reader.proofs.reading.tell_not_whole.Goals as goal
 
 pub returns-in-Fault-clause-text : goal.returns-in-Fault-clause-text
 returns-in-Fault-clause-text g c =

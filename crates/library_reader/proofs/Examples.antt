@@ -6,9 +6,9 @@ use Rattle.liberty_groups.specs.declared.fault.LibraryFault.TheVariants as fault
 use Rattle.cell_reader.specs.declared.refusal.Reason.TheVariants as reason
 use Rattle.run_outcome.specs.Refusals.{refusal_text}
 use Rattle.library_reader.specs.CellLines.{printed_name}
-use Rattle.library_report.specs.CellLines.{cell_text, accepted_line, refused_line, totals_line}
-use Rattle.library_report.specs.LeftOutLines.{left_out_line}
-use Rattle.library_report.specs.FaultLines.{library_fault_line}
+use Rattle.library_reader.specs.ReportLines.{cell_text, accepted_line, refused_line, totals_line}
+use Rattle.library_reader.specs.LeftOutLines.{left_out_line}
+use Rattle.library_reader.specs.FaultLines.{library_fault_line}
 
 inverter-line : accepted_line 1 (codes "INV") ≡ codes "cell 1 INV ok\n"
 unfolding digits cell_text printed_name accepted_line

@@ -1,5 +1,5 @@
-use Rattle.library_report.specs.FaultLines.{library_fault_line}
-use Rattle.library_report.proofs.faults.write_library_fault.Goals as goal
+use Rattle.library_reader.specs.FaultLines.{library_fault_line}
+use Rattle.library_reader.proofs.faults.write_library_fault.Goals as goal
 
 pub returns-clause-text : goal.returns-clause-text
 unfolding library_fault_line

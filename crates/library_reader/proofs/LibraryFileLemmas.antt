@@ -11,7 +11,7 @@ use Rattle.library_reader.specs.KeptCells.{library_cells_within, ReadsCells}
 use Rattle.run_outcome.specs.declared.status.Status.{Status}
 use Rattle.run_outcome.specs.FileSteps.{FileIsTaken, FileEndsRun, TellsStop}
 use Rattle.run_outcome.proofs.FileStepLaws.{ends_as_told, read_as_value, read_ends}
-use Rattle.library_report.specs.LibraryAnswer.{library_stop, answer_by, library_answer}
+use Rattle.library_reader.specs.LibraryAnswer.{library_stop, answer_by, library_answer}
 
 -- what the bytes that are left come to is what they are read as
 answered : (left : Option (List ℕ)) (r : Result (List CellEntry) NotWhole)

@@ -1,7 +1,7 @@
 //! Why a library is refused.
 ghost use Rattle.text_io.specs.declared.slots.OutSlot.TheVariants.{Faults};
 ghost use Rattle.text_io.specs.Desk.{HasCause, WritesText};
-ghost use Rattle.library_report.specs.FaultLines.{library_fault_line, library_too_long_line};
+ghost use Rattle.library_reader.specs.FaultLines.{library_fault_line, library_too_long_line};
 
 use crate::fault_words::fault_text;
 use liberty_groups::LibraryFault;

@@ -2,8 +2,8 @@
 ghost use Rattle.std.specs.Prelude.{◌≡◌};
 ghost use Rattle.text_io.specs.declared.slots.OutSlot.TheVariants.{Report};
 ghost use Rattle.text_io.specs.Desk.{HasCause, WritesText};
-ghost use Rattle.library_report.specs.LeftOutLines.{left_out_group_line, left_out_lines, left_out_file_line};
-ghost use Rattle.library_report.specs.LeftOutLines.{pin_name as pin_name_of};
+ghost use Rattle.library_reader.specs.LeftOutLines.{left_out_group_line, left_out_lines, left_out_file_line};
+ghost use Rattle.library_reader.specs.LeftOutLines.{pin_name as pin_name_of};
 
 use cell_machine::Pin;
 use cell_reader::LeftOut;

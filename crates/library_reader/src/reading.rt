@@ -6,10 +6,12 @@ ghost use Rattle.text_io.specs.Plan.{plan};
 ghost use Rattle.bool_functions.specs.NameList.{AreDistinct};
 ghost use Rattle.library_reader.specs.LibraryCells.{all_described, cell_names};
 ghost use Rattle.run_outcome.specs.FileSteps.{FileIsTaken, FileEndsRun, TellsStop, StopsWithStatus};
-ghost use Rattle.library_report.specs.LibraryAnswer.{library_answer, library_stop};
+ghost use Rattle.library_reader.specs.LibraryAnswer.{library_answer, library_stop};
 
-use crate::{write_library_fault, write_library_too_long};
-use library_reader::{LibraryCell, NotWhole, read_cells};
+use crate::ending::NotWhole;
+use crate::faults::{write_library_fault, write_library_too_long};
+use crate::keeping::read_cells;
+use crate::library_cell::LibraryCell;
 use run_outcome::{Status, ended};
 use std::alloc::Global;
 use text_io::{Desk, InSlot};

@@ -5,7 +5,7 @@ use Rattle.library_reader.specs.declared.ending.NotWhole.{NotWhole}
 use Rattle.library_reader.specs.declared.ending.NotWhole.TheVariants as not_whole
 use Rattle.library_reader.specs.Endings.{library_limit}
 use Rattle.library_reader.specs.KeptCells.{library_cells_within}
-use Rattle.library_report.specs.FaultLines.{library_fault_line, library_too_long_line}
+use Rattle.library_reader.specs.FaultLines.{library_fault_line, library_too_long_line}
 use Rattle.run_outcome.specs.declared.status.Status.TheVariants as status
 use Rattle.run_outcome.specs.FileSteps.{FileStop, FileAnswer}
 

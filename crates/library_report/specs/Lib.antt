@@ -1,4 +1,0 @@
-pub mod CellLines
-pub mod LeftOutLines
-pub mod FaultLines
-pub mod LibraryAnswer

@@ -16,7 +16,7 @@ use std::alloc::Global;
 use vhdl_grammar::Tables;
 use vhdl_scope::{Cursor, Vhdl};
 use vhdl_tokens::{is_name, is_numbered_name};
-use vital_models::TruthTable;
+use vital_tables::TruthTable;
 
 /// What the next constant is a table of.
 #[derive(Clone, Copy)]

@@ -20,4 +20,4 @@ pub use variable_names::is_last_false;
 pub use variables::set_last;
 pub use vhdl_grammar as grammar;
 pub use vhdl_scope as words;
-pub use vital_models as entities;
+pub use vital_tables as entities;

@@ -12,7 +12,7 @@ use grammar_reader::{Read, Refusal, RepeatedPart, Stop, one_or_more, with_end};
 use sqlite_items::Items;
 use std::alloc::Global;
 use vhdl_scope::{Cursor, Vhdl, elements, state_width};
-use vital_models::{Trits, VNext, VStateRow, VStateTable, VSymbol};
+use vital_tables::{Trits, VNext, VStateRow, VStateTable, VSymbol};
 
 /// A symbol of a row, behind these.
 fn a_symbol(cursor: &mut Cursor<'_>, symbols: &[VSymbol]) -> Read<VSymbol>

@@ -6,7 +6,7 @@ ghost use Rattle.std.specs.Option.{option_and_then};
 ghost use Rattle.vhdl_grammar.specs.VhdlTables as spec;
 
 use trit_cubes::Trit;
-use vital_models::{Trits, VNext, VSymbol};
+use vital_tables::{Trits, VNext, VSymbol};
 
 /// The level that a symbol stands for.
 pub fn level_of(token: &[u8]) -> Option<Trits>

@@ -12,7 +12,7 @@ use grammar_reader::{Read, RepeatedPart, one_or_more, with_end};
 use sqlite_items::Items;
 use std::alloc::Global;
 use vhdl_scope::{Cursor, Vhdl, elements, truth_width};
-use vital_models::{Trits, TruthRow, TruthTable};
+use vital_tables::{Trits, TruthRow, TruthTable};
 
 /// A level of a row.
 #[tactic(auto, using(grammar_reader::proofs::Values::valued_found))]

@@ -3,7 +3,7 @@
 use Rattle.std.specs.Prelude.{[], ◌∷◌, codes}
 use Rattle.vhdl_tokens.specs.Tokens.{lexis}
 use Rattle.vhdl_tokens.specs.Spelling.{is_same}
-use Rattle.vhdl_grammar.specs.vital_models.declared.model.VEntity.{VEntity}
+use Rattle.vhdl_grammar.specs.vital_tables.declared.model.VEntity.{VEntity}
 use Rattle.vhdl_grammar.specs.VhdlText.{vhdl_text}
 use Rattle.section_outlines.specs.VhdlMarks.{vhdl_marks}
 use Rattle.driver_texts.specs.Sections.{section_text}

@@ -15,7 +15,7 @@ use Rattle.grammar_reader.specs.declared.refusal.Refusal.TheVariants.{Syntax, Wi
 use Rattle.grammar_reader.specs.Words.{name_by, is_this}
 use Rattle.cell_machine.specs.declared.outputs.Source.{Source}
 use Rattle.cell_machine.specs.declared.outputs.Source.TheVariants as source
-use Rattle.vital_models.specs.declared.table.VStateTable.{VStateTable}
+use Rattle.vital_tables.specs.declared.table.VStateTable.{VStateTable}
 use Rattle.udp_tables.specs.Ports.{is_input_port}
 use Rattle.vhdl_tokens.specs.Tokens.{is_name}
 use Rattle.vhdl_tokens.specs.Spelling.{is_same}

@@ -8,9 +8,9 @@ use Rattle.grammar_rules.specs.Rule.{Rule, Verdict, Times, Takes}
 use Rattle.grammar_rules.specs.Rule as r
 use Rattle.cell_machine.specs.declared.checks.Edge.TheVariants as edge
 use Rattle.udp_tables.specs.declared.models.VPort.{VPort}
-use Rattle.vital_models.specs.declared.table.TruthTable.{TruthTable}
-use Rattle.vital_models.specs.declared.table.VStateTable.{VStateTable}
-use Rattle.vital_models.specs.declared.model.VEntity.{VEntity}
+use Rattle.vital_tables.specs.declared.table.TruthTable.{TruthTable}
+use Rattle.vital_tables.specs.declared.table.VStateTable.{VStateTable}
+use Rattle.vital_tables.specs.declared.model.VEntity.{VEntity}
 use Rattle.grammar_reader.specs.Texts.{text_tokens}
 use Rattle.grammar_reader.specs.Words.{Grammar}
 use Rattle.vhdl_tokens.specs.Tokens.{Token, is_name, after, at_front, scan, scan_of, separator_length, token_length, lexis}

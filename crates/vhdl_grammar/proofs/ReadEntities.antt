@@ -9,21 +9,21 @@ use Rattle.std.proofs.lemmas.List.Elements.{All-nil, All-cons, All-head, All-tai
 use Rattle.cell_machine.specs.declared.outputs.Source.{Source}
 use Rattle.cell_machine.specs.declared.outputs.Source.TheVariants as source
 use Rattle.udp_tables.specs.declared.models.VPort.{VPort}
-use Rattle.vital_models.specs.declared.table.TruthTable.{TruthTable}
-use Rattle.vital_models.specs.declared.table.TruthRow.{TruthRow}
-use Rattle.vital_models.specs.declared.table.VStateTable.{VStateTable}
-use Rattle.vital_models.specs.declared.table.VStateRow.{VStateRow}
-use Rattle.vital_models.specs.declared.model.VState.{VState}
-use Rattle.vital_models.specs.declared.model.VTruth.{VTruth}
-use Rattle.vital_models.specs.declared.model.OutValue.{OutValue}
-use Rattle.vital_models.specs.declared.model.VOutput.{VOutput}
-use Rattle.vital_models.specs.declared.model.HGate.{HGate}
-use Rattle.vital_models.specs.declared.model.HGate.TheVariants as gate
-use Rattle.vital_models.specs.declared.model.HPath.{HPath}
+use Rattle.vital_tables.specs.declared.table.TruthTable.{TruthTable}
+use Rattle.vital_tables.specs.declared.table.TruthRow.{TruthRow}
+use Rattle.vital_tables.specs.declared.table.VStateTable.{VStateTable}
+use Rattle.vital_tables.specs.declared.table.VStateRow.{VStateRow}
+use Rattle.vital_tables.specs.declared.model.VState.{VState}
+use Rattle.vital_tables.specs.declared.model.VTruth.{VTruth}
+use Rattle.vital_tables.specs.declared.model.OutValue.{OutValue}
+use Rattle.vital_tables.specs.declared.model.VOutput.{VOutput}
+use Rattle.vital_tables.specs.declared.model.HGate.{HGate}
+use Rattle.vital_tables.specs.declared.model.HGate.TheVariants as gate
+use Rattle.vital_tables.specs.declared.model.HPath.{HPath}
 use Rattle.udp_tables.specs.declared.timing_checks.TimingCheck.{TimingCheck}
-use Rattle.vital_models.specs.declared.model.VEntity.{VEntity}
-use Rattle.vital_models.specs.Sound.{output_ports_from, IsState, IsTruth, feeds, IsValue, is_gate, IsPath, IsOutput, is_enabling}
-use Rattle.vital_models.specs.Sound.{IsCheck}
+use Rattle.vital_tables.specs.declared.model.VEntity.{VEntity}
+use Rattle.vital_tables.specs.Sound.{output_ports_from, IsState, IsTruth, feeds, IsValue, is_gate, IsPath, IsOutput, is_enabling}
+use Rattle.vital_tables.specs.Sound.{IsCheck}
 use Rattle.udp_tables.specs.Ports.{is_input_port}
 use Rattle.vhdl_grammar.specs.declared.scope.Columns.{Columns}
 use Rattle.vhdl_grammar.specs.declared.scope.Assigned.{Assigned}

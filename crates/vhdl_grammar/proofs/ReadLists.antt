@@ -14,7 +14,7 @@ use Rattle.grammar_rules.specs.Rule.{Fits}
 use Rattle.grammar_rules.proofs.Promises.{Promises, token, gives, in_turn, weaker}
 use Rattle.grammar_reader.specs.declared.refusal.Refusal.TheVariants.{Syntax, Width, Twice}
 use Rattle.udp_tables.specs.declared.models.VPort.{VPort}
-use Rattle.vital_models.specs.declared.table.TruthTable.{TruthTable}
+use Rattle.vital_tables.specs.declared.table.TruthTable.{TruthTable}
 use Rattle.udp_tables.specs.Ports.{is_input_port}
 use Rattle.vhdl_tokens.specs.Tokens.{is_name}
 use Rattle.vhdl_tokens.specs.Spelling.{is_same}

@@ -14,10 +14,10 @@ use Rattle.std.proofs.lemmas.List.Sums.{sum_by-cons}
 use Rattle.std.proofs.lemmas.Grind.{flat_map-append}
 use Rattle.grammar_rules.proofs.Promises.{Promises, gives, in_turn, many, choice}
 use Rattle.cell_machine.specs.declared.outputs.Source.{Source}
-use Rattle.vital_models.specs.declared.table.TruthTable.{TruthTable}
-use Rattle.vital_models.specs.declared.model.HGate.{HGate}
-use Rattle.vital_models.specs.declared.model.HGate.TheVariants as gate
-use Rattle.vital_models.specs.declared.model.HPath.{HPath}
+use Rattle.vital_tables.specs.declared.table.TruthTable.{TruthTable}
+use Rattle.vital_tables.specs.declared.model.HGate.{HGate}
+use Rattle.vital_tables.specs.declared.model.HGate.TheVariants as gate
+use Rattle.vital_tables.specs.declared.model.HPath.{HPath}
 use Rattle.udp_tables.specs.Ports.{is_input_port}
 use Rattle.vhdl_grammar.specs.declared.scope.Assigned.{Assigned}
 use Rattle.vhdl_grammar.specs.declared.scope.Assigned.TheVariants as assigned

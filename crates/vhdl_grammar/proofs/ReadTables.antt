@@ -12,13 +12,13 @@ use Rattle.std.proofs.lemmas.List.Sums.{sum_by-append, sum_by-cons, sum_by-take-
 use Rattle.grammar_rules.specs.Rule.{Fits, Foul}
 use Rattle.grammar_rules.proofs.Promises.{Promises, token, gives, in_turn, many, choice}
 use Rattle.trit_cubes.specs.declared.trits.Trit.{Trit}
-use Rattle.vital_models.specs.declared.table.Trits.{Trits}
-use Rattle.vital_models.specs.declared.table.TruthRow.{TruthRow}
-use Rattle.vital_models.specs.declared.table.TruthTable.{TruthTable}
-use Rattle.vital_models.specs.declared.table.VSymbol.{VSymbol}
-use Rattle.vital_models.specs.declared.table.VNext.{VNext}
-use Rattle.vital_models.specs.declared.table.VStateRow.{VStateRow}
-use Rattle.vital_models.specs.declared.table.VStateTable.{VStateTable}
+use Rattle.vital_tables.specs.declared.table.Trits.{Trits}
+use Rattle.vital_tables.specs.declared.table.TruthRow.{TruthRow}
+use Rattle.vital_tables.specs.declared.table.TruthTable.{TruthTable}
+use Rattle.vital_tables.specs.declared.table.VSymbol.{VSymbol}
+use Rattle.vital_tables.specs.declared.table.VNext.{VNext}
+use Rattle.vital_tables.specs.declared.table.VStateRow.{VStateRow}
+use Rattle.vital_tables.specs.declared.table.VStateTable.{VStateTable}
 use Rattle.grammar_reader.specs.Words.{Grammar}
 use Rattle.grammar_reader.specs.declared.refusal.Refusal.TheVariants.{Syntax, TwoEdges, Width}
 use Rattle.vhdl_tokens.specs.Spelling.{is_same}

@@ -8,7 +8,7 @@ use Rattle.std.proofs.lemmas.List.{map_push}
 use Rattle.std.proofs.lemmas.List.Elements.{All-nil, All-push}
 use Rattle.grammar_rules.specs.Rule.{Fits, Foul}
 use Rattle.grammar_rules.proofs.Promises.{Promises, token, gives, last, in_turn, many}
-use Rattle.vital_models.specs.declared.model.VEntity.{VEntity}
+use Rattle.vital_tables.specs.declared.model.VEntity.{VEntity}
 use Rattle.grammar_reader.specs.declared.refusal.Refusal.TheVariants.{Syntax, Twice, Undriven}
 use Rattle.grammar_reader.specs.Texts.{text_tokens}
 use Rattle.vhdl_tokens.specs.Tokens.{is_name, lexis}

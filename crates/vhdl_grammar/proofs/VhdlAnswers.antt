@@ -4,7 +4,7 @@ use Rattle.grammar_rules.specs.Rule.{Takes}
 use Rattle.grammar_reader.specs.Texts.{HaveOneAnswer}
 use Rattle.grammar_reader.proofs.TextAnswers as answers
 use Rattle.udp_tables.proofs.ModelFaultPlaces.{place_of_fault}
-use Rattle.vital_models.specs.declared.model.VEntity.{VEntity}
+use Rattle.vital_tables.specs.declared.model.VEntity.{VEntity}
 use Rattle.vhdl_grammar.specs.VhdlText.{file, language}
 
 -- nothing stands behind a text

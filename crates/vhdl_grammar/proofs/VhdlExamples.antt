@@ -9,12 +9,12 @@ use Rattle.udp_tables.specs.declared.models.ModelFault.TheVariants.{Lexical, Syn
 use Rattle.udp_tables.specs.declared.models.ModelFault.TheVariants.{Unequal, Width}
 use Rattle.udp_tables.proofs.FaultCases.{at, behind, AreFaults}
 use Rattle.vhdl_tokens.specs.Words.{vhdl_words, used_words, is_reserved, is_used}
-use Rattle.vital_models.specs.declared.table.Trits.TheVariants as trits
-use Rattle.vital_models.specs.declared.model.OutValue.{OutValue}
-use Rattle.vital_models.specs.declared.model.OutValue.TheVariants as value
-use Rattle.vital_models.specs.declared.model.HGate.TheVariants as gate
-use Rattle.vital_models.specs.declared.model.VEntity.{VEntity}
-use Rattle.vital_models.specs.Rows.{state_rows}
+use Rattle.vital_tables.specs.declared.table.Trits.TheVariants as trits
+use Rattle.vital_tables.specs.declared.model.OutValue.{OutValue}
+use Rattle.vital_tables.specs.declared.model.OutValue.TheVariants as value
+use Rattle.vital_tables.specs.declared.model.HGate.TheVariants as gate
+use Rattle.vital_tables.specs.declared.model.VEntity.{VEntity}
+use Rattle.vital_tables.specs.Rows.{state_rows}
 use Rattle.udp_tables.proofs.SequentialRows.{flip_flop}
 use Rattle.vhdl_grammar.specs.VhdlRules as rule
 use Rattle.vhdl_grammar.specs.VhdlTables as table

@@ -1,6 +1,6 @@
 -- Laws of VHDL text.
 use Rattle.std.specs.Prelude.{ℕ, List, length}
-use Rattle.vital_models.specs.declared.model.VEntity.{VEntity}
+use Rattle.vital_tables.specs.declared.model.VEntity.{VEntity}
 use Rattle.vhdl_grammar.specs.VhdlText.{IsVhdlText}
 use Rattle.vhdl_grammar.specs.WellFormed.{IsCount, AreWellFormed}
 

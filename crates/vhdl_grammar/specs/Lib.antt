@@ -8,4 +8,4 @@ pub mod VhdlText
 pub mod WellFormed
 pub mod Laws
 pub use Rattle.udp_tables.specs as udp_tables
-pub use Rattle.vital_models.specs as vital_models
+pub use Rattle.vital_tables.specs as vital_tables

@@ -7,8 +7,8 @@ use Rattle.std.specs.Option.{option_map_or}
 use Rattle.grammar_rules.specs.Rule.{Verdict, Fits, Foul, Misfit}
 use Rattle.grammar_rules.specs.Rule as r
 use Rattle.udp_tables.specs.declared.models.VPort.{VPort}
-use Rattle.vital_models.specs.declared.table.VStateTable.{VStateTable}
-use Rattle.vital_models.specs.Sound.{output_ports_from}
+use Rattle.vital_tables.specs.declared.table.VStateTable.{VStateTable}
+use Rattle.vital_tables.specs.Sound.{output_ports_from}
 use Rattle.grammar_reader.specs.declared.refusal.Refusal.{Refusal}
 use Rattle.grammar_reader.specs.declared.refusal.Refusal.TheVariants.{Syntax, Undefined, Twice}
 use Rattle.grammar_reader.specs.Words.{Grammar, ◌>>=◌, go_on_where, valued, allowed_by, name_by}

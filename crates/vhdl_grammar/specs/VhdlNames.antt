@@ -9,7 +9,7 @@ use Rattle.grammar_rules.specs.Rule as r
 use Rattle.cell_machine.specs.declared.outputs.Source.{Source}
 use Rattle.cell_machine.specs.declared.outputs.Source.TheVariants as source
 use Rattle.udp_tables.specs.declared.models.VPort.{VPort}
-use Rattle.vital_models.specs.declared.table.TruthTable.{TruthTable}
+use Rattle.vital_tables.specs.declared.table.TruthTable.{TruthTable}
 use Rattle.udp_tables.specs.Ports.{is_input_port}
 use Rattle.grammar_reader.specs.declared.refusal.Refusal.{Refusal}
 use Rattle.grammar_reader.specs.declared.refusal.Refusal.TheVariants.{Syntax, Width, Undefined, Twice}

@@ -5,11 +5,11 @@ use Rattle.std.specs.Prelude.{count_by, slice_get, Option, Some, None, codes}
 use Rattle.std.specs.Option.{option_map, option_map_or, option_and_then}
 use Rattle.grammar_rules.specs.Rule.{Verdict, Fits, Misfit}
 use Rattle.grammar_rules.specs.Rule as r
-use Rattle.vital_models.specs.declared.table.TruthTable.{TruthTable}
-use Rattle.vital_models.specs.declared.model.HGate.{HGate}
-use Rattle.vital_models.specs.declared.model.HGate.TheVariants as gate
-use Rattle.vital_models.specs.declared.model.HPath.{HPath}
-use Rattle.vital_models.specs.Sound.{output_ports_from}
+use Rattle.vital_tables.specs.declared.table.TruthTable.{TruthTable}
+use Rattle.vital_tables.specs.declared.model.HGate.{HGate}
+use Rattle.vital_tables.specs.declared.model.HGate.TheVariants as gate
+use Rattle.vital_tables.specs.declared.model.HPath.{HPath}
+use Rattle.vital_tables.specs.Sound.{output_ports_from}
 use Rattle.grammar_reader.specs.declared.refusal.Refusal.{Refusal}
 use Rattle.grammar_reader.specs.declared.refusal.Refusal.TheVariants.{Syntax, Undefined}
 use Rattle.grammar_reader.specs.Words.{Grammar, ◌>>=◌, go_on_where, begins_by, valued}

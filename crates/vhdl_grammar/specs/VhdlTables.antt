@@ -9,16 +9,16 @@ use Rattle.grammar_rules.specs.Rule.{Verdict, Fits, Foul, Misfit}
 use Rattle.grammar_rules.specs.Rule as r
 use Rattle.trit_cubes.specs.declared.trits.Trit.{Trit}
 use Rattle.trit_cubes.specs.declared.trits.Trit.TheVariants as trit
-use Rattle.vital_models.specs.declared.table.Trits.{Trits}
-use Rattle.vital_models.specs.declared.table.Trits.TheVariants as trits
-use Rattle.vital_models.specs.declared.table.TruthRow.{TruthRow}
-use Rattle.vital_models.specs.declared.table.TruthTable.{TruthTable}
-use Rattle.vital_models.specs.declared.table.VSymbol.{VSymbol}
-use Rattle.vital_models.specs.declared.table.VSymbol.TheVariants as symbol
-use Rattle.vital_models.specs.declared.table.VNext.{VNext}
-use Rattle.vital_models.specs.declared.table.VNext.TheVariants as next
-use Rattle.vital_models.specs.declared.table.VStateRow.{VStateRow}
-use Rattle.vital_models.specs.declared.table.VStateTable.{VStateTable}
+use Rattle.vital_tables.specs.declared.table.Trits.{Trits}
+use Rattle.vital_tables.specs.declared.table.Trits.TheVariants as trits
+use Rattle.vital_tables.specs.declared.table.TruthRow.{TruthRow}
+use Rattle.vital_tables.specs.declared.table.TruthTable.{TruthTable}
+use Rattle.vital_tables.specs.declared.table.VSymbol.{VSymbol}
+use Rattle.vital_tables.specs.declared.table.VSymbol.TheVariants as symbol
+use Rattle.vital_tables.specs.declared.table.VNext.{VNext}
+use Rattle.vital_tables.specs.declared.table.VNext.TheVariants as next
+use Rattle.vital_tables.specs.declared.table.VStateRow.{VStateRow}
+use Rattle.vital_tables.specs.declared.table.VStateTable.{VStateTable}
 use Rattle.grammar_reader.specs.declared.refusal.Refusal.{Refusal}
 use Rattle.grammar_reader.specs.declared.refusal.Refusal.TheVariants.{Syntax, TwoEdges, Width}
 use Rattle.grammar_reader.specs.Words.{Grammar, ◌>>=◌, valued}

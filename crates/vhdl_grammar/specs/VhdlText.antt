@@ -4,17 +4,17 @@ use Rattle.std.specs.Prelude.{ℕ, nat_eq, Bool, List, [], ◌∷◌, ◌++◌, 
 use Rattle.grammar_rules.specs.Rule as r
 use Rattle.udp_tables.specs.declared.models.ModelFault.{ModelFault}
 use Rattle.udp_tables.specs.ModelFaults.{model_faults}
-use Rattle.vital_models.specs.declared.table.TruthTable.{TruthTable}
-use Rattle.vital_models.specs.declared.table.VStateTable.{VStateTable}
-use Rattle.vital_models.specs.declared.model.VState.{VState}
-use Rattle.vital_models.specs.declared.model.VTruth.{VTruth}
-use Rattle.vital_models.specs.declared.model.OutValue.{OutValue}
-use Rattle.vital_models.specs.declared.model.OutValue.TheVariants as value
-use Rattle.vital_models.specs.declared.model.VOutput.{VOutput}
-use Rattle.vital_models.specs.declared.model.HPath.{HPath}
+use Rattle.vital_tables.specs.declared.table.TruthTable.{TruthTable}
+use Rattle.vital_tables.specs.declared.table.VStateTable.{VStateTable}
+use Rattle.vital_tables.specs.declared.model.VState.{VState}
+use Rattle.vital_tables.specs.declared.model.VTruth.{VTruth}
+use Rattle.vital_tables.specs.declared.model.OutValue.{OutValue}
+use Rattle.vital_tables.specs.declared.model.OutValue.TheVariants as value
+use Rattle.vital_tables.specs.declared.model.VOutput.{VOutput}
+use Rattle.vital_tables.specs.declared.model.HPath.{HPath}
 use Rattle.udp_tables.specs.declared.timing_checks.TimingCheck.{TimingCheck}
-use Rattle.vital_models.specs.declared.model.VEntity.{VEntity}
-use Rattle.vital_models.specs.Sound.{output_ports_from}
+use Rattle.vital_tables.specs.declared.model.VEntity.{VEntity}
+use Rattle.vital_tables.specs.Sound.{output_ports_from}
 use Rattle.grammar_reader.specs.declared.refusal.Refusal.TheVariants.{Syntax, Undriven}
 use Rattle.grammar_reader.specs.Texts.{Texts, IsText, text}
 use Rattle.grammar_reader.specs.Words.{Grammar, ◌>>=◌}

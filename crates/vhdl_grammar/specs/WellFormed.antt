@@ -9,19 +9,19 @@ use Rattle.cell_machine.specs.declared.outputs.Source.{Source}
 use Rattle.vhdl_tokens.specs.Kept.{is_plain}
 use Rattle.vhdl_tokens.specs.Words.{is_vhdl_word}
 use Rattle.vhdl_tokens.specs.Tokens.{is_name_byte}
-use Rattle.vital_models.specs.declared.table.TruthTable.{TruthTable}
-use Rattle.vital_models.specs.declared.table.VStateRow.{VStateRow}
-use Rattle.vital_models.specs.declared.model.VState.{VState}
-use Rattle.vital_models.specs.declared.model.VTruth.{VTruth}
-use Rattle.vital_models.specs.declared.model.OutValue.{OutValue}
-use Rattle.vital_models.specs.declared.model.OutValue.TheVariants as value
-use Rattle.vital_models.specs.declared.model.VOutput.{VOutput}
-use Rattle.vital_models.specs.declared.model.HGate.{HGate}
-use Rattle.vital_models.specs.declared.model.HGate.TheVariants as gate
-use Rattle.vital_models.specs.declared.model.HPath.{HPath}
+use Rattle.vital_tables.specs.declared.table.TruthTable.{TruthTable}
+use Rattle.vital_tables.specs.declared.table.VStateRow.{VStateRow}
+use Rattle.vital_tables.specs.declared.model.VState.{VState}
+use Rattle.vital_tables.specs.declared.model.VTruth.{VTruth}
+use Rattle.vital_tables.specs.declared.model.OutValue.{OutValue}
+use Rattle.vital_tables.specs.declared.model.OutValue.TheVariants as value
+use Rattle.vital_tables.specs.declared.model.VOutput.{VOutput}
+use Rattle.vital_tables.specs.declared.model.HGate.{HGate}
+use Rattle.vital_tables.specs.declared.model.HGate.TheVariants as gate
+use Rattle.vital_tables.specs.declared.model.HPath.{HPath}
 use Rattle.udp_tables.specs.declared.timing_checks.TimingCheck.{TimingCheck}
-use Rattle.vital_models.specs.declared.model.VEntity.{VEntity}
-use Rattle.vital_models.specs.Sound.{columns_of, IsSound}
+use Rattle.vital_tables.specs.declared.model.VEntity.{VEntity}
+use Rattle.vital_tables.specs.Sound.{columns_of, IsSound}
 use Rattle.vhdl_grammar.specs.VhdlTables.{is_edge}
 use Rattle.vhdl_grammar.specs.VhdlDeclarations.{port_names}
 use Rattle.vhdl_grammar.specs.VhdlNames.{same_source}

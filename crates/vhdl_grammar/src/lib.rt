@@ -8,4 +8,4 @@ mod scope;
 pub use laws::{texts_are_well_formed, vhdl_text_has_one_answer};
 pub use scope::{Assigned, Columns, Scope, Tables, Variables};
 pub use udp_tables as primitives;
-pub use vital_models as entities;
+pub use vital_tables as entities;

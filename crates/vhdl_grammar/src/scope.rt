@@ -2,7 +2,7 @@
 use cell_machine::Source;
 use sqlite_items::Items;
 use udp_tables::VPort;
-use vital_models::{TruthTable, VStateTable};
+use vital_tables::{TruthTable, VStateTable};
 
 /// The tables that the constants of an architecture hold, each kind in order.
 #[derive(Drop)]

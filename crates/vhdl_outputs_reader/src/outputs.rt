@@ -5,7 +5,7 @@ ghost use Rattle.std.specs.Option.{option_map, option_copied};
 ghost use Rattle.grammar_reader.specs.declared.refusal.Refusal.TheVariants.{Syntax};
 ghost use Rattle.grammar_reader.specs.Reading.{read, Reads, ReadsAs, Token};
 ghost use Rattle.vhdl_scope.specs.udp_tables.declared.models.VPort.{VPort};
-ghost use Rattle.vhdl_scope.specs.vital_models.Sound.{output_ports_from};
+ghost use Rattle.vhdl_scope.specs.vital_tables.Sound.{output_ports_from};
 ghost use Rattle.vhdl_grammar.specs.VhdlRules as rules;
 ghost use Rattle.vhdl_grammar.specs.VhdlOutputs as spec;
 

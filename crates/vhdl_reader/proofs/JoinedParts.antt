@@ -1,12 +1,12 @@
 -- The parts of an entity, joined item by item.
 use Rattle.std.proofs.Common.{◌≡◌, ℕ, List, [], ◌∷◌, refl, ap}
-use Rattle.vhdl_declarations_reader.specs.vital_models.declared.table.TruthTable.{TruthTable}
-use Rattle.vhdl_declarations_reader.specs.vital_models.declared.table.VStateTable.{VStateTable}
-use Rattle.vhdl_declarations_reader.specs.vital_models.declared.model.VState.{VState}
-use Rattle.vhdl_declarations_reader.specs.vital_models.declared.model.VTruth.{VTruth}
-use Rattle.vhdl_declarations_reader.specs.vital_models.declared.model.OutValue.{OutValue}
-use Rattle.vhdl_declarations_reader.specs.vital_models.declared.model.VOutput.{VOutput}
-use Rattle.vhdl_declarations_reader.specs.vital_models.declared.model.HPath.{HPath}
+use Rattle.vhdl_declarations_reader.specs.vital_tables.declared.table.TruthTable.{TruthTable}
+use Rattle.vhdl_declarations_reader.specs.vital_tables.declared.table.VStateTable.{VStateTable}
+use Rattle.vhdl_declarations_reader.specs.vital_tables.declared.model.VState.{VState}
+use Rattle.vhdl_declarations_reader.specs.vital_tables.declared.model.VTruth.{VTruth}
+use Rattle.vhdl_declarations_reader.specs.vital_tables.declared.model.OutValue.{OutValue}
+use Rattle.vhdl_declarations_reader.specs.vital_tables.declared.model.VOutput.{VOutput}
+use Rattle.vhdl_declarations_reader.specs.vital_tables.declared.model.HPath.{HPath}
 use Rattle.vhdl_declarations_reader.specs.vhdl_grammar.declared.scope.Columns.{Columns}
 use Rattle.vhdl_declarations_reader.specs.vhdl_grammar.VhdlText.{states_with, conditions_with, outputs_with}
 use Rattle.vhdl_reader.specs.Joined.{joined, state_of, condition_of, driven_of, output_of}

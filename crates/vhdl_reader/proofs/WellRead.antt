@@ -2,7 +2,7 @@
 use Rattle.std.proofs.Common.{◌≡◌, ℕ, List, length, Result, Ok, Err, IfOk}
 use Rattle.std.specs.Prelude.{Vec}
 use Rattle.grammar_reader.specs.Texts.{HaveOneAnswer}
-use Rattle.vhdl_declarations_reader.specs.vital_models.declared.model.VEntity.{VEntity}
+use Rattle.vhdl_declarations_reader.specs.vital_tables.declared.model.VEntity.{VEntity}
 use Rattle.vhdl_declarations_reader.specs.vhdl_grammar.VhdlText.{vhdl_text, language}
 use Rattle.vhdl_declarations_reader.specs.vhdl_grammar.WellFormed.{IsCount, AreWellFormed}
 use Rattle.vhdl_declarations_reader.specs.vhdl_grammar.Laws.{TextsAreWellFormed}

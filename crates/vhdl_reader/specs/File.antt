@@ -2,7 +2,7 @@
 use Rattle.std.specs.Prelude.{◌≡◌, ℕ, List, Vec, Err}
 use Rattle.vhdl_declarations_reader.specs.udp_tables.declared.models.ModelFault.{ModelFault}
 use Rattle.vhdl_declarations_reader.specs.udp_tables.declared.models.ModelFault.TheVariants as fault
-use Rattle.vhdl_declarations_reader.specs.vital_models.declared.model.VEntity.{VEntity}
+use Rattle.vhdl_declarations_reader.specs.vital_tables.declared.model.VEntity.{VEntity}
 pub use Rattle.vhdl_declarations_reader.specs.vhdl_grammar.VhdlText.{entity_end, statements, entity, next_entity, file, vhdl_text}
 
 abbrev pub entities_of : {A : Type 0} → Vec VEntity A → List VEntity

@@ -1,12 +1,12 @@
 -- Wholes of two parts, from a list of the first parts and one of the second.
 use Rattle.std.specs.Prelude.{ℕ, List, [], ◌∷◌}
-use Rattle.vhdl_declarations_reader.specs.vital_models.declared.table.TruthTable.{TruthTable}
-use Rattle.vhdl_declarations_reader.specs.vital_models.declared.table.VStateTable.{VStateTable}
-use Rattle.vhdl_declarations_reader.specs.vital_models.declared.model.VState.{VState}
-use Rattle.vhdl_declarations_reader.specs.vital_models.declared.model.VTruth.{VTruth}
-use Rattle.vhdl_declarations_reader.specs.vital_models.declared.model.OutValue.{OutValue}
-use Rattle.vhdl_declarations_reader.specs.vital_models.declared.model.VOutput.{VOutput}
-use Rattle.vhdl_declarations_reader.specs.vital_models.declared.model.HPath.{HPath}
+use Rattle.vhdl_declarations_reader.specs.vital_tables.declared.table.TruthTable.{TruthTable}
+use Rattle.vhdl_declarations_reader.specs.vital_tables.declared.table.VStateTable.{VStateTable}
+use Rattle.vhdl_declarations_reader.specs.vital_tables.declared.model.VState.{VState}
+use Rattle.vhdl_declarations_reader.specs.vital_tables.declared.model.VTruth.{VTruth}
+use Rattle.vhdl_declarations_reader.specs.vital_tables.declared.model.OutValue.{OutValue}
+use Rattle.vhdl_declarations_reader.specs.vital_tables.declared.model.VOutput.{VOutput}
+use Rattle.vhdl_declarations_reader.specs.vital_tables.declared.model.HPath.{HPath}
 use Rattle.vhdl_declarations_reader.specs.vhdl_grammar.declared.scope.Columns.{Columns}
 use Rattle.vhdl_reader.specs.declared.driven.Driven.{Driven}
 

@@ -1,5 +1,5 @@
 -- The entity of declarations and statements.
-use Rattle.vhdl_declarations_reader.specs.vital_models.declared.model.VEntity.{VEntity}
+use Rattle.vhdl_declarations_reader.specs.vital_tables.declared.model.VEntity.{VEntity}
 use Rattle.vhdl_declarations_reader.specs.vhdl_grammar.declared.scope.Scope.{Scope}
 use Rattle.vhdl_declarations_reader.specs.vhdl_grammar.VhdlText.{entity_with}
 use Rattle.vhdl_reader.specs.declared.statements.Statements.{Statements}

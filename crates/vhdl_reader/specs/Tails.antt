@@ -1,7 +1,7 @@
 -- The rest of the grammar of statements from some places on, where another function reads on.
 use Rattle.std.specs.Prelude.{List, length}
 use Rattle.grammar_rules.specs.Rule as r
-use Rattle.vhdl_declarations_reader.specs.vital_models.declared.model.VEntity.{VEntity}
+use Rattle.vhdl_declarations_reader.specs.vital_tables.declared.model.VEntity.{VEntity}
 use Rattle.grammar_reader.specs.Words.{Grammar, ◌>>=◌}
 use Rattle.vhdl_declarations_reader.specs.vhdl_grammar.declared.scope.Scope.{Scope}
 use Rattle.vhdl_declarations_reader.specs.vhdl_grammar.declared.scope.Columns.{Columns}

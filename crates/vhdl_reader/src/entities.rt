@@ -21,7 +21,7 @@ pub struct Entities {
 
 impl Model for Entities {
     ghost use Rattle.std.specs.Prelude.{List};
-    ghost use Rattle.vhdl_declarations_reader.specs.vital_models.declared.model.VEntity.{VEntity};
+    ghost use Rattle.vhdl_declarations_reader.specs.vital_tables.declared.model.VEntity.{VEntity};
     ghost use Rattle.vhdl_declarations_reader.specs.vhdl_grammar.VhdlText.{entity_names};
     ghost use Rattle.vhdl_declarations_reader.specs.vhdl_scope.Lowered.{HaveSame};
 

@@ -1,7 +1,7 @@
 //! The parts of an entity, each joined with what the statements say of it: an entity as data.
 
 ghost use Rattle.std.specs.Prelude.{◌≡◌, IfOk, Ok};
-ghost use Rattle.vhdl_declarations_reader.specs.vital_models.Sound.{output_ports_from};
+ghost use Rattle.vhdl_declarations_reader.specs.vital_tables.Sound.{output_ports_from};
 ghost use Rattle.vhdl_declarations_reader.specs.vhdl_grammar.VhdlText as spec;
 ghost use Rattle.vhdl_reader.specs.Statements.{entity_of};
 

@@ -16,8 +16,8 @@ use Rattle.bool_functions.proofs.NameLists.{list_any-map, position-map, position
 use Rattle.grammar_reader.proofs.Places.{drop_far, none_behind}
 use Rattle.grammar_reader.proofs.Tests.{there, not_there}
 use Rattle.vhdl_grammar.specs.udp_tables.declared.models.VPort.{VPort}
-use Rattle.vhdl_grammar.specs.vital_models.declared.model.VEntity.{VEntity}
-use Rattle.vhdl_grammar.specs.vital_models.Sound.{output_ports_from}
+use Rattle.vhdl_grammar.specs.vital_tables.declared.model.VEntity.{VEntity}
+use Rattle.vhdl_grammar.specs.vital_tables.Sound.{output_ports_from}
 use Rattle.vhdl_tokens.specs.Words.{is_vhdl_word}
 use Rattle.vhdl_tokens.specs.Kept.{lowered}
 use Rattle.vhdl_tokens.specs.Tokens.{is_name}

@@ -3,7 +3,7 @@ use Rattle.std.specs.Prelude.{◌≡◌, ℕ, List, map, drop}
 use Rattle.std.specs.List.{list_any}
 use Rattle.std.specs.Str.{bytes_eq}
 use Rattle.vhdl_grammar.specs.udp_tables.declared.models.VPort.{VPort}
-use Rattle.vhdl_grammar.specs.vital_models.Sound.{output_ports_from}
+use Rattle.vhdl_grammar.specs.vital_tables.Sound.{output_ports_from}
 use Rattle.vhdl_tokens.specs.Kept.{lowered}
 use Rattle.vhdl_grammar.specs.VhdlDeclarations.{port_names}
 

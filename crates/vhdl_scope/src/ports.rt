@@ -84,7 +84,7 @@ fn number_among(ports: &[VPort], name: &[u8]) -> Option<usize>
 impl Ports {
     ghost use Rattle.std.specs.Prelude.{◌≡◌, [], ◌∷◌, ◌++◌, true, false, take, None, IfOk, IfErr};
     ghost use Rattle.vhdl_grammar.specs.udp_tables.declared.models.VPort.{VPort};
-    ghost use Rattle.vhdl_grammar.specs.vital_models.Sound.{output_ports_from};
+    ghost use Rattle.vhdl_grammar.specs.vital_tables.Sound.{output_ports_from};
     ghost use Rattle.vhdl_tokens.specs.Tokens.{is_name};
     ghost use Rattle.vhdl_grammar.specs.VhdlRules.{is_among};
     ghost use Rattle.vhdl_grammar.specs.VhdlDeclarations.{port_names};

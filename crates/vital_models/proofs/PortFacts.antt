@@ -10,7 +10,7 @@ use Rattle.cell_machine.specs.declared.pins.Pin.{Pin}
 use Rattle.cell_machine.specs.CellRules.{is_input, is_output, is_input_pin, output_pins_from}
 use Rattle.vital_tables.specs.udp_tables.declared.models.VPort.{VPort}
 use Rattle.vital_models.specs.Ports.{is_port, port_number, port_after, ports_after, ports_of}
-use Rattle.vital_models.specs.Sound.{output_ports_from}
+use Rattle.vital_tables.specs.Sound.{output_ports_from}
 use Rattle.vital_tables.specs.udp_tables.Ports.{is_input_port}
 
 -- whether each of the ports of these pins is an input

@@ -35,14 +35,14 @@ use Rattle.vital_tables.specs.udp_tables.CellPrimitives.{has_sources}
 use Rattle.cell_tables.proofs.CellParts.{Rules, groups_hold, outputs_hold, checks_hold, arcs_hold}
 use Rattle.cell_tables.proofs.EachBelow.{below-length}
 use Rattle.vital_tables.proofs.udp_tables.CubeLemmas.{below-among}
-use Rattle.vital_models.specs.declared.model.OutValue.TheVariants as value
-use Rattle.vital_models.specs.declared.model.VOutput.{VOutput}
-use Rattle.vital_models.specs.declared.model.VEntity.{VEntity}
+use Rattle.vital_tables.specs.declared.model.OutValue.TheVariants as value
+use Rattle.vital_tables.specs.declared.model.VOutput.{VOutput}
+use Rattle.vital_tables.specs.declared.model.VEntity.{VEntity}
 use Rattle.vital_models.specs.Ports.{port_number, ports_of}
 use Rattle.vital_models.specs.Generated.{has_violation, ports_at, state_of, states_of, condition_of, source_at, output_table}
 use Rattle.vital_models.specs.Generated.{value_of_output, place_of, all_zero, gate_by, path_of, output_of, check_of, entity_of}
-use Rattle.vital_models.specs.Sound.{IsState, IsTruth, feeds, IsValue, is_condition_number, is_gate, IsPath, IsOutput, has_events}
-use Rattle.vital_models.specs.Sound.{is_enabling, IsCheck, IsSound}
+use Rattle.vital_tables.specs.Sound.{IsState, IsTruth, feeds, IsValue, is_condition_number, is_gate, IsPath, IsOutput, has_events}
+use Rattle.vital_tables.specs.Sound.{is_enabling, IsCheck, IsSound}
 use Rattle.vital_tables.specs.udp_tables.Ports.{is_input_port}
 use Rattle.vital_models.proofs.PortFacts.{input_port, output_ports}
 use Rattle.vital_models.proofs.Widths.{truth-width, width, state-width}

@@ -19,17 +19,17 @@ use Rattle.cell_machine.specs.CellTrace.{support_at, step_at}
 use Rattle.vital_tables.specs.udp_tables.CellPrimitives.{has_notifier, has_sources}
 use Rattle.vital_tables.specs.declared.table.TruthTable.{TruthTable}
 use Rattle.vital_tables.specs.declared.table.VStateTable.{VStateTable}
-use Rattle.vital_models.specs.declared.model.VState.{VState}
-use Rattle.vital_models.specs.declared.model.VTruth.{VTruth}
-use Rattle.vital_models.specs.declared.model.OutValue.{OutValue}
-use Rattle.vital_models.specs.declared.model.OutValue.TheVariants as value
-use Rattle.vital_models.specs.declared.model.VOutput.{VOutput}
-use Rattle.vital_models.specs.declared.model.HGate.{HGate}
-use Rattle.vital_models.specs.declared.model.HGate.TheVariants as gate
-use Rattle.vital_models.specs.declared.model.HPath.{HPath}
+use Rattle.vital_tables.specs.declared.model.VState.{VState}
+use Rattle.vital_tables.specs.declared.model.VTruth.{VTruth}
+use Rattle.vital_tables.specs.declared.model.OutValue.{OutValue}
+use Rattle.vital_tables.specs.declared.model.OutValue.TheVariants as value
+use Rattle.vital_tables.specs.declared.model.VOutput.{VOutput}
+use Rattle.vital_tables.specs.declared.model.HGate.{HGate}
+use Rattle.vital_tables.specs.declared.model.HGate.TheVariants as gate
+use Rattle.vital_tables.specs.declared.model.HPath.{HPath}
 use Rattle.vital_tables.specs.udp_tables.declared.timing_checks.TimingCheck.{TimingCheck}
 use Rattle.vital_tables.specs.udp_tables.TimingChecks.{check_by}
-use Rattle.vital_models.specs.declared.model.VEntity.{VEntity}
+use Rattle.vital_tables.specs.declared.model.VEntity.{VEntity}
 use Rattle.vital_tables.specs.Rows.{truth_rows, compact_rows}
 use Rattle.vital_models.specs.Ports.{port_number, ports_of}
 

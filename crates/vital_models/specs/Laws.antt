@@ -14,7 +14,7 @@ use Rattle.cell_machine.specs.CellTrace.{support_at, step_at}
 use Rattle.vital_tables.specs.LookUps.{lookup_truth, lookup_state}
 use Rattle.vital_tables.specs.Rows.{violated}
 use Rattle.vital_models.specs.Generated.{has_violation, state_table, condition_table, output_table, entity_of}
-use Rattle.vital_models.specs.Sound.{IsSound}
+use Rattle.vital_tables.specs.Sound.{IsSound}
 
 -- What the state table of a group does, in every state. Without a violation it gives the machine's step at each change of one pin
 -- of the support, and keeps the state where none changes, whatever the violation was before. With one it gives the value to which

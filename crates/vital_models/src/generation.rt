@@ -7,7 +7,6 @@ ghost use Rattle.vital_tables.specs.udp_tables.CellPrimitives.{condition_tree};
 ghost use Rattle.vital_models.specs.Generated.{ports_at, state_of, states_of, condition_of, source_at, value_of_output};
 ghost use Rattle.vital_models.specs.Generated.{output_of, entity_of};
 
-use crate::model::{OutValue, VEntity, VOutput, VState, VTruth};
 use crate::ports::vital_ports;
 use crate::tables::{condition_table, output_table, state_table};
 use crate::timing::{entity_checks, paths_to};
@@ -17,6 +16,7 @@ use cell_tables::{ModelSource, has_notifier, has_sources};
 use sqlite_items::Items;
 use std::alloc::{AllocError, Global};
 use vital_tables::primitives::port_number;
+use vital_tables::{OutValue, VEntity, VOutput, VState, VTruth};
 
 /// The entity of a cell, with this name: a state for each group, a truth table for each condition and for each output that
 /// depends on something, a path for each arc, and the checks. What it answers is sound. `AllocError` comes only where memory is

@@ -4,7 +4,6 @@
 mod generation;
 mod kept;
 pub mod laws;
-mod model;
 mod names;
 mod ports;
 mod tables;
@@ -12,10 +11,10 @@ mod timing;
 
 pub use cell_tables::{ModelParts, ModelSource};
 pub use generation::vital_model;
-pub use model::{HGate, HPath, OutValue, VEntity, VOutput, VState, VTruth};
 pub use names::{driver_name, entity_name};
 pub use ports::vital_ports;
 pub use vital_tables::{
-    TableRow, Trits, TruthRow, TruthTable, VNext, VStateRow, VStateTable, VSymbol, keyed_state,
-    keyed_truth, lookup_state, lookup_truth, table, words_of,
+    HGate, HPath, OutValue, TableRow, Trits, TruthRow, TruthTable, VEntity, VNext, VOutput, VState,
+    VStateRow, VStateTable, VSymbol, VTruth, keyed_state, keyed_truth, lookup_state, lookup_truth,
+    model, table, words_of,
 };

@@ -5,13 +5,13 @@ ghost use Rattle.cell_machine.specs.CellData.{data_of};
 ghost use Rattle.vital_tables.specs.udp_tables.Conditions.{conditions_beside};
 ghost use Rattle.vital_models.specs.Generated.{place_of, all_zero, gate_by, path_of, paths_to, check_of};
 
-use crate::model::{HGate, HPath};
 use bool_functions::Function;
 use cell_machine::Arc;
 use cell_tables::{ModelSource, checks_of, condition_number};
 use sqlite_items::Items;
 use std::alloc::AllocError;
 use vital_tables::primitives::{TimingCheck, port_number};
+use vital_tables::{HGate, HPath};
 
 /// The paths of a cell's entity to an output pin: one for each arc that ends there.
 pub(crate) fn paths_to(from: &ModelSource, pin: usize) -> Result<Items<HPath>, AllocError>

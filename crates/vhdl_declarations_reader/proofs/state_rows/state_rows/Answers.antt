@@ -1,6 +1,6 @@
 use Rattle.std.proofs.Common.{List, subst}
 use Rattle.grammar_reader.specs.Reading.{read, Reads}
-use Rattle.vital_models.specs.declared.table.VStateRow.{VStateRow}
+use Rattle.vital_tables.specs.declared.table.VStateRow.{VStateRow}
 use Rattle.vhdl_grammar.specs.VhdlRules.{elements, only_element, several_elements, more_elements}
 use Rattle.vhdl_grammar.specs.VhdlTables.{state_row}
 use Rattle.vhdl_declarations_reader.proofs.state_rows.state_rows.Goals as goal

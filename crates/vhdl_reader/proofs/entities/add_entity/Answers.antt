@@ -1,6 +1,6 @@
 use Rattle.std.proofs.Common.{◌≡◌, ℕ, List, sym, ap, subst, ◌∙◌}
 use Rattle.bool_functions.specs.NameList.{Adds}
-use Rattle.vhdl_declarations_reader.specs.vital_models.declared.model.VEntity.{VEntity}
+use Rattle.vhdl_declarations_reader.specs.vital_tables.declared.model.VEntity.{VEntity}
 use Rattle.vhdl_tokens.specs.Kept.{lowered}
 use Rattle.vhdl_declarations_reader.specs.vhdl_grammar.VhdlText.{entity_names}
 use Rattle.vhdl_declarations_reader.specs.vhdl_scope.Lowered.{HaveSame}

@@ -1,7 +1,7 @@
 use Rattle.std.proofs.Common.{◌≡◌, List, ap, ◌∙◌}
 use Rattle.std.specs.Option.{is_some}
 use Rattle.bool_functions.specs.NameList.{number_of}
-use Rattle.vhdl_declarations_reader.specs.vital_models.declared.model.VEntity.{VEntity}
+use Rattle.vhdl_declarations_reader.specs.vital_tables.declared.model.VEntity.{VEntity}
 use Rattle.vhdl_tokens.specs.Kept.{lowered}
 use Rattle.vhdl_declarations_reader.specs.vhdl_grammar.VhdlRules.{is_among}
 use Rattle.vhdl_declarations_reader.specs.vhdl_grammar.VhdlText.{entity_names}

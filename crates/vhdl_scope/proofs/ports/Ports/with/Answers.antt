@@ -1,6 +1,6 @@
 use Rattle.std.proofs.Common.{ℕ, List, [], ◌∷◌, ◌++◌, if◌then◌else◌, drop, sym, ap, ◌∙◌}
 use Rattle.vhdl_grammar.specs.udp_tables.declared.models.VPort.{VPort}
-use Rattle.vhdl_grammar.specs.vital_models.Sound.{output_ports_from}
+use Rattle.vhdl_grammar.specs.vital_tables.Sound.{output_ports_from}
 use Rattle.vhdl_grammar.specs.VhdlDeclarations.{port_names}
 use Rattle.vhdl_scope.specs.Lowered.{all_lowered}
 use Rattle.vhdl_scope.proofs.LoweredNames.{outputs_added}

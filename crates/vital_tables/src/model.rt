@@ -1,8 +1,8 @@
 //! An entity as data.
+use crate::table::{TruthTable, VStateTable};
 use cell_machine::Source;
 use sqlite_items::Items;
-use vital_tables::primitives::{TimingCheck, VPort};
-use vital_tables::{TruthTable, VStateTable};
+use udp_tables::{TimingCheck, VPort};
 
 /// A VHDL entity with its architecture of one process: timing checks, state tables, truth tables and path delays. (IEEE
 /// 1076.4-2000.) Ports, states and conditions are numbered from 0, each in their own order; pins of events, paths and inputs are

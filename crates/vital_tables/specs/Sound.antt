@@ -12,16 +12,16 @@ use Rattle.vital_tables.specs.udp_tables.declared.models.VPort.{VPort}
 use Rattle.vital_tables.specs.udp_tables.Ports.{is_input_port}
 use Rattle.vital_tables.specs.declared.table.TruthTable.{TruthTable}
 use Rattle.vital_tables.specs.declared.table.VStateTable.{VStateTable}
-use Rattle.vital_models.specs.declared.model.VState.{VState}
-use Rattle.vital_models.specs.declared.model.VTruth.{VTruth}
-use Rattle.vital_models.specs.declared.model.OutValue.{OutValue}
-use Rattle.vital_models.specs.declared.model.OutValue.TheVariants as value
-use Rattle.vital_models.specs.declared.model.VOutput.{VOutput}
-use Rattle.vital_models.specs.declared.model.HGate.{HGate}
-use Rattle.vital_models.specs.declared.model.HGate.TheVariants as gate
-use Rattle.vital_models.specs.declared.model.HPath.{HPath}
+use Rattle.vital_tables.specs.declared.model.VState.{VState}
+use Rattle.vital_tables.specs.declared.model.VTruth.{VTruth}
+use Rattle.vital_tables.specs.declared.model.OutValue.{OutValue}
+use Rattle.vital_tables.specs.declared.model.OutValue.TheVariants as value
+use Rattle.vital_tables.specs.declared.model.VOutput.{VOutput}
+use Rattle.vital_tables.specs.declared.model.HGate.{HGate}
+use Rattle.vital_tables.specs.declared.model.HGate.TheVariants as gate
+use Rattle.vital_tables.specs.declared.model.HPath.{HPath}
 use Rattle.vital_tables.specs.udp_tables.declared.timing_checks.TimingCheck.{TimingCheck}
-use Rattle.vital_models.specs.declared.model.VEntity.{VEntity}
+use Rattle.vital_tables.specs.declared.model.VEntity.{VEntity}
 
 -- the numbers of the output ports, in order, where the first port has the number k
 abbrev pub output_ports_from : ℕ → List VPort → List ℕ

@@ -9,7 +9,7 @@ use Rattle.grammar_reader.specs.Words.{is_among}
 use Rattle.vhdl_tokens.specs.Tokens.{is_name}
 use Rattle.vhdl_tokens.specs.Spelling.{is_same}
 use Rattle.vhdl_grammar.specs.WellFormed.{AreApart}
-use Rattle.vhdl_scope.proofs.LoweredNames.{same_lowered}
+use Rattle.vhdl_grammar.proofs.LoweredNames.{same_lowered}
 
 pub same_equivalence : IsEquivalence str_eq_ignore_ascii_case
 same_equivalence = on_texts_equal str_to_ascii_lowercase

@@ -1,4 +1,4 @@
 pub mod NextConstant
 pub mod NextVariable
-pub use Rattle.vhdl_scope.proofs as vhdl_scope
+pub use Rattle.vhdl_grammar.proofs as vhdl_grammar
 pub mod Entries

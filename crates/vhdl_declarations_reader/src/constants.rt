@@ -13,8 +13,7 @@ use crate::truth_rows::truth_table;
 use grammar_reader::{Read, Refusal, RepeatedPart, Stop, where_read, while_next, with_end};
 use sqlite_items::Items;
 use std::alloc::Global;
-use vhdl_grammar::Tables;
-use vhdl_scope::{Cursor, Vhdl};
+use vhdl_grammar::{Cursor, Tables, Vhdl};
 use vhdl_tokens::{is_name, is_numbered_name};
 use vital_tables::TruthTable;
 

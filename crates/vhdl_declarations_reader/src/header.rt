@@ -12,7 +12,7 @@ use grammar_reader::{Read, Refusal, RepeatedPart, Stop, one_or_more, with_read};
 use sqlite_items::Items;
 use std::alloc::Global;
 use udp_tables::VPort;
-use vhdl_scope::{Cursor, Ports, Vhdl, either_word, expect_all};
+use vhdl_grammar::{Cursor, Ports, Vhdl, either_word, expect_all};
 use vhdl_tokens::{is_name, is_same};
 
 /// The packages that an entity uses, behind its first word.
@@ -56,7 +56,7 @@ fn has_underscore(name: &[u8]) -> bool
 }
 
 /// The name of a port of this entity, behind these ports.
-#[tactic(auto, using(vhdl_scope::proofs::NextWords::named_fits, vhdl_scope::proofs::NextWords::named_foul, vhdl_scope::proofs::NextWords::named_misfit, vhdl_scope::proofs::NextWords::named_other))]
+#[tactic(auto, using(vhdl_grammar::proofs::NextWords::named_fits, vhdl_grammar::proofs::NextWords::named_foul, vhdl_grammar::proofs::NextWords::named_misfit, vhdl_grammar::proofs::NextWords::named_other))]
 fn port_name(
     cursor: &mut Cursor<'_>,
     alloc: Global,

@@ -19,5 +19,4 @@ pub use udp_tables as primitives;
 pub use variable_names::is_last_false;
 pub use variables::set_last;
 pub use vhdl_grammar as grammar;
-pub use vhdl_scope as words;
 pub use vital_tables as entities;

@@ -8,7 +8,7 @@ use grammar_reader::{Read, RepeatedPart, Stop, one_or_more};
 use sqlite_items::Items;
 use std::alloc::{AllocError, Global};
 use udp_tables::VPort;
-use vhdl_scope::{Cursor, Vhdl};
+use vhdl_grammar::{Cursor, Vhdl};
 
 /// The names of the inputs, in order. An `Err` comes only where memory is wanting.
 pub fn input_names(alloc: Global, ports: &[VPort]) -> Result<Items<Items<u8>>, AllocError>

@@ -10,7 +10,7 @@ use grammar_reader::{Read, Refusal, RepeatedPart, Stop};
 use sqlite_items::Items;
 use std::alloc::{AllocError, Global};
 use std::marker::PhantomData;
-use vhdl_scope::{Cursor, Vhdl};
+use vhdl_grammar::{Cursor, Vhdl};
 
 /// A row of a table: its entries, and what they are as a row.
 pub trait TableRow: Drop {

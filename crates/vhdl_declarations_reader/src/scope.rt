@@ -12,8 +12,7 @@ use crate::variables::variables;
 use grammar_reader::{Read, with_read};
 use sqlite_items::Items;
 use std::alloc::Global;
-use vhdl_grammar::{Tables, Variables};
-use vhdl_scope::{Cursor, Declarations, Ports, expect_all};
+use vhdl_grammar::{Cursor, Declarations, Ports, Tables, Variables, expect_all};
 
 /// What is declared in an architecture.
 #[derive(Drop)]

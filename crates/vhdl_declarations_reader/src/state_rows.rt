@@ -11,7 +11,7 @@ use crate::symbols::{has_edge, is_edge, result_at, state_at, symbol_of};
 use grammar_reader::{Read, Refusal, RepeatedPart, Stop, one_or_more, with_end};
 use sqlite_items::Items;
 use std::alloc::Global;
-use vhdl_scope::{Cursor, Vhdl, elements, state_width};
+use vhdl_grammar::{Cursor, Vhdl, elements, state_width};
 use vital_tables::{Trits, VNext, VStateRow, VStateTable, VSymbol};
 
 /// A symbol of a row, behind these.

@@ -11,7 +11,7 @@ use crate::symbols::{level_of, value_of};
 use grammar_reader::{Read, RepeatedPart, one_or_more, with_end};
 use sqlite_items::Items;
 use std::alloc::Global;
-use vhdl_scope::{Cursor, Vhdl, elements, truth_width};
+use vhdl_grammar::{Cursor, Vhdl, elements, truth_width};
 use vital_tables::{Trits, TruthRow, TruthTable};
 
 /// A level of a row.

@@ -10,8 +10,7 @@ ghost use Rattle.vhdl_declarations_reader.specs.Kinds.{variable_kind};
 ghost use Rattle.vhdl_declarations_reader.specs.declared.variable_names.VariableOf.TheVariants as kind;
 
 use grammar_reader::{Read, Refusal, Stop};
-use vhdl_grammar::{Tables, Variables};
-use vhdl_scope::{Cursor, Ports};
+use vhdl_grammar::{Cursor, Ports, Tables, Variables};
 use vhdl_tokens::{is_name, is_numbered_name};
 
 /// What a variable is of.

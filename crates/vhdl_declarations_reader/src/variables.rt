@@ -10,8 +10,10 @@ use crate::variable_names::{VariableOf, awaits_violation, variable_name};
 use grammar_reader::{Read, RepeatedPart, where_read, while_next};
 use sqlite_items::Items;
 use std::alloc::{AllocError, Global};
-use vhdl_grammar::{Tables, Variables};
-use vhdl_scope::{Cursor, Ports, Vhdl, either_word, expect_all, numbered, this_number, width_at};
+use vhdl_grammar::{
+    Cursor, Ports, Tables, Variables, Vhdl, either_word, expect_all, numbered, this_number,
+    width_at,
+};
 
 /// The type of the data of a check.
 fn period_type(cursor: &mut Cursor<'_>) -> Read<bool>

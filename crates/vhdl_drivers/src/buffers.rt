@@ -11,7 +11,7 @@ use sqlite_items::Items;
 use std::alloc::{AllocError, Global};
 use udp_tables::VPort;
 use vhdl_declarations_reader::{input_names, listed_names};
-use vhdl_scope::{Cursor, expect_all, numbered};
+use vhdl_grammar::{Cursor, expect_all, numbered};
 use vhdl_tokens::numbered_name;
 
 /// These names, and behind them those of a word with the numbers from 1 on, so many. An `Err` comes only where memory is wanting.

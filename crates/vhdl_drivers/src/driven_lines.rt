@@ -11,7 +11,7 @@ use grammar_reader::Read;
 use sqlite_items::Items;
 use std::alloc::Global;
 use udp_tables::VPort;
-use vhdl_scope::Cursor;
+use vhdl_grammar::Cursor;
 
 /// The assignment of the driven output with this number, from 0, and this name, which has no paths.
 #[tactic(auto, unfolding(crate::specs::DriverSections::assignment))]

@@ -11,7 +11,7 @@ use sqlite_items::Items;
 use std::alloc::Global;
 use udp_tables::VPort;
 use vhdl_declarations_reader::{packages, port_list};
-use vhdl_scope::{Cursor, expect_all};
+use vhdl_grammar::{Cursor, expect_all};
 
 /// The packages that a driver uses.
 #[tactic(auto, unfolding(crate::specs::DriverSections::driver_packages))]

@@ -5,7 +5,7 @@ ghost use Rattle.std.specs.Prelude.{◌≡◌, IfOk};
 use driver_models::DriverLanguage;
 use grammar_reader::Language;
 use std::alloc::{AllocError, Global};
-use vhdl_scope::Vhdl;
+use vhdl_grammar::Vhdl;
 
 /// The spelling of VHDL, and the signals of drivers: two names are the same whatever the case of their letters. (IEEE
 /// 1076-1993, 13.3.1.)
@@ -34,7 +34,7 @@ impl Language for VitalDrivers {
 impl DriverLanguage for VitalDrivers {
     ghost use Rattle.vhdl_tokens.specs.Kept.{lowered};
     ghost use Rattle.vhdl_drivers.specs.DriverText.{data_word, enable_word};
-    ghost use Rattle.vhdl_scope.proofs.LoweredNames.{same_lowered};
+    ghost use Rattle.vhdl_grammar.proofs.LoweredNames.{same_lowered};
 
     ghost value = { data_word };
 

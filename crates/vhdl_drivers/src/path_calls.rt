@@ -12,8 +12,8 @@ use grammar_reader::{Read, Refusal, RepeatedPart, Stop, one_or_more};
 use sqlite_items::Items;
 use std::alloc::Global;
 use udp_tables::VPort;
+use vhdl_grammar::{Cursor, Vhdl, expect_all, this_number};
 use vhdl_outputs_reader::delays;
-use vhdl_scope::{Cursor, Vhdl, expect_all, this_number};
 use vhdl_tokens::is_quoted;
 
 /// The number of the path behind these.

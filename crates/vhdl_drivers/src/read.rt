@@ -14,7 +14,7 @@ use grammar_reader::Read;
 use lexer::Scan;
 use std::alloc::{AllocError, Global};
 use udp_tables::VPort;
-use vhdl_scope::{Cursor, Vhdl};
+use vhdl_grammar::{Cursor, Vhdl};
 use vhdl_tokens::scan;
 
 /// What a core is read as, and a cursor where its reading stopped.

@@ -14,7 +14,7 @@ use grammar_reader::{Read, Refusal, Stop};
 use sqlite_items::Items;
 use std::alloc::Global;
 use udp_tables::VPort;
-use vhdl_scope::{Cursor, expect_all};
+use vhdl_grammar::{Cursor, expect_all};
 
 /// The statements of a driver with these ports, of whose outputs these are driven: the paths to them.
 #[tactic(auto, unfolding(crate::specs::DriverSections::statements))]

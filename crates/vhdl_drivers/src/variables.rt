@@ -9,7 +9,7 @@ use grammar_reader::{Read, RepeatedPart, where_read, while_next};
 use sqlite_items::Items;
 use std::alloc::Global;
 use vhdl_declarations_reader::{is_last_false, set_last};
-use vhdl_scope::{Cursor, Vhdl, expect_all};
+use vhdl_grammar::{Cursor, Vhdl, expect_all};
 use vhdl_tokens::is_numbered_name;
 
 /// Whether a name is that of the value of the next of so many driven outputs, behind these.

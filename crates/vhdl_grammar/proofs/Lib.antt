@@ -11,3 +11,7 @@ mod ReadOutputs
 mod ReadCounts
 mod ReadEntities
 mod ReadText
+pub mod NextWords
+pub mod LoweredNames
+pub mod EitherWords
+pub mod NextPlaces

@@ -8,8 +8,8 @@ ghost use Rattle.vhdl_grammar.specs.VhdlOutputs as spec;
 use crate::outputs::{Lines, assignment, call_or_assignment, is_next_unpathed};
 use grammar_reader::{Read, Refusal, Stop};
 use sqlite_items::Items;
-use vhdl_scope::entities::HPath;
-use vhdl_scope::{Cursor, Declarations, Uses};
+use vhdl_grammar::entities::HPath;
+use vhdl_grammar::{Cursor, Declarations, Uses};
 use vhdl_tokens::is_name;
 
 /// The lines of outputs, which stand behind these then.

@@ -9,7 +9,7 @@ use cell_machine::Source;
 use sqlite_items::Items;
 use std::alloc::{AllocError, Global};
 use std::marker::Model;
-use vhdl_scope::Listed;
+use vhdl_grammar::Listed;
 
 /// The numbers of the inputs and those of the states among sources, each in the order of the sources.
 #[derive(Drop)]

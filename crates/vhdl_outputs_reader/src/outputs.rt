@@ -4,8 +4,8 @@ ghost use Rattle.std.specs.Prelude.{◌≡◌, ◌+◌, ◌<◌, ◌^◌, length
 ghost use Rattle.std.specs.Option.{option_map, option_copied};
 ghost use Rattle.grammar_reader.specs.declared.refusal.Refusal.TheVariants.{Syntax};
 ghost use Rattle.grammar_reader.specs.Reading.{read, Reads, ReadsAs, Token};
-ghost use Rattle.vhdl_scope.specs.udp_tables.declared.models.VPort.{VPort};
-ghost use Rattle.vhdl_scope.specs.vital_tables.Sound.{output_ports_from};
+ghost use Rattle.vhdl_grammar.specs.udp_tables.declared.models.VPort.{VPort};
+ghost use Rattle.vhdl_grammar.specs.vital_tables.Sound.{output_ports_from};
 ghost use Rattle.vhdl_grammar.specs.VhdlRules as rules;
 ghost use Rattle.vhdl_grammar.specs.VhdlOutputs as spec;
 
@@ -13,9 +13,9 @@ use crate::paths::paths;
 use grammar_reader::{Read, Refusal, Stop};
 use sqlite_items::Items;
 use std::alloc::{AllocError, Global};
-use vhdl_scope::entities::HPath;
-use vhdl_scope::primitives::VPort;
-use vhdl_scope::{Cursor, Declarations, Uses, expect_all, numbered};
+use vhdl_grammar::entities::HPath;
+use vhdl_grammar::primitives::VPort;
+use vhdl_grammar::{Cursor, Declarations, Uses, expect_all, numbered};
 use vhdl_tokens::{is_quoted, is_same, is_string};
 
 /// The paths of each output so far, and the lists of the conditions that were looked up.

@@ -8,8 +8,8 @@ ghost use Rattle.vhdl_grammar.specs.VhdlOutputs as spec;
 use grammar_reader::{Read, RepeatedPart, one_or_more, where_read, while_next};
 use sqlite_items::Items;
 use std::mem::replace;
-use vhdl_scope::entities::{HGate, HPath};
-use vhdl_scope::{
+use vhdl_grammar::entities::{HGate, HPath};
+use vhdl_grammar::{
     Cursor, Declarations, Uses, Vhdl, an_input, condition, expect_all, this_number, time,
 };
 

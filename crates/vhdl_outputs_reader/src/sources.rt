@@ -12,7 +12,9 @@ use cell_machine::Source;
 use grammar_reader::{Read, RepeatedPart, with_read};
 use sqlite_items::Items;
 use std::alloc::AllocError;
-use vhdl_scope::{Cursor, Declarations, Vhdl, elements, input_of, list_end, place_among, unlisted};
+use vhdl_grammar::{
+    Cursor, Declarations, Vhdl, elements, input_of, list_end, place_among, unlisted,
+};
 
 /// The source of a name: an input, or a state. An `Err` comes only where memory is wanting.
 fn source_of(scope: &Declarations, token: &[u8]) -> Result<Option<Source>, AllocError>
@@ -29,7 +31,7 @@ fn source_of(scope: &Declarations, token: &[u8]) -> Result<Option<Source>, Alloc
 }
 
 /// The name of a source behind these in a list.
-#[tactic(auto, using(vhdl_scope::proofs::NextWords::named_fits, vhdl_scope::proofs::NextWords::named_foul, vhdl_scope::proofs::NextWords::named_misfit, vhdl_scope::proofs::NextWords::named_other))]
+#[tactic(auto, using(vhdl_grammar::proofs::NextWords::named_fits, vhdl_grammar::proofs::NextWords::named_foul, vhdl_grammar::proofs::NextWords::named_misfit, vhdl_grammar::proofs::NextWords::named_other))]
 fn source_name(cursor: &mut Cursor, scope: &Declarations, sources: &ListedSources) -> Read<Source>
     ensures reads { Reads (read (rules.named
         (λ x. names.listed_by (λ s. list_any (names.same_source s) sources.now) (names.source_of scope.now x))) cursor.old) result

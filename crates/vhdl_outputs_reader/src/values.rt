@@ -12,8 +12,9 @@ use crate::assigned::Values;
 use crate::sources::sources_of;
 use grammar_reader::{Read, Refusal, Stop};
 use sqlite_items::Items;
-use vhdl_grammar::Assigned;
-use vhdl_scope::{Cursor, Declarations, either_word, expect_all, numbered, truth_width};
+use vhdl_grammar::{
+    Assigned, Cursor, Declarations, either_word, expect_all, numbered, truth_width,
+};
 use vhdl_tokens::{is_name, is_numbered_name};
 
 /// How many inputs the table of an output with this number has.

@@ -2,7 +2,7 @@
 
 ghost use Rattle.std.specs.Prelude.{◌≡◌, [], ◌∷◌, ◌++◌, IfOk, IfErr};
 ghost use Rattle.vhdl_declarations_reader.specs.vhdl_grammar.VhdlText.{entity_names};
-ghost use Rattle.vhdl_declarations_reader.specs.vhdl_scope.Lowered.{HaveSame};
+ghost use Rattle.vhdl_declarations_reader.specs.vhdl_grammar.Lowered.{HaveSame};
 
 use bool_functions::Names;
 use grammar_reader::{Read, Stop, where_read};
@@ -23,7 +23,7 @@ impl Model for Entities {
     ghost use Rattle.std.specs.Prelude.{List};
     ghost use Rattle.vhdl_declarations_reader.specs.vital_tables.declared.model.VEntity.{VEntity};
     ghost use Rattle.vhdl_declarations_reader.specs.vhdl_grammar.VhdlText.{entity_names};
-    ghost use Rattle.vhdl_declarations_reader.specs.vhdl_scope.Lowered.{HaveSame};
+    ghost use Rattle.vhdl_declarations_reader.specs.vhdl_grammar.Lowered.{HaveSame};
 
     ghost Value = { List VEntity };
 

@@ -19,9 +19,10 @@ use grammar_reader::{Read, Refusal, RepeatedPart, Stop, while_next, with_read};
 use sqlite_items::Items;
 use std::alloc::Global;
 use vhdl_declarations_reader::entities::VEntity;
-use vhdl_declarations_reader::grammar::{Assigned, Columns};
+use vhdl_declarations_reader::grammar::{
+    Assigned, Columns, Cursor, Declarations, Vhdl, expect_all,
+};
 use vhdl_declarations_reader::primitives::VPort;
-use vhdl_declarations_reader::words::{Cursor, Declarations, Vhdl, expect_all};
 use vhdl_declarations_reader::{packages, scope_of};
 use vhdl_outputs_reader::{output_lines, values_of};
 use vhdl_statements_reader::{Checks, all_checks, state_calls, violation};

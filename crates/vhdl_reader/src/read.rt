@@ -11,9 +11,8 @@ use grammar_reader::{Cursor, Stop};
 use lexer::Scan;
 use std::alloc::Global;
 use vhdl_declarations_reader::entities::VEntity;
-use vhdl_declarations_reader::grammar::{texts_are_well_formed, vhdl_text_has_one_answer};
+use vhdl_declarations_reader::grammar::{Vhdl, texts_are_well_formed, vhdl_text_has_one_answer};
 use vhdl_declarations_reader::primitives::{ModelFault, refusal_fault};
-use vhdl_declarations_reader::words::Vhdl;
 use vhdl_tokens::scan;
 
 /// The entities of a VHDL text, or its first fault.

@@ -13,7 +13,7 @@ use cell_machine::{CheckKind, Edge, Event};
 use grammar_reader::Read;
 use sqlite_items::Items;
 use udp_tables::TimingCheck;
-use vhdl_scope::{Cursor, Declarations, Uses, either_word, expect_all};
+use vhdl_grammar::{Cursor, Declarations, Uses, either_word, expect_all};
 use vhdl_tokens::is_same;
 
 /// The checks so far, and the lists of the conditions that were looked up.

@@ -8,9 +8,8 @@ ghost use Rattle.vhdl_statements_reader.specs.NextColumns.{with_column, MayStand
 
 use grammar_reader::{Read, RepeatedPart, Stop, with_read};
 use std::marker::Model;
-use vhdl_grammar::Columns;
-use vhdl_scope::{
-    Cursor, Declarations, Listed, Vhdl, elements, input_of, list_end, unlisted, width_at,
+use vhdl_grammar::{
+    Columns, Cursor, Declarations, Listed, Vhdl, elements, input_of, list_end, unlisted, width_at,
 };
 
 /// The columns of a table, with inputs of which each is found at once. Contracts see them as `Columns`.

@@ -9,7 +9,7 @@ ghost use Rattle.vhdl_grammar.specs.VhdlChecks as spec;
 
 use cell_machine::{CheckKind, Edge};
 use grammar_reader::Read;
-use vhdl_scope::{
+use vhdl_grammar::{
     Cursor, Declarations, Uses, an_input, condition, either_word, expect_all, numbered, time,
 };
 use vhdl_tokens::number_of;

@@ -10,7 +10,7 @@ ghost use Rattle.vhdl_statements_reader.specs.Checked.{pulse_as};
 use cell_machine::{CheckKind, Edge, Event};
 use grammar_reader::{Read, Refusal, Stop};
 use udp_tables::TimingCheck;
-use vhdl_scope::Cursor;
+use vhdl_grammar::Cursor;
 use vhdl_tokens::is_same;
 
 /// What is checked of one signal: the kind, and the edges of the earlier and of the later event.

@@ -9,8 +9,7 @@ use crate::columns::columns_of;
 use crate::limits::report;
 use grammar_reader::{Read, RepeatedPart, Stop, one_or_more, while_next};
 use sqlite_items::Items;
-use vhdl_grammar::Columns;
-use vhdl_scope::{Cursor, Declarations, Vhdl, expect_all, numbered};
+use vhdl_grammar::{Columns, Cursor, Declarations, Vhdl, expect_all, numbered};
 
 /// The report of a check that stands behind those of so many, of this many checks.
 #[derive(Drop)]

@@ -3,8 +3,8 @@ use Rattle.bool_functions.specs.NameList.{Adds}
 use Rattle.vhdl_declarations_reader.specs.vital_tables.declared.model.VEntity.{VEntity}
 use Rattle.vhdl_tokens.specs.Kept.{lowered}
 use Rattle.vhdl_declarations_reader.specs.vhdl_grammar.VhdlText.{entity_names}
-use Rattle.vhdl_declarations_reader.specs.vhdl_scope.Lowered.{HaveSame}
-use Rattle.vhdl_declarations_reader.proofs.vhdl_scope.LoweredNames.{entity_added}
+use Rattle.vhdl_declarations_reader.specs.vhdl_grammar.Lowered.{HaveSame}
+use Rattle.vhdl_declarations_reader.proofs.vhdl_grammar.LoweredNames.{entity_added}
 use Rattle.vhdl_reader.proofs.entities.add_entity.Goals as goal
 
 pub returns-clause-lowered : goal.returns-clause-lowered

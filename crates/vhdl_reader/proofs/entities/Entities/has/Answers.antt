@@ -5,7 +5,7 @@ use Rattle.vhdl_declarations_reader.specs.vital_tables.declared.model.VEntity.{V
 use Rattle.vhdl_tokens.specs.Kept.{lowered}
 use Rattle.vhdl_declarations_reader.specs.vhdl_grammar.VhdlRules.{is_among}
 use Rattle.vhdl_declarations_reader.specs.vhdl_grammar.VhdlText.{entity_names}
-use Rattle.vhdl_declarations_reader.proofs.vhdl_scope.LoweredNames.{found_among}
+use Rattle.vhdl_declarations_reader.proofs.vhdl_grammar.LoweredNames.{found_among}
 use Rattle.vhdl_reader.proofs.entities.Entities.has.Goals as goal
 
 pub returns : goal.returns

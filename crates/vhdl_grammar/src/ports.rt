@@ -1,0 +1,190 @@
+//! The ports of an entity, with a list that finds a name at once.
+
+ghost use Rattle.std.specs.Prelude.{◌≡◌, [], ◌∷◌, ◌++◌, if◌then◌else◌, true, false, drop, IfOk, IfErr};
+ghost use Rattle.vhdl_tokens.specs.Tokens.{is_name};
+ghost use Rattle.vhdl_grammar.specs.VhdlRules.{is_among};
+ghost use Rattle.vhdl_grammar.specs.VhdlDeclarations.{port_names};
+ghost use Rattle.vhdl_grammar.specs.VhdlNames.{port_of};
+ghost use Rattle.vhdl_grammar.specs.Lowered.{all_lowered};
+
+use crate::language::Vhdl;
+use crate::listed::{NEAR, near};
+use bool_functions::Names;
+use grammar_reader::{Language, Stop};
+use sqlite_items::Items;
+use std::alloc::{AllocError, Global};
+use std::marker::Model;
+use udp_tables::VPort;
+
+/// Ports in the order of their text. Contracts see the list of them. The first of them are compared one by one, which takes no
+/// memory; the names of those behind them stand in lower case in a list that finds each at once, since a name is the same whatever
+/// the case of its letters (IEEE 1076-1993, 13.3.1). Beside them stand the numbers of the outputs.
+#[derive(Drop)]
+pub struct Ports {
+    alloc: Global,
+    ports: Items<VPort>,
+    far: Names,
+    outputs: Items<usize>,
+}
+
+impl Model for Ports {
+    ghost use Rattle.std.specs.Prelude.{List};
+    ghost use Rattle.udp_tables.specs.declared.models.VPort.{VPort};
+    ghost use Rattle.vhdl_grammar.specs.Lowered.{AreKeptOf};
+
+    ghost Value = { List VPort };
+
+    ghost view = { λ p. p.ports };
+
+    ghost invariant = { λ p. AreKeptOf p.ports p.far p.outputs };
+}
+
+/// The numbers of outputs, and the number of a port behind them where it is an output. An `Err` comes only where memory is
+/// wanting.
+fn outputs_with(
+    mut outputs: Items<usize>,
+    number: usize,
+    input: bool,
+) -> Result<Items<usize>, AllocError>
+    ensures { IfOk result (λ more. more ≡ (if input then outputs else outputs ++ number ∷ [])) }
+{
+    if !input {
+        outputs.push(number)?;
+    }
+    Ok(outputs)
+}
+
+/// Adds the name of one more port behind these to the list of those that are not compared one by one, where it is one of them.
+fn add_far(alloc: Global, far: &mut Names, ports: &[VPort], port: &VPort) -> Result<(), Stop>
+    requires kept { far.old ≡ all_lowered (port_names (drop 16 ports.now)) }
+    requires named { is_name port.now.name ≡ true }
+    requires fresh { is_among (port_names ports.now) port.now.name ≡ false }
+    ensures added { IfOk result (λ _. far.new ≡ all_lowered (port_names (drop 16 (ports.now ++ port.now ∷ [])))) }
+    ensures memory { IfErr result (λ stop. stop ≡ Stop.Memory) }
+{
+    if ports.len() < NEAR {
+        return Ok(());
+    }
+    let lowered = port.name.as_slice().to_ascii_lowercase(alloc)?;
+    match far.add(&lowered) {
+        Ok(_) => Ok(()),
+        Err(_) => Err(Stop::Memory),
+    }
+}
+
+/// The number of the port with this name, looked for one after another.
+fn number_among(ports: &[VPort], name: &[u8]) -> Option<usize>
+    ensures { result ≡ port_of ports.now name.now }
+{
+    ports
+        .iter()
+        .position(|port| Vhdl::is_same(name, port.name.as_slice()))
+}
+
+impl Ports {
+    ghost use Rattle.std.specs.Prelude.{◌≡◌, [], ◌∷◌, ◌++◌, true, false, take, None, IfOk, IfErr};
+    ghost use Rattle.udp_tables.specs.declared.models.VPort.{VPort};
+    ghost use Rattle.vital_tables.specs.Sound.{output_ports_from};
+    ghost use Rattle.vhdl_tokens.specs.Tokens.{is_name};
+    ghost use Rattle.vhdl_grammar.specs.VhdlRules.{is_among};
+    ghost use Rattle.vhdl_grammar.specs.VhdlDeclarations.{port_names};
+    ghost use Rattle.vhdl_grammar.specs.VhdlNames.{port_of};
+
+    /// No ports. Takes no memory.
+    pub fn new(alloc: Global) -> Ports
+        ensures { result ≡ [] }
+    {
+        Ports {
+            alloc,
+            ports: Items::new(alloc),
+            far: Names::new(alloc),
+            outputs: Items::new(alloc),
+        }
+    }
+
+    /// Where these ports are kept.
+    pub fn alloc(&self) -> Global {
+        self.alloc
+    }
+
+    /// The list of these ports.
+    pub fn as_slice(&self) -> &[VPort]
+        ensures { result.now ≡ self.now }
+    {
+        self.ports.as_slice()
+    }
+
+    /// The numbers of the outputs, in order.
+    pub fn outputs(&self) -> &[usize]
+        ensures { result.now ≡ output_ports_from 0 self.now }
+    {
+        self.outputs.as_slice()
+    }
+
+    /// The number of the port with this name, in the time of one look-up. What is found of a token that is no name means nothing.
+    /// An `Err` comes only where memory is wanting.
+    pub fn number(&self, name: &[u8]) -> Result<Option<usize>, AllocError>
+        ensures { is_name name.now ≡ true → IfOk result (λ found. found ≡ port_of self.now name.now) }
+    {
+        match number_among(near(self.ports.as_slice()), name) {
+            Some(number) => Ok(Some(number)),
+            None => self.far_number(name),
+        }
+    }
+
+    /// The same, where the first ports do not have the name.
+    fn far_number(&self, name: &[u8]) -> Result<Option<usize>, AllocError>
+        requires { port_of (take 16 self.now) name.now ≡ None }
+        ensures { is_name name.now ≡ true → IfOk result (λ found. found ≡ port_of self.now name.now) }
+    {
+        if self.ports.len() <= NEAR {
+            return Ok(None);
+        }
+        let lowered = name.to_ascii_lowercase(self.alloc)?;
+        match self.far.number(&lowered) {
+            Some(number) => Ok(Some(NEAR + number)),
+            None => Ok(None),
+        }
+    }
+
+    /// Whether a name is that of one of these ports. An `Err` comes only where memory is wanting.
+    pub fn has(&self, name: &[u8]) -> Result<bool, AllocError>
+        requires { is_name name.now ≡ true }
+        ensures { IfOk result (λ taken. taken ≡ is_among (port_names self.now) name.now) }
+    {
+        let found = self.number(name)?;
+        Ok(found.is_some())
+    }
+
+    /// These ports, and one more behind them, whose name is none of theirs.
+    pub fn with(self, port: VPort) -> Result<Ports, Stop>
+        requires named { is_name port.name ≡ true }
+        requires fresh { is_among (port_names self) port.name ≡ false }
+        ensures added { IfOk result (λ more. more ≡ self ++ port ∷ []) }
+        ensures memory { IfErr result (λ stop. stop ≡ Stop.Memory) }
+    {
+        let Ports {
+            alloc,
+            mut ports,
+            mut far,
+            outputs,
+        } = self;
+        add_far(alloc, &mut far, ports.as_slice(), &port)?;
+        let outputs = outputs_with(outputs, ports.len(), port.input)?;
+        ports.push(port)?;
+        Ok(Ports {
+            alloc,
+            ports,
+            far,
+            outputs,
+        })
+    }
+
+    /// The list of these ports, alone.
+    pub fn into_items(self) -> Items<VPort>
+        ensures { result ≡ self }
+    {
+        let Ports { ports, .. } = self;
+        ports
+    }
+}

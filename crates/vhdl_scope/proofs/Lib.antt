@@ -1,4 +1,0 @@
-pub mod NextWords
-pub mod LoweredNames
-pub mod EitherWords
-pub mod NextPlaces

@@ -7,7 +7,7 @@ use grammar_reader::{Read, Refusal, Stop, with_end};
 use sqlite_items::Items;
 use std::alloc::Global;
 use udp_tables::VPort;
-use verilog_header_reader::{Inputs, module_inputs, module_outputs, some_ports};
+use verilog_grammar::{Inputs, module_inputs, module_outputs, some_ports};
 use verilog_udp_reader::Cursor;
 
 /// A place where a name stands next.

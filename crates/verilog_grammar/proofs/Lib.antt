@@ -9,3 +9,7 @@ pub mod ReadText
 mod VerilogExamples
 mod VerilogReadings
 pub use Rattle.specify_blocks.proofs as specify_blocks
+pub mod Among
+pub mod Headers
+pub mod SameNames
+pub mod NoWires

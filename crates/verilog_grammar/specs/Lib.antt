@@ -4,3 +4,5 @@ pub mod VerilogText
 pub mod WellFormed
 pub mod Laws
 pub use Rattle.specify_blocks.specs as specify_blocks
+pub mod Headers
+pub mod SameNames

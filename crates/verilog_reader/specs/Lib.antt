@@ -1,2 +1,7 @@
 pub mod Checks
 pub mod File
+pub mod Begun
+pub mod NameSearch
+pub mod DrivenNets
+pub mod Netlist
+pub mod Terminals

@@ -5,10 +5,10 @@ ghost use Rattle.udp_tables.specs.VerilogRules.{this_name};
 ghost use Rattle.verilog_grammar.specs.VerilogBlocks as spec;
 ghost use Rattle.grammar_reader.specs.Reading.{read, Reads};
 
+use crate::netlist::Netlist;
 use crate::paths::{condition_name, input_name};
 use cell_machine::{Edge, Event};
 use grammar_reader::{Read, Stop, value_of};
-use verilog_netlist_reader::Netlist;
 use verilog_udp_reader::{Cursor, Verilog};
 
 /// The events that a word before a port allows.

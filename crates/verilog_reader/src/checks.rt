@@ -6,6 +6,7 @@ ghost use Rattle.grammar_reader.specs.Reading.{read, Reads, ReadsAs};
 ghost use Rattle.verilog_reader.specs.Checks.{limited};
 
 use crate::check_parts::{an_edge_event, an_event, check_end, condition};
+use crate::netlist::Netlist;
 use crate::numbers::number;
 use crate::paths::paths;
 use crate::period_lines::period_check;
@@ -14,7 +15,6 @@ use grammar_reader::{Read, value_of, where_read};
 use sqlite_items::Items;
 use std::alloc::Global;
 use udp_tables::TimingCheck;
-use verilog_netlist_reader::Netlist;
 use verilog_udp_reader::{Cursor, Verilog};
 
 /// The edge with which a pulse ends that begins with this one.

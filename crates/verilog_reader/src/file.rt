@@ -5,16 +5,18 @@ ghost use Rattle.verilog_grammar.specs.VerilogText as spec;
 ghost use Rattle.verilog_reader.specs.File.{before_of, modules_of, module_end};
 ghost use Rattle.grammar_reader.specs.Reading.{read, Reads, ReadsAs};
 
-use crate::nets::{Netlist, are_all_driven, module_instances};
-use crate::specify;
+use crate::checks::specify;
+use crate::instances::module_instances;
+use crate::netlist::Netlist;
+use crate::terminals::are_all_driven;
 use bool_functions::Names;
 use grammar_reader::{Language, Read, Refusal, Stop, where_read};
 use sqlite_items::Items;
 use std::alloc::Global;
 use std::mem::replace;
 use udp_tables::Udp;
+use verilog_grammar::module_declarations;
 use verilog_grammar::modules::VModule;
-use verilog_header_reader::module_declarations;
 use verilog_udp_reader::{Cursor, Verilog, declare, primitive};
 
 /// What stands before a place of a text: the modules, the names of all primitives and modules, and the primitives behind the

@@ -9,13 +9,14 @@ ghost use Rattle.verilog_grammar.specs.VerilogBlocks as spec;
 ghost use Rattle.grammar_reader.specs.Reading.{read, Reads};
 ghost use Rattle.grammar_reader.specs.Next.{next_bytes, rest};
 
+use crate::netlist::Netlist;
+use crate::nets::is_output_port;
 use crate::numbers::number;
 use grammar_reader::{Language, Read, with_end};
 use sqlite_items::Items;
 use std::alloc::Global;
 use udp_tables::is_input_port;
 use verilog_grammar::modules::{Gate, VPath};
-use verilog_netlist_reader::{Netlist, is_output_port};
 use verilog_udp_reader::{Cursor, Verilog};
 
 /// Whether a path begins with this token.

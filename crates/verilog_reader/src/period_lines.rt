@@ -8,12 +8,12 @@ ghost use Rattle.verilog_grammar.specs.VerilogBlocks as spec;
 ghost use Rattle.grammar_reader.specs.Reading.{read, Reads};
 
 use crate::check_parts::{check_end, condition};
+use crate::netlist::Netlist;
 use crate::numbers::number;
 use crate::paths::input_name;
 use cell_machine::{CheckKind, Edge, Event};
 use grammar_reader::{Read, Stop};
 use udp_tables::TimingCheck;
-use verilog_netlist_reader::Netlist;
 use verilog_tokens::number_of;
 use verilog_udp_reader::Cursor;
 

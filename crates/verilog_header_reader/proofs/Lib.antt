@@ -1,4 +1,0 @@
-pub mod Among
-pub mod Headers
-pub mod SameNames
-pub mod NoWires

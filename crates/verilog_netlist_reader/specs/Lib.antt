@@ -1,5 +1,0 @@
-pub mod Begun
-pub mod NameSearch
-pub mod DrivenNets
-pub mod Netlist
-pub mod Terminals

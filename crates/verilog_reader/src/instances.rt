@@ -1,0 +1,167 @@
+//! The instances of a module, by recursive descent. (IEEE 1364-2005, 7.1, 7.3 and 8.6.)
+
+ghost use Rattle.std.specs.Prelude.{◌≡◌, IfOk};
+ghost use Rattle.grammar_reader.specs.Words.{valued};
+ghost use Rattle.verilog_grammar.specs.VerilogModules as spec;
+ghost use Rattle.verilog_reader.specs.Begun.{is_instance_start, instance_primitive};
+ghost use Rattle.verilog_reader.specs.NameSearch.{udp_name};
+ghost use Rattle.verilog_reader.specs.Netlist.{MayFind};
+ghost use Rattle.grammar_reader.specs.Reading.{read, Reads, ReadsAs};
+
+use crate::connections::{driven_terminal, first_terminal, more_terminals};
+use crate::name_search::{many_names, place_of};
+use crate::netlist::Netlist;
+use crate::nets::is_sequential;
+use crate::terminals::has_all_inputs;
+use first_names::FirstNames;
+use grammar_reader::{Language, Read, Refusal, Stop, value_of, where_read};
+use sqlite_items::Boxed;
+use std::alloc::Global;
+use verilog_grammar::modules::{Instance, VModule};
+use verilog_tokens::is_name;
+use verilog_udp_reader::{Cursor, NamedItems, Verilog};
+
+/// The bit that a token stands for.
+fn bit(token: &[u8]) -> Option<bool>
+    ensures { result ≡ spec.bit token.now }
+{
+    value_of::<Verilog, _>(token, &[(b"1'b0", false), (b"1'b1", true)])
+}
+
+/// Whether a token begins an instance.
+fn is_instance_start(token: &[u8]) -> bool
+    ensures { result ≡ is_instance_start token.now }
+{
+    Verilog::is_same(token, b"buf") || is_name(token)
+}
+
+/// What a token begins an instance of: the primitive with a number, or a buffer. None where there is no such primitive.
+fn instance_primitive(
+    names: &Option<Boxed<FirstNames>>,
+    model: &Netlist,
+    token: &[u8],
+) -> Option<Option<usize>>
+    requires { MayFind udp_name names.now model.now.udps }
+    ensures { result ≡ instance_primitive model.now.udps token.now }
+{
+    if Verilog::is_same(token, b"buf") {
+        return Some(None);
+    }
+    match place_of(names, model.module().udps.as_slice(), token) {
+        Some(udp) => Some(Some(udp)),
+        None => None,
+    }
+}
+
+/// The terminals of an instance of the primitive with this number, behind its name.
+#[tactic(auto, unfolding(verilog_grammar::specs::VerilogModules::call))]
+fn call(cursor: &mut Cursor, alloc: Global, model: &Netlist, udp: usize) -> Read<Instance>
+    ensures { ReadsAs (spec.with_instance model.now) (read (spec.call model.now udp) cursor.old) result cursor.new }
+{
+    let sequential = is_sequential(model.module().udps.as_slice(), udp);
+    cursor.expect(b"(")?;
+    let name = cursor.bytes();
+    let output = driven_terminal(cursor, model, sequential)?;
+    cursor.expect(b",")?;
+    let mut found = first_terminal(cursor, alloc, model, sequential, output, name)?;
+    more_terminals(cursor, model, sequential, output, &mut found)?;
+    let NamedItems { items: inputs, .. } = found;
+    let whole = has_all_inputs(model.module().udps.as_slice(), udp, inputs.as_slice());
+    cursor.expect_where(whole, Refusal::Width, b")")?;
+    cursor.expect(b";")?;
+    Ok(Instance::Primitive {
+        udp,
+        output,
+        inputs,
+    })
+}
+
+/// A bit.
+#[tactic(auto, using(grammar_reader::proofs::Values::valued_found))]
+fn a_bit(cursor: &mut Cursor) -> Read<bool>
+    ensures { Reads (read (valued spec.bit) cursor.old) result cursor.new }
+{
+    let found = bit(cursor.bytes());
+    cursor.value(found)
+}
+
+/// The terminals of a buffer of a constant, behind its word.
+#[tactic(auto, unfolding(verilog_grammar::specs::VerilogModules::constant))]
+fn constant(cursor: &mut Cursor, model: &Netlist) -> Read<Instance>
+    ensures { ReadsAs (spec.with_instance model.now) (read (spec.constant model.now) cursor.old) result cursor.new }
+{
+    cursor.expect(b"(")?;
+    let output = driven_terminal(cursor, model, false)?;
+    cursor.expect(b",")?;
+    let one = a_bit(cursor)?;
+    cursor.expect(b")")?;
+    cursor.expect(b";")?;
+    Ok(Instance::Constant { output, one })
+}
+
+/// An instance of a primitive, or a buffer, behind its first token.
+fn one_instance(
+    cursor: &mut Cursor,
+    alloc: Global,
+    model: &Netlist,
+    udp: Option<usize>,
+) -> Read<Instance>
+    ensures { ReadsAs (spec.with_instance model.now) (read (spec.one_instance model.now udp) cursor.old) result cursor.new }
+{
+    match udp {
+        None => constant(cursor, model),
+        Some(udp) => call(cursor, alloc, model, udp),
+    }
+}
+
+/// Puts the instances of a module behind those that it has, where its primitives have these names, if they are many.
+#[tactic(auto, unfolding(verilog_grammar::specs::VerilogModules::instances), using(grammar_reader::proofs::Repeats::turn, crate::proofs::Begun::no_instance, crate::proofs::Begun::undefined, crate::proofs::Begun::some_instance))]
+fn more_instances(
+    cursor: &mut Cursor,
+    alloc: Global,
+    names: &Option<Boxed<FirstNames>>,
+    model: &mut Netlist,
+) -> Read<()>
+    requires { MayFind udp_name names.now model.old.udps }
+    ensures reads { ReadsAs (λ _. model.new) (read (spec.instances model.old) cursor.old) result cursor.new }
+    ensures named { IfOk result (λ _. model.new.name ≡ model.old.name) }
+{
+    for _turn in 0..cursor.left() {
+        if !is_instance_start(cursor.bytes()) {
+            break;
+        }
+        let Some(udp) = instance_primitive(names, model, cursor.bytes()) else {
+            return Err(Stop::Refused(Refusal::Undefined));
+        };
+        cursor.skip();
+        let instance = one_instance(cursor, alloc, model, udp)?;
+        model.join(instance)?;
+    }
+    Ok(())
+}
+
+/// A module with its instances behind those that it has, where its primitives have these names, if they are many.
+#[tactic(auto, using(grammar_reader::proofs::WithRest::reads_before, grammar_reader::proofs::WithRest::kept_before))]
+fn with_instances(
+    cursor: &mut Cursor,
+    alloc: Global,
+    names: &Option<Boxed<FirstNames>>,
+    mut model: Netlist,
+) -> Read<Netlist>
+    requires { MayFind udp_name names.now model.udps }
+    ensures reads { Reads (read (spec.instances model) cursor.old) result cursor.new }
+    ensures named { IfOk result (λ joined. joined.name ≡ model.name) }
+{
+    let rest = more_instances(cursor, alloc, names, &mut model);
+    where_read(model, rest)
+}
+
+/// All instances of a module, which it then has.
+pub fn module_instances(cursor: &mut Cursor, alloc: Global, declared: VModule) -> Read<Netlist>
+    ensures reads { Reads (read (spec.instances declared) cursor.old) result cursor.new }
+    ensures named { IfOk result (λ joined. joined.name ≡ declared.name) }
+{
+    let names = many_names(alloc, declared.udps.as_slice())?;
+    let model = Netlist::new(alloc, declared)?;
+    with_instances(cursor, alloc, &names, model)
+}

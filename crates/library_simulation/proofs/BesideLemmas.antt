@@ -27,11 +27,11 @@ use Rattle.stimulus.specs.TraceText.{heading_text}
 use Rattle.stimulus.specs.Comparison.{HavePorts, three_lines, compared_text, first_unlike, verdict_text}
 use Rattle.stimulus.specs.Writes.{WritesTrace}
 use Rattle.stimulus.proofs.Runs.{behind, stops_before, written_part, trace_stops}
-use Rattle.simulation_catalog.specs.Catalog.{simulated_of}
-use Rattle.simulation_catalog.specs.Sections.{CanBeCompared}
+use Rattle.library_simulation.specs.Catalog.{simulated_of}
+use Rattle.library_simulation.specs.Sections.{CanBeCompared}
 use Rattle.std.proofs.lemmas.Option.{slice_get_within}
-use Rattle.simulation_catalog.specs.Comparisons.{Compared, cell_machine, compared_at, lines_of, compared_section, section_by}
-use Rattle.simulation_catalog.specs.Comparisons.{section_text, differs_by, differs, any_differs}
+use Rattle.library_simulation.specs.Comparisons.{Compared, cell_machine, compared_at, lines_of, compared_section, section_by}
+use Rattle.library_simulation.specs.Comparisons.{section_text, differs_by, differs, any_differs}
 use Rattle.library_simulation.specs.declared.comparisons.Beside.{Beside}
 use Rattle.library_simulation.specs.Besides.{machine_in, compared_with, compared_of, CanBeGiven, IsRunOn}
 

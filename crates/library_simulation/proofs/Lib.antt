@@ -8,5 +8,15 @@ pub use Rattle.model_replay.proofs.VitalModels as VitalModels
 pub use Rattle.file_models.proofs as file_models
 pub use Rattle.library_reader.proofs as library_reader
 pub use Rattle.model_files.proofs as model_files
-pub use Rattle.simulation_catalog.proofs as simulation_catalog
 pub use Rattle.model_replay.proofs as model_replay
+mod PinLemmas
+mod PortLemmas
+mod CatalogLemmas
+pub mod DescribedCells
+pub mod PortCounts
+pub mod ReadyCells
+pub mod OwnModels
+pub mod GeneratedModels
+pub mod EqualTraces
+pub mod EqualEnds
+mod BadLineEnds

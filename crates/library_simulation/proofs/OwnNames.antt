@@ -17,7 +17,7 @@ use Rattle.file_models.specs.declared.file_model.FileModel.{FileModel}
 use Rattle.model_files.specs.ModelNames.{model_names, AreNew, HaveOwnNames}
 use Rattle.model_replay.specs.Verilog.{verilog}
 use Rattle.model_replay.specs.Vital.{vital}
-use Rattle.simulation_catalog.specs.NamedModels.{module_names, lowered_names}
+use Rattle.library_simulation.specs.NamedModels.{module_names, lowered_names}
 
 -- names that are new, each behind those before it, are distinct
 new_apart : (before names : List (List ℕ)) → AreDistinct before → AreNew before names → AreDistinct (before ++ names)

@@ -17,8 +17,8 @@ use Rattle.model_files.specs.ModelNames as in_files
 use Rattle.model_replay.specs.Verilog.{verilog}
 use Rattle.model_replay.specs.Vital.{vital, vital_models}
 use Rattle.model_replay.specs.Laws.{EntitiesHaveOwnNames}
-use Rattle.simulation_catalog.specs.Catalog.{HaveOwnNames}
-use Rattle.simulation_catalog.specs.Sections.{RunsByPorts}
+use Rattle.library_simulation.specs.Catalog.{HaveOwnNames}
+use Rattle.library_simulation.specs.Sections.{RunsByPorts}
 use Rattle.library_simulation.proofs.OwnNames.{modules_apart, entities_apart}
 
 pub modules_run : (modules : List (FileModel VModule)) → All (IsRunnable modules_of.IsSound module_machine) modules

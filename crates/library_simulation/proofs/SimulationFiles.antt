@@ -29,13 +29,13 @@ use Rattle.run_outcome.proofs.FileLaws.{words_before}
 use Rattle.run_outcome.proofs.FilesReadLaws.{nothing_read, one_more, ends_there, stops_between, reports_all}
 use Rattle.model_replay.specs.Verilog.{verilog}
 use Rattle.model_replay.specs.Vital.{vital}
-use Rattle.simulation_catalog.specs.declared.catalog.Simulated.{Simulated}
-use Rattle.simulation_catalog.specs.Catalog.{cells_named, simulated_of}
-use Rattle.simulation_catalog.specs.Comparisons.{sections_text, any_differs}
-use Rattle.simulation_catalog.specs.Ends.{sections_outcome}
-use Rattle.simulation_catalog.specs.Sections.{SectionsCanBeCompared}
+use Rattle.library_simulation.specs.declared.catalog.Simulated.{Simulated}
+use Rattle.library_simulation.specs.Catalog.{cells_named, simulated_of}
+use Rattle.library_simulation.specs.Comparisons.{sections_text, any_differs}
+use Rattle.library_simulation.specs.Ends.{sections_outcome}
+use Rattle.library_simulation.specs.Sections.{SectionsCanBeCompared}
 use Rattle.model_files.specs.StimulusAnswer.{stimulus_answer}
-use Rattle.simulation_catalog.specs.FaultLines.{cause_stop}
+use Rattle.library_simulation.specs.FaultLines.{cause_stop}
 use Rattle.library_simulation.specs.declared.simulation.ModelsRead.{ModelsRead}
 use Rattle.library_reader.specs.LibraryAnswer.{library_answer}
 use Rattle.model_files.specs.ModelAnswer.{model_answer}

@@ -8,10 +8,10 @@ use Rattle.stimulus.specs.declared.sections.Section.{Section}
 use Rattle.run_outcome.specs.FileSteps.{outcome_by}
 use Rattle.model_replay.specs.Verilog.{verilog}
 use Rattle.model_replay.specs.Vital.{vital}
-use Rattle.simulation_catalog.specs.Catalog.{cells_named}
-use Rattle.simulation_catalog.specs.Ends.{sections_outcome}
+use Rattle.library_simulation.specs.Catalog.{cells_named}
+use Rattle.library_simulation.specs.Ends.{sections_outcome}
 use Rattle.model_files.specs.StimulusAnswer.{stimulus_answer}
-use Rattle.simulation_catalog.specs.FaultLines.{cause_stop}
+use Rattle.library_simulation.specs.FaultLines.{cause_stop}
 use Rattle.library_reader.specs.LibraryAnswer.{library_answer}
 use Rattle.model_files.specs.ModelAnswer.{model_answer}
 use Rattle.library_simulation.specs.Simulate.{simulate_outcome, behind_cells, behind_modules, behind_entities}

@@ -16,7 +16,7 @@ use Rattle.stimulus.specs.declared.ports.Ports.{Ports}
 use Rattle.stimulus.specs.declared.sections.Section.{Section}
 use Rattle.stimulus.specs.DriveLines.{DriveMachine}
 use Rattle.stimulus.specs.Comparison.{HavePorts}
-use Rattle.simulation_catalog.specs.Comparisons.{Compared, cell_machine, compared_at}
+use Rattle.library_simulation.specs.Comparisons.{Compared, cell_machine, compared_at}
 use Rattle.library_simulation.specs.declared.comparisons.Beside.{Beside}
 
 -- what a section is run on, with these machines

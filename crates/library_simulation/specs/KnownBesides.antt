@@ -7,7 +7,7 @@ use Rattle.library_reader.specs.LibraryCells.{CellEntry, all_described}
 use Rattle.cell_machine.specs.declared.changes.Change.{Change}
 use Rattle.stimulus.specs.declared.sections.Section.{Section}
 use Rattle.model_files.specs.Known.{AreKnown}
-use Rattle.simulation_catalog.specs.Sections.{CanBeCompared}
+use Rattle.library_simulation.specs.Sections.{CanBeCompared}
 use Rattle.library_simulation.specs.declared.comparisons.Beside.{Beside}
 use Rattle.library_simulation.specs.declared.known_beside.KnownBeside.{KnownBeside}
 use Rattle.library_simulation.specs.declared.simulation.Simulation.{Simulation}

@@ -7,9 +7,9 @@ use Rattle.vital_models.specs.Sound as entities_of
 use Rattle.model_traces.specs.ModuleTrace.{module_machine}
 use Rattle.model_traces.specs.EntityTrace.{entity_machine}
 use Rattle.run_outcome.specs.FilesRead.{HasRead}
-use Rattle.simulation_catalog.specs.Catalog.{simulated_of, HaveOwnNames}
-use Rattle.simulation_catalog.specs.Ends.{sections_outcome}
-use Rattle.simulation_catalog.specs.Sections.{RunsByPorts, CanBeCompared}
+use Rattle.library_simulation.specs.Catalog.{simulated_of, HaveOwnNames}
+use Rattle.library_simulation.specs.Ends.{sections_outcome}
+use Rattle.library_simulation.specs.Sections.{RunsByPorts, CanBeCompared}
 use Rattle.library_simulation.specs.declared.simulation.ModelsRead.{ModelsRead}
 use Rattle.library_simulation.specs.declared.simulation.Simulation.{Simulation}
 use Rattle.library_simulation.specs.Simulate.{simulate_files, model_files, simulate_of, behind_models}

@@ -2,8 +2,8 @@
 //! another section of one begins with it.
 ghost use Rattle.std.specs.Prelude.{◌≡◌, ◌<◌, None, Some, length, slice_index_or, OnOk};
 ghost use Rattle.library_reader.specs.LibraryCells.{all_described};
-ghost use Rattle.simulation_catalog.specs.Catalog.{simulated_of};
-ghost use Rattle.simulation_catalog.specs.Sections.{CanBeCompared};
+ghost use Rattle.library_simulation.specs.Catalog.{simulated_of};
+ghost use Rattle.library_simulation.specs.Sections.{CanBeCompared};
 ghost use Rattle.library_simulation.specs.declared.known_beside.KnownBeside.{KnownBeside as KnownOf};
 ghost use Rattle.library_simulation.specs.KnownBesides.{AreBesides};
 

@@ -26,11 +26,11 @@ use Rattle.library_simulation.specs.file_models.declared.file_model.FileModel.{F
 use Rattle.library_simulation.specs.model_files.ModelNames.{model_names}
 use Rattle.library_simulation.proofs.VerilogModels.{own_names}
 use Rattle.library_simulation.proofs.VitalModels.{own_names_beside}
-use Rattle.library_simulation.specs.simulation_catalog.Comparisons.{sections_text}
-use Rattle.library_simulation.specs.simulation_catalog.Generated.{modules_of, entities_of, HaveOwnModels, EndsEqual}
-use Rattle.library_simulation.specs.simulation_catalog.FaultLines.{cause_stop}
-use Rattle.library_simulation.specs.simulation_catalog.Ends.{sections_outcome}
-use Rattle.library_simulation.proofs.simulation_catalog.EqualEnds.{bad_line_stops, never_model_or_differ}
+use Rattle.library_simulation.specs.Comparisons.{sections_text}
+use Rattle.library_simulation.specs.Generated.{modules_of, entities_of, HaveOwnModels, EndsEqual}
+use Rattle.library_simulation.specs.FaultLines.{cause_stop}
+use Rattle.library_simulation.specs.Ends.{sections_outcome}
+use Rattle.library_simulation.proofs.EqualEnds.{bad_line_stops, never_model_or_differ}
 use Rattle.library_simulation.specs.library_reader.declared.ending.Ending.{Ending}
 use Rattle.library_simulation.specs.library_reader.declared.ending.Ending.TheVariants as ending
 use Rattle.library_simulation.specs.library_reader.declared.ending.NotWhole.TheVariants as not_whole

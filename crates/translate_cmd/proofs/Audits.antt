@@ -28,8 +28,8 @@ use Rattle.library_simulation.specs.file_models.FileModels.{IsRunnable}
 use Rattle.model_traces.specs.ModuleTrace.{module_machine}
 use Rattle.library_simulation.specs.Verilog.{verilog, verilog_models}
 use Rattle.library_simulation.proofs.VerilogModels.{own_names}
-use Rattle.library_simulation.specs.simulation_catalog.Generated.{KeepsRules}
-use Rattle.library_simulation.proofs.simulation_catalog.ReadyCells.{all_at}
+use Rattle.library_simulation.specs.Generated.{KeepsRules}
+use Rattle.library_simulation.proofs.ReadyCells.{all_at}
 use Rattle.library_audit.specs.Audits.{module_in, module_at, module_for}
 use Rattle.library_audit.specs.Laws.{HasMatch, HasMatchOrIsLeftOut, SameLineIsMatch, AllMatch, DoneIsMatch}
 use Rattle.translate_cmd.specs.Audits.{AgreesWithModule, AgreesWhereSame, AgreesOrIsLeftOut, AllAgree, AuditedCellsAgree}

@@ -30,9 +30,9 @@ use Rattle.translate_cmd.specs.Complete.{IsWholeLibrary, CanBeSimulated, CanBeAu
 use Rattle.translate_cmd.specs.Complete.{Completes}
 use Rattle.library_simulation.specs.library_reader.KeptCells.{kept_cells, cells_by}
 use Rattle.library_simulation.specs.library_reader.Progress.{no_progress}
-use Rattle.library_simulation.specs.simulation_catalog.Catalog.{cells_named}
-use Rattle.library_simulation.specs.simulation_catalog.Comparisons.{any_differs}
-use Rattle.library_simulation.specs.simulation_catalog.Ends.{sections_outcome}
+use Rattle.library_simulation.specs.Catalog.{cells_named}
+use Rattle.library_simulation.specs.Comparisons.{any_differs}
+use Rattle.library_simulation.specs.Ends.{sections_outcome}
 use Rattle.library_simulation.specs.library_reader.LibraryAnswer.{answer_by}
 use Rattle.library_simulation.specs.Simulate.{simulate_files, simulate_outcome}
 use Rattle.library_simulation.proofs.model_files.WholeAnswers.{model_whole, stimulus_whole}
@@ -40,7 +40,7 @@ use Rattle.library_simulation.proofs.WholeSimulations.{simulated_whole}
 use Rattle.library_audit.specs.Audits as audits
 use Rattle.library_audit.specs.Outcome.{audit_files, audit_outcome, audits_outcome}
 use Rattle.library_audit.proofs.WholeAudits.{audited_whole}
-use Rattle.library_simulation.specs.simulation_catalog.FaultLines.{cause_stop}
+use Rattle.library_simulation.specs.FaultLines.{cause_stop}
 use Rattle.library_simulation.specs.model_files.Languages.{Language}
 use Rattle.library_simulation.specs.model_replay.Outcome.{replay_files, replay_outcome}
 use Rattle.library_simulation.specs.model_replay.Complete.{CanBeReplayed}

@@ -35,9 +35,9 @@ use Rattle.library_translation.specs.Library.{translate_outcome}
 use Rattle.library_simulation.specs.Verilog.{verilog}
 use Rattle.library_simulation.specs.Vital.{vital}
 use Rattle.library_simulation.specs.library_reader.LibraryCells.{CellEntry, Accepted, Refused}
-use Rattle.library_simulation.specs.simulation_catalog.CellModels.{CellModels, cores, drivers}
-use Rattle.library_simulation.specs.simulation_catalog.Generated.{core_entity, in_verilog, in_vital, core_modules, modules_of}
-use Rattle.library_simulation.specs.simulation_catalog.Generated.{core_entities, entities_of}
+use Rattle.library_simulation.specs.CellModels.{CellModels, cores, drivers}
+use Rattle.library_simulation.specs.Generated.{core_entity, in_verilog, in_vital, core_modules, modules_of}
+use Rattle.library_simulation.specs.Generated.{core_entities, entities_of}
 use Rattle.translate_cmd.specs.TranslatedModels.{verilog_in, vital_in}
 use Rattle.translate_cmd.proofs.AcceptedCells.{modules-well-formed, entities-well-formed}
 use Rattle.translate_cmd.proofs.ReadBack.{libraries-read-back}

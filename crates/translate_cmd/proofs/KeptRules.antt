@@ -6,7 +6,7 @@ use Rattle.std.proofs.lemmas.List.Elements.{All-from_recursion}
 use Rattle.written_driven_models.specs.three_state_cells.DrivenCells.{DrivenData}
 use Rattle.written_driven_models.specs.Library.{IsNumberedDriven}
 use Rattle.library_simulation.specs.library_reader.LibraryCells.{CellEntry, Accepted, Refused}
-use Rattle.library_simulation.specs.simulation_catalog.Generated.{KeepsRules}
+use Rattle.library_simulation.specs.Generated.{KeepsRules}
 use Rattle.translate_cmd.proofs.AcceptedCells.{all_numbered}
 use Rattle.translate_cmd.proofs.KeptCells.{accepted_of, cells_of, are_accepted}
 

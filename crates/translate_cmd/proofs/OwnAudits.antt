@@ -23,10 +23,10 @@ use Rattle.library_simulation.specs.file_models.FileModels.{plain_model}
 use Rattle.library_simulation.specs.model_files.ModelAnswer.{model_answer}
 use Rattle.library_simulation.specs.Verilog.{verilog}
 use Rattle.audited_modules.specs.Laws.{GeneratedModulesMatch}
-use Rattle.library_simulation.specs.simulation_catalog.CellModels.{over_core}
-use Rattle.library_simulation.specs.simulation_catalog.Generated.{in_verilog, own_verilog, modules_of, KeepsCellRules, KeepsRules}
-use Rattle.library_simulation.specs.simulation_catalog.Generated.{HaveOwnModels}
-use Rattle.library_simulation.proofs.simulation_catalog.GeneratedModels.{own_number, accepted_are_ready}
+use Rattle.library_simulation.specs.CellModels.{over_core}
+use Rattle.library_simulation.specs.Generated.{in_verilog, own_verilog, modules_of, KeepsCellRules, KeepsRules}
+use Rattle.library_simulation.specs.Generated.{HaveOwnModels}
+use Rattle.library_simulation.proofs.GeneratedModels.{own_number, accepted_are_ready}
 use Rattle.library_audit.specs.Lines.{audit_line, left_out_line}
 use Rattle.library_audit.specs.Audits.{module_in, module_at, module_for, verdict_in, accepted_text}
 use Rattle.library_audit.specs.Outcome.{audits_outcome, behind_cells, audit_outcome}

@@ -7,8 +7,8 @@ use Rattle.run_outcome.specs.declared.status.Status.TheVariants as status
 use Rattle.run_outcome.specs.Binding.{bytes_at}
 use Rattle.run_outcome.specs.Outcome.{Outcome}
 use Rattle.library_translation.specs.Library.{translate_outcome}
-use Rattle.library_simulation.specs.simulation_catalog.Comparisons.{any_differs}
-use Rattle.library_simulation.specs.simulation_catalog.Generated.{modules_of, entities_of}
+use Rattle.library_simulation.specs.Comparisons.{any_differs}
+use Rattle.library_simulation.specs.Generated.{modules_of, entities_of}
 use Rattle.library_simulation.specs.Simulate.{simulate_outcome, simulate_of}
 use Rattle.translate_cmd.specs.Complete.{CanBeSimulated}
 use Rattle.translate_cmd.specs.Agreement.{own_simulation, IsWithoutFault}

@@ -8,10 +8,10 @@ use Rattle.library_simulation.specs.file_models.stimulus.Stimulus.{stimulus_of}
 use Rattle.run_outcome.specs.declared.status.Status.TheVariants as status
 use Rattle.run_outcome.specs.Written.{in_report}
 use Rattle.run_outcome.specs.Outcome.{Outcome}
-use Rattle.library_simulation.specs.simulation_catalog.Catalog.{cells_named}
-use Rattle.library_simulation.specs.simulation_catalog.Comparisons.{sections_text}
-use Rattle.library_simulation.specs.simulation_catalog.Generated.{modules_of, entities_of, SaysEqual}
-use Rattle.library_simulation.specs.simulation_catalog.FaultLines.{cause_stop}
+use Rattle.library_simulation.specs.Catalog.{cells_named}
+use Rattle.library_simulation.specs.Comparisons.{sections_text}
+use Rattle.library_simulation.specs.Generated.{modules_of, entities_of, SaysEqual}
+use Rattle.library_simulation.specs.FaultLines.{cause_stop}
 use Rattle.library_simulation.specs.model_files.StimulusAnswer.{stimulus_answer}
 use Rattle.library_simulation.specs.library_reader.Endings.{library_limit}
 use Rattle.library_simulation.specs.library_reader.KeptCells.{kept_cells}

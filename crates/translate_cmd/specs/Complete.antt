@@ -24,7 +24,7 @@ use Rattle.library_simulation.specs.file_models.stimulus.PortEntries.{listed}
 use Rattle.library_simulation.specs.file_models.stimulus.Stimulus.{stimulus_of}
 use Rattle.library_simulation.specs.library_reader.KeptCells.{kept_cells}
 use Rattle.library_simulation.specs.library_reader.Progress.{no_progress}
-use Rattle.library_simulation.specs.simulation_catalog.Catalog.{cells_named}
+use Rattle.library_simulation.specs.Catalog.{cells_named}
 use Rattle.library_simulation.specs.Verilog.{verilog}
 use Rattle.library_simulation.specs.Vital.{vital}
 use Rattle.library_simulation.specs.library_reader.Endings.{library_limit}

@@ -4,7 +4,7 @@ use Rattle.three_state_cells.specs.DrivenCells.{driven_data_of}
 use Rattle.library_reader.specs.declared.library_cell.LibraryCell.TheVariants as kept
 use Rattle.library_reader.specs.LibraryCells.{all_described}
 use Rattle.cell_machine.specs.declared.changes.Change.{Change}
-use Rattle.simulation_catalog.specs.Sections.{CanBeCompared}
+use Rattle.library_simulation.specs.Sections.{CanBeCompared}
 use Rattle.library_simulation.specs.KnownBesides.{section_of}
 use Rattle.library_simulation.proofs.BesideLemmas.{runs_on, can_be_given}
 use Rattle.library_simulation.proofs.comparisons.stands_beside.Goals as goal

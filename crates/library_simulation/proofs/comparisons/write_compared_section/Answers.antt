@@ -2,7 +2,7 @@ use Rattle.std.proofs.Common.{◌≡◌, ◌<◌, IfOk, length, arith, ap, subst
 use Rattle.library_reader.specs.LibraryCells.{all_described}
 use Rattle.stimulus.proofs.Runs.{appends_nothing}
 use Rattle.model_files.proofs.KnownThings.{here-some, on-ok}
-use Rattle.simulation_catalog.specs.declared.catalog.Simulated.{Simulated}
+use Rattle.library_simulation.specs.declared.catalog.Simulated.{Simulated}
 use Rattle.library_simulation.proofs.BesideLemmas.{number-within, section_is, differs_is}
 use Rattle.library_simulation.proofs.comparisons.write_compared_section.Goals as goal
 

@@ -6,8 +6,8 @@ use Rattle.library_reader.specs.LibraryCells.{all_described}
 use Rattle.stimulus.proofs.Runs.{appends_nothing, holds_next, part_of_item}
 use Rattle.model_files.proofs.KnownThings.{none-known}
 use Rattle.library_simulation.specs.KnownBesides.{StandsAt, AreBesides}
-use Rattle.simulation_catalog.specs.Comparisons.{section_text, sections_text}
-use Rattle.simulation_catalog.specs.Sections.{CanBeCompared}
+use Rattle.library_simulation.specs.Comparisons.{section_text, sections_text}
+use Rattle.library_simulation.specs.Sections.{CanBeCompared}
 use Rattle.library_simulation.proofs.BesideLemmas.{part_cause, differs_more, differs_whole}
 use Rattle.library_simulation.proofs.comparisons.write_compared_sections.Goals as goal
 use Rattle.library_simulation.proofs.comparisons.write_compared_sections.Goals.{then-some_differ, else-some_differ}

@@ -3,7 +3,7 @@ use Rattle.std.specs.List.{flat_map, list_any}
 use Rattle.text_io.specs.declared.slots.OutSlot.TheVariants.{Report}
 use Rattle.text_io.specs.Desk.{wrote}
 use Rattle.library_reader.specs.LibraryCells.{all_described}
-use Rattle.simulation_catalog.specs.Comparisons.{section_text, differs}
+use Rattle.library_simulation.specs.Comparisons.{section_text, differs}
 use Rattle.library_simulation.specs.KnownBesides.{AreBesides}
 use Rattle.library_simulation.proofs.comparisons.write_compared_sections.Given as goal
 

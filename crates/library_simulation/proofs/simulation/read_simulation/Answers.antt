@@ -5,7 +5,7 @@ use Rattle.run_outcome.specs.Runs.{RunsAs}
 use Rattle.run_outcome.specs.FileSteps.{FileIsTaken, FileEndsRun}
 use Rattle.run_outcome.proofs.FileStepLaws.{err_is}
 use Rattle.model_files.specs.StimulusAnswer.{stimulus_answer}
-use Rattle.simulation_catalog.specs.FaultLines.{cause_stop}
+use Rattle.library_simulation.specs.FaultLines.{cause_stop}
 use Rattle.library_simulation.specs.Simulate.{simulate_files, model_files, simulate_of}
 use Rattle.library_simulation.specs.Simulations.{ReadsSimulation}
 use Rattle.library_simulation.proofs.SimulationFiles.{still_planned, has_stimulus, no_memory, stimulus_stops, simulation_read}

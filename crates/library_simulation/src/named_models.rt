@@ -1,0 +1,144 @@
+//! The models of two files, looked up by their names.
+ghost use Rattle.std.specs.Prelude.{◌≡◌, IfOk};
+ghost use Rattle.bool_functions.specs.NameList.{AreDistinct};
+ghost use Rattle.three_state_cells.specs.DrivenCells.{driven_data_of};
+ghost use Rattle.library_simulation.specs.NamedModels.{verilog_name as verilog_name_of, module_names as module_names_of};
+ghost use Rattle.library_simulation.specs.NamedModels.{lowered_names as lowered_names_of, shown, has_ports, module_ports};
+ghost use Rattle.library_simulation.specs.NamedModels.{entity_ports, verilog_number as verilog_number_of};
+ghost use Rattle.library_simulation.specs.NamedModels.{vital_number as vital_number_of};
+ghost use Rattle.library_simulation.specs.declared.same_ports.Spelling.TheVariants as spelling;
+
+use crate::numbers::Found;
+use crate::same_ports::Spelling;
+use bool_functions::Names;
+use file_models::FileModel;
+use generated_drivers::own_pins;
+use specify_blocks::{VModule, driver_name, module_name, verilog_ports};
+use sqlite_items::Items;
+use std::alloc::{AllocError, Global};
+use three_state_cells::DrivenCell;
+use udp_tables::VPort;
+use vital_models::{VEntity, vital_ports};
+
+/// The models of a Verilog file and those of a VHDL file, with their names.
+#[derive(Drop)]
+pub(crate) struct ModelFiles<'a> {
+    /// The Verilog models, in the order of their file.
+    pub modules: &'a [FileModel<VModule>],
+    /// Their names, in this order.
+    pub module_names: Names,
+    /// The VITAL models, in the order of their file.
+    pub entities: &'a [FileModel<VEntity>],
+    /// Their names in lower case, in this order.
+    pub entity_names: Names,
+}
+
+impl<'a> ModelFiles<'a> {
+    /// The numbers of the models that are found for a cell whose VITAL model has this name.
+    pub(crate) fn found(
+        &self,
+        alloc: Global,
+        cell: &DrivenCell,
+        entity: &[u8],
+    ) -> Result<Found, AllocError>
+        ensures verilog { IfOk result (λ found. found.verilog ≡ verilog_number_of (shown self.now) (driven_data_of cell.now)) }
+        ensures vital { IfOk result (λ found. found.vital ≡ vital_number_of (shown self.now) entity.now
+            (driven_data_of cell.now)) }
+    {
+        Ok(Found {
+            verilog: self.verilog_number(alloc, cell)?,
+            vital: self.vital_number(alloc, cell, entity)?,
+        })
+    }
+
+    /// The number of the Verilog model of a cell, where it is there with the cell's ports.
+    #[tactic(auto, unfolding(crate::specs::NamedModels::verilog_number))]
+    fn verilog_number(&self, alloc: Global, cell: &DrivenCell) -> Result<Option<usize>, AllocError>
+        ensures { IfOk result (λ number. number ≡ verilog_number_of (shown self.now) (driven_data_of cell.now)) }
+    {
+        let name = verilog_name(alloc, cell)?;
+        let ports = verilog_ports(alloc, own_pins(cell))?;
+        match self.module_names.number(name.as_slice()) {
+            None => Ok(None),
+            Some(number) => Ok(self.module_has(number, ports.as_slice()).then_some(number)),
+        }
+    }
+
+    /// The number of the VITAL model with this name, where it is there with the ports of the cell.
+    #[tactic(auto, unfolding(crate::specs::NamedModels::vital_number))]
+    fn vital_number(
+        &self,
+        alloc: Global,
+        cell: &DrivenCell,
+        entity: &[u8],
+    ) -> Result<Option<usize>, AllocError>
+        ensures { IfOk result (λ number. number ≡ vital_number_of (shown self.now) entity.now (driven_data_of cell.now)) }
+    {
+        let name = entity.to_ascii_lowercase(alloc)?;
+        let ports = vital_ports(alloc, own_pins(cell), entity)?;
+        match self.entity_names.number(&name) {
+            None => Ok(None),
+            Some(number) => Ok(self.entity_has(number, ports.as_slice()).then_some(number)),
+        }
+    }
+
+    /// Whether the Verilog model with this number has these ports.
+    fn module_has(&self, number: usize, ports: &[VPort]) -> bool
+        ensures { result ≡ has_ports spelling.Exact ports.now (module_ports self.now.modules.now number) }
+    {
+        match self.modules.get(number) {
+            Some(model) => Spelling::Exact.same_ports(ports, model.ports.as_slice()),
+            None => false,
+        }
+    }
+
+    /// Whether the VITAL model with this number has these ports.
+    fn entity_has(&self, number: usize, ports: &[VPort]) -> bool
+        ensures { result ≡ has_ports spelling.AnyCase ports.now (entity_ports self.now.entities.now number) }
+    {
+        match self.entities.get(number) {
+            Some(entity) => Spelling::AnyCase.same_ports(ports, entity.ports.as_slice()),
+            None => false,
+        }
+    }
+}
+
+/// The name of the Verilog model of a cell: that of its module, or of the module of its drivers where some outputs may float.
+fn verilog_name(alloc: Global, cell: &DrivenCell) -> Result<Items<u8>, AllocError>
+    ensures { IfOk result (λ name. name ≡ verilog_name_of (driven_data_of cell.now)) }
+{
+    if cell.driver.drives.len() > 0 {
+        driver_name(alloc, cell.core.number, cell.name.as_slice())
+    } else {
+        module_name(alloc, cell.core.number, cell.core.name.as_slice())
+    }
+}
+
+/// The names of Verilog models, in their order, where no two have one name.
+pub(crate) fn module_names(
+    alloc: Global,
+    modules: &[FileModel<VModule>],
+) -> Result<Names, AllocError>
+    ensures { IfOk result (λ names. AreDistinct (module_names_of modules.now) → names ≡ module_names_of modules.now) }
+{
+    let mut names = Names::new(alloc);
+    for model in modules {
+        names.add(model.name.as_slice())?;
+    }
+    Ok(names)
+}
+
+/// The names of VITAL models in lower case, in their order, where no two have one name, whatever the case of its letters.
+pub(crate) fn lowered_names(
+    alloc: Global,
+    entities: &[FileModel<VEntity>],
+) -> Result<Names, AllocError>
+    ensures { IfOk result (λ names. AreDistinct (lowered_names_of entities.now) → names ≡ lowered_names_of entities.now) }
+{
+    let mut names = Names::new(alloc);
+    for entity in entities {
+        let name = entity.name.as_slice().to_ascii_lowercase(alloc)?;
+        names.add(&name)?;
+    }
+    Ok(names)
+}

@@ -1,5 +1,0 @@
-use Rattle.simulation_catalog.proofs.EqualEnds.{never_model_or_differ}
-use Rattle.simulation_catalog.proofs.laws.never_model_or_differ.Goals as goal
-
-pub returns : goal.returns
-returns c = never_model_or_differ

@@ -1,5 +1,0 @@
-use Rattle.simulation_catalog.proofs.GeneratedModels.{own_models_show_the_same}
-use Rattle.simulation_catalog.proofs.laws.own_models_show_the_same.Goals as goal
-
-pub returns : goal.returns
-returns c = own_models_show_the_same

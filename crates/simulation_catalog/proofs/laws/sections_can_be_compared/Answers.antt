@@ -1,5 +1,0 @@
-use Rattle.simulation_catalog.proofs.ReadyCells.{sections_can_be_compared}
-use Rattle.simulation_catalog.proofs.laws.sections_can_be_compared.Goals as goal
-
-pub returns : goal.returns
-returns c = sections_can_be_compared

@@ -1,5 +1,0 @@
-use Rattle.simulation_catalog.proofs.PortLemmas.{other_length}
-use Rattle.simulation_catalog.proofs.same_ports.Spelling.same_ports.Goals as goal
-
-pub returns-then-ports-others : goal.returns-then-ports-others
-returns-then-ports-others c = other_length c.args.self c.args.ports.now c.args.others.now c.if-ports-others.true

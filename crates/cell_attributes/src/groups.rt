@@ -59,7 +59,8 @@ pub fn cell_name(cell: &Group) -> &[u8]
 pub fn inner_groups(alloc: Global, cell: &Group) -> Result<Vec<&Group>, AllocError>
     ensures { IfOk result (λ groups. map (λ group. group.now) groups.items ≡ inner_groups_of cell.now.items) }
 {
-    let mut groups = Vec::new(alloc);
+    // enough room at once: a list of many that grows stands there twice while it is moved
+    let mut groups = Vec::with_capacity(alloc, cell.items.len())?;
     for item in cell.items.as_slice() {
         if let Item::Inner(group) = item {
             groups.push(group)?;

@@ -14,4 +14,5 @@ held_values (Several values) = values
 abbrev pub held_arguments : HeldArguments → List Value
 held_arguments arguments.Nothing = []
 held_arguments (arguments.One value) = value ∷ []
+held_arguments (arguments.Two values) = values
 held_arguments (arguments.Several values) = values

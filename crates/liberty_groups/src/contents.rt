@@ -30,10 +30,13 @@ pub struct Contents {
 pub fn one_text(mut values: Values) -> SmallBytes
     ensures { result ≡ one_text values }
 {
-    let last = values.pop();
-    match last {
-        Some(value) if values.is_empty() => value.bytes,
-        _ => SmallBytes::new(),
+    let Some(Value { bytes, .. }) = values.pop() else {
+        return SmallBytes::new();
+    };
+    if values.is_empty() {
+        bytes
+    } else {
+        SmallBytes::new()
     }
 }
 
@@ -61,6 +64,20 @@ impl Contents {
         Ok(())
     }
 
+    /// A simple attribute of the library.
+    #[tactic(auto, unfolding(crate::specs::Library::counted))]
+    fn count_simple(&mut self, name: &[u8], value: Values, at: usize) -> Result<(), Stop>
+        ensures ok { OnOk result (found_of self.new ≡ counted (found_of self.old) (Item.Simple name.now value at)) }
+        ensures memory { OnErr result (result ≡ Err Stop.Memory) }
+    {
+        if name == b"time_unit".as_slice() {
+            let value = one_text(value);
+            self.units.push(UnitLine { value, at })?;
+            return Ok(());
+        }
+        self.count_named(name, at)
+    }
+
     /// A group of the library.
     #[tactic(auto, unfolding(crate::specs::Library::counted))]
     fn count_group(&mut self, group: Group) -> Result<(), Stop>
@@ -85,14 +102,7 @@ impl Contents {
         ensures memory { OnErr result (result ≡ Err Stop.Memory) }
     {
         match item {
-            Item::Simple { name, value, at } => {
-                if name.as_slice() == b"time_unit".as_slice() {
-                    let value = one_text(value);
-                    self.units.push(UnitLine { value, at })?;
-                    return Ok(());
-                }
-                self.count_named(name.as_slice(), at)
-            }
+            Item::Simple { name, value, at } => self.count_simple(name.as_slice(), value, at),
             Item::Complex { name, at, .. } => self.count_named(name.as_slice(), at),
             Item::Inner(group) => self.count_group(group),
         }

@@ -1,7 +1,7 @@
 //! The values of a statement, of which one stands in place.
 
 ghost use Rattle.std.specs.Prelude.{◌≡◌, ◌↔◌, ◌++◌, ◌∷◌, [], length, IsTrue, IfOk, OnOk, MatchOption};
-ghost use Rattle.liberty_groups.specs.Values.{held_values};
+ghost use Rattle.liberty_groups.specs.Values.{held_values, held_arguments};
 
 use crate::tree::Value;
 use sqlite_items::{Boxed, Items};
@@ -143,7 +143,26 @@ impl Values {
 enum HeldArguments {
     Nothing,
     One(Boxed<Value>),
+    Two(Boxed<[Value; 2]>),
     Several(Boxed<Items<Value>>),
+}
+
+/// These values, of which one or two need no list.
+fn several_arguments(alloc: Global, mut several: Items<Value>) -> Result<HeldArguments, AllocError>
+    ensures { IfOk result (λ same. held_arguments same ≡ several) }
+{
+    let Some(last) = several.pop() else {
+        return Ok(HeldArguments::Nothing);
+    };
+    let Some(first) = several.pop() else {
+        return Ok(HeldArguments::One(Boxed::new(alloc, last)?));
+    };
+    if several.is_empty() {
+        return Ok(HeldArguments::Two(Boxed::new(alloc, [first, last])?));
+    }
+    several.push(first)?;
+    several.push(last)?;
+    Ok(HeldArguments::Several(Boxed::new(alloc, several)?))
 }
 
 /// The arguments of a group, which mostly has none or few beside what stands in it: they stand behind a box. Contracts see the
@@ -173,7 +192,7 @@ impl Arguments {
         let held = match held {
             HeldValues::Nothing => HeldArguments::Nothing,
             HeldValues::One(value) => HeldArguments::One(Boxed::new(alloc, value)?),
-            HeldValues::Several(several) => HeldArguments::Several(Boxed::new(alloc, several)?),
+            HeldValues::Several(several) => several_arguments(alloc, several)?,
         };
         Ok(Arguments { held })
     }
@@ -185,6 +204,7 @@ impl Arguments {
         match &self.held {
             HeldArguments::Nothing => &[],
             HeldArguments::One(value) => from_ref(value.get()),
+            HeldArguments::Two(values) => values.get(),
             HeldArguments::Several(several) => several.get().as_slice(),
         }
     }

@@ -6,6 +6,7 @@ pub mod Marked
 pub mod Numbers
 pub mod Packing
 pub mod Places
+pub mod Quiet
 pub mod Quoting
 pub mod Runs
 pub mod Sound

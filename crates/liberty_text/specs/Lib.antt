@@ -2,6 +2,7 @@ pub mod Cover
 pub mod Idle
 pub mod Kept
 pub mod Number
+pub mod Quiet
 pub mod Runs
 pub mod Scanner
 pub mod TextValue

@@ -1,23 +1,12 @@
 //! Runs of bytes that leave what stands open as it is.
 
 ghost use Rattle.std.specs.Prelude.{◌≡◌, ◌≤◌, length};
-ghost use Rattle.liberty_text.specs.Idle.{is_blank, is_plain_in_word, is_plain_in_text, front_run, idle_run, is_mark_byte};
+ghost use Rattle.liberty_text.specs.Idle.{is_plain_in_word, is_plain_in_text, front_run, idle_run, is_mark_byte};
 
+use crate::gaps::blank_run;
 use crate::scanner::Mode;
 use lexer::{ByteClass, byte_table, run_length};
 use memchr::memchr2;
-
-/// Spaces, tabs and carriage returns.
-struct Blank;
-
-impl ByteClass for Blank {
-    ghost has = { is_blank };
-
-    #[inline(always)]
-    fn contains(byte: u8) -> bool {
-        byte == b' ' || byte == b'\t' || byte == b'\r'
-    }
-}
 
 macro_rules! plain_in_word {
     ($b:expr) => {
@@ -69,7 +58,7 @@ fn searched_run(bytes: &[u8]) -> usize
 }
 
 /// How many bytes at the front are neither quotes nor backslashes.
-fn text_run(bytes: &[u8]) -> usize
+pub(crate) fn text_run(bytes: &[u8]) -> usize
     ensures value { result ≡ front_run is_plain_in_text bytes.now }
     ensures within { result ≤ length bytes.now }
 {
@@ -85,6 +74,15 @@ fn text_run(bytes: &[u8]) -> usize
     }
 }
 
+/// How many bytes at the front may stand in a Word and are no slash.
+#[inline(always)]
+pub(crate) fn word_run(bytes: &[u8]) -> usize
+    ensures value { result ≡ front_run is_plain_in_word bytes.now }
+    ensures within { result ≤ length bytes.now }
+{
+    run_length::<PlainInWord>(bytes)
+}
+
 /// How many bytes at the front leave open what stands open. No token ends with one of them.
 #[inline(always)]
 pub(crate) fn idle_run(mode: Mode, bytes: &[u8]) -> usize
@@ -92,8 +90,8 @@ pub(crate) fn idle_run(mode: Mode, bytes: &[u8]) -> usize
     ensures within { result ≤ length bytes.now }
 {
     match mode {
-        Mode::Between { .. } => run_length::<Blank>(bytes),
-        Mode::InWord { slash: None, .. } => run_length::<PlainInWord>(bytes),
+        Mode::Between { .. } => blank_run(bytes),
+        Mode::InWord { slash: None, .. } => word_run(bytes),
         Mode::InText { escaped: false, .. } => text_run(bytes),
         _ => 0,
     }

@@ -78,10 +78,12 @@ fn amount_of(kind: TokenKind, size: u32) -> u32
     ensures size { size_by (code_of kind) result ≡ size }
     ensures few { size < 2 ^ 28 → result < 2 ^ 28 }
 {
+    if let TokenKind::Brace(byte) = kind {
+        return u32::from(byte);
+    }
     match kind {
         TokenKind::Word | TokenKind::Text => size,
-        TokenKind::Brace(byte) => u32::from(byte),
-        TokenKind::Colon | TokenKind::Semicolon | TokenKind::Comma => 0,
+        _ => 0,
     }
 }
 

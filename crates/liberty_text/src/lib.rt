@@ -5,10 +5,12 @@
 mod bytes_after;
 mod class;
 mod decimal;
+mod gaps;
 mod idle;
 mod kept;
 mod laws;
 mod number;
+mod passing;
 mod scanner;
 mod text;
 mod time;

@@ -95,9 +95,18 @@ impl Scanner {
         self.tokens.as_slice()
     }
 
+    /// This much stands open from here on.
+    #[inline(always)]
+    pub(crate) fn set_mode(&mut self, mode: Mode)
+        ensures mode { self.new.mode ≡ mode }
+        ensures tokens { self.new.tokens.items ≡ self.old.tokens.items }
+    {
+        self.mode = mode;
+    }
+
     /// Keeps a token.
     #[inline(always)]
-    fn push(
+    pub(crate) fn push(
         &mut self,
         kind: TokenKind,
         at: usize,
@@ -111,14 +120,19 @@ impl Scanner {
         Ok(())
     }
 
-    /// A byte between tokens.
+    /// What stands open behind a byte between tokens. Where the byte is a token, it is kept.
     #[inline(always)]
-    fn open(&mut self, line_before: bool, at: usize, byte: u8) -> Result<(), AllocError>
+    pub(crate) fn opened(
+        &mut self,
+        line_before: bool,
+        at: usize,
+        byte: u8,
+    ) -> Result<Mode, AllocError>
         requires { at + 1 < 2 ^ 64 }
-        ensures mode { OnOk result (self.new.mode ≡ (opened line_before at byte).0) }
+        ensures mode { IfOk result (λ mode. mode ≡ (opened line_before at byte).0) }
         ensures tokens { OnOk result (self.new.tokens.items ≡ self.old.tokens.items ++ (opened line_before at byte).1) }
     {
-        self.mode = match class_of(byte) {
+        Ok(match class_of(byte) {
             Class::LineEnd => Mode::Between { line_before: true },
             Class::Blank => Mode::Between { line_before },
             Class::Mark(kind) => {
@@ -137,7 +151,17 @@ impl Scanner {
                 slash: slash_at(at, byte),
             },
             Class::Bad => Mode::Stopped { at },
-        };
+        })
+    }
+
+    /// A byte between tokens.
+    #[inline(always)]
+    fn open(&mut self, line_before: bool, at: usize, byte: u8) -> Result<(), AllocError>
+        requires { at + 1 < 2 ^ 64 }
+        ensures mode { OnOk result (self.new.mode ≡ (opened line_before at byte).0) }
+        ensures tokens { OnOk result (self.new.tokens.items ≡ self.old.tokens.items ++ (opened line_before at byte).1) }
+    {
+        self.mode = self.opened(line_before, at, byte)?;
         Ok(())
     }
 
@@ -277,9 +301,8 @@ impl Scanner {
         Ok(bytes.len())
     }
 
-    /// Reads bytes that begin at an offset, up to the first one with which a brace of a group or a semicolon ends, and that one
-    /// too. How many they are: at least one, where there are any.
-    pub fn step_to_mark(&mut self, at: usize, bytes: &[u8]) -> Result<usize, AllocError>
+    /// Reads bytes as `step_to_mark` does, whatever stands open before them.
+    fn open_to_mark(&mut self, at: usize, bytes: &[u8]) -> Result<usize, AllocError>
         requires { at + length bytes.now < 2 ^ 64 }
         ensures count { IfOk result (λ count. count ≤ length bytes.now) }
         ensures some { IfOk result (λ count. 0 < length bytes.now → 0 < count) }
@@ -303,6 +326,56 @@ impl Scanner {
             }
         }
         Ok(bytes.len())
+    }
+
+    /// Reads bytes as `step_to_mark` does, where nothing stands open before them, up to where something other does.
+    fn between_to_mark(
+        &mut self,
+        line_before: bool,
+        at: usize,
+        bytes: &[u8],
+    ) -> Result<usize, AllocError>
+        requires between { self.old.mode ≡ Between line_before }
+        requires fits { at + length bytes.now < 2 ^ 64 }
+        ensures count { IfOk result (λ count. count ≤ length bytes.now) }
+        ensures some { IfOk result (λ count. 0 < length bytes.now → 0 < count) }
+        ensures mode { IfOk result (λ count. self.new.mode ≡ mode_behind self.old.mode at (take count bytes.now)) }
+        ensures tokens { IfOk result (λ count. self.new.tokens.items ≡ self.old.tokens.items
+            ++ tokens_ended self.old.mode at (take count bytes.now)) }
+        ensures none_before { IfOk result (λ count. (n : ℕ) → n < count
+            → has_mark (tokens_ended self.old.mode at (take n bytes.now)) ≡ false) }
+    {
+        let mut line_before = line_before;
+        let mut done = 0;
+        while done < bytes.len() {
+            let (_, left) = bytes.split_at(done);
+            let passed = self.pass_between(line_before, at + done, left)?;
+            done += passed.count;
+            if !passed.goes_on {
+                return Ok(done);
+            }
+            line_before = passed.line_before;
+        }
+        self.mode = Mode::Between { line_before };
+        Ok(done)
+    }
+
+    /// Reads bytes that begin at an offset, up to the first one with which a brace of a group or a semicolon ends, and that one
+    /// too, or fewer. How many they are: at least one, where there are any.
+    pub fn step_to_mark(&mut self, at: usize, bytes: &[u8]) -> Result<usize, AllocError>
+        requires { at + length bytes.now < 2 ^ 64 }
+        ensures count { IfOk result (λ count. count ≤ length bytes.now) }
+        ensures some { IfOk result (λ count. 0 < length bytes.now → 0 < count) }
+        ensures mode { IfOk result (λ count. self.new.mode ≡ mode_behind self.old.mode at (take count bytes.now)) }
+        ensures tokens { IfOk result (λ count. self.new.tokens.items ≡ self.old.tokens.items
+            ++ tokens_ended self.old.mode at (take count bytes.now)) }
+        ensures none_before { IfOk result (λ count. (n : ℕ) → n < count
+            → has_mark (tokens_ended self.old.mode at (take n bytes.now)) ≡ false) }
+    {
+        match self.mode {
+            Mode::Between { line_before } => self.between_to_mark(line_before, at, bytes),
+            _ => self.open_to_mark(at, bytes),
+        }
     }
 
     /// What there is where the bytes end, at an offset.

@@ -1,6 +1,6 @@
 use Rattle.std.proofs.Common.{◌-◌, ◌≤◌, length}
 use Rattle.liberty_text.proofs.Marked.{NoneMarked}
-use Rattle.liberty_text.proofs.scanner.Scanner.step_to_mark.Given as goal
+use Rattle.liberty_text.proofs.scanner.Scanner.open_to_mark.Given as goal
 
 abbrev pub invariant-loop-done : goal.invariant-loop-done
 invariant-loop-done l = record {

@@ -3,7 +3,7 @@ use Rattle.std.proofs.lemmas.List.{length-drop}
 use Rattle.liberty_text.specs.Idle.{idle_run}
 use Rattle.liberty_text.proofs.Runs.{mode_by}
 use Rattle.liberty_text.proofs.Marked.{tokens_by, marked_turn, idle_marked, step_unmarked}
-use Rattle.liberty_text.proofs.scanner.Scanner.step_to_mark.Goals as goal
+use Rattle.liberty_text.proofs.scanner.Scanner.open_to_mark.Goals as goal
 
 pub returns-then-is_mark_byte-clause-mode : goal.returns-then-is_mark_byte-clause-mode
 returns-then-is_mark_byte-clause-mode c =

@@ -1,0 +1,14 @@
+use Rattle.std.proofs.Common.{◌-◌, ◌≤◌, length}
+use Rattle.liberty_text.specs.declared.scanner.Mode.TheVariants.{Between}
+use Rattle.liberty_text.proofs.Marked.{NoneMarked}
+use Rattle.liberty_text.proofs.scanner.Scanner.between_to_mark.Given as goal
+
+abbrev pub invariant-loop-done : goal.invariant-loop-done
+invariant-loop-done l = record {
+  read :
+      NoneMarked l.initial.self.mode l.at l.bytes l.done (Between l.line_before) l.initial.self.tokens.items l.self.tokens.items;
+  within : l.done ≤ length l.bytes;
+}
+
+abbrev pub decreases-loop-done : goal.decreases-loop-done
+decreases-loop-done l = length l.bytes - l.done

@@ -48,9 +48,18 @@ impl<T: Copy, const N: usize> Few<T, N> {
         requires { length self.old + length entries.now ≤ N }
         ensures { self.new ≡ self.old ++ entries.now }
     {
-        for entry in entries {
-            self.push(*entry);
-        }
+        let start = self.len;
+        let end = start + entries.len();
+        let all = &mut self.entries[..];
+        all[start..end].copy_from_slice(entries);
+        self.len = end;
+    }
+
+    /// Takes all entries away.
+    pub fn clear(&mut self)
+        ensures { self.new ≡ [] }
+    {
+        self.len = 0;
     }
 
     /// The entries in order.

@@ -102,7 +102,6 @@ impl<'a> CellSim for LibertySim<'a> {
     fn step(&mut self, at: u64, pin: usize, to: Trit) {
         let change = Change { at, pin, to };
         let from = self.inputs.as_slice()[pin];
-        let times = self.times.as_slice()[pin].stamped(at, from, to);
         self.inputs.set(pin, to);
         let inputs = self.inputs.as_slice();
         report_all(
@@ -123,6 +122,7 @@ impl<'a> CellSim for LibertySim<'a> {
         };
         let steps = &self.known.get().steps;
         change_states(self.cell, steps, &seen, &mut self.states);
+        let times = self.times.as_slice()[pin].stamped(at, from, to);
         self.times.set(pin, times);
         let places = &self.known.get().places;
         self.kept.forget(places, pin);

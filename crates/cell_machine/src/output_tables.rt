@@ -1,5 +1,5 @@
 //! The values of a cell's outputs by tables of their functions.
-ghost use Rattle.std.specs.Prelude.{◌≡◌, ◌<◌, ◌≤◌, length, map, slice_get, Some, IfOk};
+ghost use Rattle.std.specs.Prelude.{◌≡◌, ◌+◌, ◌<◌, ◌≤◌, ◌++◌, length, map, slice_get, Some, IfOk};
 ghost use Rattle.trit_cubes.specs.Sets.{AreValuesOf};
 ghost use Rattle.cell_machine.specs.declared.outputs.OutputPin.{OutputPin as OutputPinOf};
 ghost use Rattle.cell_machine.specs.CellData.{data_of};
@@ -58,21 +58,20 @@ pub fn output_tables(alloc: Global, cell: &Cell) -> Result<Items<Items<Trit>>, A
     Ok(tables)
 }
 
-/// The values of the sources of an output, of which there are at most ten.
-fn source_values(
+/// Adds the values of the sources of an output, of which there are at most ten.
+fn add_values(
+    values: &mut Few<Trit, 10>,
     pins: &[Pin],
     inputs: &[Trit],
     states: &[Trit],
     sources: &[Source],
-) -> Few<Trit, 10>
-    requires { length sources.now ≤ 10 }
-    ensures { result ≡ map (source_value_of pins.now inputs.now states.now) sources.now }
+)
+    requires { length values.old + length sources.now ≤ 10 }
+    ensures { values.new ≡ values.old ++ map (source_value_of pins.now inputs.now states.now) sources.now }
 {
-    let mut values = Few::new(Trit::Unknown);
     for source in sources {
         values.push(source_value(pins, inputs, states, *source));
     }
-    values
 }
 
 /// The value of a source.
@@ -99,6 +98,7 @@ pub fn output_value(
         → result ≡ output_value_of cell.now.pins cell.now.groups inputs.now states.now pin }
 {
     let sources = cell.output_pin(output).support.as_slice();
-    let places = source_values(cell.pins.as_slice(), inputs, states, sources);
+    let mut places = Few::new(Trit::Unknown);
+    add_values(&mut places, cell.pins.as_slice(), inputs, states, sources);
     tabled(entry(tables, output).as_slice(), places.as_slice())
 }

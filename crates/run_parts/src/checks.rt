@@ -1,8 +1,9 @@
 //! Whether the timing checks of a model report, by the times that they keep, in both languages.
-ghost use Rattle.std.specs.Prelude.{◌≡◌, ◌<◌, ◌&&◌, length, nat_eq, replicate, false};
+ghost use Rattle.std.specs.Prelude.{◌≡◌, ◌<◌, ◌&&◌, length, nat_eq, replicate, slice_set, slice_index_or, false};
 ghost use Rattle.cell_machine.specs.Each.{each};
 ghost use Rattle.cell_machine.specs.Edges.{moves};
 ghost use Rattle.cell_machine.specs.Report.{happens};
+ghost use Rattle.cell_machine.specs.Times.{no_times};
 ghost use Rattle.run_parts.specs.PortNumbers.{input_event, input_number};
 ghost use Rattle.run_parts.specs.CheckTimes.{stamped, opened, reports_where};
 
@@ -45,21 +46,39 @@ fn happens(seen: &InputChange, event: Event) -> bool
     counts(is_of(seen, event.pin), event.edge, seen)
 }
 
-/// The times that a check keeps after a change: one of another port than those of its events leaves them as they are.
-#[tactic(auto, using(crate::proofs::StampLemmas::unstamped))]
-fn stamped(seen: &InputChange, check: &TimingCheck, stamps: Times) -> Times
+/// The times that a check keeps after a change, which is of the ports of its first and of its second event where this is said.
+fn stamped(
+    is_first: bool,
+    is_second: bool,
+    seen: &InputChange,
+    check: &TimingCheck,
+    stamps: Times,
+) -> Times
+    requires first { is_first ≡ nat_eq seen.now.change.pin (input_number seen.now.ports.list.now check.now.first.pin) }
+    requires second { is_second ≡ nat_eq seen.now.change.pin (input_number seen.now.ports.list.now check.now.second.pin) }
     ensures { result ≡ stamped seen.now.ports.list.now seen.now.from seen.now.change check.now stamps }
 {
-    let is_first = is_of(seen, check.first.pin);
-    let is_second = is_of(seen, check.second.pin);
-    if !is_first && !is_second {
-        return stamps;
-    }
     let at = seen.change.at;
     Times {
         event: renewed(counts(is_first, check.first.edge, seen), at, stamps.event),
         rise: renewed(counts(is_second, Edge::Rise, seen), at, stamps.rise),
         fall: renewed(counts(is_second, Edge::Fall, seen), at, stamps.fall),
+    }
+}
+
+/// Takes the kept times of the check with this number over a change: one of another port than those of its events leaves them as
+/// they are.
+#[tactic(auto, using(crate::proofs::StampLemmas::left_unstamped))]
+fn stamp(seen: &InputChange, check: &TimingCheck, stamps: &mut Items<Times>, i: usize)
+    requires { i < length stamps.old }
+    ensures { stamps.new ≡ slice_set stamps.old i
+        (stamped seen.now.ports.list.now seen.now.from seen.now.change check.now (slice_index_or stamps.old i no_times)) }
+{
+    let is_first = is_of(seen, check.first.pin);
+    let is_second = is_of(seen, check.second.pin);
+    if is_first || is_second {
+        let kept = stamps.as_slice()[i];
+        stamps.set(i, stamped(is_first, is_second, seen, check, kept));
     }
 }
 
@@ -122,8 +141,7 @@ pub fn stamp_all(seen: &InputChange, checks: &[TimingCheck], stamps: &mut Items<
     ensures len { length stamps.new ≡ length stamps.old }
 {
     for i in 0..stamps.len() {
-        let kept = stamps.as_slice()[i];
-        stamps.set(i, stamped(seen, &checks[i], kept));
+        stamp(seen, &checks[i], stamps, i);
     }
 }
 

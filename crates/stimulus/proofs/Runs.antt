@@ -7,7 +7,7 @@ use Rattle.std.proofs.lemmas.List.Elements.{All-get_or}
 use Rattle.text_io.specs.declared.outside.Failed.{Failed}
 use Rattle.text_io.specs.declared.slots.OutSlot.TheVariants.{Report}
 use Rattle.text_io.specs.declared.stop.Stop.{Stop}
-use Rattle.text_io.specs.Desk.{DeskState, wrote, WritesText}
+use Rattle.text_io.specs.Desk.{DeskState, wrote, IsPrefix, WritesText}
 use Rattle.text_io.specs.Line.{Gathers, StopsWithin, PutsText}
 use Rattle.text_io.proofs.Wrote.{wrote-nil, wrote_more, IsPrefix-append, IsPrefix-front, flat_map-split}
 use Rattle.text_io.proofs.LineLaws.{Gathers-Gathers, Gathers-stops, StopsWithin-more, flushes}
@@ -107,31 +107,78 @@ flushed stands shown n s now next held xs i whole r over g w =
     ∙ (ap (λ ys. g.done ++ texts_from shown g.history ys) (sym (drop_all i xs over)) ∙ g.joined) in
     subst (λ t. WritesText s next Report t r) joined (flushes s now next Report held g.done r g.gathered w)
 
--- What waits, and what is written of it.
+-- What waits, and what is put behind it.
 
-pub waits : (s : DeskState) (w : List ℕ) → Gathers s s Report [] w w
-waits s w = record { written = []; state = sym (wrote-nil s Report); joined = refl }
+-- a text was put behind what waits, and nothing was written
+pub appended : {T : Type 0} (s : DeskState) (l a n : List ℕ) (x : T) → n ≡ l ++ a → PutsText {T = T} s s Report l a n (Ok x)
+appended s l a n x e = record { whole = record { written = []; state = sym (wrote-nil s Report); joined = sym e }; part = tt }
 
-pub stopped_in : {S T : Type 0} (s t : DeskState) (w n : List ℕ) (y : Failed) (r : Result T Failed)
-    → WritesText {T = S} s t Report w (Err y) → IsErr r → PutsText s t Report [] w n r
-stopped_in s t w n y (Ok x) p e = absurd cc
-stopped_in s t w n y (Err z) p e = record { whole = tt; part = record { part = p.part.0; front = p.part.1; state = p.part.2 } }
+-- what waits was written
+pub emptied : {S T : Type 0} (s t : DeskState) (l n : List ℕ) (x : S) (y : T) → n ≡ [] → WritesText {T = S} s t Report l (Ok x)
+    → PutsText {T = T} s t Report l [] n (Ok y)
+emptied s t l n x y e w =
+    record { whole = record { written = l; state = w.whole; joined = ap (λ m. l ++ m) (sym e) }; part = tt }
 
--- a text was appended to what waits, and then what is full was written
-pub put_full : {S T : Type 0} (s t : DeskState) (l m a n : List ℕ) (x : S) (y : T) → m ≡ l ++ a
-    → PutsText {T = S} s t Report [] m n (Ok x) → PutsTrace {T = T} s t l a n (Ok y)
-put_full s t l m a n x y e p =
-    record { whole = record { written = p.whole.written; state = p.whole.state; joined = sym e ∙ p.whole.joined }; part = tt }
+pub not_emptied : {S T : Type 0} (s t : DeskState) (l n : List ℕ) (y : Failed) (r : Result T Failed)
+    → WritesText {T = S} s t Report l (Err y) → IsErr r → PutsText s t Report l [] n r
+not_emptied s t l n y (Ok x) w e = absurd cc
+not_emptied s t l n y (Err z) w e = record {
+  whole = tt;
+  part = record {
+    part = w.part.0;
+    front = subst (IsPrefix w.part.0) (sym (append-nil l)) w.part.1;
+    state = w.part.2;
+  };
+}
 
-pub full_stops : {S T : Type 0} (s t : DeskState) (l m a n k : List ℕ) (y : Failed) (r : Result T Stop) → m ≡ l ++ a
-    → PutsText {T = S} s t Report [] m n (Err y) → IsErr r → PutsTrace s t l a k r
-full_stops s t l m a n k y (Ok x) e p f = absurd cc
-full_stops s t l m a n k y (Err z) e p f = record { whole = tt; part = subst (StopsWithin s t Report) e p.part }
+-- where nothing waits a text was written
+pub written_alone : {T : Type 0} (s t : DeskState) (l a b n : List ℕ) (r : Result T Failed) → l ≡ [] → n ≡ l → a ≡ b
+    → WritesText s t Report a r → PutsText s t Report l b n r
+written_alone s t l a b n (Ok x) e f g w = record {
+  whole = record {
+    written = a;
+    state = w.whole;
+    joined = ap (λ m. m ++ b) e ∙ (sym g ∙ (sym (append-nil a) ∙ ap (λ m. a ++ m) (sym (f ∙ e))));
+  };
+  part = tt;
+}
+written_alone s t l a b n (Err y) e f g w = record {
+  whole = tt;
+  part = record {
+    part = w.part.0;
+    front = subst (IsPrefix w.part.0) (g ∙ ap (λ m. m ++ b) (sym e)) w.part.1;
+    state = w.part.2;
+  };
+}
 
--- three texts, appended one behind another
-pub three_behind : (l m n o a b c : List ℕ) → m ≡ l ++ a → n ≡ m ++ b → o ≡ n ++ c → o ≡ l ++ (a ++ (b ++ c))
-three_behind l m n o a b c e f g =
-    g ∙ (ap (λ w. w ++ c) f ∙ (ap (λ w. (w ++ b) ++ c) e ∙ (append_assoc (l ++ a) b c ∙ append_assoc l a (b ++ c))))
+-- a text was put, as a trace's
+pub put_whole : {S T : Type 0} (s t : DeskState) (l a b n : List ℕ) (x : S) (y : T) → a ≡ b
+    → PutsText {T = S} s t Report l a n (Ok x) → PutsTrace {T = T} s t l b n (Ok y)
+put_whole s t l a b n x y e p = record { whole = subst (λ u. Gathers s t Report l u n) e p.whole; part = tt }
+
+pub put_stopped : {S T : Type 0} (s t : DeskState) (l a b n k : List ℕ) (y : Failed) (r : Result T Stop) → a ≡ b
+    → PutsText {T = S} s t Report l a n (Err y) → IsErr r → PutsTrace s t l b k r
+put_stopped s t l a b n k y (Ok x) e p f = absurd cc
+put_stopped s t l a b n k y (Err z) e p f =
+    record { whole = tt; part = subst (λ u. StopsWithin s t Report (l ++ u)) e p.part }
+
+-- after one text, another
+pub trace_on : {T : Type 0} (s t u : DeskState) (l m n a b : List ℕ) (r : Result T Stop) → Gathers s t Report l a m
+    → PutsTrace t u m b n r → PutsTrace s u l (a ++ b) n r
+trace_on s t u l m n a b (Ok x) p q = record { whole = Gathers-Gathers s t u Report l m n a b p q.whole; part = tt }
+trace_on s t u l m n a b (Err y) p q = record { whole = tt; part = Gathers-stops s t u Report l m a b p q.part }
+
+-- a stop within the first of two texts
+pub trace_put_stops : {S T : Type 0} (s t : DeskState) (l m n a b : List ℕ) (y : Stop) (r : Result T Stop)
+    → PutsTrace {T = S} s t l a m (Err y) → IsErr r → PutsTrace s t l (a ++ b) n r
+trace_put_stops s t l m n a b y (Ok x) p e = absurd cc
+trace_put_stops s t l m n a b y (Err z) p e = record { whole = tt; part = StopsWithin-more s t Report l a b p.part }
+
+-- the same of one text
+pub stays_stopped : {S T : Type 0} (s t : DeskState) (l a n k : List ℕ) (y : Stop) (r : Result T Stop)
+    → PutsTrace {T = S} s t l a n (Err y) → IsErr r → PutsTrace s t l a k r
+stays_stopped s t l a n k y (Ok x) p e = absurd cc
+stays_stopped s t l a n k y (Err z) p e = record { whole = tt; part = p.part }
 
 -- The text of one simulator.
 

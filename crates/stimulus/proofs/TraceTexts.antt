@@ -7,7 +7,9 @@ use Rattle.std.proofs.lemmas.Option.{get_or_from_slice_get}
 use Rattle.cell_machine.specs.declared.changes.Change.{Change}
 use Rattle.stimulus.specs.declared.drives.Drive.{Drive}
 use Rattle.stimulus.specs.declared.drives.Drive.TheVariants.{Unknown}
+use Rattle.stimulus.specs.declared.ports.Ports.{Ports}
 use Rattle.stimulus.specs.DriveLines.{DriveLine}
+use Rattle.stimulus.specs.Comparison.{tagged_thrice, lines_text, all_show}
 use Rattle.stimulus.specs.TraceLine.{head_text, output_text, outputs_text, reports_text, shown_text, drive_line_text}
 
 -- an entry and those behind it
@@ -66,13 +68,24 @@ pub behind_tag : (text : List ℕ) (tag : ℕ) (front whole rest : List ℕ)
     → front ≡ text ++ tag ∷ [] → whole ≡ front ++ rest → whole ≡ text ++ tag ∷ rest
 behind_tag text tag front whole rest e f = f ∙ ap (λ t. t ++ rest) e ∙ append_assoc text (tag ∷ []) rest
 
--- a line behind a text, where what stands behind the tag was made in two parts
-pub tagged_parts : (text : List ℕ) (tag : ℕ) (change : Option Change) (inputs outputs : List (List ℕ)) (line : DriveLine)
-    (made front pieces new : List ℕ)
-    → front ≡ made → made ++ pieces ≡ shown_text change inputs outputs line → new ≡ text ++ tag ∷ (front ++ pieces)
-    → new ≡ text ++ drive_line_text tag change inputs outputs line
-tagged_parts text tag change inputs outputs line made front pieces new same is e =
-    tagged text tag change inputs outputs line (made ++ pieces) new is (e ∙ ap (λ t. text ++ tag ∷ (t ++ pieces)) same)
+-- a line whose rest was made in two parts
+pub tagged_parts : (tag : ℕ) (change : Option Change) (inputs outputs : List (List ℕ)) (line : DriveLine)
+    (front made pieces : List ℕ)
+    → front ≡ made → made ++ pieces ≡ shown_text change inputs outputs line
+    → tag ∷ (front ++ pieces) ≡ drive_line_text tag change inputs outputs line
+unfolding drive_line_text
+tagged_parts tag change inputs outputs line front made pieces same is =
+    ap (λ t. tag ∷ (t ++ pieces)) same ∙ ap (λ t. tag ∷ t) is
+
+-- the lines of three that show the same, whose rest was made in two parts
+pub three_tagged : (change : Option Change) (ports : Ports) (line : DriveLine) (front made pieces : List ℕ)
+    → front ≡ made → made ++ pieces ≡ shown_text change ports.inputs ports.outputs line
+    → tagged_thrice (front ++ pieces) ≡ lines_text change ports (all_show line)
+unfolding lines_text
+three_tagged change ports line front made pieces same is =
+    let with_tag : (tag : ℕ) → tag ∷ (front ++ pieces) ≡ drive_line_text tag change ports.inputs ports.outputs line =
+    λ tag. tagged_parts tag change ports.inputs ports.outputs line front made pieces same is in
+    λ i. with_tag 76 i ++ (with_tag 86 i ++ with_tag 72 i)
 
 -- a text that was empty is what was put behind it
 pub alone : (old line new : List ℕ) → old ≡ [] → new ≡ old ++ line → new ≡ line

@@ -38,6 +38,10 @@ lines_text change ports lines =
     ++ (drive_line_text 86 change ports.inputs ports.outputs lines.verilog
     ++ drive_line_text 72 change ports.inputs ports.outputs lines.vital)
 
+-- a line with each tag, of which this is the rest
+abbrev pub tagged_thrice : List ℕ → List ℕ
+tagged_thrice shown = 76 ∷ shown ++ (86 ∷ shown ++ 72 ∷ shown)
+
 -- no two of the three lines differ: the first one is that of each other
 abbrev pub are_alike : Lines → Bool
 are_alike lines = same_line lines.liberty lines.verilog && same_line lines.liberty lines.vital

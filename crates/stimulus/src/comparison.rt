@@ -5,18 +5,20 @@ ghost use Rattle.cell_machine.specs.declared.changes.Change.{Change as ChangeOf}
 ghost use Rattle.cell_machine.specs.History.{IsProperFrom, ComesAfter};
 ghost use Rattle.text_io.specs.declared.slots.OutSlot.TheVariants.{Report};
 ghost use Rattle.text_io.specs.Desk.{WritesText, HasCause, StopsWithCause};
+ghost use Rattle.text_io.specs.Line.{PutsText};
 ghost use Rattle.stimulus.specs.Comparison.{three_lines, all_show, HavePorts, are_alike, lines_text, compared_text, first_of};
-ghost use Rattle.stimulus.specs.Comparison.{first_unlike, verdict_text, NoneUnlikeIsEqual};
+ghost use Rattle.stimulus.specs.Comparison.{first_unlike, tagged_thrice, verdict_text, NoneUnlikeIsEqual};
 ghost use Rattle.stimulus.specs.Writes.{WritesTrace, PutsTrace};
 
 use crate::differences::same_line;
 use crate::line_pieces::Pieces;
-use crate::printing::write_full;
+use crate::printing::put_line;
 use crate::trace::push_shown;
-use crate::{Ports, TraceSim, append_trace_line};
+use crate::waiting::{Waiting, put_tagged};
+use crate::{Ports, TraceSim};
 use cell_machine::{Change, Few};
 use itoa::Buffer;
-use std::alloc::{AllocError, Global};
+use std::alloc::Global;
 use text_io::{Desk, Failed, OutSlot, Stop, write_pieces, write_whole};
 
 /// Simulators of a cell, of its Verilog module and of its VITAL entity.
@@ -85,7 +87,7 @@ pub fn write_comparison<D: Desk, L: TraceSim, V: TraceSim, H: TraceSim>(
         (three_lines (L.machine three.old.liberty) (V.machine three.old.verilog) (H.machine three.old.vital))) }
     ensures cause { StopsWithCause (D.faults desk.old) (D.faults desk.new) result }
 {
-    let mut waiting = Vec::new(alloc);
+    let mut waiting = Few::new(0);
     let mut text = Vec::new(alloc);
     let alike = put_lines(desk, &mut waiting, &mut text, None, ports, three)?;
     let mut first = unlike(alike, None, 0);
@@ -111,11 +113,10 @@ fn unlike(alike: bool, first: Option<usize>, number: usize) -> Option<usize>
     }
 }
 
-/// Puts the lines that the three show behind the bytes that wait, and answers whether they are alike. Where they are, one is
-/// made in the text for all, since only their tags differ, and else each by itself.
+/// Puts the lines that the three show behind the bytes that wait, and answers whether they are alike.
 fn put_lines<D: Desk, L: TraceSim, V: TraceSim, H: TraceSim>(
     desk: &mut D,
-    waiting: &mut Vec<u8>,
+    waiting: &mut Waiting,
     text: &mut Vec<u8>,
     change: Option<&Change>,
     ports: &Ports,
@@ -124,61 +125,64 @@ fn put_lines<D: Desk, L: TraceSim, V: TraceSim, H: TraceSim>(
     requires ports { HavePorts ports.now (L.machine three.now.liberty) (V.machine three.now.verilog) (H.machine three.now.vital) }
     requires pin { IfSome change (λ change. change.now.pin < length ports.now.inputs) }
     ensures text { (h : List ChangeOf) → L.stands three.now.liberty h → V.stands three.now.verilog h → H.stands three.now.vital h
-        → PutsTrace (D.state desk.old) (D.state desk.new) waiting.old.items
+        → PutsTrace (D.state desk.old) (D.state desk.new) waiting.old
         (lines_text (option_copied change.entry) ports.now
-        (three_lines (L.machine three.now.liberty) (V.machine three.now.verilog) (H.machine three.now.vital) h)) waiting.new.items
-        result }
+        (three_lines (L.machine three.now.liberty) (V.machine three.now.verilog) (H.machine three.now.vital) h)) waiting.new result }
     ensures alike { IfOk result (λ alike. (h : List ChangeOf) → L.stands three.now.liberty h → V.stands three.now.verilog h
         → H.stands three.now.vital h → alike ≡ are_alike
         (three_lines (L.machine three.now.liberty) (V.machine three.now.verilog) (H.machine three.now.vital) h)) }
     ensures cause { StopsWithCause (D.faults desk.old) (D.faults desk.new) result }
 {
     let alike = three.are_alike();
-    append_lines(alike, waiting, text, change, ports, three)?;
-    write_full(desk, waiting)?;
+    put_three(desk, waiting, text, alike, change, ports, three)?;
     Ok(alike)
 }
 
-/// Appends the lines that the three show, which are alike where this is said.
-fn append_lines<L: TraceSim, V: TraceSim, H: TraceSim>(
-    alike: bool,
-    waiting: &mut Vec<u8>,
+/// Puts the lines that the three show, which are alike where this is said. Where they are, one is made for all, since only their
+/// tags differ, and else each by itself.
+#[inline(always)]
+fn put_three<D: Desk, L: TraceSim, V: TraceSim, H: TraceSim>(
+    desk: &mut D,
+    waiting: &mut Waiting,
     text: &mut Vec<u8>,
+    alike: bool,
     change: Option<&Change>,
     ports: &Ports,
     three: &ThreeSimulators<L, V, H>,
-) -> Result<(), AllocError>
+) -> Result<(), Stop>
     requires ports { HavePorts ports.now (L.machine three.now.liberty) (V.machine three.now.verilog) (H.machine three.now.vital) }
     requires pin { IfSome change (λ change. change.now.pin < length ports.now.inputs) }
     requires alike { (h : List ChangeOf) → L.stands three.now.liberty h → V.stands three.now.verilog h
         → H.stands three.now.vital h → alike ≡ are_alike
         (three_lines (L.machine three.now.liberty) (V.machine three.now.verilog) (H.machine three.now.vital) h) }
-    ensures { OnOk result ((h : List ChangeOf) → L.stands three.now.liberty h → V.stands three.now.verilog h
-        → H.stands three.now.vital h → waiting.new.items ≡ waiting.old.items
-        ++ lines_text (option_copied change.entry) ports.now
-        (three_lines (L.machine three.now.liberty) (V.machine three.now.verilog) (H.machine three.now.vital) h)) }
+    ensures text { (h : List ChangeOf) → L.stands three.now.liberty h → V.stands three.now.verilog h → H.stands three.now.vital h
+        → PutsTrace (D.state desk.old) (D.state desk.new) waiting.old
+        (lines_text (option_copied change.entry) ports.now
+        (three_lines (L.machine three.now.liberty) (V.machine three.now.verilog) (H.machine three.now.vital) h)) waiting.new result }
+    ensures cause { StopsWithCause (D.faults desk.old) (D.faults desk.new) result }
 {
     if alike {
-        return append_common_line(waiting, text, change, ports, &three.liberty);
+        return put_common_line(desk, waiting, text, change, ports, &three.liberty);
     }
-    append_own_lines(waiting, change, ports, three)
+    put_own_lines(desk, waiting, text, change, ports, three)
 }
 
-/// Appends the lines of three that show what this one shows: one is made in the text, and appended under each tag.
-#[tactic(auto, unfolding(crate::specs::Comparison::lines_text))]
-fn append_common_line<S: TraceSim>(
-    waiting: &mut Vec<u8>,
+/// Puts the lines of three that show what this one shows: one is made, and put under each tag.
+#[inline(always)]
+fn put_common_line<D: Desk, S: TraceSim>(
+    desk: &mut D,
+    waiting: &mut Waiting,
     text: &mut Vec<u8>,
     change: Option<&Change>,
     ports: &Ports,
     sim: &S,
-) -> Result<(), AllocError>
+) -> Result<(), Stop>
     requires inputs { length ports.now.inputs ≡ (S.machine sim.now).inputs }
     requires outputs { length ports.now.outputs ≡ (S.machine sim.now).outputs }
     requires pin { IfSome change (λ change. change.now.pin < (S.machine sim.now).inputs) }
-    ensures { OnOk result ((h : List ChangeOf) → S.stands sim.now h
-        → waiting.new.items ≡ waiting.old.items
-        ++ lines_text (option_copied change.entry) ports.now (all_show ((S.machine sim.now).line h))) }
+    ensures text { (h : List ChangeOf) → S.stands sim.now h → PutsTrace (D.state desk.old) (D.state desk.new) waiting.old
+        (lines_text (option_copied change.entry) ports.now (all_show ((S.machine sim.now).line h))) waiting.new result }
+    ensures cause { StopsWithCause (D.faults desk.old) (D.faults desk.new) result }
 {
     let mut pieces = Few::new(0);
     text.clear();
@@ -190,60 +194,47 @@ fn append_common_line<S: TraceSim>(
         &ports.outputs,
         sim,
     )?;
-    append_tagged(waiting, b'L', text.as_slice(), &pieces)?;
-    append_tagged(waiting, b'V', text.as_slice(), &pieces)?;
-    append_tagged(waiting, b'H', text.as_slice(), &pieces)?;
+    put_tags(desk, waiting, text.as_slice(), &pieces)?;
     Ok(())
 }
 
-/// Appends a line with this tag, of which the rest is a text, mostly empty, and pieces that wait behind it.
+/// Puts a line under each tag, of which the rest is a text, mostly empty, and pieces behind it.
 #[inline(always)]
-fn append_tagged(
-    waiting: &mut Vec<u8>,
-    tag: u8,
+fn put_tags<D: Desk>(
+    desk: &mut D,
+    waiting: &mut Waiting,
     text: &[u8],
     pieces: &Pieces,
-) -> Result<(), AllocError>
-    ensures { OnOk result (waiting.new.items ≡ waiting.old.items ++ tag ∷ (text.now ++ pieces.now)) }
+) -> Result<(), Failed>
+    ensures text { PutsText (D.state desk.old) (D.state desk.new) Report waiting.old (tagged_thrice (text.now ++ pieces.now))
+        waiting.new result }
+    ensures cause { HasCause (D.faults desk.old) (D.faults desk.new) result }
 {
-    waiting.push(tag)?;
-    append_long(waiting, text)?;
-    waiting.extend_from_slice(pieces.as_slice())?;
-    Ok(())
+    put_tagged(desk, waiting, b'L', text, pieces)?;
+    put_tagged(desk, waiting, b'V', text, pieces)?;
+    put_tagged(desk, waiting, b'H', text, pieces)
 }
 
-/// Appends a text that is mostly empty.
-#[inline(always)]
-fn append_long(waiting: &mut Vec<u8>, text: &[u8]) -> Result<(), AllocError>
-    ensures { OnOk result (waiting.new.items ≡ waiting.old.items ++ text.now) }
-{
-    if !text.is_empty() {
-        waiting.extend_from_slice(text)?;
-    }
-    Ok(())
-}
-
-/// Appends the lines that the three show, each made by itself.
-#[tactic(auto, unfolding(crate::specs::Comparison::lines_text))]
-fn append_own_lines<L: TraceSim, V: TraceSim, H: TraceSim>(
-    waiting: &mut Vec<u8>,
+/// Puts the lines that the three show, each made by itself.
+fn put_own_lines<D: Desk, L: TraceSim, V: TraceSim, H: TraceSim>(
+    desk: &mut D,
+    waiting: &mut Waiting,
+    text: &mut Vec<u8>,
     change: Option<&Change>,
     ports: &Ports,
     three: &ThreeSimulators<L, V, H>,
-) -> Result<(), AllocError>
+) -> Result<(), Stop>
     requires ports { HavePorts ports.now (L.machine three.now.liberty) (V.machine three.now.verilog) (H.machine three.now.vital) }
     requires pin { IfSome change (λ change. change.now.pin < length ports.now.inputs) }
-    ensures { OnOk result ((h : List ChangeOf) → L.stands three.now.liberty h → V.stands three.now.verilog h
-        → H.stands three.now.vital h → waiting.new.items ≡ waiting.old.items
-        ++ lines_text (option_copied change.entry) ports.now
-        (three_lines (L.machine three.now.liberty) (V.machine three.now.verilog) (H.machine three.now.vital) h)) }
+    ensures text { (h : List ChangeOf) → L.stands three.now.liberty h → V.stands three.now.verilog h → H.stands three.now.vital h
+        → PutsTrace (D.state desk.old) (D.state desk.new) waiting.old
+        (lines_text (option_copied change.entry) ports.now
+        (three_lines (L.machine three.now.liberty) (V.machine three.now.verilog) (H.machine three.now.vital) h)) waiting.new result }
+    ensures cause { StopsWithCause (D.faults desk.old) (D.faults desk.new) result }
 {
-    let inputs = &ports.inputs;
-    let outputs = &ports.outputs;
-    append_trace_line(waiting, b'L', change, inputs, outputs, &three.liberty)?;
-    append_trace_line(waiting, b'V', change, inputs, outputs, &three.verilog)?;
-    append_trace_line(waiting, b'H', change, inputs, outputs, &three.vital)?;
-    Ok(())
+    put_line(desk, waiting, text, b'L', change, ports, &three.liberty)?;
+    put_line(desk, waiting, text, b'V', change, ports, &three.verilog)?;
+    put_line(desk, waiting, text, b'H', change, ports, &three.vital)
 }
 
 /// Appends to the report the line with which a section of three simulators ends: `equal`, or the number of the first change at

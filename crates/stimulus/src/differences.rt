@@ -1,5 +1,5 @@
 //! Where the traces of two simulators differ.
-ghost use Rattle.std.specs.Prelude.{◌≡◌, [], List, slice_index_or, false};
+ghost use Rattle.std.specs.Prelude.{◌≡◌, ◌&&◌, [], List, slice_index_or, false};
 ghost use Rattle.cell_machine.specs.declared.changes.Change.{Change as ChangeOf};
 ghost use Rattle.cell_machine.specs.History.{IsProperFrom};
 ghost use Rattle.stimulus.specs.DriveLines.{same_drive as same_drive_of, lines_along};
@@ -51,17 +51,21 @@ pub fn same_line<A: TraceSim, B: TraceSim>(left: &A, right: &B) -> bool
     ensures { (g h : List ChangeOf) → A.stands left.now g → B.stands right.now h
         → result ≡ same_line_of ((A.machine left.now).line g) ((B.machine right.now).line h) }
 {
-    same_values(left, right) && same_delays(left, right) && same_reports(left, right)
+    same_outputs(left, right) && same_reports(left, right)
 }
 
-/// Whether the outputs have the same values.
-fn same_values<A: TraceSim, B: TraceSim>(left: &A, right: &B) -> bool
+/// Whether the outputs have the same values and the same delays.
+fn same_outputs<A: TraceSim, B: TraceSim>(left: &A, right: &B) -> bool
     requires { (A.machine left.now).outputs ≡ (B.machine right.now).outputs }
     ensures { (g h : List ChangeOf) → A.stands left.now g → B.stands right.now h
-        → result ≡ same_values_of ((A.machine left.now).line g).values ((B.machine right.now).line h).values }
+        → result ≡ (same_values_of ((A.machine left.now).line g).values ((B.machine right.now).line h).values
+        && same_delays_of ((A.machine left.now).line g).delays ((B.machine right.now).line h).delays) }
 {
     for place in 0..left.outputs() {
         if !same_drive(left.value(place), right.value(place)) {
+            return false;
+        }
+        if !same_delay(left.delay(place), right.delay(place)) {
             return false;
         }
     }
@@ -73,20 +77,6 @@ fn same_drive(one: Drive, other: Drive) -> bool
     ensures { result ≡ same_drive_of one other }
 {
     one == other
-}
-
-/// Whether the outputs have the same delays.
-fn same_delays<A: TraceSim, B: TraceSim>(left: &A, right: &B) -> bool
-    requires { (A.machine left.now).outputs ≡ (B.machine right.now).outputs }
-    ensures { (g h : List ChangeOf) → A.stands left.now g → B.stands right.now h
-        → result ≡ same_delays_of ((A.machine left.now).line g).delays ((B.machine right.now).line h).delays }
-{
-    for place in 0..left.outputs() {
-        if !same_delay(left.delay(place), right.delay(place)) {
-            return false;
-        }
-    }
-    true
 }
 
 /// Whether two delays are the same.

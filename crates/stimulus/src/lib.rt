@@ -23,6 +23,7 @@ mod sections;
 mod times;
 mod trace;
 mod trace_sim;
+mod waiting;
 mod written;
 
 pub use catalog::{Catalog, CellFound, PinFound};
@@ -40,5 +41,5 @@ pub use ports::{PortCatalog, Ports, Standing};
 pub use read::read_stimulus;
 pub use section::write_section;
 pub use sections::Section;
-pub use trace::{append_trace_line, trace_line};
+pub use trace::trace_line;
 pub use trace_sim::TraceSim;

@@ -4,19 +4,17 @@ ghost use Rattle.std.specs.Option.{option_copied};
 ghost use Rattle.cell_machine.specs.declared.changes.Change.{Change as ChangeOf};
 ghost use Rattle.stimulus.specs.DriveLines.{lines_along};
 ghost use Rattle.text_io.specs.declared.slots.OutSlot.TheVariants.{Report};
-ghost use Rattle.text_io.specs.Desk.{HasCause, StopsWithCause};
-ghost use Rattle.text_io.specs.Line.{PutsText};
+ghost use Rattle.text_io.specs.Desk.{StopsWithCause};
 ghost use Rattle.stimulus.specs.TraceLine.{drive_line_text};
 ghost use Rattle.stimulus.specs.TraceText.{trace_text};
 ghost use Rattle.stimulus.specs.Writes.{CanBegin, WritesTrace, PutsTrace};
 
-use crate::{Ports, TraceSim, append_trace_line};
-use cell_machine::Change;
+use crate::trace::push_shown;
+use crate::waiting::{Waiting, put_tagged};
+use crate::{Ports, TraceSim};
+use cell_machine::{Change, Few};
 use std::alloc::Global;
-use text_io::{Desk, Failed, OutSlot, Stop, write_whole};
-
-/// How many bytes of the report wait before they are written.
-const ROOM: usize = 16_384;
+use text_io::{Desk, OutSlot, Stop, write_whole};
 
 /// Gives the changes to a simulator that stands at its start, and appends the lines of its trace to the report, one for
 /// the start and one for each change, each with this tag and the names of these ports.
@@ -36,20 +34,22 @@ pub(crate) fn write_trace<D: Desk, S: TraceSim>(
         (trace_text tag ports.now changes.now (lines_along (S.machine sim.old).line changes.now)) result }
     ensures cause { StopsWithCause (D.faults desk.old) (D.faults desk.new) result }
 {
-    let mut waiting = Vec::new(alloc);
-    put_line(desk, &mut waiting, tag, None, ports, sim)?;
+    let mut waiting = Few::new(0);
+    let mut text = Vec::new(alloc);
+    put_line(desk, &mut waiting, &mut text, tag, None, ports, sim)?;
     for change in changes {
         sim.step(change.at, change.pin, change.to);
-        put_line(desk, &mut waiting, tag, Some(change), ports, sim)?;
+        put_line(desk, &mut waiting, &mut text, tag, Some(change), ports, sim)?;
     }
     write_whole(desk, OutSlot::Report, waiting.as_slice())?;
     Ok(())
 }
 
-/// Puts the line that the simulator shows behind the bytes that wait.
-fn put_line<D: Desk, S: TraceSim>(
+/// Puts the line that a simulator shows behind the bytes that wait. The text takes what of it is too long to wait.
+pub(crate) fn put_line<D: Desk, S: TraceSim>(
     desk: &mut D,
-    waiting: &mut Vec<u8>,
+    waiting: &mut Waiting,
+    text: &mut Vec<u8>,
     tag: u8,
     change: Option<&Change>,
     ports: &Ports,
@@ -59,24 +59,21 @@ fn put_line<D: Desk, S: TraceSim>(
     requires outputs { length ports.now.outputs ≡ (S.machine sim.now).outputs }
     requires pin { IfSome change (λ change. change.now.pin < (S.machine sim.now).inputs) }
     ensures text { (h : List ChangeOf) → S.stands sim.now h
-        → PutsTrace (D.state desk.old) (D.state desk.new) waiting.old.items
+        → PutsTrace (D.state desk.old) (D.state desk.new) waiting.old
         (drive_line_text tag (option_copied change.entry) ports.now.inputs ports.now.outputs ((S.machine sim.now).line h))
-        waiting.new.items result }
+        waiting.new result }
     ensures cause { StopsWithCause (D.faults desk.old) (D.faults desk.new) result }
 {
-    append_trace_line(waiting, tag, change, &ports.inputs, &ports.outputs, sim)?;
-    write_full(desk, waiting)?;
-    Ok(())
-}
-
-/// Writes the bytes that wait where they are as many as a write takes. It takes no memory.
-pub(crate) fn write_full<D: Desk>(desk: &mut D, waiting: &mut Vec<u8>) -> Result<(), Failed>
-    ensures text { PutsText (D.state desk.old) (D.state desk.new) Report [] waiting.old.items waiting.new.items result }
-    ensures cause { HasCause (D.faults desk.old) (D.faults desk.new) result }
-{
-    if waiting.len() >= ROOM {
-        write_whole(desk, OutSlot::Report, waiting.as_slice())?;
-        waiting.clear();
-    }
+    let mut pieces = Few::new(0);
+    text.clear();
+    push_shown(
+        text,
+        &mut pieces,
+        change,
+        &ports.inputs,
+        &ports.outputs,
+        sim,
+    )?;
+    put_tagged(desk, waiting, tag, text.as_slice(), &pieces)?;
     Ok(())
 }

@@ -37,9 +37,8 @@ pub fn trace_line<S: TraceSim>(
     Ok(text)
 }
 
-/// Appends the line that `trace_line` answers to a text. It takes memory only where the text's room does not suffice, so a
-/// text that is cleared after each line takes none for most of them. Without memory a part of the line may be appended.
-pub fn append_trace_line<S: TraceSim>(
+/// Appends the line that `trace_line` answers to a text. Without memory a part of the line may be appended.
+fn append_trace_line<S: TraceSim>(
     text: &mut Vec<u8>,
     tag: u8,
     change: Option<&Change>,

@@ -15,7 +15,7 @@ returns c = λ pin e.
     let states = c.args.states.now in
     let same : c.output_pin.result.now ≡ pin = cc (c.output_pin.ensures.is, e) in
     let known = c.requires.tables.are_values output c.entry.result.now c.entry.ensures.is in
-    let places = rw (c.as_slice.ensures, c.as_slice-sources.ensures) at c.source_values-places.ensures in
+    let places = rw (c.as_slice.ensures, c.as_slice-sources.ensures, c.new-places.ensures) at c.add_values.ensures in
     output_tabled cell output pin inputs states c.as_slice-2.result.now c.as_slice-3.result.now c.tabled.result e
     (c.as_slice-3.ensures ∙ (places ∙ ap (λ (o : OutputPin). map (source_value cell.pins inputs states) o.support) same))
     (subst (λ (values : List Trit). AreValuesOf (length (sources_at cell output)) (output_value_at cell output) values) (sym c.as_slice-2.ensures) known)

@@ -1,4 +1,4 @@
-use Rattle.std.proofs.Common.{◌<◌, sym, ap, ◌∙◌, length, arith}
+use Rattle.std.proofs.Common.{◌<◌, sym, ap, ◌∙◌, refl, length, arith}
 use Rattle.std.proofs.lemmas.List.{length-set}
 use Rattle.std.proofs.lemmas.Option.{slice_get-get_or}
 use Rattle.cell_machine.proofs.EachLemmas.{each-kept, each-done}
@@ -13,8 +13,8 @@ loop-i-preserved c =
     record {
       whole =
           each-kept (stamped c.args.seen.now.ports.list.now c.args.seen.now.from c.args.seen.now.change) checks c.loop-i.stamps c.loop-i.i _
-          (slice_get-get_or checks c.loop-i.i _ inside) many (rw c.as_slice.ensures at c.stamped.ensures) c.set.ensures c.loop-i.invariant.whole;
-      len = ap length c.set.ensures ∙ length-set c.loop-i.stamps c.loop-i.i c.stamped.result ∙ c.loop-i.invariant.len;
+          (slice_get-get_or checks c.loop-i.i _ inside) many refl c.stamp.ensures c.loop-i.invariant.whole;
+      len = ap length c.stamp.ensures ∙ length-set c.loop-i.stamps c.loop-i.i _ ∙ c.loop-i.invariant.len;
     }
 
 pub returns-clause-stamped : goal.returns-clause-stamped

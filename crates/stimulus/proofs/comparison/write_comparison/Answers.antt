@@ -8,7 +8,7 @@ use Rattle.stimulus.proofs.comparison.write_comparison.Goals as goal
 pub loop-change-init : goal.loop-change-init
 loop-change-init g c = record {
   comparing = compares_first _ c.args.ports.now (three_lines (g.L.TraceSim.machine c.args.three.now.liberty) (g.V.TraceSim.machine c.args.three.now.verilog) (g.H.TraceSim.machine c.args.three.now.vital)) _ _ _ _ _ _ _ (record { of_liberty = c.requires.liberty; of_verilog = c.requires.verilog; of_vital = c.requires.vital }) c.requires.proper
-      (rw c.new-waiting.ensures.items at ((c.in_ok-alike.ensures.text [] c.requires.liberty c.requires.verilog c.requires.vital).whole))
+      (rw c.new-waiting.ensures at ((c.in_ok-alike.ensures.text [] c.requires.liberty c.requires.verilog c.requires.vital).whole))
       c.unlike-first.ensures (c.in_ok-alike.ensures.alike [] c.requires.liberty c.requires.verilog c.requires.vital);
   liberty = refl;
   verilog = refl;
@@ -48,10 +48,10 @@ loop-change-preserved g c =
 
 pub returns-in_err-write_whole-clause-text : goal.returns-in_err-write_whole-clause-text
 returns-in_err-write_whole-clause-text g c =
-    written_part _ _ _ _ _ (flushed _ (three_shown c.args.ports.now (three_lines (g.L.TraceSim.machine c.args.three.now.liberty) (g.V.TraceSim.machine c.args.three.now.verilog) (g.H.TraceSim.machine c.args.three.now.vital))) _ _ _ _ _ _ _ _ _ c.loop-change-test.false c.loop-change.invariant.comparing.going (rw c.as_slice.ensures.value at c.in_err-write_whole.ensures.text)) c.from_residual-in_err-write_whole.ensures.0
+    written_part _ _ _ _ _ (flushed _ (three_shown c.args.ports.now (three_lines (g.L.TraceSim.machine c.args.three.now.liberty) (g.V.TraceSim.machine c.args.three.now.verilog) (g.H.TraceSim.machine c.args.three.now.vital))) _ _ _ _ _ _ _ _ _ c.loop-change-test.false c.loop-change.invariant.comparing.going (rw c.as_slice.ensures at c.in_err-write_whole.ensures.text)) c.from_residual-in_err-write_whole.ensures.0
 
 pub returns-clause-text : goal.returns-clause-text
 returns-clause-text g c = record {
-  whole = (flushed _ (three_shown c.args.ports.now (three_lines (g.L.TraceSim.machine c.args.three.now.liberty) (g.V.TraceSim.machine c.args.three.now.verilog) (g.H.TraceSim.machine c.args.three.now.vital))) _ _ _ _ _ _ _ _ _ c.loop-change-test.false c.loop-change.invariant.comparing.going (rw c.as_slice.ensures.value at c.in_ok-write_whole.ensures.text)).whole;
+  whole = (flushed _ (three_shown c.args.ports.now (three_lines (g.L.TraceSim.machine c.args.three.now.liberty) (g.V.TraceSim.machine c.args.three.now.verilog) (g.H.TraceSim.machine c.args.three.now.vital))) _ _ _ _ _ _ _ _ _ c.loop-change-test.false c.loop-change.invariant.comparing.going (rw c.as_slice.ensures at c.in_ok-write_whole.ensures.text)).whole;
   part = tt;
 }

@@ -5,7 +5,7 @@ use Rattle.stimulus.proofs.printing.write_trace.Goals as goal
 
 pub loop-change-init : goal.loop-change-init
 loop-change-init g c = record {
-  going = begins _ (one_shown c.args.tag c.args.ports.now (g.S.TraceSim.machine c.args.sim.now).line) _ _ _ _ _ _ c.requires.start c.requires.proper (rw c.new-waiting.ensures.items at ((c.in_ok-put_line.ensures.text [] c.requires.start).whole)) (trace_text-is c.args.tag c.args.ports.now (g.S.TraceSim.machine c.args.sim.now).line c.args.changes.now);
+  going = begins _ (one_shown c.args.tag c.args.ports.now (g.S.TraceSim.machine c.args.sim.now).line) _ _ _ _ _ _ c.requires.start c.requires.proper (rw c.new-waiting.ensures at ((c.in_ok-put_line.ensures.text [] c.requires.start).whole)) (trace_text-is c.args.tag c.args.ports.now (g.S.TraceSim.machine c.args.sim.now).line c.args.changes.now);
   machine = refl;
   kept = c.in_ok-put_line.ensures.cause.kept;
 }
@@ -28,10 +28,10 @@ loop-change-preserved g c =
 
 pub returns-in_err-write_whole-clause-text : goal.returns-in_err-write_whole-clause-text
 returns-in_err-write_whole-clause-text g c =
-    written_part _ _ _ _ _ (flushed _ (one_shown c.args.tag c.args.ports.now (g.S.TraceSim.machine c.args.sim.now).line) _ _ _ _ _ _ _ _ _ c.loop-change-test.false c.loop-change.invariant.going (rw c.as_slice.ensures.value at c.in_err-write_whole.ensures.text)) c.from_residual-in_err-write_whole.ensures.0
+    written_part _ _ _ _ _ (flushed _ (one_shown c.args.tag c.args.ports.now (g.S.TraceSim.machine c.args.sim.now).line) _ _ _ _ _ _ _ _ _ c.loop-change-test.false c.loop-change.invariant.going (rw c.as_slice.ensures at c.in_err-write_whole.ensures.text)) c.from_residual-in_err-write_whole.ensures.0
 
 pub returns-clause-text : goal.returns-clause-text
 returns-clause-text g c = record {
-  whole = (flushed _ (one_shown c.args.tag c.args.ports.now (g.S.TraceSim.machine c.args.sim.now).line) _ _ _ _ _ _ _ _ _ c.loop-change-test.false c.loop-change.invariant.going (rw c.as_slice.ensures.value at c.in_ok-write_whole.ensures.text)).whole;
+  whole = (flushed _ (one_shown c.args.tag c.args.ports.now (g.S.TraceSim.machine c.args.sim.now).line) _ _ _ _ _ _ _ _ _ c.loop-change-test.false c.loop-change.invariant.going (rw c.as_slice.ensures at c.in_ok-write_whole.ensures.text)).whole;
   part = tt;
 }

@@ -27,9 +27,9 @@ returns-clause-stands c = λ h st.
     ∙ ap (set sim.times c.args.pin)
     (c.stamped-times.ensures
     ∙ ap (λ xs. stamped c.args.at (get_or c.as_slice.result.now c.args.pin Zero) c.args.to (get_or xs c.args.pin no_times))
-    c.as_slice-2.ensures) in
-    let reports = rw (c.as_slice-inputs.ensures, c.as_slice-3.ensures) at c.report_all.ensures in
-    let reported = c.any_true-reported.ensures ∙ ap any_true c.as_slice-4.ensures in
+    c.as_slice-4.ensures) in
+    let reports = rw (c.as_slice-inputs.ensures, c.as_slice-2.ensures) at c.report_all.ensures in
+    let reported = c.any_true-reported.ensures ∙ ap any_true c.as_slice-3.ensures in
     let states = rw (reported, c.as_slice-inputs.ensures) at c.change_states.ensures.changed in
     let shown = rw (c.as_slice-inputs.ensures, c.as_slice-states.ensures) at c.show_all.ensures.stepped in
     let kept = rw c.as_slice-inputs.ensures at c.show_all.ensures.kept in

@@ -1,4 +1,5 @@
 pub mod Tables
+pub mod Entries
 pub mod Primitive
 pub mod RowWords
 pub mod PortNames

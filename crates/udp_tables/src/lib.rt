@@ -4,6 +4,7 @@
 
 mod combinational;
 mod cube_index;
+mod entries;
 mod matching;
 mod models;
 mod parts;
@@ -20,6 +21,7 @@ mod udp_rows;
 
 pub use combinational::{keyed_level, udp_level};
 pub use cube_index::CubeIndex;
+pub use entries::Entries;
 pub use models::{ModelFault, VPort};
 pub use parts::Part;
 pub use ports::{event_of, is_input_port, is_port, port_number};

@@ -1,4 +1,5 @@
 //! The table of a primitive, by IEEE 1364-2005, clause 8.
+use crate::entries::Entries;
 use sqlite_items::Items;
 
 /// A user-defined primitive, by IEEE 1364-2005, clause 8: one output, its inputs in the order of the header, and a
@@ -21,7 +22,7 @@ pub struct Udp {
 #[derive(Drop)]
 pub struct UdpRow {
     /// An entry for each input.
-    pub inputs: Items<Entry>,
+    pub inputs: Entries,
     /// What the current state has to be.
     pub state: Level,
     /// The output, or the next state.

@@ -4,6 +4,7 @@ ghost use Rattle.udp_tables.specs.declared.table.Level.TheVariants as level;
 ghost use Rattle.udp_tables.specs.Generated.{next_to};
 ghost use Rattle.udp_tables.specs.Sequential.{level_symbol, edge_entry, noted, next_after, symbols_row, notifier_rows};
 
+use crate::entries::Entries;
 use crate::row_makers::{LevelRows, StepRows};
 use crate::symbols::{cube_symbols, edge_entry};
 use crate::table::{Entry, Level, Next, UdpRow};
@@ -101,7 +102,7 @@ fn symbols_row(
 {
     let inputs = noted(entries, notifier, Entry::Level(Level::Any))?;
     Ok(UdpRow {
-        inputs: Items::from_vec(inputs),
+        inputs: Entries::from_items(Items::from_vec(inputs)),
         state,
         next,
     })
@@ -121,7 +122,7 @@ fn add_notifier_row(
         let entries = cube_symbols(alloc, &Cube::free(pins))?;
         let inputs = noted(entries, true, Entry::Star)?;
         rows.push(UdpRow {
-            inputs: Items::from_vec(inputs),
+            inputs: Entries::from_items(Items::from_vec(inputs)),
             state: Level::Any,
             next: Next::Unknown,
         })?;

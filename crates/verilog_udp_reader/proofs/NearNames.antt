@@ -1,34 +1,36 @@
 -- The first names of a list and those behind them.
-use Rattle.std.proofs.Common.{◌≡◌, ℕ, zero, suc, ◌<◌, ◌≤◌, Bool, true, false, ◌||◌, List, [], ◌∷◌, ◌++◌, map, length, take, drop}
-use Rattle.std.proofs.Common.{Option, Some, None, refl, sym, ap, subst, ◌∙◌}
+use Rattle.std.proofs.Common.{◌≡◌, ℕ, Bool, true, false, ◌||◌, List, [], ◌∷◌, ◌++◌, map, length}
+use Rattle.std.proofs.Common.{Option, Some, None, refl, sym, ap, ◌∙◌}
 use Rattle.std.specs.List.{list_any}
 use Rattle.std.specs.Option.{is_some}
 use Rattle.std.specs.Str.{bytes_eq}
-use Rattle.std.proofs.lemmas.List.{length-map}
+use Rattle.std.proofs.lemmas.List.{append_assoc}
+use Rattle.std.proofs.lemmas.List.Folds.{list_any-append}
 use Rattle.bool_functions.specs.NameList.{Adds, number_of}
 use Rattle.bool_functions.proofs.NameLists.{position-none, position-some}
-use Rattle.grammar_reader.proofs.Places.{either_of}
-use Rattle.grammar_reader.proofs.Places as places
 
--- names that are shown, each by its bytes
-module _ {X Y : Type 0} (f : X → Y) where
-  -- one of them passes exactly where one of the first does or one of those behind them
-  pub shown_parted : (p : Y → Bool) (n : ℕ) (xs : List X)
-      → (list_any p (map f (take n xs)) || list_any p (drop n (map f xs))) ≡ list_any p (map f xs)
-  shown_parted p zero xs = refl
-  shown_parted p (suc n) [] = refl
-  shown_parted p (suc n) (x ∷ xs) = sym (either_of (p (f x)) _ _) ∙ ap (λ b. p (f x) || b) (shown_parted p n xs)
+-- one of them passes exactly where one of the first does or one of those behind them
+pub any_parted : {Y : Type 0} (p : Y → Bool) (near far : List Y) → (list_any p near || list_any p far) ≡ list_any p (near ++ far)
+any_parted p near far = sym (list_any-append p near far)
 
-  -- what stands behind the first n, where one more comes behind all
-  pub drop_near : (n : ℕ) (xs : List X) (y : Y) → length xs < n → drop n (map f xs) ≡ drop n (map f xs ++ y ∷ [])
-  drop_near n xs y h = places.drop_near n (map f xs) y (subst (λ k. k < n) (sym (length-map xs f)) h)
+second_false : (a b : Bool) → (a || b) ≡ false → b ≡ false
+second_false true b e = absurd cc
+second_false false b e = e
 
-  pub drop_far : (n : ℕ) (xs : List X) (y : Y) → n ≤ length xs → drop n (map f xs) ++ y ∷ [] ≡ drop n (map f xs ++ y ∷ [])
-  drop_far n xs y h = places.drop_far n (map f xs) y (subst (λ k. n ≤ k) (sym (length-map xs f)) h)
+-- where none passes, none of those behind the first does
+pub none_far : {Y : Type 0} (p : Y → Bool) (near far : List Y) → list_any p (near ++ far) ≡ false → list_any p far ≡ false
+none_far p near far e = second_false (list_any p near) _ (any_parted p near far ∙ e)
 
-  pub shown_push : (xs : List X) (x : X) → map f xs ++ f x ∷ [] ≡ map f (xs ++ x ∷ [])
-  shown_push [] x = refl
-  shown_push (z ∷ xs) x = ap (λ ys. f z ∷ ys) (shown_push xs x)
+-- one more behind the first, each shown by its bytes, where there are no others
+pub near_kept : {X Y : Type 0} (f : X → Y) (xs : List X) (x : X) (far : List Y) → length far ≡ 0
+    → map f (xs ++ x ∷ []) ++ far ≡ map f xs ++ far ++ f x ∷ []
+near_kept f xs x (y ∷ far) h = absurd cc
+near_kept f [] x [] h = refl
+near_kept f (z ∷ xs) x [] h = ap (λ ys. f z ∷ ys) (near_kept f xs x [] h)
+
+-- one more behind all of them
+pub far_kept : {Y : Type 0} (near far more : List Y) (y : Y) → more ≡ far ++ y ∷ [] → near ++ more ≡ near ++ far ++ y ∷ []
+far_kept near far more y e = ap (λ ys. near ++ ys) e ∙ sym (append_assoc near far (y ∷ []))
 
 -- a name has a number exactly where it is one of the names
 pub numbered : (names : List (List ℕ)) (name : List ℕ) → is_some (number_of names name) ≡ list_any (bytes_eq name) names

@@ -1,15 +1,14 @@
 //! The rows of a primitive's table, by recursive descent. (IEEE 1364-2005, 8.1.4, 8.2 and 8.4.)
 
-ghost use Rattle.std.specs.Prelude.{◌≡◌, ◌&&◌, []};
+ghost use Rattle.std.specs.Prelude.{◌≡◌, ◌&&◌};
 ghost use Rattle.grammar_reader.specs.Words.{valued};
 ghost use Rattle.udp_tables.specs.VerilogPrimitives as spec;
-ghost use Rattle.grammar_reader.specs.Reading.{read, Reads};
+ghost use Rattle.grammar_reader.specs.Reading.{read, Reads, ReadsAs};
 
 use crate::language::{Cursor, Verilog};
 use grammar_reader::{Language, Read, Refusal, Stop};
-use sqlite_items::Items;
 use std::alloc::Global;
-use udp_tables::{Entry, Level, Next, UdpRow};
+use udp_tables::{Entries, Entry, Level, Next, UdpRow};
 
 /// The level that a token stands for.
 #[inline(always)]
@@ -151,35 +150,37 @@ fn entry_after(cursor: &mut Cursor<'_>, first: &[u8]) -> Read<Entry>
     }
 }
 
-/// The first entry of a row, behind its first token, with room for so many entries.
+/// Puts one more entry of a row, behind its first token, behind these.
+#[inline(always)]
 #[tactic(auto, unfolding(udp_tables::specs::VerilogPrimitives::next_entry))]
-fn first_entry(
+fn next_entry(
     cursor: &mut Cursor<'_>,
     alloc: Global,
-    room: usize,
     first: &[u8],
-) -> Read<Items<Entry>>
-    ensures { Reads (read (spec.next_entry [] first.now) cursor.old) result cursor.new }
+    entries: &mut Entries,
+) -> Read<()>
+    ensures { ReadsAs (λ _. entries.new) (read (spec.next_entry entries.old first.now) cursor.old) result cursor.new }
 {
-    let mut entries = Items::from_vec(Vec::with_capacity(alloc, room)?);
-    entries.push(entry_after(cursor, first)?)?;
-    Ok(entries)
+    let entry = entry_after(cursor, first)?;
+    entries.push(alloc, entry)?;
+    Ok(())
 }
 
-/// The entries of a row behind these. A level, as most of them are, is told by one look at its token.
+/// Puts the entries of a row behind these. A level, as most of them are, is told by one look at its token.
 #[tactic(auto, unfolding(udp_tables::specs::VerilogPrimitives::more_entries, udp_tables::specs::VerilogPrimitives::next_entry), using(grammar_reader::proofs::Repeats::turn, crate::proofs::Entries::no_entry, crate::proofs::Entries::second_change, crate::proofs::Entries::one_entry))]
 fn more_entries(
     cursor: &mut Cursor<'_>,
+    alloc: Global,
     sequential: bool,
-    mut entries: Items<Entry>,
-) -> Read<Items<Entry>>
-    ensures { Reads (read (spec.more_entries sequential entries) cursor.old) result cursor.new }
+    entries: &mut Entries,
+) -> Read<()>
+    ensures { ReadsAs (λ _. entries.new) (read (spec.more_entries sequential entries.old) cursor.old) result cursor.new }
 {
     for _turn in 0..cursor.left() {
         let token = cursor.bytes();
         if let Some(level) = level(token) {
             cursor.skip();
-            entries.push(Entry::Level(level))?;
+            entries.push(alloc, Entry::Level(level))?;
             continue;
         }
         if !begins_entry(sequential, token) {
@@ -189,14 +190,14 @@ fn more_entries(
             return Err(Stop::Refused(Refusal::TwoEdges));
         }
         cursor.skip();
-        entries.push(entry_after(cursor, token)?)?;
+        next_entry(cursor, alloc, token, entries)?;
     }
-    Ok(entries)
+    Ok(())
 }
 
 /// The state and the output of a row with a state, behind its entries.
 #[tactic(auto, unfolding(udp_tables::specs::VerilogPrimitives::state_and_next))]
-fn state_and_next(cursor: &mut Cursor<'_>, inputs: Items<Entry>) -> Read<UdpRow>
+fn state_and_next(cursor: &mut Cursor<'_>, inputs: Entries) -> Read<UdpRow>
     ensures { Reads (read (spec.state_and_next inputs) cursor.old) result cursor.new }
 {
     let state = a_level(cursor)?;
@@ -212,7 +213,7 @@ fn state_and_next(cursor: &mut Cursor<'_>, inputs: Items<Entry>) -> Read<UdpRow>
 
 /// The output of a row without a state, behind its entries.
 #[tactic(auto, unfolding(udp_tables::specs::VerilogPrimitives::output_level))]
-fn output_level(cursor: &mut Cursor<'_>, inputs: Items<Entry>) -> Read<UdpRow>
+fn output_level(cursor: &mut Cursor<'_>, inputs: Entries) -> Read<UdpRow>
     ensures { Reads (read (spec.output_level inputs) cursor.old) result cursor.new }
 {
     let next = an_output(cursor, false)?;
@@ -225,7 +226,7 @@ fn output_level(cursor: &mut Cursor<'_>, inputs: Items<Entry>) -> Read<UdpRow>
 }
 
 /// What stands behind the entries of a row.
-fn row_end(cursor: &mut Cursor<'_>, sequential: bool, inputs: Items<Entry>) -> Read<UdpRow>
+fn row_end(cursor: &mut Cursor<'_>, sequential: bool, inputs: Entries) -> Read<UdpRow>
     ensures { Reads (read (spec.row_end sequential inputs) cursor.old) result cursor.new }
 {
     if sequential {
@@ -246,8 +247,9 @@ pub fn row(
 ) -> Read<UdpRow>
     ensures { Reads (read (spec.row sequential inputs first.now) cursor.old) result cursor.new }
 {
-    let one = first_entry(cursor, alloc, inputs, first)?;
-    let entries = more_entries(cursor, sequential, one)?;
+    let mut entries = Entries::new();
+    next_entry(cursor, alloc, first, &mut entries)?;
+    more_entries(cursor, alloc, sequential, &mut entries)?;
     cursor.expect_where(entries.len() == inputs, Refusal::Width, b":")?;
     row_end(cursor, sequential, entries)
 }

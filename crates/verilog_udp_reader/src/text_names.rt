@@ -1,6 +1,6 @@
 //! Names that are declared, as they stand in a text.
 
-ghost use Rattle.std.specs.Prelude.{◌≡◌, ◌<◌, [], ◌∷◌, ◌++◌, false, map, drop, IfOk, IfErr, OnOk, OnErr};
+ghost use Rattle.std.specs.Prelude.{◌≡◌, [], ◌∷◌, ◌++◌, false, map, IfOk, IfErr, OnOk};
 ghost use Rattle.std.specs.List.{list_any};
 ghost use Rattle.std.specs.Str.{bytes_eq};
 ghost use Rattle.grammar_reader.specs.Next.{next_bytes};
@@ -9,6 +9,7 @@ ghost use Rattle.udp_tables.specs.VerilogRules as spec;
 
 use crate::language::{Cursor, Verilog};
 use bool_functions::Names;
+use cell_machine::Few;
 use grammar_reader::{Language, Read, Refusal, Stop};
 use sqlite_items::Items;
 use std::alloc::Global;
@@ -18,25 +19,20 @@ use verilog_tokens::is_name;
 /// How many names of a list are compared one by one.
 const NEAR: usize = 16;
 
-/// For how many names there is room at first.
-const SOME_NAMES: usize = 8;
-
 /// Names that are declared, as they stand in a text, in order. Contracts see the list of them. The first of them are compared one
-/// by one, which takes no memory; those behind them stand in a list that finds a name at once too.
+/// by one, which takes no memory; those behind them stand in a list that finds a name at once.
 #[derive(Drop)]
 pub struct TextNames<'a> {
-    names: Vec<&'a [u8]>,
+    near: Few<&'a [u8], 16>,
     far: Names,
 }
 
 impl<'a> Model for TextNames<'a> {
-    ghost use Rattle.std.specs.Prelude.{◌≡◌, ℕ, List, map, drop};
+    ghost use Rattle.std.specs.Prelude.{ℕ, List, map, ◌++◌};
 
     ghost Value = { List (List ℕ) };
 
-    ghost view = { λ t. map (λ name. name.now) t.names.items };
-
-    ghost invariant = { λ t. t.far ≡ drop 16 (map (λ name. name.now) t.names.items) };
+    ghost view = { λ t. map (λ name. name.now) t.near ++ t.far };
 }
 
 /// Whether a name is one of these.
@@ -60,29 +56,17 @@ fn is_found(names: &Names, name: &[u8]) -> bool
     names.number(name).is_some()
 }
 
-/// Adds a name to the list beside declared names, where it is declared behind them and is none of them.
-#[tactic(auto, using(grammar_reader::proofs::Places::none_behind, crate::proofs::NearNames::drop_near, crate::proofs::NearNames::drop_far, crate::proofs::NearNames::added))]
-fn add_far(far: &mut Names, names: &[&[u8]], name: &[u8]) -> Result<(), Stop>
-    requires kept { far.old ≡ drop 16 (map (λ other. other.now) names.now) }
-    requires fresh { list_any (bytes_eq name.now) (map (λ other. other.now) names.now) ≡ false }
-    ensures more { OnOk result (far.new ≡ drop 16 (map (λ other. other.now) names.now ++ name.now ∷ [])) }
-    ensures err { OnErr result (far.new ≡ far.old) }
+/// Adds a name to a list that finds it at once, where it is none of them.
+#[tactic(auto, using(crate::proofs::NearNames::added))]
+fn add_far(far: &mut Names, name: &[u8]) -> Result<(), Stop>
+    requires { list_any (bytes_eq name.now) far.old ≡ false }
+    ensures more { OnOk result (far.new ≡ far.old ++ name.now ∷ []) }
     ensures memory { IfErr result (λ stop. stop ≡ Stop.Memory) }
 {
-    if names.len() < NEAR {
-        return Ok(());
-    }
     match far.add(name) {
         Ok(_) => Ok(()),
         Err(_) => Err(Stop::Memory),
     }
-}
-
-/// For how many more names a list of so many gets room.
-fn room_behind(count: usize) -> usize
-    ensures { 0 < result }
-{
-    if count == 0 { SOME_NAMES } else { 1 }
 }
 
 impl<'a> TextNames<'a> {
@@ -94,36 +78,33 @@ impl<'a> TextNames<'a> {
         ensures { result ≡ [] }
     {
         TextNames {
-            names: Vec::new(alloc),
+            near: Few::new(&[]),
             far: Names::new(alloc),
         }
     }
 
     /// Whether a name is one of these, in the time of one look-up.
     #[inline(always)]
-    #[tactic(auto, using(crate::proofs::NearNames::shown_parted))]
+    #[tactic(auto, using(crate::proofs::NearNames::any_parted))]
     pub fn has(&self, name: &[u8]) -> bool
         ensures { result ≡ is_among self.now name.now }
     {
-        let names = self.names.as_slice();
-        if names.len() <= NEAR {
-            return is_one(names, name);
-        }
-        is_one(&names[..NEAR], name) || is_found(&self.far, name)
+        is_one(self.near.as_slice(), name) || is_found(&self.far, name)
     }
 
     /// Puts one more name behind these, which is none of them.
     #[inline(always)]
-    #[tactic(auto, using(crate::proofs::NearNames::shown_push))]
+    #[tactic(auto, using(crate::proofs::NearNames::near_kept, crate::proofs::NearNames::far_kept, crate::proofs::NearNames::none_far))]
     pub fn add(&mut self, name: &'a [u8]) -> Result<(), Stop>
         requires { is_among self.old name.now ≡ false }
         ensures added { OnOk result (self.new ≡ self.old ++ name.now ∷ []) }
         ensures memory { IfErr result (λ stop. stop ≡ Stop.Memory) }
     {
-        self.names.reserve(room_behind(self.names.len()))?;
-        add_far(&mut self.far, self.names.as_slice(), name)?;
-        self.names.push_reserved(name);
-        Ok(())
+        if self.near.as_slice().len() < NEAR && self.far.len() == 0 {
+            self.near.push(name);
+            return Ok(());
+        }
+        add_far(&mut self.far, name)
     }
 }
 

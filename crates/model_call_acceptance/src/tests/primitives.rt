@@ -11,7 +11,7 @@ use sqlite_items::Items;
 use std::alloc::{AllocError, Global};
 use std::test::Fail;
 use trit_cubes::Trit;
-use udp_tables::{Entry, Level, Next, Udp, UdpRow, udp_level, udp_next};
+use udp_tables::{Entries, Entry, Level, Next, Udp, UdpRow, udp_level, udp_next};
 
 /// The levels of a row of two inputs, and what it gives.
 type LevelRow = (Level, Level, Next);
@@ -83,7 +83,7 @@ fn row(alloc: Global, first: Entry, second: Entry, next: Next) -> Result<UdpRow,
     ensures { IfOk result (λ row. row.inputs ≡ first ∷ second ∷ []) }
 {
     Ok(UdpRow {
-        inputs: Items::from_slice(alloc, &[first, second])?,
+        inputs: Entries::from_items(Items::from_slice(alloc, &[first, second])?),
         state: Level::Any,
         next,
     })

@@ -1,3 +1,4 @@
+pub mod PinAttributes
 pub mod Trimmed
 pub mod Sinks
 pub mod Gathering

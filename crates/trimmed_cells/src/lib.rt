@@ -4,6 +4,7 @@
 #![tactic(auto)]
 
 mod gathering;
+mod pin_attributes;
 mod read;
 mod trimmed_items;
 mod trimming;

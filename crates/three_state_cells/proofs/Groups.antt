@@ -10,11 +10,14 @@ use Rattle.liberty_groups.specs.declared.tree.Item.TheOpen.{Item-F}
 use Rattle.liberty_groups.specs.declared.tree.Item.TheOpen as layer
 use Rattle.liberty_groups.specs.declared.tree.Item.TheViews.{outs-Simple, outs-Complex, outs-Inner}
 use Rattle.liberty_groups.specs.declared.tree.Group.{Group}
+use Rattle.cell_machine.specs.Delay.{lesser, least}
+use Rattle.cell_machine.proofs.LeastLemmas.{least_append}
 use Rattle.cell_attributes.specs.Groups.{is_called, is_pin, is_state, inner_of, inner_groups}
 use Rattle.cell_attributes.specs.Scans.{bank_in}
 use Rattle.cell_attributes.specs.Declarations.{declared_in}
 use Rattle.three_state_cells.proofs.Lists.{of_pins}
-use Rattle.three_state_cells.specs.Trimmed.{has_one, all_behind, untimed, is_trimmed, trimmed_pin, pins_made, pins_in_item}
+use Rattle.three_state_cells.specs.PinAttributes.{untimed}
+use Rattle.three_state_cells.specs.Trimmed.{has_one, all_behind, is_trimmed, trimmed_pin, pins_made, pins_in_item}
 use Rattle.three_state_cells.specs.Trimmed.{trimmed_item, trimmed_items}
 use Rattle.three_state_cells.proofs.Untimed.{same_is_pin, same_is_state, same_bank, same_declared}
 
@@ -94,6 +97,33 @@ same_pins_told f same pin groups =
     ∙ (same_all (λ group. if is_pin group then f group else [])
     (λ group e. λ i. if same_is_pin group i then same group e i else []) pin groups
     ∙ sym (of_test is_pin f groups))
+
+-- of the least of what is told of the pins
+same_least : (f : Group → List ℕ) → ((group : Group) → least (f (untimed group)) ≡ least (f group))
+    → (pin : ℕ) (groups : List Group) → least (flat_map f (trimmed_groups pin groups)) ≡ least (flat_map f groups)
+same_least f same pin [] = refl
+same_least f same pin (group ∷ groups) =
+    least_append (f (trimmed_pin pin group)) (flat_map f (trimmed_groups (pin + pins_made group) groups))
+    ∙ ((λ i. lesser (same_of (λ group. least (f group)) (λ group e. same group) pin group i)
+    (same_least f same (pin + pins_made group) groups i))
+    ∙ sym (least_append (f group) (flat_map f groups)))
+
+least_if : (b c : Bool) (xs ys : List ℕ) → b ≡ c → least xs ≡ least ys
+    → least (if b then xs else []) ≡ least (if c then ys else [])
+least_if b c xs ys e same = ap (λ b. least (if b then xs else [])) e ∙ by c
+  where
+    by : (c : Bool) → least (if c then xs else []) ≡ least (if c then ys else [])
+    by true = same
+    by false = refl
+
+pub same_least_told : (f : Group → List ℕ) → ((group : Group) → least (f (untimed group)) ≡ least (f group))
+    → (pin : ℕ) (groups : List Group) → least (of_pins f (trimmed_groups pin groups)) ≡ least (of_pins f groups)
+same_least_told f same pin groups =
+    ap least (of_test is_pin f (trimmed_groups pin groups))
+    ∙ (same_least (λ group. if is_pin group then f group else [])
+    (λ group. least_if (is_pin (untimed group)) (is_pin group) (f (untimed group)) (f group) (same_is_pin group) (same group)) pin
+    groups
+    ∙ sym (ap least (of_test is_pin f groups)))
 
 -- of the groups with states, none of which is trimmed
 pin_is_no_state : (group : Group) → is_pin group ≡ true → is_state group ≡ false

@@ -26,7 +26,8 @@ use Rattle.timing_arcs.specs.Merging.{Placed, same_path, firsts_after}
 use Rattle.timing_arcs.specs.Timing as timing
 use Rattle.cell_attributes.specs.Limits.{first_past}
 use Rattle.cell_reader.specs.PinTimings.{subject_at, places_from, arc_at_of}
-use Rattle.three_state_cells.specs.Trimmed.{place_in, is_behind, all_behind, has_one, untimed, is_trimmed, trimmed_pin, stands_behind}
+use Rattle.three_state_cells.specs.PinAttributes.{untimed}
+use Rattle.three_state_cells.specs.Trimmed.{place_in, is_behind, all_behind, has_one, is_trimmed, trimmed_pin, stands_behind}
 use Rattle.three_state_cells.proofs.Untimed.{same_at}
 use Rattle.three_state_cells.proofs.Owners.{trimmed_owners}
 use Rattle.cell_attributes.specs.Groups.{is_pin}

@@ -8,7 +8,8 @@ use Rattle.liberty_groups.specs.declared.tree.Group.{Group}
 use Rattle.cell_attributes.specs.Groups.{is_pin}
 use Rattle.cell_attributes.specs.Pins.{owner_as, owners_in}
 use Rattle.three_state_cells.proofs.Lists.{of_pins}
-use Rattle.three_state_cells.specs.Trimmed.{has_one, all_behind, untimed, is_trimmed, trimmed_pin, pins_made}
+use Rattle.three_state_cells.specs.PinAttributes.{untimed}
+use Rattle.three_state_cells.specs.Trimmed.{has_one, all_behind, is_trimmed, trimmed_pin, pins_made}
 use Rattle.three_state_cells.proofs.Untimed.{same_arguments}
 use Rattle.three_state_cells.proofs.Groups.{trimmed_groups, no_more, same_pin}
 

@@ -18,7 +18,8 @@ use Rattle.cell_reader.specs.Written.{own_conditions_of}
 use Rattle.cell_reader.proofs.AsWritten.{own_conditions_same}
 use Rattle.cell_reader.proofs.Refused.{least_none}
 use Rattle.three_state_cells.specs.Refusals.{first_of_two}
-use Rattle.three_state_cells.specs.Trimmed.{untimed, is_trimmed, trimmed_pin, timing_told, wrong_pin, wrong_with}
+use Rattle.three_state_cells.specs.PinAttributes.{untimed}
+use Rattle.three_state_cells.specs.Trimmed.{is_trimmed, trimmed_pin, timing_told, wrong_pin, wrong_with}
 use Rattle.three_state_cells.proofs.Untimed.{attribute_numbers, no_malformed, no_unknown, no_own, kept_numbers}
 use Rattle.three_state_cells.proofs.JoinedReasons.{IsAbove, above_or, joined}
 use Rattle.three_state_cells.proofs.Owners.{trimmed_owners}

@@ -49,14 +49,15 @@ use Rattle.three_state_cells.proofs.Lists.{of_pins}
 use Rattle.three_state_cells.specs.Trimmed.{stands_behind, are_behind, is_in_order, trimmed_pin, trimmed_items, trimmed, wrong_with}
 use Rattle.three_state_cells.proofs.Untimed.{same_at, same_directions, same_three_states, same_left_out, same_no_function, same_text}
 use Rattle.three_state_cells.proofs.Untimed.{same_pins, same_entries, same_floating}
-use Rattle.three_state_cells.proofs.Groups.{trimmed_groups, no_more, inner_trimmed, same_of, same_pins_told, same_states, same_banks}
+use Rattle.three_state_cells.proofs.Groups.{trimmed_groups, no_more, inner_trimmed, same_of, same_pins_told, same_least_told}
+use Rattle.three_state_cells.proofs.Groups.{same_states, same_banks}
 use Rattle.three_state_cells.proofs.Groups.{same_declared_names}
 use Rattle.three_state_cells.proofs.Owners.{trimmed_owners, next_pins, owners_trimmed, front_stays}
 use Rattle.three_state_cells.proofs.Places.{commuted, again, dropped, IsPart, malformed_part, unknown_part, own_part, numbers_part, places_least}
 use Rattle.three_state_cells.proofs.Places.{by_kinds, wrong_by_kinds}
 use Rattle.three_state_cells.proofs.Limits.{past, MakesAbove, checks_above, arcs_above, places_above, all_whole, past_all}
 use Rattle.three_state_cells.proofs.Reasons.{all_joined}
-use Rattle.three_state_cells.specs.Trimmed.{untimed}
+use Rattle.three_state_cells.specs.PinAttributes.{untimed}
 
 -- what the states and the texts of a cell hang on
 record Known : Type 0 where
@@ -170,6 +171,10 @@ module _ (cell : Group) where
       → flat_map f (pin_groups (trimmed cell)) ≡ flat_map f (pin_groups cell)
   told f same = ap (of_pins f) groups ∙ same_pins_told f (λ group e. same group) 0 (inner_groups cell.items)
 
+  least_told : (f : Group → List ℕ) → ((group : Group) → least (f (untimed group)) ≡ least (f group))
+      → least (flat_map f (pin_groups (trimmed cell))) ≡ least (flat_map f (pin_groups cell))
+  least_told f same = ap (λ l. least (of_pins f l)) groups ∙ same_least_told f same 0 (inner_groups cell.items)
+
   states : state_groups (trimmed cell) ≡ state_groups cell
   states = ap (filter is_state) groups ∙ same_states 0 (inner_groups cell.items)
 
@@ -192,6 +197,12 @@ module _ (cell : Group) where
 
   all_banks : banks (trimmed cell) ≡ banks cell
   all_banks = ap (flat_map bank_in) groups ∙ same_banks 0 (inner_groups cell.items)
+
+  same_left_out_states : least (left_out_states (trimmed cell)) ≡ least (left_out_states cell)
+  same_left_out_states =
+      least_append (flat_map left_out_in (pin_groups (trimmed cell))) (flat_map left_out_in (state_groups (trimmed cell)))
+      ∙ ((λ i. lesser (least_told left_out_in same_left_out i) (least (flat_map left_out_in (states i))))
+      ∙ sym (least_append (flat_map left_out_in (pin_groups cell)) (flat_map left_out_in (state_groups cell))))
 
   same_texts : (f : Text → List ℕ) → flat_map f (texts_of (trimmed cell)) ≡ flat_map f (texts_of cell)
   same_texts f =
@@ -348,10 +359,10 @@ module _ (cell : Group) where
           let names : least (unknown_names s cell) ≡ lesser (least (unknown_names s small)) dropped_unknown =
           wrong_least unknown_in unknown_at unknown_timing unknown_part s in
           (λ i. refused_or reason.Direction (least (sym (told direction_in same_directions) i))
-          (refused_or reason.ThreeState (least (sym (told three_state_in same_three_states) i))
+          (refused_or reason.ThreeState (sym (least_told three_state_in same_three_states) i)
           (refused_or reason.Bank (least (sym all_banks i))
           (refused_or reason.LeftOutState
-          (least (sym (told left_out_in same_left_out) i ++ flat_map left_out_in (sym states i)))
+          (sym same_left_out_states i)
           (refused_or reason.ClearPreset (least (flat_map clear_preset_in (sym states i)))
           (refused_or reason.Duplicate (least (sym (same_duplicates earlier) i))
           (refused_or reason.Malformed (texts i)

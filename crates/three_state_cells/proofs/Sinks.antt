@@ -19,7 +19,8 @@ use Rattle.cell_attributes.specs.Pins.{owner_as, owners_in}
 use Rattle.cell_reader.specs.declared.refusal.Refusal.{Refusal}
 use Rattle.cell_reader.specs.PinTimings.{subject_at}
 use Rattle.three_state_cells.specs.Refusals.{first_of_two}
-use Rattle.three_state_cells.specs.Trimmed.{has_one, all_behind, untimed, is_trimmed, is_trimmed_item}
+use Rattle.three_state_cells.specs.PinAttributes.{untimed}
+use Rattle.three_state_cells.specs.Trimmed.{has_one, all_behind, is_trimmed, is_trimmed_item}
 use Rattle.three_state_cells.specs.Trimmed.{pins_in_item, trimmed_item, trimmed_items, owners_among, timing_told, wrong_pin, wrong_with}
 use Rattle.three_state_cells.specs.Sinks.{nothing_trimmed, after_trimmed, wrong_item, after_wrong}
 use Rattle.three_state_cells.proofs.Groups.{no_more}

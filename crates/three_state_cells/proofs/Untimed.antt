@@ -1,20 +1,22 @@
--- What is read of a pin group without its timing groups: all but its timing is the same.
-use Rattle.std.proofs.Common.{◌≡◌, ℕ, Bool, true, false, not, ◌&&◌, ◌||◌, ◌==◌, List, [], ◌∷◌, ◌++◌, length, map, filter}
+-- What is read of a pin group without its timing groups and what is not read of it: all but its timing is the same.
+use Rattle.std.proofs.Common.{◌≡◌, ℕ, Bool, true, false, not, ◌&&◌, ◌||◌, ◌==◌, List, [], ◌∷◌, ◌++◌, length, map}
 use Rattle.std.proofs.Common.{Option, Some, None, if◌then◌else◌, refl, sym, ap, ◌∙◌, codes}
-use Rattle.std.specs.Prelude.{flat_map, bytes_eq, is_some, is_none, unwrap_or}
+use Rattle.std.specs.Prelude.{flat_map, bytes_eq, is_some, is_none, unwrap_or, option_map, option_to_list}
 use Rattle.std.specs.Option.{option_map_or}
 use Rattle.std.specs.List.{cons_option}
+use Rattle.std.proofs.lemmas.List.Elements.{filter_map-append}
 use Rattle.liberty_groups.specs.declared.tree.Value.{Value}
 use Rattle.liberty_groups.specs.declared.tree.Item.{Item, out-Item}
-use Rattle.liberty_groups.specs.declared.tree.Item.TheOpen.{Item-F, Group-F}
-use Rattle.liberty_groups.specs.declared.tree.Item.TheOpen as layer
-use Rattle.liberty_groups.specs.declared.tree.Item.TheViews.{out-roll-Group}
+use Rattle.liberty_groups.specs.declared.tree.Item.TheOpen.{Group-F}
+use Rattle.liberty_groups.specs.declared.tree.Item.TheViews.{out-roll-Group, outs-Simple}
 use Rattle.liberty_groups.specs.declared.tree.Group.{Group}
 use Rattle.liberty_groups.specs.Attributes.{Attribute, simple_named, group_named, attributes_named, groups_named, last_or}
 use Rattle.liberty_groups.specs.Attributes.{attribute_of}
 use Rattle.cell_machine.specs.declared.pins.Direction.{Direction}
 use Rattle.cell_machine.specs.declared.pins.Direction.TheVariants as direction
 use Rattle.cell_machine.specs.CellRules.{is_input_pin}
+use Rattle.cell_machine.specs.Delay.{lesser, least}
+use Rattle.cell_machine.proofs.LeastLemmas.{least_append}
 use Rattle.timing_arcs.specs.declared.subject.Subject.{Subject}
 use Rattle.timing_arcs.specs.Timing as timing
 use Rattle.cell_attributes.specs.declared.vocabulary.Class.{Class}
@@ -22,50 +24,91 @@ use Rattle.cell_attributes.specs.declared.declarations.Role.TheVariants.{Bearer,
 use Rattle.cell_attributes.specs.States.{StateName, states_in}
 use Rattle.cell_attributes.specs.Vocabulary.{Vocabulary, is_bound, class_as, entry_with, pin_entry, pin_entries, internal_class}
 use Rattle.cell_attributes.specs.Declarations.{Declared, is_internal, says, declared_pin, declared_in, declared_state}
-use Rattle.cell_attributes.specs.Groups.{is_pin, is_state}
+use Rattle.cell_attributes.specs.Groups.{is_pin, is_state, offsets_of}
 use Rattle.cell_attributes.specs.Pins.{direction_as, direction_of, pins_in}
 use Rattle.cell_attributes.specs.Scans.{place_or, place_unless, is_output_group, direction_in, three_state_in}
 use Rattle.cell_attributes.specs.Scans.{bank_in, left_out_in, no_function_in}
 use Rattle.cell_attributes.specs.Outputs.{node_as, output_with, pin_text_as, pin_text}
 use Rattle.core_groups.specs.Outputs.{is_three_state}
-use Rattle.core_groups.proofs.Statements.{attributes_kept}
 use Rattle.cell_reader.specs.Written as written
-use Rattle.three_state_cells.specs.Trimmed.{is_no_timing, untimed}
+use Rattle.three_state_cells.specs.PinAttributes.{counted_names, refusing_names, statement_of, counted, refusing, refusing_of}
+use Rattle.three_state_cells.specs.PinAttributes.{without_text, read_attributes, untimed}
 
-no_simple : (name : List ℕ) (one : Item-F Item Group) → is_no_timing one ≡ false → simple_named name one ≡ None
-no_simple name (layer.Simple n value at) h = absurd cc
-no_simple name (layer.Complex n arguments at) h = refl
-no_simple name (layer.Inner group) h = refl
+-- The statements of attributes that a group is made of.
+abbrev none : List Attribute
+none = []
 
-no_group : (one : Item-F Item Group) → is_no_timing one ≡ true → group_named (codes "timing") one ≡ None
-no_group (layer.Simple n value at) h = refl
-no_group (layer.Complex n arguments at) h = refl
-no_group (layer.Inner group) h = by (bytes_eq group.name (codes "timing")) h
+neither : (b : Bool) → none ≡ (if b then none else none)
+neither true = refl
+neither false = refl
+
+of_statement : (name other : List ℕ) (o : Option Attribute)
+    → attributes_named name (statement_of other o) ≡ (if bytes_eq other name then option_to_list o else [])
+of_statement name other None = neither (bytes_eq other name)
+of_statement name other (Some a) =
+    ap (λ one. cons_option (simple_named name one) []) (outs-Simple other (record { bytes = a.text; quoted = true } ∷ []) a.at)
+    ∙ by (bytes_eq other name)
   where
-    by : (b : Bool) → not b ≡ true → (if b then Some group else None) ≡ None
-    by true h = absurd cc
-    by false h = refl
+    by : (b : Bool) → cons_option (if b then Some a else None) [] ≡ (if b then a ∷ [] else [])
+    by true = refl
+    by false = refl
 
-no_groups : (items : List Item) → groups_named (codes "timing") (filter (λ item. is_no_timing (out-Item item)) items) ≡ []
-no_groups [] = refl
-no_groups (item ∷ items) = by (is_no_timing (out-Item item)) refl (no_groups items)
-  where
-    by : (b : Bool) → is_no_timing (out-Item item) ≡ b
-        → groups_named (codes "timing") (filter (λ item. is_no_timing (out-Item item)) items) ≡ []
-        → groups_named (codes "timing") (if b then item ∷ filter (λ item. is_no_timing (out-Item item)) items
-        else filter (λ item. is_no_timing (out-Item item)) items) ≡ []
-    by true e rest =
-        ap (λ one. cons_option one (groups_named (codes "timing") (filter (λ item. is_no_timing (out-Item item)) items)))
-        (no_group (out-Item item) e) ∙ rest
-    by false e rest = rest
+abbrev among : List ℕ → (List ℕ → Option Attribute) → List (List ℕ) → List Attribute
+among name told names = flat_map (λ other. if bytes_eq other name then option_to_list (told other) else []) names
+
+of_statements : (name : List ℕ) (told : List ℕ → Option Attribute) (names : List (List ℕ))
+    → attributes_named name (flat_map (λ other. statement_of other (told other)) names) ≡ among name told names
+of_statements name told [] = refl
+of_statements name told (other ∷ names) =
+    filter_map-append (λ item. simple_named name (out-Item item)) (statement_of other (told other))
+    (flat_map (λ other. statement_of other (told other)) names)
+    ∙ (λ i. of_statement name other (told other) i ++ of_statements name told names i)
+
+no_group : (name other : List ℕ) (o : Option Attribute) → groups_named name (statement_of other o) ≡ []
+no_group name other None = refl
+no_group name other (Some a) =
+    ap (λ one. cons_option (group_named name one) []) (outs-Simple other (record { bytes = a.text; quoted = true } ∷ []) a.at)
+
+no_groups : (name : List ℕ) (told : List ℕ → Option Attribute) (names : List (List ℕ))
+    → groups_named name (flat_map (λ other. statement_of other (told other)) names) ≡ []
+no_groups name told [] = refl
+no_groups name told (other ∷ names) =
+    filter_map-append (λ item. group_named name (out-Item item)) (statement_of other (told other))
+    (flat_map (λ other. statement_of other (told other)) names)
+    ∙ (λ i. no_group name other (told other) i ++ no_groups name told names i)
+
+-- one of them
+one_counted : (o : Option Attribute) → last_or None ((option_to_list o ++ []) ++ []) ≡ o
+one_counted None = refl
+one_counted (Some a) = refl
+
+one_refusing : (o : Option ℕ)
+    → least (map (λ (a : Attribute). a.at) (option_to_list (option_map without_text o) ++ [])) ≡ o
+one_refusing None = refl
+one_refusing (Some at) = refl
+
+some_last : (a : Attribute) (others : List Attribute) → is_some (last_or (Some a) others) ≡ true
+some_last a [] = refl
+some_last a (b ∷ others) = some_last b others
+
+some_least : (at : ℕ) (o : Option ℕ) → is_some (lesser (Some at) o) ≡ true
+some_least at None = refl
+some_least at (Some other) = refl
+
+some_told : (o : Option ℕ) → is_some (last_or None (option_to_list (option_map without_text o) ++ [])) ≡ is_some o
+some_told None = refl
+some_told (Some at) = refl
+
+some_refusing : (all : List Attribute)
+    → is_some (last_or None (option_to_list (option_map without_text (least (map (λ (a : Attribute). a.at) all))) ++ []))
+    ≡ is_some (last_or None all)
+some_refusing [] = refl
+some_refusing (a ∷ others) =
+    some_told (least (map (λ (a : Attribute). a.at) (a ∷ others)))
+    ∙ (some_least a.at (least (map (λ (a : Attribute). a.at) others)) ∙ sym (some_last a others))
 
 abbrev shape : Group → Group-F Item Group
-shape group = record {
-  name = group.name;
-  arguments = group.arguments;
-  items = filter (λ item. is_no_timing (out-Item item)) group.items;
-  at = group.at;
-}
+shape group = record { name = group.name; arguments = group.arguments; items = read_attributes group; at = group.at }
 
 -- The limits of the widths of pulses and of the period, which stand in attributes.
 abbrev pub attribute_numbers : Subject → Group → List ℕ
@@ -83,14 +126,47 @@ module _ (group : Group) where
   pub same_at : (untimed group).at ≡ group.at
   same_at = ap (λ (one : Group-F Item Group). one.at) (out-roll-Group (shape group))
 
-  pub kept_items : (untimed group).items ≡ filter (λ item. is_no_timing (out-Item item)) group.items
+  kept_items : (untimed group).items ≡ read_attributes group
   kept_items = ap (λ (one : Group-F Item Group). one.items) (out-roll-Group (shape group))
 
-  named : (name : List ℕ) → attributes_named name (untimed group).items ≡ attributes_named name group.items
-  named name = ap (attributes_named name) kept_items ∙ attributes_kept name is_no_timing (no_simple name) group.items
+  named : (name : List ℕ) → attributes_named name (untimed group).items
+      ≡ among name (attribute_of group) counted_names ++ among name (refusing_of group) refusing_names
+  named name =
+      ap (attributes_named name) kept_items
+      ∙ (filter_map-append (λ item. simple_named name (out-Item item)) (flat_map (counted group) counted_names)
+      (flat_map (refusing group) refusing_names)
+      ∙ (λ i. of_statements name (attribute_of group) counted_names i ++ of_statements name (refusing_of group) refusing_names i))
 
-  pub attribute : (name : List ℕ) → attribute_of (untimed group) name ≡ attribute_of group name
-  attribute name = ap (last_or None) (named name)
+  same_direction_told : attribute_of (untimed group) (codes "direction") ≡ attribute_of group (codes "direction")
+  same_direction_told = ap (last_or None) (named (codes "direction")) ∙ one_counted (attribute_of group (codes "direction"))
+
+  same_function : attribute_of (untimed group) (codes "function") ≡ attribute_of group (codes "function")
+  same_function = ap (last_or None) (named (codes "function")) ∙ one_counted (attribute_of group (codes "function"))
+
+  same_state_function : attribute_of (untimed group) (codes "state_function") ≡ attribute_of group (codes "state_function")
+  same_state_function =
+      ap (last_or None) (named (codes "state_function")) ∙ one_counted (attribute_of group (codes "state_function"))
+
+  same_node : attribute_of (untimed group) (codes "internal_node") ≡ attribute_of group (codes "internal_node")
+  same_node = ap (last_or None) (named (codes "internal_node")) ∙ one_counted (attribute_of group (codes "internal_node"))
+
+  same_high : attribute_of (untimed group) (codes "min_pulse_width_high") ≡ attribute_of group (codes "min_pulse_width_high")
+  same_high =
+      ap (last_or None) (named (codes "min_pulse_width_high"))
+      ∙ one_counted (attribute_of group (codes "min_pulse_width_high"))
+
+  same_low : attribute_of (untimed group) (codes "min_pulse_width_low") ≡ attribute_of group (codes "min_pulse_width_low")
+  same_low =
+      ap (last_or None) (named (codes "min_pulse_width_low"))
+      ∙ one_counted (attribute_of group (codes "min_pulse_width_low"))
+
+  same_period : attribute_of (untimed group) (codes "min_period") ≡ attribute_of group (codes "min_period")
+  same_period = ap (last_or None) (named (codes "min_period")) ∙ one_counted (attribute_of group (codes "min_period"))
+
+  is_floating : is_some (attribute_of (untimed group) (codes "three_state")) ≡ is_some (attribute_of group (codes "three_state"))
+  is_floating =
+      ap (λ l. is_some (last_or None l)) (named (codes "three_state"))
+      ∙ some_refusing (attributes_named (codes "three_state") group.items)
 
   pub same_is_pin : is_pin (untimed group) ≡ is_pin group
   same_is_pin = λ i. bytes_eq (same_name i) (codes "pin") && not (length (same_arguments i) == 0)
@@ -109,39 +185,59 @@ module _ (group : Group) where
       then same_at i ∷ [] else []
 
   same_direction : direction_of (untimed group) ≡ direction_of group
-  same_direction = ap direction_as (attribute (codes "direction"))
+  same_direction = ap direction_as same_direction_told
 
   pub same_directions : direction_in (untimed group) ≡ direction_in group
   unfolding direction_in
   same_directions =
-      λ i. place_unless (place_or (same_at i) (attribute (codes "direction") i)) (direction_as (attribute (codes "direction") i))
+      λ i. place_unless (place_or (same_at i) (same_direction_told i)) (direction_as (same_direction_told i))
 
-  pub same_three_states : three_state_in (untimed group) ≡ three_state_in group
+  -- the least offset of those that refuse
+  same_place : (name : List ℕ)
+      → among name (attribute_of group) counted_names ++ among name (refusing_of group) refusing_names
+      ≡ option_to_list (refusing_of group name) ++ []
+      → least (offsets_of name (untimed group)) ≡ least (offsets_of name group)
+  same_place name e =
+      ap (λ l. least (map (λ (a : Attribute). a.at) l)) (named name ∙ e) ∙ one_refusing (least (offsets_of name group))
+
+  pub same_three_states : least (three_state_in (untimed group)) ≡ least (three_state_in group)
   unfolding three_state_in
-  same_three_states = λ i. map (λ (a : Attribute). a.at) (named (codes "three_state") i)
+  same_three_states = same_place (codes "three_state") refl
 
-  pub same_left_out : left_out_in (untimed group) ≡ left_out_in group
+  pub same_left_out : least (left_out_in (untimed group)) ≡ least (left_out_in group)
   unfolding left_out_in
   same_left_out =
-      λ i. map (λ (a : Attribute). a.at) (named (codes "clocked_on_also") i)
-      ++ (map (λ (a : Attribute). a.at) (named (codes "enable_also") i)
-      ++ map (λ (a : Attribute). a.at) (named (codes "input_map") i))
+      all_parts (untimed group)
+      ∙ ((λ i. lesser (same_place (codes "clocked_on_also") refl i)
+      (lesser (same_place (codes "enable_also") refl i) (same_place (codes "input_map") refl i)))
+      ∙ sym (all_parts group))
+    where
+      all_parts : (one : Group)
+          → least (offsets_of (codes "clocked_on_also") one
+          ++ (offsets_of (codes "enable_also") one ++ offsets_of (codes "input_map") one))
+          ≡ lesser (least (offsets_of (codes "clocked_on_also") one))
+          (lesser (least (offsets_of (codes "enable_also") one)) (least (offsets_of (codes "input_map") one)))
+      all_parts one =
+          least_append (offsets_of (codes "clocked_on_also") one)
+          (offsets_of (codes "enable_also") one ++ offsets_of (codes "input_map") one)
+          ∙ ap (lesser (least (offsets_of (codes "clocked_on_also") one)))
+          (least_append (offsets_of (codes "enable_also") one) (offsets_of (codes "input_map") one))
 
   pub same_no_function : no_function_in (untimed group) ≡ no_function_in group
   unfolding no_function_in
   same_no_function =
-      λ i. if is_output_group (direction_as (attribute (codes "direction") i))
-      && (is_none (attribute (codes "function") i)
-      && (is_none (attribute (codes "state_function") i) && is_none (attribute (codes "internal_node") i)))
+      λ i. if is_output_group (direction_as (same_direction_told i))
+      && (is_none (same_function i)
+      && (is_none (same_state_function i) && is_none (same_node i)))
       then same_at i ∷ [] else []
 
   text_by : (v : Vocabulary) (o : Option Direction) → pin_text_as v (untimed group) o ≡ pin_text_as v group o
   text_by v None = refl
   text_by v (Some direction.Input) = refl
   text_by v (Some direction.Output) =
-      λ i. output_with v (attribute (codes "state_function") i) (attribute (codes "internal_node") i)
-      (attribute (codes "function") i)
-  text_by v (Some direction.Internal) = ap (node_as v) (attribute (codes "internal_node"))
+      λ i. output_with v (same_state_function i) (same_node i)
+      (same_function i)
+  text_by v (Some direction.Internal) = ap (node_as v) same_node
 
   pub same_text : (v : Vocabulary) → pin_text v (untimed group) ≡ pin_text v group
   same_text v = ap (pin_text_as v (untimed group)) same_direction ∙ text_by v (direction_of group)
@@ -156,7 +252,7 @@ module _ (group : Group) where
   class_by states name None = refl
   class_by states name (Some direction.Input) = refl
   class_by states name (Some direction.Output) = refl
-  class_by states name (Some direction.Internal) = ap (internal_class states name) (attribute (codes "internal_node"))
+  class_by states name (Some direction.Internal) = ap (internal_class states name) same_node
 
   entry_by : (name : List ℕ) (class : Class) → entry_with (untimed group) name class ≡ entry_with group name class
   entry_by name class =
@@ -164,7 +260,7 @@ module _ (group : Group) where
         name = name;
         class = class;
         target =
-            (if is_bound class then option_map_or (λ (a : Attribute). a.text) (attribute (codes "internal_node") i) name
+            (if is_bound class then option_map_or (λ (a : Attribute). a.text) (same_node i) name
             else name);
       }
 
@@ -187,7 +283,7 @@ module _ (group : Group) where
       ∙ ((λ i. map (λ (value : Value). record {
         name = value.bytes;
         role =
-            (if is_internal (same_direction i) && says value.bytes (attribute (codes "internal_node") i) then Bearer else Plain);
+            (if is_internal (same_direction i) && says value.bytes (same_node i) then Bearer else Plain);
         at = same_at i;
       }) (same_arguments i))
       ∙ sym (ap (λ b. if b then map (declared_pin group) group.arguments else else_declared group) e))
@@ -195,11 +291,16 @@ module _ (group : Group) where
   pub same_floating : is_three_state (untimed group) ≡ is_three_state group
   unfolding is_three_state
   same_floating =
-      λ i. same_is_pin i && (is_output_group (same_direction i) && is_some (attribute (codes "three_state") i))
+      λ i. same_is_pin i && (is_output_group (same_direction i) && is_floating i)
 
   -- nothing of its timing groups is left
   pub no_timings : timing.timing_groups (untimed group) ≡ []
-  no_timings = ap (groups_named (codes "timing")) kept_items ∙ no_groups group.items
+  no_timings =
+      ap (groups_named (codes "timing")) kept_items
+      ∙ (filter_map-append (λ item. group_named (codes "timing") (out-Item item)) (flat_map (counted group) counted_names)
+      (flat_map (refusing group) refusing_names)
+      ∙ (λ i. no_groups (codes "timing") (attribute_of group) counted_names i
+      ++ no_groups (codes "timing") (refusing_of group) refusing_names i))
 
   pub no_malformed : (s : Subject) → timing.malformed_at s (untimed group) ≡ []
   no_malformed s = ap (flat_map (timing.malformed_in s)) no_timings
@@ -210,12 +311,13 @@ module _ (group : Group) where
   pub no_own : (s : Subject) → written.own_conditions_of s (untimed group) ≡ []
   no_own s = ap (flat_map (written.own_in s)) no_timings
 
-  limit : (s : Subject) (name : List ℕ) → timing.limit_attribute s (untimed group) name ≡ timing.limit_attribute s group name
-  limit s name = ap (λ o. if is_input_pin s.pins s.place then o else None) (attribute name)
+  limit : (s : Subject) (name : List ℕ) → attribute_of (untimed group) name ≡ attribute_of group name
+      → timing.limit_attribute s (untimed group) name ≡ timing.limit_attribute s group name
+  limit s name same = ap (λ o. if is_input_pin s.pins s.place then o else None) same
 
   pub kept_numbers : (s : Subject) → timing.numbers_at s (untimed group) ≡ attribute_numbers s group
   kept_numbers s =
       ap (λ l. flat_map (timing.bad_numbers_in s) l ++ attribute_numbers s (untimed group)) no_timings
-      ∙ (λ i. timing.bad_attribute s (limit s (codes "min_pulse_width_high") i)
-      ++ (timing.bad_attribute s (limit s (codes "min_pulse_width_low") i)
-      ++ timing.bad_attribute s (limit s (codes "min_period") i)))
+      ∙ (λ i. timing.bad_attribute s (limit s (codes "min_pulse_width_high") same_high i)
+      ++ (timing.bad_attribute s (limit s (codes "min_pulse_width_low") same_low i)
+      ++ timing.bad_attribute s (limit s (codes "min_period") same_period i)))

@@ -7,6 +7,7 @@ pub mod Drivers
 pub mod DrivenCells
 pub mod CoreReadings
 pub mod Laws
+pub mod PinAttributes
 pub mod Trimmed
 pub mod Sinks
 pub mod Gathering

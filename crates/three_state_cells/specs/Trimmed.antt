@@ -1,6 +1,7 @@
--- A cell with more pins than the limit, of which pins behind the limit lose their timing groups, and what is wrong in these. (This
--- project's rule: such a cell is refused, by its number of pins or by a reason with a lesser number.)
-use Rattle.std.specs.Prelude.{ℕ, ◌+◌, Bool, true, false, not, ◌&&◌, nat_le, List, [], ◌∷◌, length, filter, flat_map, drop, codes}
+-- A cell with more pins than the limit, of which pins behind the limit lose their timing groups and what is not read of them, and
+-- what is wrong in the timing. (This project's rule: such a cell is refused, by its number of pins or by a reason with a lesser
+-- number.)
+use Rattle.std.specs.Prelude.{ℕ, ◌+◌, Bool, true, false, ◌&&◌, nat_le, List, [], ◌∷◌, length, filter, flat_map, drop}
 use Rattle.std.specs.Prelude.{Option, Some, None, Ok, Err, if◌then◌else◌}
 use Rattle.std.specs.List.{list_all}
 use Rattle.liberty_groups.specs.declared.tree.Value.{Value}
@@ -12,13 +13,14 @@ use Rattle.liberty_groups.specs.declared.tree.Group.{Group, roll-Group}
 use Rattle.timing_arcs.specs.declared.subject.Subject.{Subject}
 use Rattle.timing_arcs.specs.declared.fault.TimingFault.TheVariants as fault
 use Rattle.timing_arcs.specs.Timing.{reading_answer}
-use Rattle.cell_attributes.specs.Groups.{is_called, is_pin, inner_groups}
+use Rattle.cell_attributes.specs.Groups.{is_pin, inner_groups}
 use Rattle.cell_attributes.specs.Pins.{owners_in, owners_of}
 use Rattle.cell_reader.specs.declared.refusal.Reason.{Reason}
 use Rattle.cell_reader.specs.declared.refusal.Reason.TheVariants as reason
 use Rattle.cell_reader.specs.declared.refusal.Refusal.{Refusal}
 use Rattle.cell_reader.specs.PinTimings.{Answer, subject_at}
 use Rattle.three_state_cells.specs.Refusals.{first_of_two}
+use Rattle.three_state_cells.specs.PinAttributes.{untimed}
 
 -- The offset of a statement.
 abbrev pub place_in : Item-F Item Group → ℕ
@@ -32,21 +34,6 @@ is_behind at item = nat_le at (place_in (out-Item item))
 
 abbrev pub all_behind : ℕ → Group → Bool
 all_behind at group = list_all (is_behind at) group.items
-
--- A group without its timing groups.
-abbrev pub is_no_timing : Item-F Item Group → Bool
-is_no_timing (layer.Simple name value at) = true
-is_no_timing (layer.Complex name arguments at) = true
-is_no_timing (layer.Inner group) = not (is_called (codes "timing") group)
-
-abbrev pub untimed : Group → Group
-untimed group =
-    roll-Group (record {
-      name = group.name;
-      arguments = group.arguments;
-      items = filter (λ item. is_no_timing (out-Item item)) group.items;
-      at = group.at;
-    })
 
 -- A pin group is trimmed where it makes one pin, which stands behind the limit, and none of its statements stands before it.
 abbrev pub has_one : List Value → Bool

@@ -11,6 +11,7 @@ mod expanded;
 mod gathering;
 mod laws;
 mod left_out;
+mod pin_attributes;
 mod read;
 mod subjects;
 mod trimmed_items;

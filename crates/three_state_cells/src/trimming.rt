@@ -1,14 +1,13 @@
-//! Pin groups behind the limit of pins without their timing groups.
-ghost use Rattle.std.specs.Prelude.{◌≡◌, IfOk, filter, map, drop};
+//! Pin groups behind the limit of pins without their timing groups and what is not read of them.
+ghost use Rattle.std.specs.Prelude.{◌≡◌, IfOk, map, drop};
 ghost use Rattle.std.specs.List.{list_all};
 ghost use Rattle.liberty_groups.specs.declared.tree.Item.{out-Item};
 ghost use Rattle.three_state_cells.specs.Trimmed as spec;
 
-use bank_cells::with_items;
-use cell_attributes::groups::{is_called, is_pin};
+use crate::pin_attributes::untimed;
+use cell_attributes::groups::is_pin;
 use cell_attributes::limits::MOST_PINS;
-use liberty_groups::{Group, Item, Value, copy_item};
-use sqlite_items::Items;
+use liberty_groups::{Group, Item, Value};
 use std::alloc::{AllocError, Global};
 
 /// The offset of a statement.
@@ -33,36 +32,6 @@ fn all_behind(at: usize, group: &Group) -> bool
     true
 }
 
-/// Whether a statement is no timing group.
-fn is_no_timing(item: &Item) -> bool
-    ensures { result ≡ spec.is_no_timing (out-Item item.now) }
-{
-    match item {
-        Item::Simple { .. } | Item::Complex { .. } => true,
-        Item::Inner(group) => !is_called(group, b"timing"),
-    }
-}
-
-/// Copies of those of these statements that are no timing groups.
-fn kept_items(alloc: Global, items: &[Item]) -> Result<Items<Item>, AllocError>
-    ensures { IfOk result (λ kept. kept ≡ filter (λ item. spec.is_no_timing (out-Item item)) items.now) }
-{
-    let mut kept = Items::new(alloc);
-    for item in items {
-        if is_no_timing(item) {
-            kept.push(copy_item(alloc, item)?)?;
-        }
-    }
-    Ok(kept)
-}
-
-/// A group without its timing groups.
-fn untimed(alloc: Global, group: &Group) -> Result<Group, AllocError>
-    ensures { IfOk result (λ made. made ≡ spec.untimed group.now) }
-{
-    with_items(alloc, group, kept_items(alloc, group.items.as_slice())?)
-}
-
 /// Whether there is one argument.
 fn has_one(arguments: &[Value]) -> bool
     ensures { result ≡ spec.has_one arguments.now }
@@ -73,8 +42,8 @@ fn has_one(arguments: &[Value]) -> bool
     }
 }
 
-/// Whether a group loses its timing groups, where so many pins stand before it: it makes one pin behind the limit, and none of its
-/// statements stands before it.
+/// Whether a group loses its timing groups and what is not read of it, where so many pins stand before it: it makes one pin behind
+/// the limit, and none of its statements stands before it.
 pub(crate) fn is_trimmed(pin: usize, group: &Group) -> bool
     ensures { result ≡ spec.is_trimmed pin group.now }
 {

@@ -1,0 +1,149 @@
+//! Pin groups without their timing groups, with the attributes alone that are read of a pin.
+ghost use Rattle.std.specs.Prelude.{◌≡◌, ◌++◌, IfOk, OnOk, map, flat_map, option_map, Some};
+ghost use Rattle.liberty_groups.specs.declared.tree.Item.{out-Item};
+ghost use Rattle.liberty_groups.specs.Attributes.{shown, simple_named};
+ghost use Rattle.cell_machine.specs.Delay.{lesser as lesser_of, least};
+ghost use Rattle.cell_attributes.specs.Groups.{offsets_of};
+ghost use Rattle.three_state_cells.specs.PinAttributes as spec;
+
+use bank_cells::with_items;
+use liberty_groups::{
+    Attribute, Group, Item, Values, copy_bytes, copy_text, last_attribute, simple_attribute,
+    value_of,
+};
+use sqlite_items::Items;
+use std::alloc::{AllocError, Global};
+
+/// The statement of an attribute.
+fn statement(alloc: Global, name: &[u8], attribute: Attribute<'_>) -> Result<Item, AllocError>
+    ensures { IfOk result (λ item. item ≡ spec.statement name.now (shown attribute.entry)) }
+{
+    let text = copy_bytes(alloc, attribute.text)?;
+    Ok(Item::Simple {
+        name: copy_text(alloc, name)?,
+        value: Values::one(value_of(alloc, text, true)?),
+        at: attribute.at,
+    })
+}
+
+/// Adds the statement of an attribute, if there is one.
+fn add_statement(
+    alloc: Global,
+    found: &mut Items<Item>,
+    name: &[u8],
+    attribute: Option<Attribute<'_>>,
+) -> Result<(), AllocError>
+    ensures { OnOk result (found.new ≡ found.old ++ spec.statement_of name.now (option_map shown attribute.entry)) }
+{
+    match attribute {
+        None => Ok(()),
+        Some(attribute) => {
+            found.push(statement(alloc, name, attribute)?)?;
+            Ok(())
+        }
+    }
+}
+
+/// Adds the attributes of these names of which the last one counts.
+fn add_counted(
+    alloc: Global,
+    found: &mut Items<Item>,
+    group: &Group,
+    names: &[&[u8]],
+) -> Result<(), AllocError>
+    ensures { OnOk result (found.new ≡ found.old ++ flat_map (spec.counted group.now) (map (λ name. name.now) names.now)) }
+{
+    for name in names {
+        add_statement(alloc, found, name, last_attribute(group, name))?;
+    }
+    Ok(())
+}
+
+/// The lesser of an offset and one before it, if there is one.
+fn lesser(earlier: Option<usize>, at: usize) -> Option<usize>
+    ensures { result ≡ lesser_of earlier (Some at) }
+{
+    match earlier {
+        None => Some(at),
+        Some(earlier) => Some(earlier.min(at)),
+    }
+}
+
+/// The lesser of an offset and that of a statement, if it is an attribute of this name.
+fn lesser_with(earlier: Option<usize>, item: &Item, name: &[u8]) -> Option<usize>
+    ensures { result ≡ lesser_of earlier (option_map (λ attribute. attribute.at) (simple_named name.now (out-Item item.now))) }
+{
+    match simple_attribute(item, name) {
+        None => earlier,
+        Some(attribute) => lesser(earlier, attribute.at),
+    }
+}
+
+/// The least offset of the attributes of this name.
+#[tactic(auto, using(cell_machine::proofs::LeastLemmas::lesser_assoc))]
+fn least_place(group: &Group, name: &[u8]) -> Option<usize>
+    ensures { result ≡ least (offsets_of name.now group.now) }
+{
+    let mut found = None;
+    for item in group.items.as_slice() {
+        found = lesser_with(found, item, name);
+    }
+    found
+}
+
+/// Adds the attributes of these names of which the least offset counts.
+fn add_refusing(
+    alloc: Global,
+    found: &mut Items<Item>,
+    group: &Group,
+    names: &[&[u8]],
+) -> Result<(), AllocError>
+    ensures { OnOk result (found.new ≡ found.old ++ flat_map (spec.refusing group.now) (map (λ name. name.now) names.now)) }
+{
+    for name in names {
+        add_statement(alloc, found, name, refusing(group, name))?;
+    }
+    Ok(())
+}
+
+/// The attribute of this name of which the least offset counts.
+fn refusing(group: &Group, name: &[u8]) -> Option<Attribute<'static>>
+    ensures { option_map shown result ≡ spec.refusing_of group.now name.now }
+{
+    match least_place(group, name) {
+        None => None,
+        Some(at) => Some(Attribute { text: &[], at }),
+    }
+}
+
+/// The attributes that are read of a pin.
+fn read_attributes(alloc: Global, group: &Group) -> Result<Items<Item>, AllocError>
+    ensures { IfOk result (λ items. items ≡ spec.read_attributes group.now) }
+{
+    let counted: [&[u8]; 7] = [
+        b"direction",
+        b"function",
+        b"state_function",
+        b"internal_node",
+        b"min_pulse_width_high",
+        b"min_pulse_width_low",
+        b"min_period",
+    ];
+    let refusing: [&[u8]; 4] = [
+        b"three_state",
+        b"clocked_on_also",
+        b"enable_also",
+        b"input_map",
+    ];
+    let mut items = Items::new(alloc);
+    add_counted(alloc, &mut items, group, &counted)?;
+    add_refusing(alloc, &mut items, group, &refusing)?;
+    Ok(items)
+}
+
+/// A pin group without its timing groups and what is not read of it.
+pub(crate) fn untimed(alloc: Global, group: &Group) -> Result<Group, AllocError>
+    ensures { IfOk result (λ made. made ≡ spec.untimed group.now) }
+{
+    with_items(alloc, group, read_attributes(alloc, group)?)
+}

@@ -2,10 +2,9 @@
 ghost use Rattle.driver_texts.specs.CoreTerminals.{terminal_by, next_terminal_text, terminals_text};
 
 use crate::numbered_names::ListedNames;
-use crate::numbered_ports::{EachPort, PortText};
+use crate::numbered_ports::{EachPort, PortAt, PortText};
 use driver_models::DriverModel;
 use text_io::{Bytes, Decimal, Desk, Line, OutSlot, Part, Put, parts};
-use udp_tables::VPort;
 
 /// What stands at the core for a port of this name: of a driven output the wire of this word with its number.
 #[derive(Drop)]
@@ -35,18 +34,11 @@ struct NextTerminals<'a>(&'a [u8]);
 impl PortText for NextTerminals<'_> {
     ghost text = { λ t at. next_terminal_text t.0.now at };
 
-    fn put<D: Desk>(
-        &self,
-        port: &VPort,
-        number: Option<usize>,
-        line: &mut Line,
-        desk: &mut D,
-        slot: OutSlot,
-    ) -> Put {
+    fn put<D: Desk>(&self, at: &PortAt, line: &mut Line, desk: &mut D, slot: OutSlot) -> Put {
         let terminal = Terminal {
             value: self.0,
-            name: port.name.as_slice(),
-            number,
+            name: at.port.name.as_slice(),
+            number: at.number,
         };
         parts!(terminal, Bytes(b", ")).put(line, desk, slot)
     }

@@ -15,7 +15,7 @@ pub use core_terminals::CoreTerminals;
 pub use counts::{input_count, output_count};
 pub use driven_outputs::driven_names;
 pub use numbered_names::{ListedNames, NumberedNames, WireNames};
-pub use numbered_ports::{EachPort, PortText};
+pub use numbered_ports::{EachPort, PortAt, PortText};
 pub use port_names::{input_name, output_name};
 pub use section_parts::{CoreCall, SectionFront, driver_of, fresh_name};
 pub use sections::{DriverSections, SectionRead, read_driver};

@@ -56,6 +56,13 @@ pub fn counts_with(before: Counts, port: &VPort, number: Option<usize>) -> Count
     }
 }
 
+/// A port, with its number among the driven outputs, from 1, where it is one of them.
+#[derive(Drop)]
+pub struct PortAt<'a> {
+    pub port: &'a VPort,
+    pub number: Option<usize>,
+}
+
 /// What ports are as text, with their numbers among the driven outputs.
 pub trait PortText {
     ghost use Rattle.std.specs.Prelude.{ℕ, List};
@@ -64,17 +71,10 @@ pub trait PortText {
     ghost text: { Self → NumberedPort → List ℕ };
 
     /// Puts the text of a port with its number, as `Part::put` does.
-    fn put<D: Desk>(
-        &self,
-        port: &VPort,
-        number: Option<usize>,
-        line: &mut Line,
-        desk: &mut D,
-        slot: OutSlot,
-    ) -> Put
+    fn put<D: Desk>(&self, at: &PortAt, line: &mut Line, desk: &mut D, slot: OutSlot) -> Put
         requires { IsTrue (is_bound (D.state desk.old) (Output slot)) }
         ensures text { PutsText (D.state desk.old) (D.state desk.new) slot line.old
-            (text self.now (record { port = port.now; number = number })) line.new result }
+            (text self.now (record { port = at.now.port.now; number = at.now.number })) line.new result }
         ensures cause { HasCause (D.faults desk.old) (D.faults desk.new) result };
 }
 
@@ -96,7 +96,7 @@ impl<M: PortText> Part for EachPort<'_, M> {
         };
         for port in self.ports {
             let number = port_number(self.drives, before, port);
-            self.texts.put(port, number, line, desk, slot)?;
+            self.texts.put(&PortAt { port, number }, line, desk, slot)?;
             before = counts_with(before, port, number);
         }
         Ok(())

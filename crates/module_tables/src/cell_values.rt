@@ -3,13 +3,10 @@ ghost use Rattle.std.specs.Prelude.{◌≡◌, ◌<◌, ◌≤◌, ◌++◌, ◌
 ghost use Rattle.trit_cubes.specs.declared.trits.Trit.TheVariants as trit;
 ghost use Rattle.trit_cubes.specs.Resolution.{res};
 ghost use Rattle.bool_functions.specs.Tree.{name_bound};
-ghost use Rattle.cell_machine.specs.Machine.{without};
-ghost use Rattle.cell_machine.specs.Outputs.{condition_at};
-ghost use Rattle.cell_machine.specs.CellData.{data_of};
+ghost use Rattle.cell_machine.specs.{Machine.without, Outputs.condition_at, CellData.data_of};
 ghost use Rattle.cell_machine.specs.CellTrace.{support_at, sources_at, output_value_at};
 ghost use Rattle.row_selection.specs.NextStates.{next_states};
-ghost use Rattle.module_tables.specs.Tables.{cell_step, cell_forced};
-ghost use Rattle.module_tables.specs.LookUps.{AreSteps, AreForces};
+ghost use Rattle.module_tables.specs.{Tables.cell_step, Tables.cell_forced, LookUps.AreSteps, LookUps.AreForces};
 
 use crate::net_rows::NetRows;
 use crate::resolved::{resolved, values_at};

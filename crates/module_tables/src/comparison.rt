@@ -9,8 +9,8 @@ use crate::differences::{AuditPart, Difference};
 use crate::states::GroupTables;
 use crate::values::{of_condition, of_output};
 use cell_machine::Cell;
+use cell_tables::has_notifier;
 use module_terminals::condition_wires::{of_check, of_path};
-use module_terminals::terminals::has_notifier;
 use specify_blocks::VModule;
 
 impl AuditPart {
@@ -40,20 +40,14 @@ impl AuditPart {
         match self {
             AuditPart::State => GroupTables::of(cell, model, number).steps(),
             AuditPart::Notifier => GroupTables::of(cell, model, number).notes(),
-            AuditPart::Check => of_condition(
-                cell,
-                model,
-                self,
-                number + 1,
-                of_check(cell, model, number),
-            ),
-            AuditPart::Path => of_condition(
-                cell,
-                model,
-                self,
-                number + 1,
-                of_path(cell, model, number),
-            ),
+            AuditPart::Check => {
+                let condition = of_check(cell, model, number);
+                of_condition(cell, model, self, number + 1, condition)
+            }
+            AuditPart::Path => {
+                let condition = of_path(cell, model, number);
+                of_condition(cell, model, self, number + 1, condition)
+            }
             AuditPart::Output => of_output(cell, model, number),
         }
     }

@@ -2,8 +2,7 @@
 ghost use Rattle.std.specs.Prelude.{◌≡◌, ◌+◌, ◌≤◌, ◌++◌, true, false, List, map, length, position, IsTrue};
 ghost use Rattle.trit_cubes.specs.declared.trits.Trit.{Trit};
 ghost use Rattle.cell_machine.specs.Inputs.{numbered_value};
-ghost use Rattle.specify_blocks.specs.Nets.{same_net, has_state};
-ghost use Rattle.specify_blocks.specs.Sound.{IsSound};
+ghost use Rattle.specify_blocks.specs.{Nets.same_net, Nets.has_state, Sound.IsSound};
 ghost use Rattle.row_selection.specs.NextStates.{next_states};
 ghost use Rattle.module_terminals.specs.Terminals.{StandsIn, nets_feeding, drives_value};
 ghost use Rattle.module_tables.specs.ChangeInputs.{input_count};

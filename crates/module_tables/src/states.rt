@@ -1,12 +1,10 @@
 //! The comparison of the tables of states.
 ghost use Rattle.std.specs.Prelude.{◌≡◌, ◌<◌, ◌≤◌, [], ◌∷◌, true, None, map, length, IsTrue};
-ghost use Rattle.cell_machine.specs.CellData.{data_of};
-ghost use Rattle.cell_machine.specs.CellTrace.{support_at};
+ghost use Rattle.cell_machine.specs.{CellData.data_of, CellTrace.support_at};
 ghost use Rattle.udp_tables.specs.Sequential.{noted};
 ghost use Rattle.specify_blocks.specs.declared.model.VNet.TheVariants as net;
 ghost use Rattle.specify_blocks.specs.Sound.{IsSound};
-ghost use Rattle.module_terminals.specs.Terminals.{group_nets};
-ghost use Rattle.module_terminals.specs.Feeding.{feeds_group};
+ghost use Rattle.module_terminals.specs.{Terminals.group_nets, Feeding.feeds_group};
 ghost use Rattle.module_tables.specs.Tables.{place_net, cell_step, model_step, cell_forced, note_after, notes, step_compared};
 ghost use Rattle.module_tables.specs.Tables.{steps_by_note, steps_by_state, steps_where_changed, steps_by_list, steps_by_old};
 ghost use Rattle.module_tables.specs.Tables.{steps_compared, note_compared, notes_by_list, notes_by_old, notes_compared};
@@ -19,7 +17,8 @@ use crate::differences::{AuditPart, Difference};
 use crate::lists::{cube_of, list_count, list_numbered, trit_numbered};
 use crate::net_rows::NetRows;
 use cell_machine::{Cell, Few};
-use module_terminals::terminals::{group_nets, has_notifier, pin_net, sequential_instance};
+use cell_tables::has_notifier;
+use module_terminals::terminals::{group_nets, pin_net, sequential_instance};
 use row_selection::NextStates;
 use specify_blocks::{VModule, VNet};
 use trit_cubes::Trit;

@@ -1,13 +1,10 @@
 //! The comparison of the values of conditions and outputs.
 ghost use Rattle.std.specs.Prelude.{◌≡◌, ◌+◌, ◌<◌, ◌≤◌, [], ◌∷◌, length, Some, IsTrue};
-ghost use Rattle.bool_functions.specs.Tree.{name_bound};
-ghost use Rattle.bool_functions.specs.Support.{support_of};
-ghost use Rattle.cell_machine.specs.Values.{IsBounded};
-ghost use Rattle.cell_machine.specs.CellData.{data_of};
-ghost use Rattle.cell_machine.specs.CellTrace.{sources_at};
+ghost use Rattle.bool_functions.specs.{Tree.name_bound, Support.support_of};
+ghost use Rattle.cell_machine.specs.{CellData.data_of, CellTrace.sources_at};
 ghost use Rattle.specify_blocks.specs.Sound.{IsSound};
 ghost use Rattle.module_terminals.specs.Terminals.{condition_nets};
-ghost use Rattle.module_terminals.specs.Feeding.{HasFewNames, gating, feeds_condition, feeds_gating, feeds_output};
+ghost use Rattle.module_terminals.specs.Feeding.{gating, feeds_condition, feeds_gating, feeds_output};
 ghost use Rattle.module_tables.specs.Tables.{value_compared, cell_condition, model_condition, conditions_compared};
 ghost use Rattle.module_tables.specs.Tables.{outputs_compared, first_difference};
 
@@ -159,8 +156,6 @@ pub(crate) fn of_condition(
     of: ConditionWire<'_>,
 ) -> Option<Difference>
     requires sound { IsSound model.now }
-    requires bounded { IsBounded of.condition.now }
-    requires few { HasFewNames of.condition.now }
     requires fed { IsTrue (feeds_gating (data_of cell.now) model.now (gating of.condition.now of.wire)) }
     ensures { result ≡ first_difference
         (conditions_compared (data_of cell.now) model.now part number (gating of.entry.condition.now of.entry.wire)) }

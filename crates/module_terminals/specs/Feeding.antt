@@ -1,9 +1,8 @@
 -- The conditions of a cell and the wires that stand for them in a module, and whether the nets of a part feed the instance that
 -- stands for it. (This project's rule.)
-use Rattle.std.specs.Prelude.{⊤, ℕ, ◌≤◌, Bool, true, false, length, Option, Some, None, slice_get}
+use Rattle.std.specs.Prelude.{ℕ, Bool, true, false, Option, Some, None, slice_get}
 use Rattle.std.specs.Option.{option_map_or}
 use Rattle.bool_functions.specs.declared.tree.Node.{Node}
-use Rattle.bool_functions.specs.Support.{support_of}
 use Rattle.cell_machine.specs.declared.outputs.OutputPin.{OutputPin}
 use Rattle.cell_machine.specs.declared.checks.Check.{Check}
 use Rattle.cell_machine.specs.declared.arcs.Arc.{Arc}
@@ -31,11 +30,6 @@ pub record Gating : Type 0 where
 abbrev pub gating : Option Node → Option ℕ → Option Gating
 gating (Some f) (Some w) = Some (record { condition = f; wire = w })
 gating _ _ = None
-
--- a condition, where there is one, names at most ten pins
-abbrev pub HasFewNames : Option Node → Type 0
-HasFewNames None = ⊤
-HasFewNames (Some f) = length (support_of f) ≤ 10
 
 -- the wire of an `if` path
 abbrev pub gate_wire : Gate → Option ℕ

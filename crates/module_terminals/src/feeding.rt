@@ -2,9 +2,8 @@
 ghost use Rattle.std.specs.Prelude.{◌≡◌, ◌<◌, ◌≤◌, length};
 ghost use Rattle.bool_functions.specs.Tree.{name_bound};
 ghost use Rattle.bool_functions.specs.Support.{support_of};
-ghost use Rattle.cell_machine.specs.Values.{IsBounded};
 ghost use Rattle.cell_machine.specs.CellData.{data_of};
-ghost use Rattle.module_terminals.specs.Feeding.{HasFewNames, gating, feeds_condition, feeds_gating, feeds_group, feeds_output};
+ghost use Rattle.module_terminals.specs.Feeding.{gating, feeds_condition, feeds_gating, feeds_group, feeds_output};
 
 use crate::condition_wires::ConditionWire;
 use crate::supports::{MOST_NAMES, support_of};
@@ -43,8 +42,6 @@ fn feeds_condition(cell: &Cell, model: &VModule, condition: &Function, wire: usi
 
 /// Whether the nets of a condition that may be absent feed the instance that drives its wire.
 pub fn feeds_gating(cell: &Cell, model: &VModule, of: ConditionWire<'_>) -> bool
-    requires bounded { IsBounded of.condition.now }
-    requires few { HasFewNames of.condition.now }
     ensures { result ≡ feeds_gating (data_of cell.now) model.now (gating of.entry.condition.now of.entry.wire) }
 {
     match (of.condition, of.wire) {

@@ -2,23 +2,15 @@
 ghost use Rattle.std.specs.Prelude.{◌≡◌, ◌+◌, ◌<◌, ◌≤◌, ◌++◌, map, length, option_map, slice_get};
 ghost use Rattle.std.specs.List.{list_all};
 ghost use Rattle.cell_machine.specs.CellData.{data_of};
-ghost use Rattle.udp_tables.specs.CellPrimitives.{has_notifier};
-ghost use Rattle.specify_blocks.specs.Nets.{has_state, is_sequential};
-ghost use Rattle.specify_blocks.specs.Generated.{pin_net};
+ghost use Rattle.specify_blocks.specs.{Nets.has_state, Nets.is_sequential, Generated.pin_net};
 ghost use Rattle.module_terminals.specs.Terminals.{sequential_instances, driving, is_among, same_nets, group_nets, state_net};
 ghost use Rattle.module_terminals.specs.Terminals.{source_net, output_nets, nets_feeding, stands_for, drives_value};
 ghost use Rattle.module_terminals.specs.Feeding.{output_net};
 
 use cell_machine::{Cell, Few, Pin, Source};
+use cell_tables::has_notifier;
 use specify_blocks::{Instance, VModule, VNet};
 use udp_tables::port_number;
-
-/// Whether the cell has checks.
-pub fn has_notifier(cell: &Cell) -> bool
-    ensures { result ≡ has_notifier (data_of cell.now) }
-{
-    cell.checks.len() > 0
-}
 
 /// The net of a pin: its port.
 pub fn pin_net(pins: &[Pin], pin: usize) -> VNet

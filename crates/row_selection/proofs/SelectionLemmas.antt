@@ -3,13 +3,13 @@ use Rattle.std.proofs.Common.{◌≡◌, ℕ, zero, suc, ◌+◌, ◌*◌, ◌<�
 use Rattle.std.proofs.Common.{[], ◌∷◌, ◌++◌, length, map, take, refl, sym, ◌∙◌, ap, subst, inl, inr, arith, length-set}
 use Rattle.std.specs.Prelude.{All, filter, slice_set, slice_index_or}
 use Rattle.std.specs.List.{list_all}
-use Rattle.std.proofs.lemmas.Bool.{cases_Bool, cases_eq, false≢true, eq-eqb, ne_eqb, and_left, and_right, and_from, or_left}
-use Rattle.std.proofs.lemmas.Bool.{or_right}
+use Rattle.std.proofs.lemmas.Bool.{cases_Bool, false≢true, or_left, or_right}
 use Rattle.std.proofs.lemmas.List.{take_all}
 use Rattle.std.proofs.lemmas.Nat.{and_le_l}
 use Rattle.trit_cubes.specs.declared.trits.Trit.{Trit}
 use Rattle.trit_cubes.specs.declared.trits.Trit.TheVariants.{Zero, One, Unknown}
 use Rattle.trit_cubes.proofs.ListLemmas.{Among}
+use Rattle.trit_cubes.proofs.NumberTests.{same_parts}
 use Rattle.trit_cubes.proofs.WordLemmas.{and-blocks}
 use Rattle.udp_tables.specs.declared.table.Level.{Level}
 use Rattle.udp_tables.specs.declared.table.Level.TheVariants as level
@@ -77,14 +77,7 @@ entry-exact entry.Star Unknown = refl
 
 nat_eq-blocks : (b d m n : ℕ) → b < 4 → d < 4 → nat_eq (b + 4 * m) (d + 4 * n) ≡ (nat_eq b d && nat_eq m n)
 nat_eq-blocks b d m n p q =
-    elim (cases_eq b d) [
-      | inl e ↦ elim (cases_eq m n) [
-        | inl h ↦ eq-eqb (b + 4 * m) (d + 4 * n) (omega arith)
-            ∙ sym (and_from (nat_eq b d) (nat_eq m n) (eq-eqb b d e) (eq-eqb m n h))
-        | inr h ↦ ne_eqb (b + 4 * m) (d + 4 * n) (λ g. h (omega arith)) ∙ sym (and_right (nat_eq b d) (nat_eq m n) (ne_eqb m n h))
-      ]
-      | inr e ↦ ne_eqb (b + 4 * m) (d + 4 * n) (λ g. e (omega arith)) ∙ sym (and_left (nat_eq b d) (nat_eq m n) (ne_eqb b d e))
-    ]
+    same_parts (b + 4 * m) (d + 4 * n) b d m n (λ e h. omega arith) (λ g. (omega arith, omega arith))
 
 and-pairs : (a b c d : Bool) → ((a && b) && (c && d)) ≡ ((a && c) && (b && d))
 and-pairs true true c d = refl

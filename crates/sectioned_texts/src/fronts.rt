@@ -1,8 +1,6 @@
 //! The models that stand whole before a fault.
 ghost use Rattle.std.specs.Prelude.{◌≡◌, nat_le, take, IfOk};
-ghost use Rattle.std.specs.List.{filter};
-ghost use Rattle.std.specs.Option.{option_map};
-ghost use Rattle.std.specs.Result.{result_ok};
+ghost use Rattle.std.specs.{List.filter, Option.option_map, Result.result_ok};
 ghost use Rattle.sectioned_texts.specs.DrivenModels as spec;
 
 use crate::answers::models_of;

@@ -1,12 +1,9 @@
 //! What a reader of texts with sections needs to know of a language.
 ghost use Rattle.std.specs.Prelude.{◌≡◌, false, length, Ok, IfOk, IfErr};
-ghost use Rattle.lexer.specs.Tokens.{scan_of};
-ghost use Rattle.lexer.specs.Spans.{LieInside};
+ghost use Rattle.lexer.specs.{Tokens.scan_of, Spans.LieInside};
 ghost use Rattle.driver_models.specs.Found.{core_of};
-ghost use Rattle.driver_sections.specs.Marks.{ends};
-ghost use Rattle.driver_sections.specs.Sections.{sections, StandApart};
-ghost use Rattle.sectioned_texts.specs.Drivers.{HoldDrivers};
-ghost use Rattle.sectioned_texts.specs.Faults.{IsFaultIn};
+ghost use Rattle.driver_sections.specs.{Marks.ends, Sections.sections, Sections.StandApart};
+ghost use Rattle.sectioned_texts.specs.{Drivers.HoldDrivers, Faults.IsFaultIn};
 ghost use Rattle.sectioned_texts.specs.DrivenModels as spec;
 
 use driver_models::{Core, Cores, DriverLanguage, DriverModel, KnownNames};

@@ -8,6 +8,7 @@ use Rattle.cell_machine.specs.declared.groups.GroupKind.TheVariants as kind
 use Rattle.cell_machine.specs.declared.outputs.Source.TheVariants as source
 use Rattle.cell_machine.specs.declared.checks.CheckKind.TheVariants as check_kind
 use Rattle.cell_machine.specs.declared.checks.Edge.TheVariants as edge
+use Rattle.cell_machine.specs.declared.checks.Event.{Event}
 use Rattle.verilog_tokens.specs.Words.{verilog_words, is_verilog_word}
 use Rattle.verilog_tokens.specs.Kept.{is_kept_name}
 use Rattle.cell_machine.specs.CellData.{CellData}
@@ -17,6 +18,12 @@ use Rattle.specify_blocks.specs.declared.model.Gate.TheVariants as gate
 use Rattle.specify_blocks.specs.Ports.{port_number, ports_of}
 use Rattle.specify_blocks.specs.Names.{module_name}
 use Rattle.specify_blocks.specs.Generated.{instances_of, path_of, check_of}
+
+abbrev any_data : Event
+any_data = record { pin = 1; edge = edge.Any }
+
+abbrev rising_clock : Event
+rising_clock = record { pin = 0; edge = edge.Rise }
 
 -- A flip-flop with the pins CK, D and Q, a setup of 50 of D before rising CK, and an arc of 100 and 120 from CK to Q.
 flip_flop : CellData
@@ -41,14 +48,8 @@ flip_flop =
             support = 0 ∷ 1 ∷ [];
           } ∷ [];
       outputs = record { pin = 2; function = node.Name 3; support = source.State 0 ∷ [] } ∷ [];
-      checks = record {
-        kind = check_kind.Setup;
-        first = record { pin = 1; edge = edge.Any };
-        second =
-            record { pin = 0; edge = edge.Rise };
-        limit = 50;
-        condition = None;
-      } ∷ [];
+      checks =
+          record { kind = check_kind.Setup; first = any_data; second = rising_clock; limit = 50; condition = None } ∷ [];
       arcs = record { from = 0; to = 2; rise = 100; fall = 120; condition = None } ∷ [];
     }
 
@@ -71,14 +72,7 @@ its-paths = refl
 
 its-checks :
     map (check_of flip_flop) flip_flop.checks
-    ≡ record {
-      kind = check_kind.Setup;
-      first = record { pin = 1; edge = edge.Any };
-      second =
-          record { pin = 0; edge = edge.Rise };
-      limit = 50;
-      condition = None;
-    } ∷ []
+    ≡ record { kind = check_kind.Setup; first = any_data; second = rising_clock; limit = 50; condition = None } ∷ []
 unfolding flip_flop
 its-checks = refl
 

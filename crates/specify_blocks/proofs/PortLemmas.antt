@@ -62,12 +62,12 @@ module _ (s : Pin → Bool) (t : VPort → Bool) (fits : (k : ℕ) (pin : Pin) �
           let same : n ≡ 0 + n = omega arith in
           subst (λ m. IsTrue (option_map_or t (slice_get (ports_from k pins) m) false)) same i
 
-input-is-port : (d : Direction) → IsTrue (is_input d) → IsTrue (is_input d || is_output d)
+pub input-is-port : (d : Direction) → IsTrue (is_input d) → IsTrue (is_input d || is_output d)
 input-is-port direction.Input h = refl
 input-is-port direction.Output h = absurd cc
 input-is-port direction.Internal h = absurd cc
 
-output-is-port : (d : Direction) → IsTrue (is_output d) → IsTrue (is_input d || is_output d) × IsTrue (not (is_input d))
+pub output-is-port : (d : Direction) → IsTrue (is_output d) → IsTrue (is_input d || is_output d) × IsTrue (not (is_input d))
 output-is-port direction.Input h = absurd cc
 output-is-port direction.Output h = (refl, refl)
 output-is-port direction.Internal h = absurd cc

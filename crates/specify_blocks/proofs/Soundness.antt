@@ -8,9 +8,10 @@ use Rattle.std.proofs.lemmas.List.{length-map, append-nil}
 use Rattle.std.proofs.lemmas.List.Elements.{All-nil, All-cons, All-map, All-append}
 use Rattle.std.proofs.lemmas.List.Folds.{list_any-append, list_all-append}
 use Rattle.std.proofs.lemmas.Option.{slice_get_within, get_or_from_slice_get, slice_get-get_or, slice_get-map}
-use Rattle.std.proofs.lemmas.Bool.{and_parts, and_from, lt-ltb, ltb-true, ltb-false, eq-eqb, eqb-true}
+use Rattle.std.proofs.lemmas.Bool.{and_parts, and_from, lt-ltb, ltb-true, ltb-false, eq-eqb}
 use Rattle.bool_functions.specs.declared.tree.Node.{Node}
 use Rattle.trit_cubes.proofs.ListLemmas.{Among}
+use Rattle.trit_cubes.proofs.NumberTests.{same_under}
 use Rattle.bool_functions.specs.declared.tree.Node.TheVariants as node
 use Rattle.bool_functions.specs.Tree.{value_of}
 use Rattle.bool_functions.specs.Support.{support_of}
@@ -343,59 +344,54 @@ module _ (cell : CellData) (h : Rules cell) where
   condition_wires-are : (k : ℕ) (f : Node) → net_driven (condition_instance cell k f) ≡ net.Wire (length cell.groups + k)
   condition_wires-are k f = refl
 
-  driven_once : (n : VNet) → IsTrue (is_driven (module_of cell) n) → drivers (instances_of cell) n ≡ 1
-  driven_once (net.Port q) k =
+  -- the instances by what they stand for
+  drivers_parts :
+      (n : VNet)
+      → drivers (instances_of cell) n
+      ≡ drivers (each_from (group_instance cell) 0 cell.groups) n
+      + (drivers (each_from (condition_instance cell) 0 (conditions_of cell)) n
+      + drivers (output_instances cell (length cell.groups + condition_count cell) cell.outputs) n)
+  drivers_parts n =
       let groups : List Instance = each_from (group_instance cell) 0 cell.groups in
       let conditions : List Instance = each_from (condition_instance cell) 0 (conditions_of cell) in
       let outputs : List Instance = output_instances cell (length cell.groups + condition_count cell) cell.outputs in
+      drivers-append groups (conditions ++ outputs) n ∙ ap (λ k. drivers groups n + k) (drivers-append conditions outputs n)
+
+  driven_once : (n : VNet) → IsTrue (is_driven (module_of cell) n) → drivers (instances_of cell) n ≡ 1
+  driven_once (net.Port q) k =
       let listed = port_hits cell (length cell.groups + condition_count cell) cell.outputs q in
       let once : hits (port_number cell.pins) q (map (λ (o : OutputPin). o.pin) cell.outputs) ≡ 1 =
       subst (λ ps. hits (port_number cell.pins) q ps ≡ 1) (sym (outputs_are_pins cell.pins cell.groups cell.outputs h.of_outputs))
       (output_once cell.pins q k) in
       omega (
         arith,
-        drivers-append groups (conditions ++ outputs) (net.Port q),
-        drivers-append conditions outputs (net.Port q),
+        drivers_parts (net.Port q),
         no_port (group_instance cell) 0 group_wire 0 cell.groups q,
         no_port (condition_instance cell) (length cell.groups) condition_wires-are 0 (conditions_of cell) q,
         listed,
         once,
       )
   driven_once (net.Wire w) k =
-      let groups : List Instance = each_from (group_instance cell) 0 cell.groups in
-      let conditions : List Instance = each_from (condition_instance cell) 0 (conditions_of cell) in
-      let outputs : List Instance = output_instances cell (length cell.groups + condition_count cell) cell.outputs in
       let below : w < length (wires_of cell) = ltb-true w (length (wires_of cell)) k in
-      by groups conditions outputs (nat_lt w (length cell.groups)) refl (omega (arith, below, wires_long))
+      by (nat_lt w (length cell.groups)) refl (omega (arith, below, wires_long))
     where
       by :
-          (groups conditions outputs : List Instance) (b : Bool) → nat_lt w (length cell.groups) ≡ b
-          → w < length cell.groups + condition_count cell
-          → drivers (each_from (group_instance cell) 0 cell.groups
-          ++ (each_from (condition_instance cell) 0 (conditions_of cell)
-          ++ output_instances cell (length cell.groups + condition_count cell) cell.outputs)) (net.Wire w) ≡ 1
-      by groups conditions outputs true e below =
+          (b : Bool) → nat_lt w (length cell.groups) ≡ b → w < length cell.groups + condition_count cell
+          → drivers (instances_of cell) (net.Wire w) ≡ 1
+      by true e below =
           let within : w < length cell.groups = ltb-true w (length cell.groups) e in
           omega (
             arith,
-            drivers-append (each_from (group_instance cell) 0 cell.groups)
-                (each_from (condition_instance cell) 0 (conditions_of cell)
-                ++ output_instances cell (length cell.groups + condition_count cell) cell.outputs) (net.Wire w),
-            drivers-append (each_from (condition_instance cell) 0 (conditions_of cell))
-                (output_instances cell (length cell.groups + condition_count cell) cell.outputs) (net.Wire w),
+            drivers_parts (net.Wire w),
             wire_once (group_instance cell) 0 group_wire 0 cell.groups w (omega arith) (omega arith),
             wire_before (condition_instance cell) (length cell.groups) condition_wires-are 0 (conditions_of cell) w (omega arith),
             no_wire cell (length cell.groups + condition_count cell) cell.outputs w,
           )
-      by groups conditions outputs false e below =
+      by false e below =
           let above : length cell.groups ≤ w = ltb-false w (length cell.groups) e in
           omega (
             arith,
-            drivers-append (each_from (group_instance cell) 0 cell.groups)
-                (each_from (condition_instance cell) 0 (conditions_of cell)
-                ++ output_instances cell (length cell.groups + condition_count cell) cell.outputs) (net.Wire w),
-            drivers-append (each_from (condition_instance cell) 0 (conditions_of cell))
-                (output_instances cell (length cell.groups + condition_count cell) cell.outputs) (net.Wire w),
+            drivers_parts (net.Wire w),
             wire_after (group_instance cell) 0 group_wire 0 cell.groups w (omega arith),
             wire_once (condition_instance cell) (length cell.groups) condition_wires-are 0 (conditions_of cell) w (omega arith)
                 (omega arith),
@@ -493,16 +489,11 @@ module _ (cell : CellData) (h : Rules cell) where
   enabling_is i k at (Some f) e = value_is f
       (check-numbered cell k f (among-at cell.checks i k at) (subst (λ o. Among f (condition_list o)) (sym e) (inl refl)))
 
-  same_port : (p q : ℕ) (b : Bool) → IsTrue (nat_eq p q && b)
-      → IsTrue (nat_eq (port_number cell.pins p) (port_number cell.pins q) && b)
-  same_port p q b k =
-      let parts = and_parts (nat_eq p q) b k in
-      and_from (nat_eq (port_number cell.pins p) (port_number cell.pins q)) b
-      (eq-eqb (port_number cell.pins p) (port_number cell.pins q) (ap (port_number cell.pins) (eqb-true p q parts.0))) parts.1
-
   written_is : (k : Check) (c : CheckKind) → IsTrue (has_events k c) → IsTrue (has_written_events (check_of cell k) c)
-  written_is k check_kind.Width e = same_port k.first.pin k.second.pin (are_opposite k.first.edge k.second.edge) e
-  written_is k check_kind.Period e = same_port k.first.pin k.second.pin (is_any_edge k.first.edge && is_any_edge k.second.edge) e
+  written_is k check_kind.Width e =
+      same_under (port_number cell.pins) k.first.pin k.second.pin (are_opposite k.first.edge k.second.edge) e
+  written_is k check_kind.Period e =
+      same_under (port_number cell.pins) k.first.pin k.second.pin (is_any_edge k.first.edge && is_any_edge k.second.edge) e
   written_is k _ e = refl
 
   notifier_is : (i : ℕ) → i < length cell.checks → IsTrue (is_some (notifier_of cell))

@@ -1,5 +1,5 @@
 //! The module of a cell.
-ghost use Rattle.std.specs.Prelude.{◌≡◌, Ok, IfOk};
+ghost use Rattle.std.specs.Prelude.{◌≡◌, IfOk};
 ghost use Rattle.cell_machine.specs.CellData.{data_of};
 ghost use Rattle.specify_blocks.specs.Generated.{wires_of, notifier_of, condition_count, module_of};
 
@@ -10,7 +10,7 @@ use crate::ports::verilog_ports;
 use crate::primitives::primitives_of;
 use crate::timing::{module_checks, paths_of};
 use cell_machine::Cell;
-use cell_tables::{ModelSource, has_notifier};
+use cell_tables::{ModelSource, all_made, has_notifier};
 use sqlite_items::Items;
 use std::alloc::{AllocError, Global};
 
@@ -43,16 +43,6 @@ pub fn verilog_model(from: &ModelSource) -> Result<VModule, AllocError>
         paths,
         checks,
     })
-}
-
-/// Both values, where each was made. It is a function of any types, so that what is owned is let go at one place.
-fn all_made<A: Drop, B: Drop>(
-    first: Result<A, AllocError>,
-    second: Result<B, AllocError>,
-) -> Result<(A, B), AllocError>
-    ensures { IfOk result (λ both. (first ≡ Ok both.0) × (second ≡ Ok both.1)) }
-{
-    Ok((first?, second?))
 }
 
 /// The names of the wires, where the cell has so many conditions: the states, then the conditions.

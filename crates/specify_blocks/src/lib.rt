@@ -16,4 +16,5 @@ pub use generation::verilog_model;
 pub use laws::generated_is_sound;
 pub use model::{Gate, Instance, VModule, VNet, VPath};
 pub use names::{driver_name, module_name};
+pub use nets::pin_net;
 pub use ports::verilog_ports;

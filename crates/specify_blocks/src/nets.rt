@@ -11,8 +11,8 @@ use sqlite_items::Items;
 use std::alloc::{AllocError, Global};
 use udp_tables::port_number;
 
-/// The net of a pin.
-pub(crate) fn pin_net(pins: &[Pin], pin: usize) -> VNet
+/// The net of a pin: its port.
+pub fn pin_net(pins: &[Pin], pin: usize) -> VNet
     ensures { result ≡ pin_net pins.now pin }
 {
     VNet::Port(port_number(pins, pin))

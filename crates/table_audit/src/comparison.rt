@@ -1,9 +1,9 @@
 //! The comparison of a module with a cell.
-ghost use Rattle.std.specs.Prelude.{◌≡◌, ◌<◌, flat_map};
+ghost use Rattle.std.specs.Prelude.{◌≡◌};
 ghost use Rattle.cell_machine.specs.CellData.{data_of};
 ghost use Rattle.specify_blocks.specs.Sound.{IsSound};
 ghost use Rattle.module_tables.specs.SameValues.{AreFed};
-ghost use Rattle.module_tables.specs.Tables.{part_compared, compared, first_difference};
+ghost use Rattle.module_tables.specs.Tables.{compared, first_difference};
 ghost use Rattle.table_audit.specs.Verdict.{by_tables, verdict_of};
 
 use crate::verdicts::Verdict;
@@ -12,22 +12,6 @@ use module_shapes::first_amiss;
 use module_tables::{AuditPart, Difference};
 use specify_blocks::VModule;
 
-/// The first difference of these parts.
-#[tactic(auto, using(crate::proofs::Firsts::differences_first))]
-fn first_among(parts: &[AuditPart], cell: &Cell, model: &VModule) -> Option<Difference>
-    requires sound { IsSound model.now }
-    requires fed { AreFed (data_of cell.now) model.now }
-    ensures { result ≡ first_difference (flat_map (part_compared (data_of cell.now) model.now) parts.now) }
-{
-    let Some((part, rest)) = parts.split_first() else {
-        return None;
-    };
-    match part.first(cell, model) {
-        Some(found) => Some(found),
-        None => first_among(rest, cell, model),
-    }
-}
-
 /// The first difference of the tables: of states, at changes of pins and then of the register of the checks, of conditions and of
 /// outputs.
 fn first_of_tables(cell: &Cell, model: &VModule) -> Option<Difference>
@@ -35,14 +19,12 @@ fn first_of_tables(cell: &Cell, model: &VModule) -> Option<Difference>
     requires fed { AreFed (data_of cell.now) model.now }
     ensures { result ≡ first_difference (compared (data_of cell.now) model.now) }
 {
-    let parts = [
-        AuditPart::State,
-        AuditPart::Notifier,
-        AuditPart::Check,
-        AuditPart::Path,
-        AuditPart::Output,
-    ];
-    first_among(&parts, cell, model)
+    AuditPart::State
+        .first(cell, model)
+        .or_else(|| AuditPart::Notifier.first(cell, model))
+        .or_else(|| AuditPart::Check.first(cell, model))
+        .or_else(|| AuditPart::Path.first(cell, model))
+        .or_else(|| AuditPart::Output.first(cell, model))
 }
 
 /// The verdict on a module of the cell's shape.

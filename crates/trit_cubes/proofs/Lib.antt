@@ -1,4 +1,5 @@
 mod Basics
+pub mod NumberTests
 pub mod WordLemmas
 pub mod ResolutionLemmas
 pub mod ListLemmas

@@ -276,25 +276,19 @@ both-same : (f g : List Bool → Bool) (n : ℕ) → ((p : List Bool) → length
     → both f p ≡ both g p
 both-same f g n h p e = rw (h (false ∷ p) (ap suc e), h (true ∷ p) (ap suc e)) refl
 
+outside-same : (f g : List Bool → Bool) (ts : List Trit) → ((p : List Bool) → length p ≡ suc (length ts) → f p ≡ g p)
+    → not (is_inside (both f) ts) ≡ not (is_inside (both g) ts)
+outside-same f g ts h = ap not (is_inside-same (both f) (both g) ts (both-same f g (length ts) h))
+
 is_prime-same : (f g : List Bool → Bool) (ts : List Trit) → ((p : List Bool) → length p ≡ length ts → f p ≡ g p)
     → is_prime f ts ≡ is_prime g ts
 is_prime-same f g [] h = rw (h [] refl) refl
 is_prime-same f g (Zero ∷ ts) h =
-    is_prime-zero f ts
-    ∙ rw (
-      is_prime-same (half f false) (half g false) ts (λ p e. h (false ∷ p) (ap suc e)),
-      is_inside-same (both f) (both g) ts
-          (both-same f g (length ts) h),
-    ) refl
-    ∙ sym (is_prime-zero g ts)
+    let fixed = is_prime-same (half f false) (half g false) ts (λ p e. h (false ∷ p) (ap suc e)) in
+    is_prime-zero f ts ∙ (λ i. fixed i && outside-same f g ts h i) ∙ sym (is_prime-zero g ts)
 is_prime-same f g (One ∷ ts) h =
-    is_prime-one f ts
-    ∙ rw (
-      is_prime-same (half f true) (half g true) ts (λ p e. h (true ∷ p) (ap suc e)),
-      is_inside-same (both f) (both g) ts
-          (both-same f g (length ts) h),
-    ) refl
-    ∙ sym (is_prime-one g ts)
+    let fixed = is_prime-same (half f true) (half g true) ts (λ p e. h (true ∷ p) (ap suc e)) in
+    is_prime-one f ts ∙ (λ i. fixed i && outside-same f g ts h i) ∙ sym (is_prime-one g ts)
 is_prime-same f g (Unknown ∷ ts) h =
     is_prime-free f ts ∙ is_prime-same (both f) (both g) ts (both-same f g (length ts) h) ∙ sym (is_prime-free g ts)
 

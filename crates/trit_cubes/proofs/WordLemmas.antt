@@ -1,8 +1,8 @@
 -- The two words of a list of trits: their size, their bits, and the test of covering by them.
 use Rattle.std.proofs.Common.{◌≡◌, ℕ, zero, suc, ◌+◌, ◌*◌, ◌/◌, ◌^◌, ◌<◌, ◌≤◌, true, false, ◌&&◌, ◌||◌, nat_eq, bit_and}
-use Rattle.std.proofs.Common.{List, [], ◌∷◌, length, slice_get, Some, refl, sym, ◌∙◌, ap, inl, inr, arith, pow-suc}
+use Rattle.std.proofs.Common.{List, [], ◌∷◌, length, slice_get, Some, refl, sym, ◌∙◌, ap, arith, pow-suc}
 use Rattle.std.proofs.Math.Pow.{pow_mono}
-use Rattle.std.proofs.lemmas.Bool.{cases_eq, eq-eqb, ne_eqb, and_left, and_right, and_from}
+use Rattle.std.proofs.lemmas.Bool.{and_right}
 use Rattle.std.proofs.lemmas.Nat.{and_block, and_le_l}
 use Rattle.std.proofs.lemmas.Nat.Bits.{bit_at-suc, shr_and_one, bit_at_lowest}
 use Rattle.std.specs.Int.{bit_at}
@@ -11,6 +11,7 @@ use Rattle.trit_cubes.specs.declared.trits.Trit.TheVariants.{Zero, One, Unknown}
 use Rattle.trit_cubes.specs.Filling.{is_unknown, same, covers}
 use Rattle.trit_cubes.specs.Words.{fixed_bit, value_bit, fixed_word, value_word, trit_of_bits, trits_of}
 use Rattle.trit_cubes.proofs.Basics.{and_swap}
+use Rattle.trit_cubes.proofs.NumberTests.{same_parts}
 
 pub fixed_bit-lt : (t : Trit) → fixed_bit t < 2
 fixed_bit-lt t = grind arith
@@ -77,14 +78,7 @@ and-blocks k b d m n p q =
 
 nat_eq-double : (b d m n : ℕ) → b < 2 → d < 2 → nat_eq (b + 2 * m) (d + 2 * n) ≡ (nat_eq b d && nat_eq m n)
 nat_eq-double b d m n p q =
-    elim (cases_eq b d) [
-      | inl e ↦ elim (cases_eq m n) [
-        | inl h ↦ eq-eqb (b + 2 * m) (d + 2 * n) (omega arith)
-            ∙ sym (and_from (nat_eq b d) (nat_eq m n) (eq-eqb b d e) (eq-eqb m n h))
-        | inr h ↦ ne_eqb (b + 2 * m) (d + 2 * n) (λ g. h (omega arith)) ∙ sym (and_right (nat_eq b d) (nat_eq m n) (ne_eqb m n h))
-      ]
-      | inr e ↦ ne_eqb (b + 2 * m) (d + 2 * n) (λ g. e (omega arith)) ∙ sym (and_left (nat_eq b d) (nat_eq m n) (ne_eqb b d e))
-    ]
+    same_parts (b + 2 * m) (d + 2 * n) b d m n (λ e h. omega arith) (λ g. (omega arith, omega arith))
 
 -- the test by words, the lowest bits apart
 covers-double : (b d e g x y z u : ℕ) → b < 2 → d < 2 → e < 2 → g < 2

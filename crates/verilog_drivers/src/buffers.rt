@@ -1,9 +1,8 @@
 //! The buffers at driven outputs.
 ghost use Rattle.verilog_drivers.specs.DriverText.{buffer_text};
 
-use driver_texts::PortText;
+use driver_texts::{PortAt, PortText};
 use text_io::{Bytes, Decimal, Desk, Line, OutSlot, Part, Put, parts};
-use udp_tables::VPort;
 
 /// Lines of buffers, one for each driven output.
 #[derive(Drop)]
@@ -12,19 +11,12 @@ pub(crate) struct Buffers;
 impl PortText for Buffers {
     ghost text = { λ _ at. buffer_text at };
 
-    fn put<D: Desk>(
-        &self,
-        port: &VPort,
-        number: Option<usize>,
-        line: &mut Line,
-        desk: &mut D,
-        slot: OutSlot,
-    ) -> Put {
-        match number {
+    fn put<D: Desk>(&self, at: &PortAt, line: &mut Line, desk: &mut D, slot: OutSlot) -> Put {
+        match at.number {
             None => line.put(desk, slot, b""),
             Some(number) => parts!(
                 Bytes(b"  bufif1 ("),
-                Bytes(port.name.as_slice()),
+                Bytes(at.port.name.as_slice()),
                 Bytes(b", lib_d"),
                 Decimal(number as u128),
                 Bytes(b", lib_e"),

@@ -6,7 +6,7 @@ ghost use Rattle.verilog_drivers.specs.DriverSections as spec;
 use crate::language::{Cursor, VerilogDrivers};
 use driver_models::{Cores, core_name, core_terminals, declared_wires};
 use driver_texts::CoreCall;
-use grammar_reader::Read;
+use grammar_reader::{Read, with_end};
 use std::alloc::Global;
 use udp_tables::VPort;
 
@@ -33,7 +33,5 @@ pub(crate) fn core_call(
     cursor.this_name(b"lib_u")?;
     cursor.expect(b"(")?;
     let drives = core_terminals(cursor, alloc, ports, driven)?;
-    cursor.expect(b")")?;
-    cursor.expect(b";")?;
-    Ok(CoreCall { core, drives })
+    with_end(cursor, &[b")", b";"], CoreCall { core, drives })
 }

@@ -22,63 +22,63 @@ fn number(cursor: &mut Cursor) -> Read<u64>
     cursor.value(found)
 }
 
-/// A path, behind its first bracket.
-#[tactic(auto, unfolding(crate::specs::DriverSections::drive_path))]
-fn drive_path(cursor: &mut Cursor, ports: &[VPort], drives: &[usize]) -> Read<DrivePath>
-    ensures { Reads (read (spec.drive_path ports.now drives.now) cursor.old) result cursor.new }
-{
-    let from = path_from(cursor, ports)?;
-    cursor.expect(b"=>")?;
-    let drive = path_to(cursor, ports, drives)?;
-    cursor.expect(b")")?;
-    cursor.expect(b"=")?;
-    cursor.expect(b"(")?;
-    let rise = number(cursor)?;
-    cursor.expect(b",")?;
-    let fall = number(cursor)?;
-    let path = DrivePath {
-        from,
-        drive,
-        rise,
-        fall,
-    };
-    with_end(cursor, &[b")", b";"], path)
+/// What the paths of a driver are read by: its ports, and which of its outputs are driven.
+#[derive(Clone, Copy)]
+pub(crate) struct DriverPaths<'a> {
+    pub(crate) alloc: Global,
+    pub(crate) ports: &'a [VPort],
+    pub(crate) drives: &'a [usize],
 }
 
-/// The paths of a specify block, behind its word, and its end.
-#[tactic(auto, using(grammar_reader::proofs::Repeats::turns), unfolding(crate::specs::DriverSections::drive_block, crate::specs::DriverSections::next_drive_path))]
-fn drive_block(
-    cursor: &mut Cursor,
-    alloc: Global,
-    ports: &[VPort],
-    drives: &[usize],
-) -> Read<Items<DrivePath>>
-    ensures { Reads (read (spec.drive_block ports.now drives.now) cursor.old) result cursor.new }
-{
-    let mut paths = Items::new(alloc);
-    for _turn in 0..cursor.left() {
-        if !cursor.is_next(b"(") {
-            break;
+impl DriverPaths<'_> {
+    /// A path, behind its first bracket.
+    #[tactic(auto, unfolding(crate::specs::DriverSections::drive_path))]
+    fn path(&self, cursor: &mut Cursor) -> Read<DrivePath>
+        ensures { Reads (read (spec.drive_path self.now.ports.now self.now.drives.now) cursor.old) result cursor.new }
+    {
+        let from = path_from(cursor, self.ports)?;
+        cursor.expect(b"=>")?;
+        let drive = path_to(cursor, self.ports, self.drives)?;
+        cursor.expect(b")")?;
+        cursor.expect(b"=")?;
+        cursor.expect(b"(")?;
+        let rise = number(cursor)?;
+        cursor.expect(b",")?;
+        let fall = number(cursor)?;
+        let path = DrivePath {
+            from,
+            drive,
+            rise,
+            fall,
+        };
+        with_end(cursor, &[b")", b";"], path)
+    }
+
+    /// The paths of a specify block, behind its word, and its end.
+    #[tactic(auto, using(grammar_reader::proofs::Repeats::turns), unfolding(crate::specs::DriverSections::drive_block, crate::specs::DriverSections::next_drive_path))]
+    fn block(&self, cursor: &mut Cursor) -> Read<Items<DrivePath>>
+        ensures { Reads (read (spec.drive_block self.now.ports.now self.now.drives.now) cursor.old) result cursor.new }
+    {
+        let mut paths = Items::new(self.alloc);
+        for _turn in 0..cursor.left() {
+            if !cursor.is_next(b"(") {
+                break;
+            }
+            cursor.skip();
+            paths.push(self.path(cursor)?)?;
+        }
+        with_end(cursor, &[b"endspecify"], paths)
+    }
+
+    /// The paths of a driver, where it has a specify block.
+    #[tactic(auto, using(grammar_reader::proofs::Repeats::choose_begun, grammar_reader::proofs::Repeats::choose_other), unfolding(crate::specs::DriverSections::drive_paths))]
+    pub(crate) fn read(&self, cursor: &mut Cursor) -> Read<Items<DrivePath>>
+        ensures { Reads (read (spec.drive_paths self.now.ports.now self.now.drives.now) cursor.old) result cursor.new }
+    {
+        if !cursor.is_next(b"specify") {
+            return Ok(Items::new(self.alloc));
         }
         cursor.skip();
-        paths.push(drive_path(cursor, ports, drives)?)?;
+        self.block(cursor)
     }
-    with_end(cursor, &[b"endspecify"], paths)
-}
-
-/// The paths of a driver, where it has a specify block.
-#[tactic(auto, using(grammar_reader::proofs::Repeats::choose_begun, grammar_reader::proofs::Repeats::choose_other), unfolding(crate::specs::DriverSections::drive_paths))]
-pub(crate) fn drive_paths(
-    cursor: &mut Cursor,
-    alloc: Global,
-    ports: &[VPort],
-    drives: &[usize],
-) -> Read<Items<DrivePath>>
-    ensures { Reads (read (spec.drive_paths ports.now drives.now) cursor.old) result cursor.new }
-{
-    if !cursor.is_next(b"specify") {
-        return Ok(Items::new(alloc));
-    }
-    cursor.skip();
-    drive_block(cursor, alloc, ports, drives)
 }

@@ -5,7 +5,7 @@ ghost use Rattle.verilog_drivers.specs.DriverSections as spec;
 ghost use Rattle.verilog_drivers.specs.Sections.{body_of};
 
 use crate::core_call::{core_call, driver_wires};
-use crate::drive_paths::drive_paths;
+use crate::drive_paths::DriverPaths;
 use crate::language::{Cursor, VerilogDrivers};
 use crate::ports::driver_ports;
 use crate::read_buffers::buffers;
@@ -59,7 +59,12 @@ fn section_body(
     let call = core_call(cursor, alloc, cores, ports, driven)?;
     let outputs = driven_names(alloc, ports, call.drives.as_slice())?;
     buffers(cursor, alloc, outputs.as_slice())?;
-    let paths = drive_paths(cursor, alloc, ports, call.drives.as_slice())?;
+    let lines = DriverPaths {
+        alloc,
+        ports,
+        drives: call.drives.as_slice(),
+    };
+    let paths = lines.read(cursor)?;
     Ok(SectionBody { call, paths })
 }
 

@@ -1,15 +1,13 @@
 -- The rows of changes serve, in both forms.
-use Rattle.std.proofs.Common.{◌≡◌, ℕ, suc, ◌<◌, ◌≤◌, Bool, true, false, ◌&&◌, List, [], ◌∷◌, map, length, get_or, refl, ap, arith}
+use Rattle.std.proofs.Common.{◌≡◌, ℕ, suc, ◌<◌, ◌≤◌, Bool, true, false, ◌&&◌, List, [], ◌∷◌, map, length, refl, ap, arith}
 use Rattle.std.proofs.lemmas.Bool.{and_left}
 use Rattle.trit_cubes.specs.declared.trits.Trit.{Trit}
 use Rattle.trit_cubes.specs.declared.trits.Trit.TheVariants.{One, Unknown}
 use Rattle.trit_cubes.specs.Filling.{same}
-use Rattle.trit_cubes.proofs.ListLemmas.{Among}
 use Rattle.cell_machine.specs.Machine.{Step, insert, last}
-use Rattle.vital_tables.specs.udp_tables.Tables.{columns_match}
-use Rattle.vital_tables.specs.udp_tables.Edges.{edge_cubes, edge_rows, with_last, compact_edge_rows}
-use Rattle.vital_tables.proofs.udp_tables.ColumnLemmas.{and-true}
-use Rattle.vital_tables.proofs.udp_tables.CubeLemmas.{edge-long, edge-moves}
+use Rattle.vital_tables.specs.udp_tables.{Tables.columns_match, Edges.edge_cubes, Edges.edge_rows, Edges.with_last}
+use Rattle.vital_tables.specs.udp_tables.Edges.{compact_edge_rows}
+use Rattle.vital_tables.proofs.udp_tables.{ColumnLemmas.and-true, CubeLemmas.edge-long, CubeLemmas.edge-moves}
 use Rattle.vital_tables.proofs.udp_tables.PairLemmas.{init-with}
 use Rattle.cell_tables.proofs.RowForms.{FitsCubes, FitsPairs, rows-each, rows-right, rows-found, compact-each, compact-right}
 use Rattle.cell_tables.proofs.RowForms.{compact-found}
@@ -67,25 +65,14 @@ pairs-fit checks p a b others x y s =
           (columns-with p t c l);
     }
 
--- a row of a cube, with any symbol for the state, matches nothing where its pin keeps its value
-cube-still :
-    (checks : Bool) (n : ℕ) (step : Step) (p : ℕ) (olds news : List Trit) (x y : Trit) (state : Bool)
-    → p < n → length olds ≡ n → length news ≡ n → get_or olds p Unknown ≡ get_or news p Unknown
-    → (v : Trit) (c : List Trit) → Among c (edge_cubes step n p v)
-    → (columns_match symbol_matches (violated checks (symbol.Level trits.Any) (edge_columns p c)) (violated checks x olds)
-    (violated checks y news) && state) ≡ false
-cube-still checks n step p olds news x y state l f g h v c m =
-    and_left (columns_match symbol_matches (violated checks (symbol.Level trits.Any) (edge_columns p c)) (violated checks x olds)
-    (violated checks y news)) state
-    (columns-kept checks p c olds news x y n l (edge-long step n p v c m) f g h)
-
 pub edge_rows-serve : (checks : Bool) (n : ℕ) (step : Step) → Serves checks n step (edge_rows (edge_row checks) step n)
 edge_rows-serve checks n step =
     record {
       still = λ p row olds news x y s l m f g h.
           rows-each (λ r. state_matches (violated checks x olds) (violated checks y news) s r ≡ false) (edge_row checks p)
           (edge_cubes step n p)
-          (λ v c k. cube-still checks n step p olds news x y (trits_match (level_of (last Unknown c)) s) l f g h v c k) row m;
+          (λ v c k. and_left _ (trits_match (level_of (last Unknown c)) s)
+          (columns-kept checks p c olds news x y n l (edge-long step n p v c k) f g h)) row m;
       right = λ p row a b others x y s l m long apart. rows-right (cubes-fit checks n step p a b others x y s l long apart) row m;
       found = λ p a b others x y s l long apart. rows-found (cubes-fit checks n step p a b others x y s l long apart);
     }
@@ -97,8 +84,9 @@ compact_rows-serve checks n step =
       still = λ p row olds news x y s l m f g h.
           compact-each (λ r. state_matches (violated checks x olds) (violated checks y news) s r ≡ false) (edge_row checks p)
           (keep_row checks p) (edge_cubes step n p)
-          (λ v c k. cube-still checks n step p olds news x y (trits_match (level_of (last Unknown c)) s) l f g h v c k)
-          (λ c k. cube-still checks n step p olds news x y true l f g h One c k) row m;
+          (λ v c k. and_left _ (trits_match (level_of (last Unknown c)) s)
+          (columns-kept checks p c olds news x y n l (edge-long step n p v c k) f g h))
+          (λ c k. and_left _ true (columns-kept checks p c olds news x y n l (edge-long step n p One c k) f g h)) row m;
       right = λ p row a b others x y s l m long apart.
           compact-right (cubes-fit checks n step p a b others x y s l long apart) (pairs-fit checks p a b others x y s) row m;
       found = λ p a b others x y s l long apart.

@@ -8,8 +8,9 @@ use Rattle.std.specs.Option.{option_map_or}
 use Rattle.std.proofs.lemmas.List.{length-map}
 use Rattle.std.proofs.lemmas.List.Elements.{Contains-get_or}
 use Rattle.std.proofs.lemmas.Slice.Eq.{bytes_eq-Decides}
-use Rattle.std.proofs.lemmas.Bool.{and_parts, and_from, lt-ltb, ltb-true, eq-eqb, eqb-true}
+use Rattle.std.proofs.lemmas.Bool.{and_parts, and_from, lt-ltb, ltb-true}
 use Rattle.trit_cubes.proofs.ListLemmas.{Among, contains-among, among-map, among-filter}
+use Rattle.trit_cubes.proofs.NumberTests.{same_under}
 use Rattle.bool_functions.specs.declared.tree.Node.{Node}
 use Rattle.bool_functions.specs.Tree.{value_of}
 use Rattle.bool_functions.specs.Support.{support_of}
@@ -224,16 +225,11 @@ module _ (cell : CellData) (name : List ℕ) (h : Rules cell) where
   enabling_is k m (Some f) e =
       numbered (place_of cell f) (check-numbered cell k f m (subst (λ o. Among f (condition_list o)) (sym e) (inl refl)))
 
-  same_port : (p q : ℕ) (b : Bool) → IsTrue (nat_eq p q && b)
-      → IsTrue (nat_eq (port_number cell.pins p) (port_number cell.pins q) && b)
-  same_port p q b k =
-      let parts = and_parts (nat_eq p q) b k in
-      and_from (nat_eq (port_number cell.pins p) (port_number cell.pins q)) b
-      (eq-eqb (port_number cell.pins p) (port_number cell.pins q) (ap (port_number cell.pins) (eqb-true p q parts.0))) parts.1
-
   events_are : (k : Check) (kind : CheckKind) → IsTrue (rule.has_events k kind) → IsTrue (has_events (check_of cell k) kind)
-  events_are k check_kind.Width e = same_port k.first.pin k.second.pin (are_opposite k.first.edge k.second.edge) e
-  events_are k check_kind.Period e = same_port k.first.pin k.second.pin (is_any_edge k.first.edge && is_any_edge k.second.edge) e
+  events_are k check_kind.Width e =
+      same_under (port_number cell.pins) k.first.pin k.second.pin (are_opposite k.first.edge k.second.edge) e
+  events_are k check_kind.Period e =
+      same_under (port_number cell.pins) k.first.pin k.second.pin (is_any_edge k.first.edge && is_any_edge k.second.edge) e
   events_are k _ e = e
 
   check_is : (k : Check) → Among k cell.checks → IsCheck entity (check_of cell k)

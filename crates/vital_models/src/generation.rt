@@ -1,5 +1,5 @@
 //! The entity of a cell.
-ghost use Rattle.std.specs.Prelude.{◌≡◌, ◌<◌, ◌≤◌, ◌++◌, map, length, slice_get, slice_index_or, Ok, Some, IfOk, OnOk};
+ghost use Rattle.std.specs.Prelude.{◌≡◌, ◌<◌, ◌≤◌, ◌++◌, map, length, slice_get, slice_index_or, Some, IfOk, OnOk};
 ghost use Rattle.bool_functions.specs.Tree.{name_bound};
 ghost use Rattle.cell_machine.specs.CellData.{data_of};
 ghost use Rattle.vital_tables.specs.udp_tables.Conditions.{conditions_of};
@@ -12,7 +12,7 @@ use crate::tables::{condition_table, output_table, state_table};
 use crate::timing::{entity_checks, paths_to};
 use bool_functions::Function;
 use cell_machine::{OutputPin, Pin, Source, Values};
-use cell_tables::{ModelSource, has_notifier, has_sources};
+use cell_tables::{ModelSource, all_made, has_notifier, has_sources};
 use sqlite_items::Items;
 use std::alloc::{AllocError, Global};
 use vital_tables::primitives::port_number;
@@ -42,16 +42,6 @@ pub fn vital_model(from: &ModelSource, name: &[u8]) -> Result<VEntity, AllocErro
         outputs,
         checks,
     })
-}
-
-/// Both values, where each was made. It is a function of any types, so that what is owned is let go at one place.
-fn all_made<A: Drop, B: Drop>(
-    first: Result<A, AllocError>,
-    second: Result<B, AllocError>,
-) -> Result<(A, B), AllocError>
-    ensures { IfOk result (λ both. (first ≡ Ok both.0) × (second ≡ Ok both.1)) }
-{
-    Ok((first?, second?))
 }
 
 /// The states of the groups.

@@ -12,11 +12,11 @@ use Rattle.module_tables.proofs.cell_values.step_values.Goals as goal
 pub returns : goal.returns
 returns c =
     let d = data_of c.args.cell.now in
-    let g = c.args.group in
-    let p = c.args.change.place in
-    let values : List Trit = c.args.change.values.now in
-    let unknown : c.agreed.result ≡ cell_step d g p c.args.change.old values trit.Unknown
+    let change = c.args.change in
+    let values : List Trit = change.values.now in
+    let unknown : c.agreed.result ≡ cell_step d c.args.group change.place change.old values trit.Unknown
     = c.agreed.ensures
     ∙ (λ i. agreed (c.step_value-zero.ensures i) (c.step_value-one.ensures i))
-    ∙ res-unknown (edge_value (step_at d g) p) (c.args.change.old ∷ slice_index_or values p trit.Unknown ∷ without p values) in
+    ∙ res-unknown (edge_value (step_at d c.args.group) change.place)
+    (change.old ∷ slice_index_or values change.place trit.Unknown ∷ without change.place values) in
     λ i. record { zero = c.step_value-zero.ensures i; one = c.step_value-one.ensures i; unknown = unknown i }

@@ -20,13 +20,13 @@ pub of_condition-requires-clause-fed : goal.of_condition-requires-clause-fed
 of_condition-requires-clause-fed c =
     let d = data_of c.args.cell.now in
     let m = c.args.model.now in
-    subst (λ o. IsTrue (feeds_gating d m o)) (sym c.of_check.ensures.gating) (c.requires.fed.checks c.args.number)
+    subst (λ o. IsTrue (feeds_gating d m o)) (sym c.of_check-condition.ensures) (c.requires.fed.checks c.args.number)
 
 pub of_condition-requires-in-Path-clause-fed : goal.of_condition-requires-in-Path-clause-fed
 of_condition-requires-in-Path-clause-fed c =
     let d = data_of c.args.cell.now in
     let m = c.args.model.now in
-    subst (λ o. IsTrue (feeds_gating d m o)) (sym c.of_path.ensures.gating) (c.requires.fed.paths c.args.number)
+    subst (λ o. IsTrue (feeds_gating d m o)) (sym c.of_path-condition.ensures) (c.requires.fed.paths c.args.number)
 
 pub of_output-requires-clause-fed : goal.of_output-requires-clause-fed
 of_output-requires-clause-fed c =

@@ -1,9 +1,7 @@
 //! The tests, and what they share.
-mod cell_cursors;
 mod desks;
 mod functions;
 mod liberty_tokens;
-mod libraries;
 mod own_libraries;
 mod state_tables;
 mod verilog_scans;

@@ -1,7 +1,6 @@
 //! Runs of commands over desks in memory, and what is left on them.
 use std::alloc::{AllocError, Global};
-use std::test::Fail;
-use text_io::{MemoryDesk, NamedFile, OutSlot};
+use text_io::{Memory, MemoryDesk, NamedFile, OutSlot};
 use translate_cmd::{Status, run};
 
 /// Words that translate the library.
@@ -83,12 +82,12 @@ pub fn desk_of(
     words: &[&str],
     files: Files<'_>,
     limits: Limits<'_>,
-) -> Result<MemoryDesk, Fail> {
+) -> Result<MemoryDesk, Memory> {
     let words = words_of(alloc, words)?;
     let folder = folder_of(alloc, files)?;
     let failing = Vec::from_slice(alloc, limits.failing)?;
     let piece = limits.piece.max(1);
-    Ok(MemoryDesk::in_pieces(alloc, words, folder, failing, limits.room, piece)?)
+    MemoryDesk::in_pieces(alloc, words, folder, failing, limits.room, piece)
 }
 
 /// What a run left: its status, and the desk.
@@ -114,6 +113,11 @@ impl Left {
                 .desk
                 .written(OutSlot::Faults)
                 .starts_with(faults.as_bytes())
+    }
+
+    /// Whether a slot has this text at its end.
+    pub fn ends_with(&self, slot: OutSlot, text: &str) -> bool {
+        self.desk.written(slot).ends_with(text.as_bytes())
     }
 
     /// Whether a slot has these texts, one behind the other.
@@ -142,7 +146,19 @@ impl Left {
     }
 }
 
-/// The room of an output, in bytes.
+/// Runs these words over these files, on a desk with these limits.
+fn ran_within(
+    alloc: Global,
+    words: &[&str],
+    files: Files<'_>,
+    limits: Limits<'_>,
+) -> Result<Left, Memory> {
+    let mut desk = desk_of(alloc, words, files, limits)?;
+    let status = run(alloc, &mut desk);
+    Ok(Left { status, desk })
+}
+
+/// The room of an output in runs that are tried at many calls, in bytes.
 const ROOM: usize = 10_000;
 
 /// Runs these words over these files, on a desk at which the calls with these numbers fail and a call moves at most `piece`
@@ -153,31 +169,36 @@ pub fn ran(
     files: Files<'_>,
     failing: &[u64],
     piece: usize,
-) -> Result<Left, Fail> {
+) -> Result<Left, Memory> {
     let limits = Limits {
         failing,
         room: ROOM,
         piece,
     };
-    let mut desk = desk_of(alloc, words, files, limits)?;
-    let status = run(alloc, &mut desk);
-    Ok(Left { status, desk })
+    ran_within(alloc, words, files, limits)
 }
 
+/// The limits of a desk at which no call fails.
+const WIDE: Limits<'static> = Limits {
+    failing: &[],
+    room: 100_000,
+    piece: usize::MAX,
+};
+
 /// Translates a library.
-pub fn translated(alloc: Global, library: &str) -> Result<Left, Fail> {
+pub fn translated(alloc: Global, library: &str) -> Result<Left, Memory> {
     let files = library_alone(library.as_bytes());
-    ran(alloc, &TRANSLATE, files, &[], usize::MAX)
+    ran_within(alloc, &TRANSLATE, files, WIDE)
 }
 
 /// Runs words that name no file, on a desk at which no call fails.
-pub fn ran_without_files(alloc: Global, words: &[&str]) -> Result<Left, Fail> {
-    ran(alloc, words, library_alone(b""), &[], usize::MAX)
+pub fn ran_without_files(alloc: Global, words: &[&str]) -> Result<Left, Memory> {
+    ran_within(alloc, words, library_alone(b""), WIDE)
 }
 
 /// Simulates these files.
-pub fn simulated(alloc: Global, files: Files<'_>) -> Result<Left, Fail> {
-    ran(alloc, &SIMULATE, files, &[], usize::MAX)
+pub fn simulated(alloc: Global, files: Files<'_>) -> Result<Left, Memory> {
+    ran_within(alloc, &SIMULATE, files, WIDE)
 }
 
 /// Simulates a library beside its own models.
@@ -185,7 +206,7 @@ pub fn simulated_beside_its_own(
     alloc: Global,
     library: &str,
     stimulus: &str,
-) -> Result<Left, Fail> {
+) -> Result<Left, Memory> {
     let models = translated(alloc, library)?;
     let files = Files {
         library: library.as_bytes(),

@@ -2,8 +2,7 @@
 //! behind it.
 use crate::desks::{Files, Left, PIECES, ran};
 use std::alloc::Global;
-use std::test::Fail;
-use text_io::OutSlot;
+use text_io::{Memory, OutSlot};
 use translate_cmd::Status;
 
 /// What a run comes to where no call fails: each model file as the texts that stand in it, one behind the other.
@@ -22,23 +21,35 @@ pub struct Whole {
 }
 
 /// A run that is done and writes no model, with this report.
-pub fn done(report: &'static str) -> Whole {
-    Whole {
-        status: Status::Done,
-        verilog: &[],
-        vital: &[],
-        report,
-        faults: "",
-    }
+#[macro_export]
+macro_rules! done {
+    ($report:expr) => {
+        $crate::Whole {
+            status: $crate::Status::Done,
+            verilog: &[],
+            vital: &[],
+            report: $report,
+            faults: "",
+        }
+    };
 }
 
-/// Whether what was left is a front of the whole, and at most one call failed.
-fn is_front(left: &Left, whole: &Whole) -> bool {
-    left.wrote_front(OutSlot::VerilogText, whole.verilog)
-        && left.wrote_front(OutSlot::VitalText, whole.vital)
-        && left.wrote_front(OutSlot::Report, &[whole.report])
-        && left.wrote_front(OutSlot::Faults, &[whole.faults])
-        && left.desk.faults() <= 1
+impl Whole {
+    /// Whether a run left the whole.
+    pub fn is_left(&self, left: &Left) -> bool {
+        left.is(self.status, self.report, self.faults)
+            && left.wrote(OutSlot::VerilogText, self.verilog)
+            && left.wrote(OutSlot::VitalText, self.vital)
+    }
+
+    /// Whether a run left a front of it, and at most one call failed.
+    fn has_front(&self, left: &Left) -> bool {
+        left.wrote_front(OutSlot::VerilogText, self.verilog)
+            && left.wrote_front(OutSlot::VitalText, self.vital)
+            && left.wrote_front(OutSlot::Report, &[self.report])
+            && left.wrote_front(OutSlot::Faults, &[self.faults])
+            && left.desk.faults() <= 1
+    }
 }
 
 /// Whether each call that fails in its turn, the next one failing too, leaves a front and is the last, up to the run at which no
@@ -49,10 +60,10 @@ pub fn leaves_fronts(
     files: Files<'_>,
     whole: &Whole,
     piece: usize,
-) -> Result<bool, Fail> {
+) -> Result<bool, Memory> {
     for call in 1..10000 {
         let left = ran(alloc, words, files, &[call, call + 1], piece)?;
-        if !is_front(&left, whole) {
+        if !whole.has_front(&left) {
             return Ok(false);
         }
         if left.status != Status::Outside {
@@ -68,7 +79,7 @@ pub fn leaves_fronts_in_pieces(
     words: &[&str],
     files: Files<'_>,
     whole: &Whole,
-) -> Result<bool, Fail> {
+) -> Result<bool, Memory> {
     for piece in PIECES {
         if !leaves_fronts(alloc, words, files, whole, piece)? {
             return Ok(false);
@@ -83,7 +94,7 @@ pub fn leaves_nothing(
     words: &[&str],
     files: Files<'_>,
     call: u64,
-) -> Result<bool, Fail> {
+) -> Result<bool, Memory> {
     let left = ran(alloc, words, files, &[call], usize::MAX)?;
     Ok(
         left.is(Status::Outside, "", "")

@@ -14,14 +14,14 @@ pub use desks::{
     library_alone, ran, ran_without_files, simulated, simulated_beside_its_own, translated,
     words_of,
 };
-pub use fronts::{Whole, done, leaves_fronts, leaves_fronts_in_pieces, leaves_nothing};
+pub use fronts::{Whole, leaves_fronts, leaves_fronts_in_pieces, leaves_nothing};
 pub use libraries::{CLOCK_GATE, CLOCK_GATE_WITHOUT_KEEP, FLIP_FLOP, TIE};
 pub use three_cells::{
     CORE_ENTITY, DRIVER_ENTITY, FIRST_ENTITY, FIRST_MODULE, NO_MODULE, SECOND_MODULES,
     THIRD_MODULE, THREE_CELLS, THREE_ENTITIES, THREE_LINES, THREE_MODULES,
 };
 pub use timed_flip_flops::{
-    GUARDED_FLIP_FLOP, PLAIN_FLIP_FLOP_MODULE, TIMED_FLIP_FLOP, TIMED_FLIP_FLOP_ENTITY,
-    TIMED_FLIP_FLOP_MODULE,
+    GUARDED_FLIP_FLOP, PLAIN_FLIP_FLOP_ENTITY, PLAIN_FLIP_FLOP_MODULE, TIMED_FLIP_FLOP,
+    TIMED_FLIP_FLOP_ENTITY, TIMED_FLIP_FLOP_MODULE,
 };
 pub use translate_cmd::{Status, run, run_gated, run_sure};

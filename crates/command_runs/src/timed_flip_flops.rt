@@ -68,44 +68,53 @@ pub const PLAIN_FLIP_FLOP_MODULE: &str = timed_flip_flop_module!(
     "? * ? : 0 : 0"
 );
 
-/// Its VHDL.
-pub const TIMED_FLIP_FLOP_ENTITY: &str = "library IEEE;
-use IEEE.std_logic_1164.all;
-use IEEE.VITAL_Timing.all;
-use IEEE.VITAL_Primitives.all;
-entity DFFT is
-  port (CK : in std_ulogic; D : in std_ulogic; Q : out std_ulogic);
-end DFFT;
-architecture vital of DFFT is
-  constant k_1 : VitalStateTableType := (
-    ('0', 'S', 'S', '-', 'S'),
-    ('X', '-', '-', '-', 'X'),
-    ('-', '/', '1', '-', '1'),
-    ('-', 'n', '-', '-', 'S'),
-    ('-', 'N', '-', '-', 'S'),
-    ('-', '*', '1', '1', '1'),
-    ('-', '/', '0', '-', '0'),
-    ('-', '*', '0', '0', '0'),
-    ('-', '-', '*', '-', 'S'),
-    ('-', '-', '-', '-', 'X'));
-  constant k_2 : VitalTruthTableType := (
-    ('1', '1'),
-    ('0', '0'));
-begin
-  process (CK, D)
-    variable x_1 : X01 := '0';
-    variable d_1 : VitalTimingDataType := VitalTimingDataInit;
-    variable viol : X01 := '0';
-    variable s_1 : std_logic := 'X';
-    variable p_1 : std_logic_vector (1 to 3) := (others => 'X');
-    variable z_1 : std_logic := 'X';
-    variable g_1 : VitalGlitchDataType;
-  begin
-    VitalSetupHoldCheck (Violation => x_1, TimingData => d_1, TestSignal => D, RefSignal => CK, SetupHigh => 50 ps, SetupLow => 50 ps, CheckEnabled => true, RefTransition => 'R');
-    viol := x_1;
-    VitalStateTable (Result => s_1, PreviousDataIn => p_1, StateTable => k_1, DataIn => (viol, CK, D));
-    z_1 := VitalTruthTable (TruthTable => k_2, DataIn => (0 => s_1));
-    VitalPathDelay01 (OutSignal => Q, GlitchData => g_1, OutSignalName => \"Q\", OutTemp => z_1, Paths => (0 => (CK'last_event, (100 ps, 120 ps), true)), Mode => VitalTransport);
-  end process;
-end vital;
-";
+/// The VHDL of that one, with these rows of its state between those for violations and the last.
+macro_rules! timed_flip_flop_entity {
+    ($($row:literal),*) => {
+        concat!(
+            "library IEEE;\nuse IEEE.std_logic_1164.all;\nuse IEEE.VITAL_Timing.all;\n",
+            "use IEEE.VITAL_Primitives.all;\nentity DFFT is\n",
+            "  port (CK : in std_ulogic; D : in std_ulogic; Q : out std_ulogic);\nend DFFT;\n",
+            "architecture vital of DFFT is\n  constant k_1 : VitalStateTableType := (\n",
+            "    ('0', 'S', 'S', '-', 'S'),\n    ('X', '-', '-', '-', 'X'),\n",
+            $("    ", $row, ",\n",)*
+            "    ('-', '-', '-', '-', 'X'));\n  constant k_2 : VitalTruthTableType := (\n    ('1', '1'),\n",
+            "    ('0', '0'));\nbegin\n  process (CK, D)\n    variable x_1 : X01 := '0';\n",
+            "    variable d_1 : VitalTimingDataType := VitalTimingDataInit;\n    variable viol : X01 := '0';\n",
+            "    variable s_1 : std_logic := 'X';\n",
+            "    variable p_1 : std_logic_vector (1 to 3) := (others => 'X');\n",
+            "    variable z_1 : std_logic := 'X';\n    variable g_1 : VitalGlitchDataType;\n  begin\n",
+            "    VitalSetupHoldCheck (Violation => x_1, TimingData => d_1, TestSignal => D, RefSignal => CK, SetupHigh => 50 ps, SetupLow => 50 ps, CheckEnabled => true, RefTransition => 'R');\n",
+            "    viol := x_1;\n",
+            "    VitalStateTable (Result => s_1, PreviousDataIn => p_1, StateTable => k_1, DataIn => (viol, CK, D));\n",
+            "    z_1 := VitalTruthTable (TruthTable => k_2, DataIn => (0 => s_1));\n",
+            "    VitalPathDelay01 (OutSignal => Q, GlitchData => g_1, OutSignalName => \"Q\", OutTemp => z_1, Paths => (0 => (CK'last_event, (100 ps, 120 ps), true)), Mode => VitalTransport);\n",
+            "  end process;\nend vital;\n"
+        )
+    };
+}
+
+/// With a row for each two primes that differ in the state alone, which keeps it.
+pub const TIMED_FLIP_FLOP_ENTITY: &str = timed_flip_flop_entity!(
+    "('-', '/', '1', '-', '1')",
+    "('-', 'n', '-', '-', 'S')",
+    "('-', 'N', '-', '-', 'S')",
+    "('-', '*', '1', '1', '1')",
+    "('-', '/', '0', '-', '0')",
+    "('-', '*', '0', '0', '0')",
+    "('-', '-', '*', '-', 'S')"
+);
+
+/// In plain form, with a row for each prime.
+pub const PLAIN_FLIP_FLOP_ENTITY: &str = timed_flip_flop_entity!(
+    "('-', '/', '1', '-', '1')",
+    "('-', 'n', '-', '1', '1')",
+    "('-', 'N', '-', '1', '1')",
+    "('-', '*', '1', '1', '1')",
+    "('-', '/', '0', '-', '0')",
+    "('-', 'n', '-', '0', '0')",
+    "('-', 'N', '-', '0', '0')",
+    "('-', '*', '0', '0', '0')",
+    "('-', '-', '*', '1', '1')",
+    "('-', '-', '*', '0', '0')"
+);

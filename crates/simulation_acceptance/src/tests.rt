@@ -8,4 +8,5 @@ mod libraries;
 mod refused_files;
 mod replays;
 mod sections;
+mod simulations;
 mod traces;

@@ -44,8 +44,7 @@ of_when (Some i) = i ∷ []
 pub conditions_are : (k : TimingCheck) → conditions_of_check k ≡ of_when k.condition
 conditions_are k = by k.condition
   where
-    by : (c : Option ℕ) → conditions_of_check
-        (record { kind = k.kind; first = k.first; second = k.second; limit = k.limit; condition = c }) ≡ of_when c
+    by : (c : Option ℕ) → conditions_of_check (record k { condition = c }) ≡ of_when c
     by None = refl
     by (Some i) = refl
 

@@ -118,4 +118,4 @@ with_it e before k =
     ∙ seen_with_item conditions_of_check 0 before k)
 
 abbrev pub of_kind : TimingCheck → CheckKind → TimingCheck
-of_kind k kind = record { kind = kind; first = k.first; second = k.second; limit = k.limit; condition = k.condition }
+of_kind k kind = record k { kind = kind }

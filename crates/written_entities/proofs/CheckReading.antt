@@ -57,14 +57,10 @@ setup_hold_is : (k : TimingCheck) (kind : CheckKind) → IsSetupOrHold kind → 
     → check_with kind (record { pin = (test_at k kind).pin; edge = edge.Any })
     (record { pin = (reference_at k kind).pin; edge = (reference_at k kind).edge }) k.limit k.condition ≡ of_kind k kind
 setup_hold_is k kind (inl a) e =
-    rw a (ap (λ (v : Event). of_kind
-    (record { kind = check_kind.Setup; first = v; second = k.second; limit = k.limit; condition = k.condition })
-    check_kind.Setup)
+    rw a (ap (λ (v : Event). of_kind (record k { first = v }) check_kind.Setup)
     (any_event k.first (and_parts (is_any_edge k.first.edge) (is_one_edge k.second.edge) (rw a at e)).0))
 setup_hold_is k kind (inr a) e =
-    rw a (ap (λ (v : Event). of_kind
-    (record { kind = check_kind.Hold; first = k.first; second = v; limit = k.limit; condition = k.condition })
-    check_kind.Hold)
+    rw a (ap (λ (v : Event). of_kind (record k { second = v }) check_kind.Hold)
     (any_event k.second (and_parts (is_one_edge k.first.edge) (is_any_edge k.second.edge) (rw a at e)).1))
 
 setup_hold_edge : (k : TimingCheck) (kind : CheckKind) → IsSetupOrHold kind → has_events k kind ≡ true
@@ -181,16 +177,8 @@ pulse_events k kind a b e f h =
     let second : ◌≡◌ {A = Event} (record { pin = k.first.pin; edge = b }) k.second =
     ap (λ (g : Edge). record { pin = k.first.pin; edge = g }) (sym f)
     ∙ ap (λ (p : ℕ). record { pin = p; edge = k.second.edge }) pins in
-    ap (λ (v : Event). of_kind (record {
-      kind = kind;
-      first = v;
-      second = record { pin = k.first.pin; edge = b };
-      limit =
-          k.limit;
-      condition = k.condition;
-    }) kind) first
-    ∙ ap (λ (v : Event). of_kind (record { kind = kind; first = k.first; second = v; limit = k.limit; condition = k.condition })
-    kind) second
+    ap (λ (v : Event). of_kind (record k { first = v; second = record { pin = k.first.pin; edge = b } }) kind) first
+    ∙ ap (λ (v : Event). of_kind (record k { second = v }) kind) second
 
 width_pulse : (k : TimingCheck) (a b : Edge) → k.first.edge ≡ a → k.second.edge ≡ b → are_opposite a b ≡ true
     → nat_eq k.first.pin k.second.pin ≡ true → (pulse : Pulse) × IsPulse k check_kind.Width pulse

@@ -231,33 +231,9 @@ whole e w =
     let read_outputs : List VOutput =
     outputs_with (output_ports_from 0 e.ports) (values_with (output_tables e.outputs) (map assigned_of e.outputs))
     (map paths_of e.outputs) in
-    ap (λ (l : List VState). record {
-      name = e.name;
-      ports = e.ports;
-      states = l;
-      conditions = read_conditions;
-      outputs =
-          read_outputs;
-      checks = e.checks;
-    }) (same_states e.states)
-    ∙ ap (λ (l : List VTruth). record {
-      name = e.name;
-      ports = e.ports;
-      states = e.states;
-      conditions = l;
-      outputs =
-          read_outputs;
-      checks = e.checks;
-    }) conditions
-    ∙ ap (λ (l : List VOutput). record {
-      name = e.name;
-      ports = e.ports;
-      states = e.states;
-      conditions = e.conditions;
-      outputs =
-          l;
-      checks = e.checks;
-    }) outputs
+    ap (λ (l : List VState). record e { states = l; conditions = read_conditions; outputs = read_outputs }) (same_states e.states)
+    ∙ ap (λ (l : List VTruth). record e { conditions = l; outputs = read_outputs }) conditions
+    ∙ ap (λ (l : List VOutput). record e { outputs = l }) outputs
 
 -- Reading.
 

@@ -50,28 +50,8 @@ empty_if (x ∷ xs) h = absurd (grind (arith, nat_tests))
 without_block : (m : VModule) → has_block m ≡ false → joined m ≡ m
 without_block m h =
     let parts = both_no (nat_lt 0 (length m.paths)) (nat_lt 0 (length m.checks)) h in
-    ap (λ (p : List VPath). record {
-      name = m.name;
-      ports = m.ports;
-      wires = m.wires;
-      notifier = m.notifier;
-      udps =
-          m.udps;
-      instances = m.instances;
-      paths = p;
-      checks = [];
-    }) (sym (empty_if m.paths parts.0))
-    ∙ ap (λ (c : List TimingCheck). record {
-      name = m.name;
-      ports = m.ports;
-      wires = m.wires;
-      notifier = m.notifier;
-      udps =
-          m.udps;
-      instances = m.instances;
-      paths = m.paths;
-      checks = c;
-    }) (sym (empty_if m.checks parts.1))
+    ap (λ (p : List VPath). record m { paths = p; checks = [] }) (sym (empty_if m.paths parts.0))
+    ∙ ap (λ (c : List TimingCheck). record m { checks = c }) (sym (empty_if m.checks parts.1))
 
 block_read : (m : VModule) → IsWritten m → AreTimed m → (b : Bool) → has_block m ≡ b → (s : List (List ℕ))
     → Reads (specify (joined m)) (block_by b m (codes "endmodule" ∷ s)) m (codes "endmodule" ∷ s)

@@ -109,16 +109,8 @@ end_read m w h = in_turn expected
 
 -- Checks.
 
-of_kind : (k : TimingCheck) (kind : CheckKind) → k.kind ≡ kind
-    → record { kind = kind; first = k.first; second = k.second; limit = k.limit; condition = k.condition } ≡ k
-of_kind k kind e = ap (λ (c : CheckKind). record {
-  kind = c;
-  first = k.first;
-  second = k.second;
-  limit = k.limit;
-  condition =
-      k.condition;
-}) (sym e)
+of_kind : (k : TimingCheck) (kind : CheckKind) → k.kind ≡ kind → record k { kind = kind } ≡ k
+of_kind k kind e = ap (λ (c : CheckKind). record k { kind = c }) (sym e)
 
 ordered_read : (m : VModule) → IsWritten m → (k : TimingCheck) (kind : CheckKind) (s : List (List ℕ)) → k.kind ≡ kind
     → IsCheck m k → IsNumber k.limit → Reads (ordered_check kind (joined m)) (ordered_tokens m k s) k s
@@ -149,10 +141,8 @@ same_event : (e : Event) (p : ℕ) (g : Edge) → p ≡ e.pin → g ≡ e.edge �
 same_event e p g a b = ap (λ (q : ℕ). record { pin = q; edge = g }) a ∙ ap (λ (f : Edge). record { pin = e.pin; edge = f }) b
 
 with_second : (k : TimingCheck) (kind : CheckKind) (second : Event) → k.kind ≡ kind → second ≡ k.second
-    → record { kind = kind; first = k.first; second = second; limit = k.limit; condition = k.condition } ≡ k
-with_second k kind second e f =
-    ap (λ (v : Event). record { kind = kind; first = k.first; second = v; limit = k.limit; condition = k.condition }) f
-    ∙ of_kind k kind e
+    → record k { kind = kind; second = second } ≡ k
+with_second k kind second e f = ap (λ (v : Event). record k { kind = kind; second = v }) f ∙ of_kind k kind e
 
 width_read : (m : VModule) → IsWritten m → (k : TimingCheck) (s : List (List ℕ)) → k.kind ≡ check_kind.Width
     → IsTrue (has_written_events k check_kind.Width) → IsCheck m k → IsNumber k.limit

@@ -97,17 +97,7 @@ register_read ports wires (Some x) s h apart o =
 
 -- a module without instances
 abbrev pub bare : VModule → VModule
-bare m = record {
-  name = m.name;
-  ports = m.ports;
-  wires = m.wires;
-  notifier = m.notifier;
-  udps = m.udps;
-  instances = [];
-  paths =
-      [];
-  checks = [];
-}
+bare m = record m { instances = []; paths = []; checks = [] }
 
 pub declarations_read : (m : VModule) (s : List (List ℕ)) → AreDeclared m → EndsDeclarations s
     → Reads (declarations m.name m.udps) (codes "(" ∷ listed m.ports (codes ")" ∷ codes ";" ∷ declaration_tokens m s)) (bare m) s

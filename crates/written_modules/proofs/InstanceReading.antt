@@ -39,17 +39,7 @@ use Rattle.grammar_reader.proofs.ItemPlaces.{all_at}
 
 -- a module whose instances up to some place are read
 abbrev pub so_far : VModule → List Instance → VModule
-so_far m before = record {
-  name = m.name;
-  ports = m.ports;
-  wires = m.wires;
-  notifier = m.notifier;
-  udps = m.udps;
-  instances =
-      before;
-  paths = [];
-  checks = [];
-}
+so_far m before = record m { instances = before; paths = []; checks = [] }
 
 -- a well formed module among others
 pub record IsWritten (m : VModule) : Type 0 where

@@ -16,7 +16,7 @@ use text_io::{
 };
 
 /// The words of a translation of this library to this Verilog text, and of VHDL text to nowhere.
-pub(crate) fn words(alloc: Global, library: &str, verilog: &str) -> Result<Vec<String>, AllocError>
+fn words(alloc: Global, library: &str, verilog: &str) -> Result<Vec<String>, AllocError>
     ensures { IfOk result (λ words. map string_bytes words.items ≡ codes "translate" ∷ library.now ∷ verilog.now ∷ codes
         "/dev/null" ∷ []) }
 {
@@ -30,7 +30,7 @@ pub(crate) fn words(alloc: Global, library: &str, verilog: &str) -> Result<Vec<S
 
 /// Binds the library and the first output.
 #[tactic(auto, unfolding(text_io::specs::Desk::opened, text_io::specs::Desk::created))]
-pub(crate) fn bind<D: Desk>(desk: &mut D) -> Result<(), Failed>
+fn bind<D: Desk>(desk: &mut D) -> Result<(), Failed>
     requires { plan (D.state desk.old).words ≡ (Input Library, 1) ∷ (Output VerilogText, 2) ∷ (Output VitalText, 3) ∷ [] }
     ensures library { OnOk result (IsTrue (is_bound (D.state desk.new) (Input Library))) }
     ensures text { OnOk result (IsTrue (is_bound (D.state desk.new) (Output VerilogText))) }
@@ -81,7 +81,7 @@ fn real_files_are_read_and_written(rt: HostRuntime) -> Result<(), Fail> {
 }
 
 /// A file in memory, by the name of the library.
-pub(crate) fn named_file(alloc: Global, bytes: &[u8]) -> Result<NamedFile, AllocError> {
+fn named_file(alloc: Global, bytes: &[u8]) -> Result<NamedFile, AllocError> {
     Ok(NamedFile {
         name: String::from_str(alloc, "/dev/zero")?,
         bytes: Vec::from_slice(alloc, bytes)?,

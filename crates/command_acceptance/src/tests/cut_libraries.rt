@@ -1,11 +1,12 @@
 //! A library that is cut at each of its bytes: the cells that ended before the cut are written.
 use command_runs::{
     CORE_ENTITY, DRIVER_ENTITY, FIRST_ENTITY, FIRST_MODULE, Left, NO_MODULE, PIECES,
-    SECOND_MODULES, THREE_CELLS, THREE_ENTITIES, THREE_LINES, THREE_MODULES, TRANSLATE,
+    SECOND_MODULES, Status, THREE_CELLS, THREE_ENTITIES, THREE_LINES, THREE_MODULES, TRANSLATE,
     library_alone, ran,
 };
 use std::alloc::Global;
 use std::test::Fail;
+use table_tests::{Row, all_hold};
 use text_io::OutSlot;
 
 /// The status, of how many cells the models are written, and how many lines the report has, where the library is cut to this
@@ -46,61 +47,74 @@ fn has_lines(left: &Left, count: usize) -> bool {
         && report.iter().filter(|byte| **byte == b'\n').count() == count
 }
 
-/// Whether the library of three cells, cut to this length, comes to that, where a call moves at most `piece` bytes.
-fn is_cut_well(alloc: Global, length: usize, piece: usize) -> Result<bool, Fail> {
-    let library = THREE_CELLS.as_bytes().get(..length).ok_or("too long")?;
+/// Translates the library of three cells, cut to this length, where a call moves at most `piece` bytes; nothing where memory is
+/// short.
+fn translated_to(alloc: Global, length: usize, piece: usize) -> Option<Left> {
+    let library = THREE_CELLS.as_bytes().get(..length)?;
+    ran(alloc, &TRANSLATE, library_alone(library), &[], piece).ok()
+}
+
+/// Whether a run left that for the library cut to this length.
+fn is_left(left: &Left, length: usize) -> bool {
     let (code, models, lines) = cut_to(length);
-    let left = ran(alloc, &TRANSLATE, library_alone(library), &[], piece)?;
-    Ok(left.status.code() == code && has_models(&left, models) && has_lines(&left, lines))
+    left.status.code() == code && has_models(left, models) && has_lines(left, lines)
 }
 
-/// Whether it does at each length.
-fn is_each_cut_well_in(alloc: Global, piece: usize) -> Result<bool, Fail> {
-    for length in 0..THREE_CELLS.len() + 1 {
-        if !is_cut_well(alloc, length, piece)? {
-            return Ok(false);
-        }
+/// Whether the library of three cells, cut to this length, comes to that, where a call moves at most `piece` bytes.
+fn is_cut_well(alloc: Global, length: usize, piece: usize) -> bool {
+    match &translated_to(alloc, length, piece) {
+        Some(left) => is_left(left, length),
+        None => false,
     }
-    Ok(true)
 }
 
-/// Whether it does, whatever a call moves of bytes.
-fn is_each_cut_well(alloc: Global) -> Result<bool, Fail> {
-    for piece in PIECES {
-        if !is_each_cut_well_in(alloc, piece)? {
-            return Ok(false);
+/// How many bytes a call may move.
+struct Piece(usize);
+
+impl Row for Piece {
+    fn holds(&self, alloc: Global) -> bool {
+        for length in 0..=THREE_CELLS.len() {
+            if !is_cut_well(alloc, length, self.0) {
+                return false;
+            }
         }
+        true
     }
-    Ok(true)
 }
 
 #[test]
 fn cells_before_a_cut_are_written(rt: HostRuntime) -> Result<(), Fail> {
-    assert!(rt; is_each_cut_well(rt.alloc())?);
-    Ok(())
-}
-
-/// Whether a library that is cut to this length, behind its first cell, has this fault.
-fn is_cut_told(alloc: Global, length: usize, fault: &str) -> Result<bool, Fail> {
-    let library = THREE_CELLS.as_bytes().get(..length).ok_or("too long")?;
-    let left = ran(alloc, &TRANSLATE, library_alone(library), &[], usize::MAX)?;
-    let report = left.desk.written(OutSlot::Report);
-    Ok(
-        left.status.code() == 2
-            && report == b"cell 1 INV ok\n".as_slice()
-            && left.wrote(OutSlot::Faults, &[fault]),
+    all_hold(
+        rt.alloc(),
+        &[Piece(PIECES[0]), Piece(PIECES[1]), Piece(PIECES[2])],
     )
 }
 
+/// A length behind the end of the first cell, to which the library is cut, and the fault that is told then.
+struct ToldCut(usize, &'static str);
+
+impl ToldCut {
+    /// Whether a run told it behind the first cell.
+    fn is_told(&self, left: &Left) -> bool {
+        left.is(Status::Library, "cell 1 INV ok\n", self.1)
+    }
+}
+
+impl Row for ToldCut {
+    fn holds(&self, alloc: Global) -> bool {
+        match &translated_to(alloc, self.0, usize::MAX) {
+            Some(left) => self.is_told(left),
+            None => false,
+        }
+    }
+}
+
+const TOLD_CUTS: [ToldCut; 2] = [
+    ToldCut(198, "library refused at 196: text not closed\n"),
+    ToldCut(200, "library refused at 200: expected statement\n"),
+];
+
 #[test]
 fn a_cut_is_told_where_it_is(rt: HostRuntime) -> Result<(), Fail> {
-    assert!(rt; is_cut_told(rt.alloc(), 198, "library refused at 196: text not closed\n")?);
-    assert!(rt;
-        is_cut_told(
-            rt.alloc(),
-            200,
-            "library refused at 200: expected statement\n"
-        )?
-    );
-    Ok(())
+    all_hold(rt.alloc(), &TOLD_CUTS)
 }

@@ -2,14 +2,15 @@
 //! behind it.
 use super::runs_on_test_cells::TWO_CELLS;
 use super::words_and_udp::AND;
+use super::words_runs::{USAGE, WordsRun, prints, unread};
 use command_runs::{
     Limits, Status, THREE_CELLS, THREE_ENTITIES, THREE_LINES, THREE_MODULES, TRANSLATE, Whole,
-    desk_of, done, leaves_fronts, leaves_fronts_in_pieces, leaves_nothing, library_alone,
-    run_gated,
+    desk_of, leaves_fronts, leaves_fronts_in_pieces, leaves_nothing, library_alone, run_gated,
 };
 use std::alloc::Global;
 use std::test::Fail;
-use text_io::GatedDesk;
+use table_tests::{Row, all_hold};
+use text_io::{GatedDesk, Memory};
 
 /// The library of three cells, translated.
 const THREE_TRANSLATED: Whole = Whole {
@@ -20,28 +21,32 @@ const THREE_TRANSLATED: Whole = Whole {
     faults: "",
 };
 
-/// Words without a reading.
-const UNREAD: Whole = Whole {
-    status: Status::Usage,
-    verilog: &[],
-    vital: &[],
-    report: "",
-    faults: "lib2sim: usage\n",
-};
-
 /// Whether each call that fails leaves a front of a translation of three cells, whatever a call moves of bytes.
-fn translates_fronts(alloc: Global) -> Result<bool, Fail> {
+fn translates_fronts(alloc: Global) -> Result<bool, Memory> {
     let files = library_alone(THREE_CELLS.as_bytes());
     leaves_fronts_in_pieces(alloc, &TRANSLATE, files, &THREE_TRANSLATED)
 }
 
-/// Whether each call that fails leaves a front where words name no file.
-fn prints_fronts(alloc: Global, words: &[&str], whole: &Whole) -> Result<bool, Fail> {
-    leaves_fronts(alloc, words, library_alone(b""), whole, 7)
+/// A run of which a front is left wherever a call fails that moves at most seven bytes.
+struct FrontRun(WordsRun<'static>);
+
+impl Row for FrontRun {
+    fn holds(&self, alloc: Global) -> bool {
+        matches!(
+            leaves_fronts(alloc, self.0.words, library_alone(b""), &self.0.whole, 7),
+            Ok(true)
+        )
+    }
 }
 
+const FRONT_RUNS: [FrontRun; 3] = [
+    FrontRun(prints!(["udp", "AND2", "A*B"], AND)),
+    FrontRun(prints!(["selftest", "2"], TWO_CELLS)),
+    FrontRun(unread!("print")),
+];
+
 /// Whether nothing is written where the second call, that of the first output, fails.
-fn leaves_outputs(alloc: Global) -> Result<bool, Fail> {
+fn leaves_outputs(alloc: Global) -> Result<bool, Memory> {
     leaves_nothing(alloc, &TRANSLATE, library_alone(THREE_CELLS.as_bytes()), 2)
 }
 
@@ -54,14 +59,11 @@ fn each_call_of_a_translation_that_fails_leaves_a_front(rt: HostRuntime) -> Resu
 
 #[test]
 fn each_call_of_words_without_files_that_fails_leaves_a_front(rt: HostRuntime) -> Result<(), Fail> {
-    assert!(rt; prints_fronts(rt.alloc(), &["udp", "AND2", "A*B"], &done(AND))?);
-    assert!(rt; prints_fronts(rt.alloc(), &["selftest", "2"], &done(TWO_CELLS))?);
-    assert!(rt; prints_fronts(rt.alloc(), &["print"], &UNREAD)?);
-    Ok(())
+    all_hold(rt.alloc(), &FRONT_RUNS)
 }
 
-/// Whether a gate ends with this status and this count where these calls fail.
-fn counts(alloc: Global, failing: &[u64], status: Status, failures: u64) -> Result<bool, Fail> {
+/// What a gate left: the status of the run, and how many calls failed.
+fn gated(alloc: Global, failing: &[u64]) -> Result<(Status, u64), Memory> {
     let words = ["udp", "AND2", "A*B"];
     let limits = Limits {
         failing,
@@ -70,12 +72,24 @@ fn counts(alloc: Global, failing: &[u64], status: Status, failures: u64) -> Resu
     };
     let mut gate = GatedDesk::new(desk_of(alloc, &words, library_alone(b""), limits)?);
     let ended = run_gated(alloc, &mut gate);
-    Ok(ended == status && gate.failures() == failures)
+    Ok((ended, gate.failures()))
 }
+
+/// Calls that fail behind a gate, the status with which the run ends, and how many are counted.
+struct GatedRun(&'static [u64], Status, u64);
+
+impl Row for GatedRun {
+    fn holds(&self, alloc: Global) -> bool {
+        matches!(gated(alloc, self.0), Ok((status, failures)) if status == self.1 && failures == self.2)
+    }
+}
+
+const GATED_RUNS: [GatedRun; 2] = [
+    GatedRun(&[3], Status::Outside, 1),
+    GatedRun(&[], Status::Done, 0),
+];
 
 #[test]
 fn a_gate_counts_the_call_that_failed(rt: HostRuntime) -> Result<(), Fail> {
-    assert!(rt; counts(rt.alloc(), &[3], Status::Outside, 1)?);
-    assert!(rt; counts(rt.alloc(), &[], Status::Done, 0)?);
-    Ok(())
+    all_hold(rt.alloc(), &GATED_RUNS)
 }

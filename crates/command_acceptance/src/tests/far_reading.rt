@@ -5,7 +5,7 @@ use command_runs::{
 };
 use std::alloc::{AllocError, Global};
 use std::test::Fail;
-use text_io::OutSlot;
+use text_io::{Memory, OutSlot};
 
 /// The library of three cells, with 300,000 spaces behind it.
 fn spaced(alloc: Global) -> Result<String, AllocError> {
@@ -17,7 +17,7 @@ fn spaced(alloc: Global) -> Result<String, AllocError> {
 }
 
 /// What translating this library leaves, where these calls fail and a call moves at most `piece` bytes.
-fn far_translated(alloc: Global, failing: &[u64], piece: usize) -> Result<Left, Fail> {
+fn far_translated(alloc: Global, failing: &[u64], piece: usize) -> Result<Left, Memory> {
     let library = spaced(alloc)?;
     ran(
         alloc,
@@ -35,13 +35,13 @@ fn has_all_models(left: &Left) -> bool {
 }
 
 /// Whether the spaces change nothing.
-fn is_as_without_spaces(alloc: Global) -> Result<bool, Fail> {
+fn is_as_without_spaces(alloc: Global) -> Result<bool, Memory> {
     let left = far_translated(alloc, &[], usize::MAX)?;
     Ok(has_all_models(&left) && left.is(Status::Done, THREE_LINES, ""))
 }
 
 /// Whether a run at which this call fails, where a call moves at most 50 bytes, wrote all models.
-fn wrote_models_before(alloc: Global, call: u64) -> Result<bool, Fail> {
+fn wrote_models_before(alloc: Global, call: u64) -> Result<bool, Memory> {
     let left = far_translated(alloc, &[call], 50)?;
     Ok(has_all_models(&left) && left.status == Status::Outside)
 }

@@ -1,7 +1,7 @@
 //! Runs of `selftest`.
-use command_runs::{Status, ran_without_files};
-use std::alloc::Global;
+use super::words_runs::{USAGE, WordsRun, prints, unread};
 use std::test::Fail;
+use table_tests::all_hold;
 
 /// The report on two test cells.
 pub(crate) const TWO_CELLS: &str = "cells 2
@@ -19,30 +19,24 @@ caught 8 8
 equal
 ";
 
-/// Whether the run on so many test cells is done, with this report.
-fn is_done(alloc: Global, count: &str, report: &str) -> Result<bool, Fail> {
-    let left = ran_without_files(alloc, &["selftest", count])?;
-    Ok(left.is(Status::Done, report, ""))
-}
-
-/// Whether a count of test cells has no reading.
-fn is_usage(alloc: Global, count: &str) -> Result<bool, Fail> {
-    let left = ran_without_files(alloc, &["selftest", count])?;
-    Ok(left.is(Status::Usage, "", "lib2sim: usage\n"))
-}
+const COUNTED: [WordsRun<'static>; 2] = [
+    prints!(["selftest", "2"], TWO_CELLS),
+    prints!(["selftest", "00008"], EIGHT_CELLS),
+];
 
 #[test]
 fn known_values_and_damaged_models_are_counted(rt: HostRuntime) -> Result<(), Fail> {
-    assert!(rt; is_done(rt.alloc(), "2", TWO_CELLS)?);
-    assert!(rt; is_done(rt.alloc(), "00008", EIGHT_CELLS)?);
-    Ok(())
+    all_hold(rt.alloc(), &COUNTED)
 }
+
+const OUTSIDE_LIMITS: [WordsRun<'static>; 4] = [
+    unread!("selftest", "0"),
+    unread!("selftest", "10001"),
+    unread!("selftest", "000002"),
+    unread!("selftest", "+2"),
+];
 
 #[test]
 fn counts_of_cells_are_within_their_limits(rt: HostRuntime) -> Result<(), Fail> {
-    assert!(rt; is_usage(rt.alloc(), "0")?);
-    assert!(rt; is_usage(rt.alloc(), "10001")?);
-    assert!(rt; is_usage(rt.alloc(), "000002")?);
-    assert!(rt; is_usage(rt.alloc(), "+2")?);
-    Ok(())
+    all_hold(rt.alloc(), &OUTSIDE_LIMITS)
 }

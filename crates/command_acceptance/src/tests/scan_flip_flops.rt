@@ -1,7 +1,9 @@
 //! A scan flip-flop as libraries have it, with tables of seven by seven entries and groups that are skipped: the end of its
 //! module and the line on its test cell.
-use super::translations::{ends_with, reports};
+use super::translations::TranslationEnd;
+use command_runs::Status;
 use std::test::Fail;
+use table_tests::all_hold;
 
 /// The library of the flip-flop whose test cell has this attribute at its scan enable, and this next state: with the six rows and
 /// the six entries that are least in a table of positive entries, and those of a table of negative ones.
@@ -84,6 +86,9 @@ pub(crate) const SCAN_FLIP_FLOP: &str = scan_library!("signal_type : test_scan_e
 /// With one that takes the other value.
 const OTHER_NEXT: &str = scan_library!("signal_type : test_scan_enable;", "!D");
 
+/// With a scan enable that is active at 0.
+const INVERTED: &str = scan_library!("signal_type : test_scan_enable_inverted;", "SI");
+
 /// Without a scan enable.
 const NO_ENABLE: &str = scan_library!("", "D");
 
@@ -122,11 +127,38 @@ const SCAN_FLIP_FLOP_MODULE: &str = "module SDFFR (D, SI, SE, CK, RN, Q);
 endmodule
 ";
 
+const TRANSLATIONS: [TranslationEnd; 4] = [
+    TranslationEnd {
+        library: SCAN_FLIP_FLOP,
+        status: Status::Done,
+        report: SAME,
+        verilog: SCAN_FLIP_FLOP_MODULE,
+        vital: "end vital;\n",
+    },
+    TranslationEnd {
+        library: OTHER_NEXT,
+        status: Status::Done,
+        report: DIFFERS,
+        verilog: "endmodule\n",
+        vital: "end vital;\n",
+    },
+    TranslationEnd {
+        library: INVERTED,
+        status: Status::Done,
+        report: SAME,
+        verilog: "endmodule\n",
+        vital: "end vital;\n",
+    },
+    TranslationEnd {
+        library: NO_ENABLE,
+        status: Status::Done,
+        report: LEFT_OUT,
+        verilog: "endmodule\n",
+        vital: "end vital;\n",
+    },
+];
+
 #[test]
 fn a_scan_flip_flop_is_translated_and_its_test_cell_compared(rt: HostRuntime) -> Result<(), Fail> {
-    assert!(rt; ends_with(rt.alloc(), SCAN_FLIP_FLOP, SCAN_FLIP_FLOP_MODULE)?);
-    assert!(rt; reports(rt.alloc(), SCAN_FLIP_FLOP, SAME)?);
-    assert!(rt; reports(rt.alloc(), OTHER_NEXT, DIFFERS)?);
-    assert!(rt; reports(rt.alloc(), NO_ENABLE, LEFT_OUT)?);
-    Ok(())
+    all_hold(rt.alloc(), &TRANSLATIONS)
 }

@@ -71,3 +71,11 @@ pub(crate) const LONE_TIE_ENTITY: &str = tied_entity!(
     "",
     "    Y <= z_1;\n    wait;\n"
 );
+
+/// An output alone, of a second cell that VHDL does not tell from the first by its name.
+pub(crate) const SECOND_TIE_ENTITY: &str = tied_entity!(
+    "cell2",
+    "Y : out std_ulogic",
+    "",
+    "    Y <= z_1;\n    wait;\n"
+);

@@ -1,15 +1,88 @@
 //! Libraries that are translated, from bytes to bytes.
 use super::tied_models::{
-    LONE_TIE_ENTITY, LONE_TIE_MODULE, PORTS_ENTITY, PORTS_MODULE, TIE_ENTITY, TIE_MODULE,
+    LONE_TIE_ENTITY, LONE_TIE_MODULE, PORTS_ENTITY, PORTS_MODULE, SECOND_TIE_ENTITY, TIE_ENTITY,
+    TIE_MODULE,
 };
 use command_runs::{
-    CLOCK_GATE, FLIP_FLOP, NO_MODULE, Status, THREE_CELLS, THREE_ENTITIES, THREE_LINES,
-    THREE_MODULES, TIE, TIMED_FLIP_FLOP, TIMED_FLIP_FLOP_ENTITY, TIMED_FLIP_FLOP_MODULE,
+    CLOCK_GATE, FLIP_FLOP, Left, NO_MODULE, Status, THREE_CELLS, THREE_ENTITIES, THREE_LINES,
+    THREE_MODULES, TIE, TIMED_FLIP_FLOP, TIMED_FLIP_FLOP_ENTITY, TIMED_FLIP_FLOP_MODULE, Whole,
     translated,
 };
 use std::alloc::Global;
 use std::test::Fail;
+use table_tests::{Row, all_hold};
 use text_io::OutSlot;
+
+/// A library, and what translating it comes to.
+struct Translation(&'static str, Whole);
+
+impl Row for Translation {
+    fn holds(&self, alloc: Global) -> bool {
+        match &translated(alloc, self.0) {
+            Ok(left) => self.1.is_left(left),
+            Err(_) => false,
+        }
+    }
+}
+
+/// A library, the status and the report with which translating it ends, and how its files of models end.
+pub(crate) struct TranslationEnd {
+    pub library: &'static str,
+    pub status: Status,
+    pub report: &'static str,
+    pub verilog: &'static str,
+    pub vital: &'static str,
+}
+
+impl TranslationEnd {
+    /// Whether a run left that.
+    fn is_left(&self, left: &Left) -> bool {
+        left.is(self.status, self.report, "")
+            && left.ends_with(OutSlot::VerilogText, self.verilog)
+            && left.ends_with(OutSlot::VitalText, self.vital)
+    }
+}
+
+impl Row for TranslationEnd {
+    fn holds(&self, alloc: Global) -> bool {
+        match &translated(alloc, self.library) {
+            Ok(left) => self.is_left(left),
+            Err(_) => false,
+        }
+    }
+}
+
+/// A library of cells that are accepted, its report, and the files of its models.
+macro_rules! accepted {
+    ($library:expr, $report:expr, $verilog:expr, $vital:expr) => {
+        Translation(
+            $library,
+            Whole {
+                status: Status::Done,
+                verilog: $verilog,
+                vital: $vital,
+                report: $report,
+                faults: "",
+            },
+        )
+    };
+}
+
+/// A library that is refused, and the line that tells it.
+macro_rules! refused {
+    ($library:expr, $faults:expr) => {
+        Translation(
+            $library,
+            Whole {
+                status: Status::Library,
+                verilog: &[NO_MODULE],
+                vital: &[],
+                report: "",
+                faults: $faults,
+            },
+        )
+    };
+}
 
 /// Four ports, of which each language keeps some names.
 const PORTS: &str = "library (L) { cell (P) {
@@ -96,16 +169,6 @@ const WITHOUT_SEMICOLONS: &str = "library (L) { time_unit : \"1ps\"
 cell (TIE) { pin (A) { direction : input } pin (Y) { function : \"1\" ; direction : output } }
 }";
 
-/// Whether the library of three cells is translated to their models.
-fn translates_three_cells(alloc: Global) -> Result<bool, Fail> {
-    let left = translated(alloc, THREE_CELLS)?;
-    Ok(
-        left.is(Status::Done, THREE_LINES, "")
-            && left.wrote(OutSlot::VerilogText, &THREE_MODULES)
-            && left.wrote(OutSlot::VitalText, &THREE_ENTITIES),
-    )
-}
-
 /// An inverter behind a cell whose output names eleven pins.
 const BEHIND_A_REFUSED_CELL: &str = "library (L) {
 cell (WIDE) { pin (A B C D E F G H I J K) { direction : input; }
@@ -113,14 +176,6 @@ pin (Y) { direction : output; function : \"A B C D E F G H I J K\"; } }
 cell (INV) { pin (A) { direction : input; } pin (Y) { direction : output; function : \"!A\"; } }
 }
 ";
-
-/// Whether a cell behind one that is refused is written.
-fn translates_behind_a_refused_cell(alloc: Global) -> Result<bool, Fail> {
-    let left = translated(alloc, BEHIND_A_REFUSED_CELL)?;
-    let report = "cell 1 WIDE refused 14 udp_inputs at 109\ncell 2 INV ok\naccepted 1 refused 1\n";
-    let verilog = left.desk.written(OutSlot::VerilogText);
-    Ok(left.is(Status::Cells, report, "") && verilog.ends_with(SECOND_INVERTER.as_bytes()))
-}
 
 /// A register of two bits with an output of three.
 const OUTPUT_TOO_WIDE: &str = "library (L) {
@@ -135,13 +190,6 @@ ff_bank (IQ, IQN, 2) { next_state : \"D\"; clocked_on : \"CK\"; }
 }
 ";
 
-/// Whether a bit that a bank has not refuses its cell.
-fn refuses_a_bit_too_many(alloc: Global) -> Result<bool, Fail> {
-    let left = translated(alloc, OUTPUT_TOO_WIDE)?;
-    let report = "cell 1 REG2 refused 15 width at 227\naccepted 0 refused 1\n";
-    Ok(left.is(Status::Cells, report, "") && left.wrote(OutSlot::VerilogText, &[NO_MODULE]))
-}
-
 /// The module of the inverter, which is the second cell.
 const SECOND_INVERTER: &str = "module INV (A, Y);
   input A;
@@ -153,111 +201,71 @@ endmodule
 /// A unit of time and no cell.
 const UNIT_ALONE: &str = "library (L) { time_unit : \"10ps\" }";
 
-/// Whether a library is translated to this Verilog and this VHDL, with this report.
-fn translates(
-    alloc: Global,
-    library: &str,
-    verilog: &str,
-    vital: &str,
-    report: &str,
-) -> Result<bool, Fail> {
-    let left = translated(alloc, library)?;
-    Ok(
-        left.is(Status::Done, report, "")
-            && left.wrote(OutSlot::VerilogText, &[verilog])
-            && left.wrote(OutSlot::VitalText, &[vital]),
-    )
-}
+/// The report on a library with an output that is tied to 1.
+const TIE_LINES: &str = "cell 1 TIE ok\naccepted 1 refused 0\n";
 
-/// Whether that holds of a library with an output that is tied to 1.
-fn translates_tie(alloc: Global, library: &str, verilog: &str, vital: &str) -> Result<bool, Fail> {
-    let report = "cell 1 TIE ok\naccepted 1 refused 0\n";
-    translates(alloc, library, verilog, vital, report)
-}
-
-/// Whether it holds of the library with four ports.
-fn translates_ports(alloc: Global) -> Result<bool, Fail> {
-    let report = "cell 1 P ok\naccepted 1 refused 0\n";
-    translates(alloc, PORTS, PORTS_MODULE, PORTS_ENTITY, report)
-}
-
-/// Whether it holds of the flip-flop with a setup time.
-fn translates_flip_flop(alloc: Global) -> Result<bool, Fail> {
-    let (verilog, vital) = (TIMED_FLIP_FLOP_MODULE, TIMED_FLIP_FLOP_ENTITY);
-    let report = "cell 1 DFFT ok\naccepted 1 refused 0\n";
-    translates(alloc, TIMED_FLIP_FLOP, verilog, vital, report)
-}
+const TRANSLATIONS: [Translation; 7] = [
+    accepted!(THREE_CELLS, THREE_LINES, &THREE_MODULES, &THREE_ENTITIES),
+    accepted!(
+        TIMED_FLIP_FLOP,
+        "cell 1 DFFT ok\naccepted 1 refused 0\n",
+        &[TIMED_FLIP_FLOP_MODULE],
+        &[TIMED_FLIP_FLOP_ENTITY]
+    ),
+    accepted!(
+        PORTS,
+        "cell 1 P ok\naccepted 1 refused 0\n",
+        &[PORTS_MODULE],
+        &[PORTS_ENTITY]
+    ),
+    accepted!(WITHOUT_SEMICOLONS, TIE_LINES, &[TIE_MODULE], &[TIE_ENTITY]),
+    accepted!(TIE, TIE_LINES, &[LONE_TIE_MODULE], &[LONE_TIE_ENTITY]),
+    accepted!(UNIT_ALONE, "accepted 0 refused 0\n", &[NO_MODULE], &[]),
+    // a bit that a bank has not refuses its cell
+    Translation(
+        OUTPUT_TOO_WIDE,
+        Whole {
+            status: Status::Cells,
+            verilog: &[NO_MODULE],
+            vital: &[],
+            report: "cell 1 REG2 refused 15 width at 227\naccepted 0 refused 1\n",
+            faults: "",
+        },
+    ),
+];
 
 #[test]
 fn libraries_are_translated(rt: HostRuntime) -> Result<(), Fail> {
-    assert!(rt; translates_three_cells(rt.alloc())?);
-    assert!(rt; translates_behind_a_refused_cell(rt.alloc())?);
-    assert!(rt; refuses_a_bit_too_many(rt.alloc())?);
-    assert!(rt; translates_flip_flop(rt.alloc())?);
-    assert!(rt; translates_ports(rt.alloc())?);
-    assert!(rt; translates_tie(rt.alloc(), WITHOUT_SEMICOLONS, TIE_MODULE, TIE_ENTITY)?);
-    assert!(rt; translates_tie(rt.alloc(), TIE, LONE_TIE_MODULE, LONE_TIE_ENTITY)?);
-    assert!(rt;
-        translates(
-            rt.alloc(),
-            UNIT_ALONE,
-            NO_MODULE,
-            "",
-            "accepted 0 refused 0\n"
-        )?
-    );
-    Ok(())
+    all_hold(rt.alloc(), &TRANSLATIONS)
 }
 
-/// Whether a library is refused with this line.
-fn refuses(alloc: Global, library: &str, line: &str) -> Result<bool, Fail> {
-    let left = translated(alloc, library)?;
-    Ok(
-        left.is(Status::Library, "", line)
-            && left.wrote(OutSlot::VerilogText, &[NO_MODULE])
-            && left.wrote(OutSlot::VitalText, &[]),
-    )
-}
-
-/// Whether a library whose groups stand too deep is.
-fn refuses_deep_groups(alloc: Global) -> Result<bool, Fail> {
-    let mut deep = String::from_str(alloc, "library (L) {")?;
-    for _ in 0..32 {
-        deep.push_str("a(){")?;
-    }
-    refuses(alloc, deep.as_str(), "library refused at 140: too deep\n")
-}
+/// Thirty-two groups, one in the other, within a library.
+const DEEP_GROUPS: &str = concat!(
+    "library (L) {",
+    "a(){a(){a(){a(){a(){a(){a(){a(){a(){a(){a(){a(){a(){a(){a(){a(){",
+    "a(){a(){a(){a(){a(){a(){a(){a(){a(){a(){a(){a(){a(){a(){a(){a(){"
+);
 
 /// A library that ends in a text.
 const OPEN_TEXT: &str = "library (L) { cell (A) { area : \"1";
 
+const REFUSED: [Translation; 5] = [
+    refused!(OPEN_TEXT, "library refused at 32: text not closed\n"),
+    refused!("", "library refused at 0: not a library\n"),
+    refused!(
+        "library (L) { a : \n { }",
+        "library refused at 20: expected value\n"
+    ),
+    refused!(
+        "library (L) { a : b\n { }",
+        "library refused at 21: expected statement\n"
+    ),
+    refused!(DEEP_GROUPS, "library refused at 140: too deep\n"),
+];
+
 #[test]
 fn refused_libraries_are_told(rt: HostRuntime) -> Result<(), Fail> {
-    assert!(rt;
-        refuses(
-            rt.alloc(),
-            OPEN_TEXT,
-            "library refused at 32: text not closed\n"
-        )?
-    );
-    assert!(rt; refuses(rt.alloc(), "", "library refused at 0: not a library\n")?);
-    assert!(rt; refuses_deep_groups(rt.alloc())?);
-    Ok(())
-}
-
-/// Whether the Verilog of a library ends with this text.
-pub(crate) fn ends_with(alloc: Global, library: &str, text: &str) -> Result<bool, Fail> {
-    let left = translated(alloc, library)?;
-    let verilog = left.desk.written(OutSlot::VerilogText);
-    Ok(left.status == Status::Done && verilog.ends_with(text.as_bytes()))
-}
-
-#[test]
-fn modules_stand_behind_their_primitives(rt: HostRuntime) -> Result<(), Fail> {
-    assert!(rt; ends_with(rt.alloc(), FLIP_FLOP, FLIP_FLOP_FILE)?);
-    assert!(rt; ends_with(rt.alloc(), CLOCK_GATE, CLOCK_GATE_MODULE)?);
-    assert!(rt; ends_with(rt.alloc(), PERIODS, PERIODS_MODULE)?);
-    Ok(())
+    all_hold(rt.alloc(), &REFUSED)
 }
 
 /// An included file, and groups of timing that are none of a delay or a check: under an input without a type, and of a type that
@@ -277,14 +285,57 @@ left-out 1 D nochange_high_high
 accepted 1 refused 0
 ";
 
-/// Whether a library is translated with this report.
-pub(crate) fn reports(alloc: Global, library: &str, report: &str) -> Result<bool, Fail> {
-    let left = translated(alloc, library)?;
-    Ok(left.is(Status::Done, report, ""))
-}
+/// Two cells whose names VHDL does not tell apart.
+const TWO_TIES: &str =
+    "library (L) { cell (tie) { pin (Y) { direction : output; function : \"1\"; } }
+cell (TIE) { pin (Y) { direction : output; function : \"1\"; } } }";
+
+const TRANSLATION_ENDS: [TranslationEnd; 6] = [
+    TranslationEnd {
+        library: BEHIND_A_REFUSED_CELL,
+        status: Status::Cells,
+        report: "cell 1 WIDE refused 14 udp_inputs at 109\ncell 2 INV ok\naccepted 1 refused 1\n",
+        verilog: SECOND_INVERTER,
+        vital: "end vital;\n",
+    },
+    TranslationEnd {
+        library: FLIP_FLOP,
+        status: Status::Done,
+        report: "cell 1 DFF ok\naccepted 1 refused 0\n",
+        verilog: FLIP_FLOP_FILE,
+        vital: "end vital;\n",
+    },
+    TranslationEnd {
+        library: CLOCK_GATE,
+        status: Status::Done,
+        report: "cell 1 GATE ok\naccepted 1 refused 0\n",
+        verilog: CLOCK_GATE_MODULE,
+        vital: "end vital;\n",
+    },
+    TranslationEnd {
+        library: PERIODS,
+        status: Status::Done,
+        report: "cell 1 BUFP ok\naccepted 1 refused 0\n",
+        verilog: PERIODS_MODULE,
+        vital: "end vital;\n",
+    },
+    TranslationEnd {
+        library: TWO_TIES,
+        status: Status::Done,
+        report: "cell 1 tie ok\ncell 2 TIE ok\naccepted 2 refused 0\n",
+        verilog: "endmodule\n",
+        vital: SECOND_TIE_ENTITY,
+    },
+    TranslationEnd {
+        library: LEFT_OUT,
+        status: Status::Done,
+        report: LEFT_OUT_LINES,
+        verilog: "endmodule\n",
+        vital: "end vital;\n",
+    },
+];
 
 #[test]
-fn what_is_left_out_is_told(rt: HostRuntime) -> Result<(), Fail> {
-    assert!(rt; reports(rt.alloc(), LEFT_OUT, LEFT_OUT_LINES)?);
-    Ok(())
+fn reports_and_last_modules_are_written(rt: HostRuntime) -> Result<(), Fail> {
+    all_hold(rt.alloc(), &TRANSLATION_ENDS)
 }

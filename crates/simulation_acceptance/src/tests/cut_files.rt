@@ -1,9 +1,11 @@
 //! Each of the files of a simulation and of a replay cut at each of its bytes, and a stimulus of one byte.
 use super::cuts::{Cut, File, Outcome, is_each_cut_well};
 use super::inverter::{REPORT, START, VERILOG_REPORT, VITAL_REPORT, four_files};
-use command_runs::{Files, REPLAY_VERILOG, REPLAY_VITAL, SIMULATE, Status, ran};
+use command_runs::{Left, REPLAY_VERILOG, REPLAY_VITAL, SIMULATE, Status, ran};
 use std::alloc::Global;
 use std::test::Fail;
+use table_tests::{Row, all_hold};
+use text_io::Memory;
 
 /// What the whole files come to: of a simulation, and of replays of the module and of the entity.
 const SIMULATED: Outcome = (Status::Done, REPORT, "");
@@ -37,12 +39,25 @@ const NO_CHANGE: Outcome = (Status::Done, START, "");
 
 const MODULE_START: Outcome = (Status::Done, "cell INV\nV start : Y=x\n", "");
 
-/// Words, a file that is cut, and what its fronts come to. A library is refused, unless only its last line feed is cut off. The
-/// first line of a Verilog file is a whole file without a module, and no byte is a whole VHDL file without an entity. A stimulus
-/// is read as far as it goes.
-const SIMULATIONS: [(File, &[Cut]); 4] = [
-    (File::Library, &[(110, NO_LIBRARY), (usize::MAX, SIMULATED)]),
-    (
+/// Words, a file of the inverter that is cut, and what its fronts come to.
+struct CutFile(&'static [&'static str], File, &'static [Cut]);
+
+impl Row for CutFile {
+    fn holds(&self, alloc: Global) -> bool {
+        is_each_cut_well(alloc, self.0, four_files(), self.1, self.2)
+    }
+}
+
+/// A library is refused, unless only its last line feed is cut off. The first line of a Verilog file is a whole file without a
+/// module, and no byte is a whole VHDL file without an entity. A stimulus is read as far as it goes.
+const CUT_FILES: [CutFile; 7] = [
+    CutFile(
+        &SIMULATE,
+        File::Library,
+        &[(110, NO_LIBRARY), (usize::MAX, SIMULATED)],
+    ),
+    CutFile(
+        &SIMULATE,
         File::Verilog,
         &[
             (18, NO_VERILOG),
@@ -51,11 +66,13 @@ const SIMULATIONS: [(File, &[Cut]); 4] = [
             (usize::MAX, SIMULATED),
         ],
     ),
-    (
+    CutFile(
+        &SIMULATE,
         File::Vital,
         &[(1, NO_ENTITY), (448, NO_VITAL), (usize::MAX, SIMULATED)],
     ),
-    (
+    CutFile(
+        &SIMULATE,
         File::Stimulus,
         &[
             (1, NO_LINE),
@@ -66,11 +83,8 @@ const SIMULATIONS: [(File, &[Cut]); 4] = [
             (usize::MAX, SIMULATED),
         ],
     ),
-];
-
-/// The same of the files of replays of the module.
-const MODULE_REPLAYS: [(File, &[Cut]); 2] = [
-    (
+    CutFile(
+        &REPLAY_VERILOG,
         File::Verilog,
         &[
             (18, NO_VERILOG),
@@ -79,7 +93,8 @@ const MODULE_REPLAYS: [(File, &[Cut]); 2] = [
             (usize::MAX, MODULE_RUN),
         ],
     ),
-    (
+    CutFile(
+        &REPLAY_VERILOG,
         File::Stimulus,
         &[
             (1, NO_LINE),
@@ -90,54 +105,44 @@ const MODULE_REPLAYS: [(File, &[Cut]); 2] = [
             (usize::MAX, MODULE_RUN),
         ],
     ),
+    CutFile(
+        &REPLAY_VITAL,
+        File::Vital,
+        &[(1, NO_CELL), (448, NO_VITAL), (usize::MAX, ENTITY_RUN)],
+    ),
 ];
 
-/// The same of the VHDL file of a replay.
-const ENTITY_REPLAYS: [(File, &[Cut]); 1] = [(
-    File::Vital,
-    &[(1, NO_CELL), (448, NO_VITAL), (usize::MAX, ENTITY_RUN)],
-)];
+#[test]
+fn files_are_refused_unless_they_are_whole(rt: HostRuntime) -> Result<(), Fail> {
+    all_hold(rt.alloc(), &CUT_FILES)
+}
 
-/// Whether words come to what these cuts of files of the inverter say.
-fn cuts_well(alloc: Global, words: &[&str], files: &[(File, &[Cut])]) -> Result<bool, Fail> {
-    for (file, cuts) in files {
-        if !is_each_cut_well(alloc, words, four_files(), *file, cuts)? {
-            return Ok(false);
+/// What words leave over the files of the inverter with a stimulus of the byte 255.
+fn ran_over_one_byte(alloc: Global, words: &[&str]) -> Result<Left, Memory> {
+    let mut files = four_files();
+    files.stimulus = b"\xff";
+    ran(alloc, words, files, &[], 7)
+}
+
+/// Words that find no line in that stimulus.
+struct UnreadStimulus(&'static [&'static str]);
+
+impl Row for UnreadStimulus {
+    fn holds(&self, alloc: Global) -> bool {
+        match &ran_over_one_byte(alloc, self.0) {
+            Ok(left) => left.is(Status::Stimulus, "", "stimulus line 1: form\n"),
+            Err(_) => false,
         }
     }
-    Ok(true)
 }
 
-#[test]
-fn files_of_a_simulation_are_refused_unless_they_are_whole(rt: HostRuntime) -> Result<(), Fail> {
-    assert!(rt; cuts_well(rt.alloc(), &SIMULATE, &SIMULATIONS)?);
-    Ok(())
-}
-
-#[test]
-fn files_of_a_replay_are_refused_unless_they_are_whole(rt: HostRuntime) -> Result<(), Fail> {
-    assert!(rt; cuts_well(rt.alloc(), &REPLAY_VERILOG, &MODULE_REPLAYS)?);
-    assert!(rt; cuts_well(rt.alloc(), &REPLAY_VITAL, &ENTITY_REPLAYS)?);
-    Ok(())
-}
-
-/// Whether words find no line in a stimulus of the byte 255.
-fn finds_no_line(alloc: Global, words: &[&str]) -> Result<bool, Fail> {
-    let whole = four_files();
-    let files = Files {
-        library: whole.library,
-        verilog: whole.verilog,
-        vital: whole.vital,
-        stimulus: b"\xff",
-    };
-    let left = ran(alloc, words, files, &[], 7)?;
-    Ok(left.is(Status::Stimulus, "", "stimulus line 1: form\n"))
-}
+const UNREAD_STIMULI: [UnreadStimulus; 3] = [
+    UnreadStimulus(&SIMULATE),
+    UnreadStimulus(&REPLAY_VERILOG),
+    UnreadStimulus(&REPLAY_VITAL),
+];
 
 #[test]
 fn a_stimulus_of_one_byte_is_no_line(rt: HostRuntime) -> Result<(), Fail> {
-    assert!(rt; finds_no_line(rt.alloc(), &SIMULATE)?);
-    assert!(rt; finds_no_line(rt.alloc(), &REPLAY_VERILOG)?);
-    assert!(rt; finds_no_line(rt.alloc(), &REPLAY_VITAL)?);
-    Ok(())
+    all_hold(rt.alloc(), &UNREAD_STIMULI)
 }

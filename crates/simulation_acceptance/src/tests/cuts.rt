@@ -1,7 +1,6 @@
 //! Files that are cut at each of their bytes.
-use command_runs::{Files, Status, ran};
+use command_runs::{Files, Left, Status, ran};
 use std::alloc::Global;
-use std::test::Fail;
 
 /// Which of the files is cut.
 #[derive(Copy, Clone)]
@@ -50,21 +49,24 @@ fn cut_at(cuts: &[Cut], length: usize) -> Option<Cut> {
     None
 }
 
-/// Whether words come to what they have to where a file is cut to this length and a call moves at most 7 bytes.
-fn is_cut_well(
+/// What words leave where a file is cut to this length and a call moves at most 7 bytes; nothing where memory is short.
+fn left_by(
     alloc: Global,
     words: &[&str],
     files: Files<'_>,
     file: File,
-    cuts: &[Cut],
     length: usize,
-) -> Result<bool, Fail> {
-    let front = bytes_of(files, file).get(..length).ok_or("too long")?;
-    let left = ran(alloc, words, with_bytes(files, file, front), &[], 7)?;
-    Ok(match cut_at(cuts, length) {
-        Some((_, (status, report, faults))) => left.begins(status, report, faults),
-        None => false,
-    })
+) -> Option<Left> {
+    let front = bytes_of(files, file).get(..length)?;
+    ran(alloc, words, with_bytes(files, file, front), &[], 7).ok()
+}
+
+/// Whether a run left what the first of these cuts says whose number is above a length.
+fn is_cut_well(left: &Option<Left>, cuts: &[Cut], length: usize) -> bool {
+    match (left, cut_at(cuts, length)) {
+        (Some(left), Some((_, (status, report, faults)))) => left.begins(status, report, faults),
+        _ => false,
+    }
 }
 
 /// Whether words come to what they have to wherever a file is cut, and where it is whole.
@@ -74,11 +76,11 @@ pub(crate) fn is_each_cut_well(
     files: Files<'_>,
     file: File,
     cuts: &[Cut],
-) -> Result<bool, Fail> {
-    for length in 0..bytes_of(files, file).len() + 1 {
-        if !is_cut_well(alloc, words, files, file, cuts, length)? {
-            return Ok(false);
+) -> bool {
+    for length in 0..=bytes_of(files, file).len() {
+        if !is_cut_well(&left_by(alloc, words, files, file, length), cuts, length) {
+            return false;
         }
     }
-    Ok(true)
+    true
 }

@@ -1,7 +1,6 @@
 //! A section on which a flip-flop and its module differ.
 use command_runs::{FLIP_FLOP, Files, Status, simulated, translated};
 use std::alloc::Global;
-use std::test::Fail;
 use text_io::OutSlot;
 
 /// A section of eight changes.
@@ -52,21 +51,21 @@ differs at change 3
 const ROWS: (&str, &str) = ("(01) 1 : ? : 1;", "(01) 1 : ? : 0;");
 
 /// Whether that is what the flip-flop comes to beside its module with the other row and its own entity.
-fn differs(alloc: Global, stimulus: &str) -> Result<bool, Fail> {
-    let models = translated(alloc, FLIP_FLOP)?;
-    let module = str::from_utf8(models.desk.written(OutSlot::VerilogText))?;
-    let other = module.replace(alloc, ROWS.0, ROWS.1)?;
+fn differs(alloc: Global, stimulus: &str) -> Option<bool> {
+    let models = translated(alloc, FLIP_FLOP).ok()?;
+    let module = str::from_utf8(models.desk.written(OutSlot::VerilogText)).ok()?;
+    let other = module.replace(alloc, ROWS.0, ROWS.1).ok()?;
     let files = Files {
         library: FLIP_FLOP.as_bytes(),
         verilog: other.as_bytes(),
         vital: models.desk.written(OutSlot::VitalText),
         stimulus: stimulus.as_bytes(),
     };
-    Ok(simulated(alloc, files)?.is(Status::Differ, DIFFERENCE, ""))
+    let left = simulated(alloc, files).ok()?;
+    Some(left.is(Status::Differ, DIFFERENCE, ""))
 }
 
 #[test]
-fn the_first_difference_is_told(rt: HostRuntime) -> Result<(), Fail> {
-    assert!(rt; differs(rt.alloc(), STIMULUS)?);
-    Ok(())
+fn the_first_difference_is_told(rt: HostRuntime) {
+    assert!(rt; differs(rt.alloc(), STIMULUS) == Some(true));
 }

@@ -2,20 +2,45 @@
 //! behind it.
 use super::inverter::{REPORT, START, VERILOG_REPORT, VITAL_REPORT, four_files};
 use command_runs::{
-    Files, REPLAY_VERILOG, REPLAY_VITAL, SIMULATE, THREE_CELLS, done, leaves_fronts_in_pieces,
-    leaves_nothing, translated,
+    Files, REPLAY_VERILOG, REPLAY_VITAL, SIMULATE, THREE_CELLS, Whole, done,
+    leaves_fronts_in_pieces, leaves_nothing, translated,
 };
 use std::alloc::Global;
 use std::test::Fail;
-use text_io::OutSlot;
+use table_tests::{Row, all_hold};
+use text_io::{Memory, OutSlot};
 
-/// Whether each call that fails leaves a front of this report of the inverter, whatever a call moves of bytes.
-fn reads_fronts(alloc: Global, words: &[&str], report: &'static str) -> Result<bool, Fail> {
-    leaves_fronts_in_pieces(alloc, words, four_files(), &done(report))
+/// Words, and what they come to over the files of the inverter: each call that fails leaves a front of it, whatever a call moves.
+struct FrontRun(&'static [&'static str], Whole);
+
+impl Row for FrontRun {
+    fn holds(&self, alloc: Global) -> bool {
+        matches!(
+            leaves_fronts_in_pieces(alloc, self.0, four_files(), &self.1),
+            Ok(true)
+        )
+    }
 }
 
-/// Whether it does in a simulation of the first of three cells beside the models of two, without a change.
-fn simulates_fronts(alloc: Global) -> Result<bool, Fail> {
+const SIMULATION_FRONTS: [FrontRun; 1] = [FrontRun(&SIMULATE, done!(REPORT))];
+
+#[test]
+fn each_call_of_a_simulation_that_fails_leaves_a_front(rt: HostRuntime) -> Result<(), Fail> {
+    all_hold(rt.alloc(), &SIMULATION_FRONTS)
+}
+
+const REPLAY_FRONTS: [FrontRun; 2] = [
+    FrontRun(&REPLAY_VERILOG, done!(VERILOG_REPORT)),
+    FrontRun(&REPLAY_VITAL, done!(VITAL_REPORT)),
+];
+
+#[test]
+fn each_call_of_a_replay_that_fails_leaves_a_front(rt: HostRuntime) -> Result<(), Fail> {
+    all_hold(rt.alloc(), &REPLAY_FRONTS)
+}
+
+/// Whether that holds of a simulation of the first of three cells beside the models of two, without a change.
+fn simulates_fronts(alloc: Global) -> Result<bool, Memory> {
     let models = translated(alloc, THREE_CELLS)?;
     let files = Files {
         library: THREE_CELLS.as_bytes(),
@@ -23,26 +48,32 @@ fn simulates_fronts(alloc: Global) -> Result<bool, Fail> {
         vital: models.desk.written(OutSlot::VitalText),
         stimulus: b"cell INV",
     };
-    leaves_fronts_in_pieces(alloc, &SIMULATE, files, &done(START))
+    leaves_fronts_in_pieces(alloc, &SIMULATE, files, &done!(START))
 }
 
 #[test]
-fn each_call_of_a_simulation_that_fails_leaves_a_front(rt: HostRuntime) -> Result<(), Fail> {
-    assert!(rt; reads_fronts(rt.alloc(), &SIMULATE, REPORT)?);
+fn each_call_of_a_simulation_beside_other_models_that_fails_leaves_a_front(
+    rt: HostRuntime,
+) -> Result<(), Fail> {
     assert!(rt; simulates_fronts(rt.alloc())?);
     Ok(())
 }
 
-#[test]
-fn each_call_of_a_replay_that_fails_leaves_a_front(rt: HostRuntime) -> Result<(), Fail> {
-    assert!(rt; reads_fronts(rt.alloc(), &REPLAY_VERILOG, VERILOG_REPORT)?);
-    assert!(rt; reads_fronts(rt.alloc(), &REPLAY_VITAL, VITAL_REPORT)?);
-    Ok(())
+/// A call of a simulation that opens a file.
+struct Opening(u64);
+
+impl Row for Opening {
+    fn holds(&self, alloc: Global) -> bool {
+        matches!(
+            leaves_nothing(alloc, &SIMULATE, four_files(), self.0),
+            Ok(true)
+        )
+    }
 }
+
+const OPENINGS: [Opening; 2] = [Opening(1), Opening(2)];
 
 #[test]
 fn a_file_that_cannot_be_opened_ends_the_run(rt: HostRuntime) -> Result<(), Fail> {
-    assert!(rt; leaves_nothing(rt.alloc(), &SIMULATE, four_files(), 1)?);
-    assert!(rt; leaves_nothing(rt.alloc(), &SIMULATE, four_files(), 2)?);
-    Ok(())
+    all_hold(rt.alloc(), &OPENINGS)
 }

@@ -124,3 +124,65 @@ pin (CK) { direction : input; } pin (RS) { direction : input; }
 pin (Q) { direction : output; internal_node : \"IQ\"; }
 } }
 ";
+
+/// A flip-flop with a setup time that counts while SE is 0, delays, and a clear and a preset, both of whose variables are 0
+/// where both are on.
+pub(crate) const CLEARED_AND_PRESET_AND_TIMED: &str = "library (L) {
+time_unit : \"1ps\";
+cell (DFFCP) {
+ff (IQ, IQN) { next_state : D; clocked_on : CK; clear : C; preset : P; clear_preset_var1 : L; clear_preset_var2 : L; }
+pin (CK) { direction : input; } pin (D) { direction : input;
+timing () { related_pin : CK; timing_type : setup_rising; when : \"!SE\";
+rise_constraint (t) { values (\"20, 50\"); } fall_constraint (t) { values (30); } } }
+pin (C, P, SE) { direction : input; } pin (Q) { direction : output; function : IQ;
+timing () { related_pin : CK; timing_type : rising_edge;
+cell_rise (t) { values (100); } cell_fall (t) { values (120); } } } pin (QN) { direction : output; function : IQN; }
+}
+}
+";
+
+/// A flip-flop that takes SI where SE is 1 and D where it is 0, with a clear while RN is 0.
+pub(crate) const CLEARED_SCAN_FLIP_FLOP: &str = "library (L) {
+time_unit : \"1ps\";
+cell (SDFFR) { ff (IQ, IQN) { next_state : \"(SE*SI)+(D*!SE)\"; clocked_on : \"CK\"; clear : \"!RN\"; }
+pin (D, SI, SE, CK, RN) { direction : input; } pin (Q) { direction : output; function : \"IQ\"; } }
+}
+";
+
+/// A latch whose enable has to stay high for 100 ps, with a clear and delays.
+pub(crate) const CLEARED_LATCH: &str = "library (L) {
+time_unit : \"1ps\";
+cell (LATCHC) { latch (IQ, IQN) { data_in : D; enable : EN; clear : C; }
+pin (EN) { direction : input; min_pulse_width_high : 100; } pin (D, C) { direction : input; }
+pin (Q) { direction : output; function : IQ; timing () { related_pin : D;
+cell_rise (t) { values (7); } cell_fall (t) { values (8); } } } }
+}
+";
+
+/// A scan flip-flop with a setup and a hold time that count while SE is 0, and delays that hang on SE.
+pub(crate) const TIMED_SCAN_FLIP_FLOP: &str = "library (L) {
+time_unit : \"1ps\";
+cell (SDFF) { ff (IQ, IQN) { next_state : \"SI*SE + D*!SE\"; clocked_on : CK; } pin (CK) { direction : input; }
+pin (D) { direction : input; timing () { related_pin : CK; timing_type : setup_rising; when : \"!SE\";
+rise_constraint (t) { values (50); } fall_constraint (t) { values (50); } }
+timing () { related_pin : CK; timing_type : hold_rising; when : \"!SE\";
+rise_constraint (t) { values (30); } fall_constraint (t) { values (30); } } } pin (SI, SE) { direction : input; }
+pin (Q) { direction : output; function : IQ; timing () { related_pin : CK; timing_type : rising_edge; when : SE;
+cell_rise (t) { values (110); } cell_fall (t) { values (90); } }
+timing () { related_pin : CK; timing_type : rising_edge; when : \"!SE*SI\";
+cell_rise (t) { values (100); } cell_fall (t) { values (95); } }
+timing () { related_pin : CK; timing_type : rising_edge;
+cell_rise (t) { values (120); } cell_fall (t) { values (80); } } } }
+}
+";
+
+/// A clock gate whose clock has a least period of 100 ps, with the internal pin of its node before the output.
+pub(crate) const PERIODIC_CLOCK_GATE: &str = "library (L) {
+time_unit : \"1ps\";
+cell (GATE) { pin (CK) { direction : input; min_period : 100; } pin (E, SE) { direction : input; }
+statetable (\"CK E SE\", \"IQ\") {
+table : \"L L L : - : L, L L H : - : H, L H L : - : H, L H H : - : H, H - - : - : N\"; }
+pin (IQ) { direction : internal; internal_node : \"IQ\"; }
+pin (GCK) { direction : output; state_function : \"CK * IQ\"; } }
+}
+";

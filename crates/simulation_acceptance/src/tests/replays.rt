@@ -1,34 +1,58 @@
 //! Runs of `replay-verilog` and `replay-vital`.
 use command_runs::{
-    FIRST_MODULE, Files, Left, REPLAY_VERILOG, REPLAY_VITAL, SECOND_MODULES, Status, THIRD_MODULE,
-    TIMED_FLIP_FLOP_MODULE, ran,
+    FIRST_MODULE, Files, Left, PLAIN_FLIP_FLOP_ENTITY, REPLAY_VERILOG, REPLAY_VITAL,
+    SECOND_MODULES, Status, THIRD_MODULE, TIMED_FLIP_FLOP_ENTITY, TIMED_FLIP_FLOP_MODULE, ran,
 };
-use std::alloc::Global;
+use std::alloc::{AllocError, Global};
 use std::test::Fail;
+use table_tests::{Row, all_hold};
+use text_io::Memory;
 
-/// Replays a file of models, in either language, under a stimulus.
-fn replayed(alloc: Global, words: &[&str], models: &str, stimulus: &str) -> Result<Left, Fail> {
-    let files = Files {
-        library: b"",
-        verilog: models.as_bytes(),
-        vital: models.as_bytes(),
-        stimulus: stimulus.as_bytes(),
-    };
-    ran(alloc, words, files, &[], usize::MAX)
-}
-
-/// Whether a replay of two modules, and of a core and its driver between them, has this status, report and faults.
-fn replays(
-    alloc: Global,
-    stimulus: &str,
+/// Words, the texts of the file of models, one behind the other, a stimulus, and what the replay ends with: its status, its report
+/// and its line of faults.
+struct Replay {
+    words: &'static [&'static str],
+    models: &'static [&'static str],
+    stimulus: &'static str,
     status: Status,
-    report: &str,
-    faults: &str,
-) -> Result<bool, Fail> {
-    let models = format!(in alloc; "{FIRST_MODULE}{SECOND_MODULES}{THIRD_MODULE}")?;
-    let left = replayed(alloc, &REPLAY_VERILOG, models.as_str(), stimulus)?;
-    Ok(left.is(status, report, faults))
+    report: &'static str,
+    faults: &'static str,
 }
+
+impl Replay {
+    /// Runs it, whichever language the words name.
+    fn ran(&self, alloc: Global) -> Result<Left, Memory> {
+        let models = joined(alloc, self.models)?;
+        let files = Files {
+            library: b"",
+            verilog: models.as_bytes(),
+            vital: models.as_bytes(),
+            stimulus: self.stimulus.as_bytes(),
+        };
+        ran(alloc, self.words, files, &[], usize::MAX)
+    }
+}
+
+/// Texts, one behind the other.
+fn joined(alloc: Global, texts: &[&str]) -> Result<String, AllocError> {
+    let mut whole = String::new(alloc);
+    for text in texts {
+        whole.push_str(text)?;
+    }
+    Ok(whole)
+}
+
+impl Row for Replay {
+    fn holds(&self, alloc: Global) -> bool {
+        match &self.ran(alloc) {
+            Ok(left) => left.is(self.status, self.report, self.faults),
+            Err(_) => false,
+        }
+    }
+}
+
+/// Two modules, and a core and its driver between them.
+const MODELS: &[&str] = &[FIRST_MODULE, SECOND_MODULES, THIRD_MODULE];
 
 /// Sections of two modules, of which the first is run twice, and of a driver and its core.
 const STIMULUS: &str =
@@ -54,82 +78,102 @@ V start : Y=x pin3=x
 V 5 A 1 : Y=1@0 pin3=0@0
 ";
 
-/// A section in which the setup time of a flip-flop is kept, and then is not.
-const RISES: &str = "cell DFFT
-10 D 1
-20 CK 0
-100 CK 1
-110 D 0
-130 CK 0
-150 CK 1
-";
-
-/// Its report.
-const RISES_REPORT: &str = "cell DFFT
-V start : Q=x
-V 10 D 1 : Q=x
-V 20 CK 0 : Q=x
-V 100 CK 1 : Q=1@100
-V 110 D 0 : Q=1
-V 130 CK 0 : Q=1
-V 150 CK 1 : Q=x@120 !1
-";
-
-/// Whether a replay of the module of that flip-flop has this report.
-fn replays_rises(alloc: Global, report: &str) -> Result<bool, Fail> {
-    let left = replayed(alloc, &REPLAY_VERILOG, TIMED_FLIP_FLOP_MODULE, RISES)?;
-    Ok(left.is(Status::Done, report, ""))
+/// A section of a flip-flop with this name and clock, in which its setup time is kept, and then is not.
+macro_rules! rises {
+    ($name:literal, $clock:literal) => {
+        concat!(
+            "cell ", $name, "\n10 D 1\n20 ", $clock, " 0\n100 ", $clock, " 1\n110 D 0\n130 ", $clock, " 0\n150 ", $clock,
+            " 1\n"
+        )
+    };
 }
+
+/// Its report, with this tag.
+macro_rules! rises_report {
+    ($name:literal, $tag:literal, $clock:literal) => {
+        concat!(
+            "cell ", $name, "\n", $tag, " start : Q=x\n", $tag, " 10 D 1 : Q=x\n", $tag, " 20 ", $clock, " 0 : Q=x\n", $tag,
+            " 100 ", $clock, " 1 : Q=1@100\n", $tag, " 110 D 0 : Q=1\n", $tag, " 130 ", $clock, " 0 : Q=1\n", $tag, " 150 ",
+            $clock, " 1 : Q=x@120 !1\n"
+        )
+    };
+}
+
+/// The module of such a flip-flop in another layout, with rows in plain form, one for each prime.
+const LAID_OUT: &str = "`timescale 1ps/1ps
+primitive lib_1_1 (q, i1, i2, i3); output q; reg q; input i1; input i2; input i3;
+  table
+    ? ? * : ? : x; ? * ? : 1 : 1; ? * ? : 0 : 0;
+    (01) 1 ? : ? : 1; (1?) ? ? : 1 : 1; (?0) ? ? : 1 : 1; * 1 ? : 1 : 1;
+    (01) 0 ? : ? : 0; (1?) ? ? : 0 : 0; (?0) ? ? : 0 : 0; * 0 ? : 0 : 0;
+  endtable
+endprimitive
+primitive lib_1_2 (q, i1); output q; input i1; table 1 : 1; 0 : 0; endtable endprimitive
+module FD1 (CP, D, Q); input CP; input D; output Q; wire lib_s1; reg lib_n;
+  lib_1_1 (lib_s1, CP, D, lib_n); lib_1_2 (Q, lib_s1);
+  specify (CP => Q) = (100, 120); $setup(D, posedge CP, 50, lib_n); endspecify
+endmodule
+";
+
+/// A replay that is done, with this report.
+macro_rules! shown {
+    ($words:expr, $models:expr, $stimulus:expr, $report:expr) => {
+        Replay {
+            words: &$words,
+            models: $models,
+            stimulus: $stimulus,
+            status: Status::Done,
+            report: $report,
+            faults: "",
+        }
+    };
+}
+
+const SHOWN: [Replay; 5] = [
+    shown!(REPLAY_VERILOG, MODELS, STIMULUS, REPORT),
+    shown!(
+        REPLAY_VERILOG,
+        &[TIMED_FLIP_FLOP_MODULE],
+        rises!("DFFT", "CK"),
+        rises_report!("DFFT", "V", "CK")
+    ),
+    shown!(
+        REPLAY_VERILOG,
+        &[LAID_OUT],
+        rises!("FD1", "CP"),
+        rises_report!("FD1", "V", "CP")
+    ),
+    shown!(
+        REPLAY_VITAL,
+        &[TIMED_FLIP_FLOP_ENTITY],
+        rises!("DFFT", "CK"),
+        rises_report!("DFFT", "H", "CK")
+    ),
+    shown!(
+        REPLAY_VITAL,
+        &[PLAIN_FLIP_FLOP_ENTITY],
+        rises!("DFFT", "CK"),
+        rises_report!("DFFT", "H", "CK")
+    ),
+];
 
 #[test]
 fn sections_are_printed_in_the_order_of_the_stimulus(rt: HostRuntime) -> Result<(), Fail> {
-    assert!(rt; replays(rt.alloc(), STIMULUS, Status::Done, REPORT, "")?);
-    assert!(rt; replays_rises(rt.alloc(), RISES_REPORT)?);
-    Ok(())
+    all_hold(rt.alloc(), &SHOWN)
 }
 
-/// Whether a stimulus of these modules has this bad line.
-fn has_bad_line(alloc: Global, stimulus: &str, faults: &str) -> Result<bool, Fail> {
-    replays(alloc, stimulus, Status::Stimulus, "", faults)
-}
-
-/// Whether a replay of a file of no byte ends with this status and these faults.
-fn replays_nothing(
-    alloc: Global,
-    words: &[&str],
-    stimulus: &str,
-    status: Status,
-    faults: &str,
-) -> Result<bool, Fail> {
-    let left = replayed(alloc, words, "", stimulus)?;
-    Ok(left.is(status, "", faults))
-}
-
-#[test]
-fn the_first_fault_of_the_files_is_told(rt: HostRuntime) -> Result<(), Fail> {
-    let (syntax, unknown) = (
-        "verilog refused at 0: syntax\n",
-        "stimulus line 1: unknown cell\n",
-    );
-    assert!(rt; replays_nothing(rt.alloc(), &REPLAY_VERILOG, "cell", Status::Model, syntax)?);
-    assert!(rt;
-        replays_nothing(
-            rt.alloc(),
-            &REPLAY_VITAL,
-            "cell DFF",
-            Status::Stimulus,
-            unknown
-        )?
-    );
-    assert!(rt;
-        has_bad_line(
-            rt.alloc(),
-            "cell INV\n5 A 1\n5 A 0\n",
-            "stimulus line 3: time\n"
-        )?
-    );
-    assert!(rt; has_bad_line(rt.alloc(), "cell TC\n", unknown)?);
-    Ok(())
+/// A replay that ends at one of its files.
+macro_rules! ended {
+    ($words:expr, $models:expr, $stimulus:literal, $status:expr, $faults:literal) => {
+        Replay {
+            words: &$words,
+            models: $models,
+            stimulus: $stimulus,
+            status: $status,
+            report: "",
+            faults: $faults,
+        }
+    };
 }
 
 /// A row with two changes, the second at offset 106.
@@ -167,21 +211,66 @@ module M (A, Y);
 endmodule
 ";
 
-/// Whether a replay of a Verilog file is refused with these faults.
-fn refuses(alloc: Global, models: &str, faults: &str) -> Result<bool, Fail> {
-    let left = replayed(alloc, &REPLAY_VERILOG, models, "cell M")?;
-    Ok(left.is(Status::Model, "", faults))
-}
+const ENDED: [Replay; 8] = [
+    ended!(
+        REPLAY_VERILOG,
+        &[],
+        "cell",
+        Status::Model,
+        "verilog refused at 0: syntax\n"
+    ),
+    ended!(
+        REPLAY_VERILOG,
+        &["`timescale 1ps/1ps\n/* open"],
+        "cell",
+        Status::Model,
+        "verilog refused at 19: lexical\n"
+    ),
+    ended!(
+        REPLAY_VITAL,
+        &["library IEEE; entity"],
+        "cell",
+        Status::Model,
+        "vital refused at 14: syntax\n"
+    ),
+    ended!(
+        REPLAY_VITAL,
+        &[],
+        "cell DFF",
+        Status::Stimulus,
+        "stimulus line 1: unknown cell\n"
+    ),
+    ended!(
+        REPLAY_VERILOG,
+        MODELS,
+        "cell INV\n5 A 1\n5 A 0\n",
+        Status::Stimulus,
+        "stimulus line 3: time\n"
+    ),
+    ended!(
+        REPLAY_VERILOG,
+        MODELS,
+        "cell TC\n",
+        Status::Stimulus,
+        "stimulus line 1: unknown cell\n"
+    ),
+    ended!(
+        REPLAY_VERILOG,
+        &[TWO_CHANGES],
+        "cell M",
+        Status::Model,
+        "verilog refused at 106: two edges\n"
+    ),
+    ended!(
+        REPLAY_VERILOG,
+        &[TWO_NUMBERS],
+        "cell M",
+        Status::Model,
+        "verilog refused at 150: unequal\n"
+    ),
+];
 
 #[test]
-fn the_first_fault_of_a_verilog_file_is_told(rt: HostRuntime) -> Result<(), Fail> {
-    assert!(rt;
-        refuses(
-            rt.alloc(),
-            TWO_CHANGES,
-            "verilog refused at 106: two edges\n"
-        )?
-    );
-    assert!(rt; refuses(rt.alloc(), TWO_NUMBERS, "verilog refused at 150: unequal\n")?);
-    Ok(())
+fn the_first_fault_of_the_files_is_told(rt: HostRuntime) -> Result<(), Fail> {
+    all_hold(rt.alloc(), &ENDED)
 }

@@ -1,9 +1,76 @@
 //! Which cells are refused, by which number and where. The mark `@` stands at the offset of the refusal.
-use super::liberty::{Plain, RefusedCell, is_told};
+use command_runs::{Left, translated};
+use std::alloc::{AllocError, Global};
 use std::test::Fail;
-use table_tests::all_hold;
+use table_tests::{Row, all_hold};
+use text_io::OutSlot;
 
-/// Numbers of refusals, and libraries whose last cell is refused so; one without a mark is accepted.
+/// The number of a refusal, and the statements of a library in picoseconds whose last cell is refused so; one without a mark is
+/// accepted.
+#[derive(Drop)]
+pub(crate) struct RefusedCell<'a>(pub u8, pub &'a str);
+
+impl Row for RefusedCell<'_> {
+    fn holds(&self, alloc: Global) -> bool {
+        is_told(alloc, "time_unit : \"1ps\";", self.0, self.1) == Some(true)
+    }
+}
+
+/// The words of the refusals, from 0, which stands for none.
+const WORDS: [&str; 16] = [
+    "",
+    "direction",
+    "three_state",
+    "bank",
+    "left_out_state",
+    "clear_preset",
+    "duplicate",
+    "malformed",
+    "unknown_name",
+    "coupled",
+    "no_function",
+    "own_condition",
+    "number",
+    "limit",
+    "udp_inputs",
+    "width",
+];
+
+/// The end of the line of a cell that is refused by this number at the mark `@`, or accepted where there is none.
+fn line_end(alloc: Global, number: u8, marked: &str) -> Option<String> {
+    match marked.split_once("@") {
+        Some((before, _)) => {
+            let word = WORDS.get(usize::from(number))?;
+            let at = before.len();
+            format!(in alloc; " refused {number} {word} at {at}\n").ok()
+        }
+        None => String::from_str(alloc, " ok\n").ok(),
+    }
+}
+
+/// Whether the last cell of a library is told so, before the line that counts the cells.
+fn tells(left: &Left, end: &str) -> Option<bool> {
+    let report = str::from_utf8(left.desk.written(OutSlot::Report)).ok()?;
+    let (lines, _) = report.rsplit_once("accepted ")?;
+    Some(lines.ends_with(end))
+}
+
+/// A text without its mark.
+fn unmarked(alloc: Global, text: &str) -> Result<String, AllocError> {
+    text.replace(alloc, "@", "")
+}
+
+/// Whether the last cell of a library with this unit and these statements is refused by this number at the mark `@`, or accepted
+/// where there is none.
+fn is_told(alloc: Global, unit: &str, number: u8, statements: &str) -> Option<bool> {
+    let marked = format!(in alloc; "library (L) {{ {unit} {statements} }}").ok()?;
+    let end = line_end(alloc, number, marked.as_str())?;
+    let text = unmarked(alloc, marked.as_str()).ok()?;
+    let left = translated(alloc, text.as_str()).ok()?;
+    tells(&left, end.as_str())
+}
+
+/// Numbers of refusals, and libraries whose last cell is refused so.
 const REFUSED: [RefusedCell<'static>; 66] = [
     // The direction of a pin is absent or none of the three.
     RefusedCell(1, "cell (C) { @pin (A) { } }"),
@@ -16,22 +83,18 @@ const REFUSED: [RefusedCell<'static>; 66] = [
         1,
         "cell (C) { pin (A) { direction : \"input\" } @pin (B) { } pin (Y) { direction : out; } }",
     ),
-    // A pin has `three_state`.
-    RefusedCell(
-        2,
-        "cell (C) { pin (A) { direction : input; } pin (Y) { direction : output; function : \"A\"; @three_state : \"A\"; } }",
-    ),
+    // A pin that is no output has `three_state`.
     RefusedCell(
         2,
         "cell (C) { pin (A) { direction : input; @three_state : \"A\"; three_state : \"\"; } }",
     ),
-    // The cell has a bus, a bundle or a bank.
+    // A bus has no type, a bundle has no members, or a bank has not the arguments of one.
     RefusedCell(3, "cell (C) { @bus (D) { } }"),
     RefusedCell(3, "cell (C) { @bundle (D) { } }"),
-    RefusedCell(3, "cell (C) { @ff_bank (IQ, IQN, 2) { } }"),
+    RefusedCell(3, "cell (C) { @ff_bank (IQ, IQN) { } }"),
     RefusedCell(
         3,
-        "cell (C) { pin (A) { direction : input; } @latch_bank (IQ, IQN, 2) { } }",
+        "cell (C) { pin (A) { direction : input; } @latch_bank (IQ, IQN, 17) { } }",
     ),
     // An attribute of states that is left out stands in a state group or pin.
     RefusedCell(
@@ -230,11 +293,16 @@ const REFUSED: [RefusedCell<'static>; 66] = [
     // Of several reasons the one with the least number is answered, at its least offset.
     RefusedCell(
         1,
-        "cell (C) { pin (Y) { direction : output; three_state : A; } bus (B) { } @pin (A) { } }",
+        "cell (C) { pin (Y) { direction : input; three_state : A; } @pin (A) { } }",
     ),
     RefusedCell(
         1,
         "cell (C) { pin (Y) { direction : output; function : Z; } pin (Y) { @direction : none; } }",
+    ),
+    // But of a cell with buses, bundles or banks the third is tried first.
+    RefusedCell(
+        3,
+        "cell (C) { pin (Y) { direction : output; three_state : A; } @bus (B) { } pin (A) { } }",
     ),
     // Accepted ones.
     RefusedCell(
@@ -248,12 +316,116 @@ const REFUSED: [RefusedCell<'static>; 66] = [
     ),
 ];
 
-/// A cell that reads a time, where the time unit is not known.
-const WITHOUT_UNIT: &str =
+/// Numbers of refusals, and libraries whose last cell has three-state outputs and is refused so.
+const FLOATING: [RefusedCell<'static>; 22] = [
+    RefusedCell(
+        1,
+        "cell (C) { pin (A) { direction : input; } pin (Y) { @direction : inout; three_state : \"A\"; } }",
+    ),
+    RefusedCell(
+        2,
+        "cell (C) { pin (A) { direction : input; @three_state : \"A\"; } pin (Y) { direction : output; three_state : \"A\"; function : \"A\"; } }",
+    ),
+    RefusedCell(
+        6,
+        "cell (C) { pin (A) { direction : input; } pin (\"-e1\") { direction : input; } pin (Y) { direction : output; function : \"A\"; @three_state : \"A\"; } }",
+    ),
+    RefusedCell(
+        6,
+        "cell (C) { pin (A) { direction : input; } pin (Y Z) { direction : output; function : \"A\"; three_state : \"1\"; @three_state : \"A\"; } pin (\"-e2\") { direction : input; } }",
+    ),
+    RefusedCell(
+        6,
+        "cell (C) { } @cell (C) { pin (A) { direction : input; } pin (Y) { direction : output; function : \"A\"; three_state : \"A\"; } }",
+    ),
+    RefusedCell(
+        7,
+        "cell (C) { pin (A) { direction : input; } pin (Y) { direction : output; function : \"A\"; @three_state : \"A) + (A\"; } }",
+    ),
+    RefusedCell(
+        7,
+        "cell (C) { pin (A) { direction : input; } pin (Y) { direction : output; function : \"A\"; three_state : \"A\"; @three_state : ; } }",
+    ),
+    RefusedCell(
+        8,
+        "cell (C) { pin (A) { direction : input; } pin (Y) { direction : output; function : \"A\"; @three_state : \"B\"; } }",
+    ),
+    RefusedCell(
+        8,
+        "cell (C) { pin (A) { direction : input; } pin (Y) { direction : output; function : \"A\"; @three_state : \"Y\"; } }",
+    ),
+    RefusedCell(
+        10,
+        "cell (C) { pin (A) { direction : input; } @pin (Y) { direction : output; three_state : \"A\"; } }",
+    ),
+    RefusedCell(
+        8,
+        "cell (C) { pin (A) { direction : input; } pin (Y) { direction : output; three_state : \"A\"; timing () { @related_pin : \"B\"; cell_rise (t) { values (\"1\"); } } } }",
+    ),
+    RefusedCell(
+        8,
+        "cell (C) { pin (A) { direction : input; } pin (Y) { direction : output; function : \"A\"; three_state : \"A\"; timing () { related_pin : \"A\"; cell_rise (t) { values (\"q\"); } } } pin (Z) { direction : output; @function : \"B\"; } }",
+    ),
+    RefusedCell(
+        8,
+        "cell (C) { pin (A) { direction : input; } pin (Y) { direction : output; function : \"A\"; three_state : \"A\"; timing () { @related_pin : \"B\"; cell_rise (t) { values (\"q\"); } } } pin (Z) { direction : output; function : \"B\"; } }",
+    ),
+    RefusedCell(
+        9,
+        "cell (C) { pin (A) { direction : input; } ff (P, PN) { @next_state : \"Q\"; clocked_on : \"A\"; } ff (Q, QN) { next_state : \"A\"; clocked_on : \"A\"; } pin (Y) { direction : output; function : \"A\"; three_state : \"A\"; timing () { related_pin : \"A\"; cell_rise (t) { values (\"q\"); } } } }",
+    ),
+    RefusedCell(
+        12,
+        "cell (C) { pin (A) { direction : input; } pin (Y) { direction : output; function : \"A\"; three_state : \"A\"; timing () { related_pin : \"A\"; cell_rise (t) { @values (\"q\"); } } } }",
+    ),
+    RefusedCell(
+        12,
+        "cell (C) { pin (A) { direction : input; } pin (Y) { direction : output; function : \"A\"; three_state : \"A\"; timing () { related_pin : \"A\"; timing_type : three_state_enable; cell_rise (t) { @values (\"q\"); } } timing () { related_pin : \"A\"; cell_rise (t) { values (\"r\"); } } } }",
+    ),
+    RefusedCell(
+        12,
+        "cell (C) { pin (A) { direction : input; } pin (Y) { direction : output; function : \"A\"; timing () { related_pin : \"A\"; cell_rise (t) { @values (\"q\"); } } } pin (Z) { direction : output; function : \"A\"; three_state : \"A\"; timing () { related_pin : \"A\"; cell_rise (t) { values (\"q\"); } } } }",
+    ),
+    RefusedCell(
+        12,
+        "cell (C) { pin (A) { direction : input; } pin (Z) { direction : output; function : \"A\"; three_state : \"A\"; timing () { related_pin : \"A\"; cell_rise (t) { @values (\"q\"); } } } pin (Y) { direction : output; function : \"A\"; timing () { related_pin : \"A\"; cell_rise (t) { values (\"q\"); } } } }",
+    ),
+    RefusedCell(
+        12,
+        "cell (\"C D\") { pin (A) { direction : input; } pin (Z) { direction : output; function : \"A\"; three_state : \"A\"; timing () { related_pin : \"A\"; cell_rise (t) { @values (\"q\"); } } } }",
+    ),
+    RefusedCell(
+        13,
+        "@cell (\"C D\") { pin (A) { direction : input; } pin (Z) { direction : output; function : \"A\"; three_state : \"A\"; timing () { related_pin : \"A\"; cell_rise (t) { values (\"1\"); } } } }",
+    ),
+    RefusedCell(
+        14,
+        "cell (C) { pin (A B C D E F G H I J K) { direction : input; } pin (Z) { direction : output; function : \"A\"; @three_state : \"A B C D E F G H I J K\"; } }",
+    ),
+    RefusedCell(
+        2,
+        "cell (C) { pin (A) { direction : input; @three_state : \"A\"; } }",
+    ),
+];
+
+#[test]
+fn cells_are_refused(rt: HostRuntime) -> Result<(), Fail> {
+    all_hold(rt.alloc(), &REFUSED)
+}
+
+#[test]
+fn cells_with_three_state_outputs_are_refused(rt: HostRuntime) -> Result<(), Fail> {
+    all_hold(rt.alloc(), &FLOATING)
+}
+
+/// A unit of time that no library has.
+const OTHER_UNIT: &str = "time_unit : \"3ns\";";
+
+/// A cell that reads a time.
+const READING_A_TIME: &str =
     "cell (C) { pin (A) { direction : input; } pin (Y) { direction : output; function : \"A\"; timing () { related_pin : \"A\"; cell_rise (t) { @values (\"1\"); } } } }";
 
 #[test]
-fn refused_cells(rt: HostRuntime) -> Result<(), Fail> {
-    assert!(rt; is_told::<Plain>(rt.alloc(), None, 12, WITHOUT_UNIT) == Some(true));
-    all_hold(rt.alloc(), &REFUSED)
+fn a_time_without_a_unit_refuses_its_cell(rt: HostRuntime) {
+    assert!(rt; is_told(rt.alloc(), OTHER_UNIT, 12, READING_A_TIME) == Some(true));
 }

@@ -1,6 +1,6 @@
 //! Cells at the edge of a limit: the last one that is accepted and the first one that is refused. The mark `@` stands at the
 //! offset of the refusal.
-use super::liberty::RefusedCell;
+use super::refused_cells::RefusedCell;
 use std::alloc::{AllocError, Global};
 use std::test::Fail;
 use table_tests::{Row, all_hold};

@@ -7,7 +7,7 @@ use crate::points::{Weights, weights_of};
 use cell_machine::{Few, Source};
 
 /// The number that a point has over the places with these weights.
-fn number_at(weights: &[u32], point: u32) -> usize
+fn number_at(weights: &[u32], point: u32) -> u16
     requires { length weights.now ≤ 10 }
     ensures is { result ≡ number (weighed weights.now point) }
     ensures small { result < 2 ^ length weights.now }
@@ -16,7 +16,7 @@ fn number_at(weights: &[u32], point: u32) -> usize
         return 0;
     };
     let behind = number_at(rest, point);
-    usize::from(point & *first != 0) + 2 * behind
+    u16::from(point & *first != 0) + 2 * behind
 }
 
 /// The points of a byte.
@@ -26,7 +26,7 @@ const BYTE: u32 = 256;
 const MOST_NUMBERS: usize = 256;
 
 /// The numbers of points of a byte.
-type Numbers = Few<usize, MOST_NUMBERS>;
+type Numbers = Few<u16, MOST_NUMBERS>;
 
 /// How many points there are over the first eight of so many places.
 fn point_count(places: usize) -> u32
@@ -90,8 +90,8 @@ impl Numbering {
         let lows = self.low.as_slice();
         let highs = self.high.as_slice();
         if low >= lows.len() || high >= highs.len() {
-            return number_at(self.weights.as_slice(), point);
+            return usize::from(number_at(self.weights.as_slice(), point));
         }
-        lows[low] + highs[high]
+        usize::from(lows[low] + highs[high])
     }
 }

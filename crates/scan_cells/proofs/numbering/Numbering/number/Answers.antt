@@ -31,8 +31,8 @@ kept_as : (xs numbers weights : List ℕ) (unit : ℕ) → xs ≡ numbers → nu
     → xs ≡ numbers_of weights unit (length xs)
 kept_as xs numbers weights unit same are = subst (λ (l : List ℕ). l ≡ numbers_of weights unit (length l)) (sym same) are
 
-pub overflow_add-result : goal.overflow_add-result
-overflow_add-result c =
+pub overflow_add-lows : goal.overflow_add-lows
+overflow_add-lows c =
     let self = c.args.self.now in
     let is = sum_is self.weights c.as_slice-lows.result.now c.as_slice-highs.result.now c.args.point 0 0 self.is_split
     (kept_as _ self.low self.weights 1 c.as_slice-lows.ensures self.are_low)
@@ -44,7 +44,8 @@ overflow_add-result c =
 pub returns-clause-is : goal.returns-clause-is
 returns-clause-is c =
     let self = c.args.self.now in
-    sum_is self.weights c.as_slice-lows.result.now c.as_slice-highs.result.now c.args.point 0 0 self.is_split
+    c.from-2.ensures
+    ∙ sum_is self.weights c.as_slice-lows.result.now c.as_slice-highs.result.now c.args.point 0 0 self.is_split
     (kept_as _ self.low self.weights 1 c.as_slice-lows.ensures self.are_low)
     (kept_as _ self.high self.weights 256 c.as_slice-highs.ensures self.are_high) c.if-low-lows.false c.if-high-highs.false
 
@@ -52,6 +53,7 @@ pub returns-clause-small : goal.returns-clause-small
 returns-clause-small c =
     let self = c.args.self.now in
     number-small self.weights c.args.point _
-    (sum_is self.weights c.as_slice-lows.result.now c.as_slice-highs.result.now c.args.point 0 0 self.is_split
+    (c.from-2.ensures
+    ∙ sum_is self.weights c.as_slice-lows.result.now c.as_slice-highs.result.now c.args.point 0 0 self.is_split
     (kept_as _ self.low self.weights 1 c.as_slice-lows.ensures self.are_low)
     (kept_as _ self.high self.weights 256 c.as_slice-highs.ensures self.are_high) c.if-low-lows.false c.if-high-highs.false)

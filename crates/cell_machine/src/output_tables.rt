@@ -85,6 +85,7 @@ fn source_value(pins: &[Pin], inputs: &[Trit], states: &[Trit], source: Source) 
 }
 
 /// The value of an output where the inputs and the states have these values.
+#[inline(always)]
 pub fn output_value(
     cell: &Cell,
     tables: &Items<Items<Trit>>,

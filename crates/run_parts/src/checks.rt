@@ -135,6 +135,7 @@ pub fn compare_all<V: Conditions>(
 }
 
 /// Takes the kept times of all checks over a change.
+#[inline(always)]
 pub fn stamp_all(seen: &InputChange, checks: &[TimingCheck], stamps: &mut Items<Times>)
     requires { length stamps.old ≡ length checks.now }
     ensures stamped { stamps.new ≡ each (stamped seen.now.ports.list.now seen.now.from seen.now.change) checks.now stamps.old }

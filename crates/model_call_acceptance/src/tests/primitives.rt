@@ -11,7 +11,9 @@ use sqlite_items::Items;
 use std::alloc::{AllocError, Global};
 use std::test::Fail;
 use trit_cubes::Trit;
-use udp_tables::{Entries, Entry, Level, Next, Udp, UdpRow, udp_level, udp_next};
+use udp_tables::{
+    Entries, Entry, Level, Next, SmallBytes, Udp, UdpRow, udp_level, udp_next,
+};
 
 /// The levels of a row of two inputs, and what it gives.
 type LevelRow = (Level, Level, Next);
@@ -90,12 +92,12 @@ fn row(alloc: Global, first: Entry, second: Entry, next: Next) -> Result<UdpRow,
 }
 
 /// The names of a clock and of data.
-fn two_names(alloc: Global) -> Result<Items<Items<u8>>, AllocError>
+fn two_names(alloc: Global) -> Result<Items<SmallBytes>, AllocError>
     ensures { IfOk result (λ names. length names ≡ 2) }
 {
     let mut names = Items::new(alloc);
-    names.push(Items::from_slice(alloc, b"i1")?)?;
-    names.push(Items::from_slice(alloc, b"i2")?)?;
+    names.push(SmallBytes::from_slice(alloc, b"i1")?)?;
+    names.push(SmallBytes::from_slice(alloc, b"i2")?)?;
     Ok(names)
 }
 
@@ -117,8 +119,8 @@ fn rising(alloc: Global) -> Result<Udp, AllocError>
     ensures inputs { IfOk result (λ udp. length udp.inputs ≡ 2) }
 {
     Ok(Udp {
-        name: Items::from_slice(alloc, b"rising")?,
-        output: Items::from_slice(alloc, b"q")?,
+        name: SmallBytes::from_slice(alloc, b"rising")?,
+        output: SmallBytes::from_slice(alloc, b"q")?,
         inputs: two_names(alloc)?,
         sequential: true,
         rows: rising_rows(alloc)?,

@@ -10,7 +10,7 @@ use crate::port_names::{input_names, output_name};
 use bool_functions::Function;
 use sqlite_items::Items;
 use std::alloc::{AllocError, Global};
-use udp_tables::{Udp, UdpRow, UdpRows};
+use udp_tables::{SmallBytes, Udp, UdpRow, UdpRows};
 
 /// The primitive of a function of `names` names: its ports are `q` and `i1`, `i2` and so on, input k standing for the name
 /// with the number k - 1. Its rows are the primes of the points at which the function is 1, then of those at which it is
@@ -27,7 +27,7 @@ pub fn function_udp(
     ensures { IfOk result (λ udp. udp ≡ function_primitive name.now function.now names) }
 {
     Ok(Udp {
-        name: Items::from_slice(alloc, name)?,
+        name: SmallBytes::from_slice(alloc, name)?,
         output: output_name(alloc)?,
         inputs: input_names(alloc, names)?,
         sequential: false,

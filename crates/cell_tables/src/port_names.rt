@@ -6,16 +6,17 @@ ghost use Rattle.udp_tables.specs.CellPrimitives.{primitive_name};
 use itoa::Buffer;
 use sqlite_items::Items;
 use std::alloc::{AllocError, Global};
+use udp_tables::SmallBytes;
 
 /// The name of the output.
-pub(crate) fn output_name(alloc: Global) -> Result<Items<u8>, AllocError>
+pub(crate) fn output_name(alloc: Global) -> Result<SmallBytes, AllocError>
     ensures { IfOk result (λ name. name ≡ output_name) }
 {
-    Ok(Items::from_slice(alloc, b"q")?)
+    Ok(SmallBytes::from_slice(alloc, b"q")?)
 }
 
 /// The names of the first inputs.
-pub(crate) fn input_names(alloc: Global, count: usize) -> Result<Items<Items<u8>>, AllocError>
+pub(crate) fn input_names(alloc: Global, count: usize) -> Result<Items<SmallBytes>, AllocError>
     ensures { IfOk result (λ names. names ≡ input_names count) }
 {
     let mut names = Items::new(alloc);
@@ -26,13 +27,13 @@ pub(crate) fn input_names(alloc: Global, count: usize) -> Result<Items<Items<u8>
 }
 
 /// The name of the input with this number from 1.
-fn input_name(alloc: Global, number: usize) -> Result<Items<u8>, AllocError>
+fn input_name(alloc: Global, number: usize) -> Result<SmallBytes, AllocError>
     ensures { IfOk result (λ name. name ≡ input_name number) }
 {
     let mut buffer = Buffer::new();
     let mut name = Vec::from_slice(alloc, b"i")?;
     name.extend_from_slice(buffer.format(number).as_bytes())?;
-    Ok(Items::from_vec(name))
+    Ok(SmallBytes::from_items(alloc, Items::from_vec(name))?)
 }
 
 /// The name of primitive `number`, from 1, of the cell with the number `cell`.
@@ -40,7 +41,7 @@ pub(crate) fn primitive_name(
     alloc: Global,
     cell: usize,
     number: usize,
-) -> Result<Items<u8>, AllocError>
+) -> Result<SmallBytes, AllocError>
     ensures { IfOk result (λ name. name ≡ primitive_name cell number) }
 {
     let mut buffer = Buffer::new();
@@ -48,5 +49,5 @@ pub(crate) fn primitive_name(
     name.extend_from_slice(buffer.format(cell).as_bytes())?;
     name.extend_from_slice(b"_")?;
     name.extend_from_slice(buffer.format(number).as_bytes())?;
-    Ok(Items::from_vec(name))
+    Ok(SmallBytes::from_items(alloc, Items::from_vec(name))?)
 }

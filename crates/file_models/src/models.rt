@@ -15,7 +15,7 @@ use driver_texts::{input_count, output_count};
 use sectioned_texts::{DrivenModels, SectionLanguage};
 use sqlite_items::Items;
 use std::alloc::{AllocError, Global};
-use udp_tables::VPort;
+use udp_tables::{SmallBytes, VPort};
 
 /// A copy of ports.
 fn copied_ports(alloc: Global, ports: &[VPort]) -> Result<Items<VPort>, AllocError>
@@ -24,7 +24,7 @@ fn copied_ports(alloc: Global, ports: &[VPort]) -> Result<Items<VPort>, AllocErr
     let mut copy = Items::new(alloc);
     for port in ports {
         copy.push(VPort {
-            name: Items::from_slice(alloc, port.name.as_slice())?,
+            name: SmallBytes::from_slice(alloc, port.name.as_slice())?,
             input: port.input,
         })?;
     }

@@ -6,7 +6,7 @@ use crate::names::numbered_name;
 use cell_machine::{Direction, Pin};
 use sqlite_items::Items;
 use std::alloc::{AllocError, Global};
-use udp_tables::{VPort, is_port};
+use udp_tables::{SmallBytes, VPort, is_port};
 use verilog_tokens::is_kept_port_name;
 
 /// The ports of the module of a cell with these pins: its input and output pins in their order, with the names that Verilog
@@ -34,12 +34,13 @@ fn port_of(alloc: Global, number: usize, pin: &Pin) -> Result<VPort, AllocError>
 }
 
 /// The name of a port: the pin's, or one by its number.
-fn port_name(alloc: Global, number: usize, name: &[u8]) -> Result<Items<u8>, AllocError>
+fn port_name(alloc: Global, number: usize, name: &[u8]) -> Result<SmallBytes, AllocError>
     ensures { IfOk result (λ port. port ≡ port_name number name.now) }
 {
     if is_kept_port_name(name) {
-        Ok(Items::from_slice(alloc, name)?)
+        Ok(SmallBytes::from_slice(alloc, name)?)
     } else {
-        Ok(numbered_name(alloc, b"pin", number)?)
+        let name = numbered_name(alloc, b"pin", number)?;
+        Ok(SmallBytes::from_items(alloc, name)?)
     }
 }

@@ -29,6 +29,7 @@ pub use row_keys::{RowKey, keys_of};
 pub use row_makers::{LevelRows, StepRows};
 pub use row_words::{Column, RowWords, value_word};
 pub use sequential::{keyed_next, udp_next};
+pub use small_bytes::SmallBytes;
 pub use symbols::{PlaceSymbol, change_symbols, cube_symbols};
 pub use table::{Entry, Level, Next, Udp, UdpRow};
 pub use text_faults::refusal_fault;

@@ -2,7 +2,7 @@
 ghost use Rattle.std.specs.Prelude.{◌≡◌};
 ghost use Rattle.udp_tables.specs.declared.models.ModelFault.TheVariants as fault;
 
-use sqlite_items::Items;
+use small_bytes::SmallBytes;
 use std::alloc::{AllocError, AllocFailed};
 use thiserror::Error;
 
@@ -10,7 +10,7 @@ use thiserror::Error;
 #[derive(Drop)]
 pub struct VPort {
     /// The name, in bytes.
-    pub name: Items<u8>,
+    pub name: SmallBytes,
     /// Whether it is an input; otherwise it is an output.
     pub input: bool,
 }

@@ -1,5 +1,6 @@
 //! The table of a primitive, by IEEE 1364-2005, clause 8.
 use crate::entries::Entries;
+use small_bytes::SmallBytes;
 use sqlite_items::Items;
 
 /// A user-defined primitive, by IEEE 1364-2005, clause 8: one output, its inputs in the order of the header, and a
@@ -7,11 +8,11 @@ use sqlite_items::Items;
 #[derive(Drop)]
 pub struct Udp {
     /// The primitive's name, in bytes.
-    pub name: Items<u8>,
+    pub name: SmallBytes,
     /// The output's name, in bytes.
-    pub output: Items<u8>,
+    pub output: SmallBytes,
     /// The names of the inputs, in bytes, in the order of the header.
-    pub inputs: Items<Items<u8>>,
+    pub inputs: Items<SmallBytes>,
     /// Whether the primitive has a state. In a combinational one each row's `state` is `Any`, and no `next` is `Keep`.
     pub sequential: bool,
     /// The rows of the table, in order.

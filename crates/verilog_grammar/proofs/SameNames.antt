@@ -5,14 +5,15 @@ use Rattle.std.specs.Str.{bytes_eq}
 use Rattle.std.proofs.lemmas.List.{take_more, map-append}
 use Rattle.std.proofs.lemmas.List.Folds.{list_any-append}
 use Rattle.std.proofs.lemmas.Slice.Eq.{bytes_eq-Decides}
-use Rattle.grammar_rules.specs.Reading.{read}
+use Rattle.grammar_rules.specs.Reading.{Outcome, read}
+use Rattle.grammar_reader.specs.declared.refusal.Refusal.{Refusal}
 use Rattle.grammar_reader.specs.declared.refusal.Stop.{Stop}
 use Rattle.grammar_reader.proofs.Tests.{there, not_there}
 use Rattle.grammar_reader.specs.Next.{next_bytes}
 use Rattle.grammar_reader.specs.Reading.{Reads}
+use Rattle.verilog_tokens.specs.Tokens.{is_name}
 use Rattle.udp_tables.specs.declared.models.VPort.{VPort}
 use Rattle.udp_tables.specs.VerilogRules.{is_among, new_name}
-use Rattle.verilog_udp_reader.proofs.NewNames.{name_read}
 use Rattle.verilog_grammar.specs.VerilogModules.{port_names}
 use Rattle.verilog_grammar.specs.SameNames.{HaveSame}
 
@@ -43,7 +44,27 @@ more_ports old new ports i port h e same a =
     ap port_names longer ∙ map-append _ (take i ports) (port ∷ []) in
     subst (HaveSame new) (sym named) (added_same old new (port_names (take i ports)) port.name a same)
 
--- the name of a wire that was read is the next token, and was none of these
+abbrev name_of : Outcome (List ℕ) Refusal (List ℕ) → List ℕ
+name_of (Ok p) = p.0
+name_of (Err e) = []
+
+name_fits : (x name : List ℕ) (s left : List (List ℕ)) → ◌≡◌ {A = Outcome (List ℕ) Refusal (List ℕ)} (Ok (x, s)) (Ok (name, left))
+    → name ≡ x
+name_fits x name s left e = sym (ap name_of e)
+
+-- the name that was read is the next token, which was none of the names
+name_read : (names s left : List (List ℕ)) (name : List ℕ) → read (new_name names) s ≡ Ok (name, left)
+    → (name ≡ next_bytes s) × (is_among names (next_bytes s) ≡ false)
+name_read names [] left name e = absurd cc
+name_read names (x ∷ s) left name e = by_tests (is_name x) (is_among names x) refl refl e
+  where
+    by_tests : (named among : Bool) → is_name x ≡ named → is_among names x ≡ among
+        → read (new_name names) (x ∷ s) ≡ Ok (name, left) → (name ≡ x) × (is_among names x ≡ false)
+    by_tests false among e f g = absurd (let h = rw e at g in cc)
+    by_tests true true e f g = absurd (let h = rw (e, f) at g in cc)
+    by_tests true false e f g = (name_fits x name s left (rw (e, f) at g), f)
+
+-- so the name of a wire is
 pub wire_named : (others s left : List (List ℕ)) (r : Result (List ℕ) Stop) → Reads (read (new_name others) s) r left
     → IfOk r (λ name. name ≡ next_bytes s)
 wire_named others s left (Ok name) reads = (name_read others s left name reads).0

@@ -12,7 +12,7 @@ use grammar_reader::{Read, Refusal, RepeatedPart, Stop, while_next, with_end};
 use specify_blocks::VModule;
 use sqlite_items::Items;
 use std::alloc::Global;
-use udp_tables::{Udp, VPort};
+use udp_tables::{SmallBytes, Udp, VPort};
 use verilog_tokens::is_name;
 use verilog_udp_reader::{Cursor, NamedItems, TextNames, Verilog, new_name};
 
@@ -33,9 +33,12 @@ fn next_port<'a>(cursor: &mut Cursor<'a>, alloc: Global, found: &mut HeaderPorts
     ensures reads { ReadsAs (λ _. found.new.items) (read (spec.next_port found.old.items) cursor.old) result cursor.new }
     ensures named { OnOk result (found.new.names ≡ spec.port_names found.new.items) }
 {
-    let token = cursor.bytes();
-    let name = new_name(cursor, alloc, &found.names)?;
-    found.add(VPort { name, input: false }, token)
+    let name = new_name(cursor, &found.names)?;
+    let port = VPort {
+        name: SmallBytes::from_slice(alloc, name)?,
+        input: false,
+    };
+    found.add(port, name)
 }
 
 /// Adds the ports of a header behind these.
@@ -65,7 +68,7 @@ pub fn some_ports(cursor: &mut Cursor, alloc: Global) -> Read<Items<VPort>>
         return Ok(ports);
     }
     ports.push(VPort {
-        name: Items::from_slice(alloc, token)?,
+        name: SmallBytes::from_slice(alloc, token)?,
         input: false,
     })?;
     let mut names = TextNames::new(alloc);
@@ -105,7 +108,7 @@ fn module_input_name(cursor: &mut Cursor, alloc: Global, found: Inputs) -> Read<
     ports.set(
         place,
         VPort {
-            name: Items::from_slice(alloc, name)?,
+            name: SmallBytes::from_slice(alloc, name)?,
             input: true,
         },
     );

@@ -147,7 +147,7 @@ fn check(cursor: &mut Cursor, model: &Netlist, kind: CheckKind) -> Read<TimingCh
 fn checks(cursor: &mut Cursor, alloc: Global, model: &Netlist) -> Read<Items<TimingCheck>>
     ensures { Reads (read (spec.checks model.now) cursor.old) result cursor.new }
 {
-    let mut checks = Items::new(alloc);
+    let mut checks = Vec::new(alloc);
     for _turn in 0..cursor.left() {
         let Some(kind) = check_of(cursor.bytes()) else {
             break;
@@ -155,7 +155,8 @@ fn checks(cursor: &mut Cursor, alloc: Global, model: &Netlist) -> Read<Items<Tim
         cursor.skip();
         checks.push(check(cursor, model, kind)?)?;
     }
-    Ok(Items::from_slice(alloc, checks.as_slice())?)
+    checks.shrink_to_fit();
+    Ok(Items::from_vec(checks))
 }
 
 /// The paths and checks of a specify block, behind its word, which the module gets.

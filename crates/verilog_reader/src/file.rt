@@ -13,7 +13,6 @@ use bool_functions::Names;
 use grammar_reader::{Language, Read, Refusal, Stop, where_read};
 use sqlite_items::Items;
 use std::alloc::Global;
-use std::mem::replace;
 use udp_tables::Udp;
 use verilog_grammar::module_declarations;
 use verilog_grammar::modules::VModule;
@@ -94,7 +93,7 @@ fn one_module(
     ensures reads { Reads (read (spec.one_module names.old udps) cursor.old) result cursor.new }
     ensures added { IfOk result (λ model. names.new ≡ names.old ++ model.name ∷ []) }
 {
-    let name = declare(cursor, alloc, names)?;
+    let name = Items::from_slice(alloc, declare(cursor, names)?)?;
     let declared = module_declarations(cursor, alloc, name, udps)?;
     let joined = module_instances(cursor, alloc, declared)?;
     let whole = specify(cursor, alloc, joined)?;
@@ -106,8 +105,8 @@ fn one_module(
 fn next_module(cursor: &mut Cursor, alloc: Global, before: &mut Before) -> Read<()>
     ensures { ReadsAs (λ _. before_of before.new) (read (spec.next_module (before_of before.old)) cursor.old) result cursor.new }
 {
-    let mut udps = replace(&mut before.udps, Vec::new(alloc));
-    udps.shrink_to_fit();
+    let mut udps = Vec::with_capacity(alloc, before.udps.len())?;
+    udps.append(&mut before.udps)?;
     let whole = one_module(cursor, alloc, &mut before.names, Items::from_vec(udps))?;
     before.modules.push(whole)?;
     cursor.give_back();

@@ -150,12 +150,13 @@ fn path(cursor: &mut Cursor, model: &Netlist) -> Read<VPath>
 pub fn paths(cursor: &mut Cursor, alloc: Global, model: &Netlist) -> Read<Items<VPath>>
     ensures { Reads (read (spec.paths model.now) cursor.old) result cursor.new }
 {
-    let mut paths = Items::new(alloc);
+    let mut paths = Vec::new(alloc);
     for _turn in 0..cursor.left() {
         if !is_path_start(cursor.bytes()) {
             break;
         }
         paths.push(path(cursor, model)?)?;
     }
-    Ok(Items::from_slice(alloc, paths.as_slice())?)
+    paths.shrink_to_fit();
+    Ok(Items::from_vec(paths))
 }

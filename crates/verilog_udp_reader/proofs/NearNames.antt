@@ -21,6 +21,10 @@ second_false false b e = e
 pub none_far : {Y : Type 0} (p : Y → Bool) (near far : List Y) → list_any p (near ++ far) ≡ false → list_any p far ≡ false
 none_far p near far e = second_false (list_any p near) _ (any_parted p near far ∙ e)
 
+pub none_of_none : {Y : Type 0} (p : Y → Bool) (far : List Y) → length far ≡ 0 → list_any p far ≡ false
+none_of_none p [] h = refl
+none_of_none p (y ∷ far) h = absurd cc
+
 -- one more behind the first, each shown by its bytes, where there are no others
 pub near_kept : {X Y : Type 0} (f : X → Y) (xs : List X) (x : X) (far : List Y) → length far ≡ 0
     → map f (xs ++ x ∷ []) ++ far ≡ map f xs ++ far ++ f x ∷ []

@@ -1,15 +1,11 @@
 -- Names that are declared, in a list that is looked up by name.
-use Rattle.std.proofs.Common.{◌≡◌, ℕ, Bool, true, false, not, List, [], ◌∷◌, ◌++◌, Option, Some, None, Result, Ok, Err, IfOk}
-use Rattle.std.proofs.Common.{refl, sym, ap, ◌∙◌}
-use Rattle.std.specs.Option.{is_some, is_none}
+use Rattle.std.proofs.Common.{◌≡◌, ℕ, Bool, true, false, List, [], ◌∷◌, Option, Some, None, Ok, Err, refl, sym, subst}
+use Rattle.std.specs.Option.{is_none}
 use Rattle.std.specs.Str.{bytes_eq}
 use Rattle.bool_functions.specs.NameList.{Adds}
 use Rattle.bool_functions.proofs.NameLists.{position-none, position-some}
-use Rattle.grammar_rules.specs.Reading.{Outcome, read}
-use Rattle.grammar_reader.specs.declared.refusal.Refusal.{Refusal}
+use Rattle.grammar_rules.specs.Reading.{read}
 use Rattle.grammar_reader.specs.declared.refusal.Refusal.TheVariants.{Syntax, Twice}
-use Rattle.grammar_reader.specs.declared.refusal.Stop.{Stop}
-use Rattle.grammar_reader.specs.Reading.{Reads}
 use Rattle.grammar_reader.specs.Next.{next_bytes, rest}
 use Rattle.verilog_tokens.specs.Tokens.{is_name}
 use Rattle.udp_tables.specs.VerilogRules.{is_among, any_name, new_name}
@@ -25,52 +21,6 @@ taken names name found new a = by_among (is_among names name) refl found a
     by_among false e (Some i) h = refl
     by_among false e None h = absurd (h.0 (position-none (bytes_eq name) names e))
 
-abbrev name_of : Outcome (List ℕ) Refusal (List ℕ) → List ℕ
-name_of (Ok p) = p.0
-name_of (Err e) = []
-
-name_fits : (x name : List ℕ) (s left : List (List ℕ)) → ◌≡◌ {A = Outcome (List ℕ) Refusal (List ℕ)} (Ok (x, s)) (Ok (name, left))
-    → name ≡ x
-name_fits x name s left e = sym (ap name_of e)
-
--- the name that was read is the next token, which was none of the names
-pub name_read : (names s left : List (List ℕ)) (name : List ℕ) → read (new_name names) s ≡ Ok (name, left) → (name ≡ next_bytes s)
-    × (is_among names (next_bytes s) ≡ false)
-name_read names [] left name e = absurd cc
-name_read names (x ∷ s) left name e = by_tests (is_name x) (is_among names x) refl refl e
-  where
-    by_tests : (named among : Bool) → is_name x ≡ named → is_among names x ≡ among
-        → read (new_name names) (x ∷ s) ≡ Ok (name, left) → (name ≡ x) × (is_among names x ≡ false)
-    by_tests false among e f g = absurd (let h = rw e at g in cc)
-    by_tests true true e f g = absurd (let h = rw (e, f) at g in cc)
-    by_tests true false e f g = (name_fits x name s left (rw (e, f) at g), f)
-
--- so it is the last of them then
-pub name_added : (names new s left : List (List ℕ)) (name : List ℕ) (found : Option ℕ) → Adds names (next_bytes s) found new
-    → read (new_name names) s ≡ Ok (name, left) → new ≡ names ++ name ∷ []
-name_added names new s left name found a e =
-    let (same, free) = name_read names s left name e in
-    by_found found a (taken names (next_bytes s) found new a ∙ free) same
-  where
-    by_found : (o : Option ℕ) → Adds names (next_bytes s) o new → is_none o ≡ false → name ≡ next_bytes s
-        → new ≡ names ++ name ∷ []
-    by_found (Some i) h f g = h.2 ∙ ap (λ n. names ++ n ∷ []) (sym g)
-    by_found None h f g = absurd cc
-
-pub added_by : (names new s left : List (List ℕ)) (found : Option ℕ) (r : Result (List ℕ) Stop)
-    → Adds names (next_bytes s) found new → Reads (read (new_name names) s) r left
-    → IfOk r (λ name. new ≡ names ++ name ∷ [])
-added_by names new s left found (Ok name) a e = name_added names new s left name found a e
-added_by names new s left found (Err stop) a e = tt
-
--- a number is missing
-pub missing : (none : Bool) (found : Option ℕ) → is_some found ≡ not none → none ≡ is_none found
-missing none found e = twice none ∙ ap not (sym e)
-  where
-    twice : (b : Bool) → b ≡ not (not b)
-    twice true = refl
-    twice false = refl
-
 -- the name that is next, where it is declared
 pub new_fits : (names s : List (List ℕ)) → is_name (next_bytes s) ≡ true → is_among names (next_bytes s) ≡ false
     → read (new_name names) s ≡ Ok (next_bytes s, rest s)
@@ -85,6 +35,21 @@ new_taken names (x ∷ s) e f = rw (e, f) refl
 pub new_other : (names s : List (List ℕ)) → is_name (next_bytes s) ≡ false → read (new_name names) s ≡ Err (Syntax, s)
 new_other names [] e = refl
 new_other names (x ∷ s) e = rw e refl
+
+-- the same, where it was added to the names, or was there already
+pub declared_read : (names s left : List (List ℕ)) (x : List ℕ) (found : Option ℕ) (number : ℕ) (new : List (List ℕ))
+    → x ≡ next_bytes s → left ≡ rest s → is_name x ≡ true → Adds names x found new → found ≡ Some number
+    → read (new_name names) s ≡ Ok (x, left)
+declared_read names s left x found number new ex el e a ef =
+    let free : is_among names x ≡ false = sym (taken names x (Some number) new (subst (λ o. Adds names x o new) ef a)) in
+    let fits : read (new_name names) s ≡ Ok (next_bytes s, rest s) =
+    new_fits names s (subst (λ y. is_name y ≡ true) ex e) (subst (λ y. is_among names y ≡ false) ex free) in
+    subst (λ q. read (new_name names) s ≡ Ok (x, q)) (sym el)
+    (subst (λ y. read (new_name names) s ≡ Ok (y, rest s)) (sym ex) fits)
+
+pub declared_taken : (names s new : List (List ℕ)) → is_name (next_bytes s) ≡ true → Adds names (next_bytes s) None new
+    → read (new_name names) s ≡ Err (Twice, s)
+declared_taken names s new e a = new_taken names s e (sym (taken names (next_bytes s) None new a))
 
 -- the name that is next, where any may stand
 pub any_fits : (s : List (List ℕ)) → is_name (next_bytes s) ≡ true → read any_name s ≡ Ok (next_bytes s, rest s)

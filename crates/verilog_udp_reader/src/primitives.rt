@@ -17,7 +17,7 @@ use bool_functions::Names;
 use grammar_reader::{Read, Refusal, RepeatedPart, Stop, where_read, while_next, with_read};
 use sqlite_items::Items;
 use std::alloc::Global;
-use udp_tables::{Udp, UdpRow};
+use udp_tables::{SmallBytes, Udp, UdpRow};
 use verilog_tokens::is_name;
 
 /// How many inputs a primitive may have.
@@ -32,16 +32,16 @@ const SOME_ROWS: usize = 8;
 /// The output and the inputs of a primitive's header.
 #[derive(Drop)]
 pub struct Header {
-    pub output: Items<u8>,
-    pub inputs: Items<Items<u8>>,
+    pub output: SmallBytes,
+    pub inputs: Items<SmallBytes>,
 }
 
 /// The inputs of a header so far, and the names of its output and of these.
-type HeaderInputs<'a> = NamedItems<'a, Items<u8>>;
+type HeaderInputs<'a> = NamedItems<'a, SmallBytes>;
 
 /// The name of the output, as the only one of a header.
 #[tactic(auto, using(crate::proofs::NewNames::any_fits, crate::proofs::NewNames::any_other))]
-fn first_name<'a>(cursor: &mut Cursor<'a>, alloc: Global) -> Read<(Items<u8>, TextNames<'a>)>
+fn first_name<'a>(cursor: &mut Cursor<'a>, alloc: Global) -> Read<(SmallBytes, TextNames<'a>)>
     ensures reads { ReadsAs (λ first. first.0) (read any_name cursor.old) result cursor.new }
     ensures named { IfOk result (λ first. first.1 ≡ first.0 ∷ []) }
 {
@@ -49,7 +49,7 @@ fn first_name<'a>(cursor: &mut Cursor<'a>, alloc: Global) -> Read<(Items<u8>, Te
     if !is_name(token) {
         return Err(Stop::Refused(Refusal::Syntax));
     }
-    let name = Items::from_slice(alloc, token)?;
+    let name = SmallBytes::from_slice(alloc, token)?;
     let mut names = TextNames::new(alloc);
     names.add(token)?;
     cursor.skip();
@@ -69,9 +69,9 @@ fn next_input<'a>(
         cursor.new }
     ensures named { OnOk result (found.new.names ≡ output.now ∷ found.new.items) }
 {
-    let token = cursor.bytes();
-    let input = new_name(cursor, alloc, &found.names)?;
-    found.add(input, token)
+    let name = new_name(cursor, &found.names)?;
+    let input = SmallBytes::from_slice(alloc, name)?;
+    found.add(input, name)
 }
 
 /// Adds the inputs of a header with this output behind these.
@@ -121,7 +121,7 @@ fn header_rest<'a>(
     alloc: Global,
     output: &[u8],
     names: TextNames<'a>,
-) -> Read<Items<Items<u8>>>
+) -> Read<Items<SmallBytes>>
     requires { names ≡ output.now ∷ [] }
     ensures { ReadsAs (header_with output.now) (read (header_rest output.now) cursor.old) result cursor.new }
 {
@@ -183,7 +183,7 @@ fn primitive_register(cursor: &mut Cursor<'_>, header: &Header) -> Read<bool>
 
 /// A declared input, where so many are declared, behind its word.
 #[derive(Drop)]
-struct DeclaredInput<'a>(&'a [Items<u8>]);
+struct DeclaredInput<'a>(&'a [SmallBytes]);
 
 impl RepeatedPart<Verilog> for DeclaredInput<'_> {
     type Found = usize;
@@ -203,7 +203,7 @@ impl RepeatedPart<Verilog> for DeclaredInput<'_> {
 
 /// The declarations of all inputs.
 #[tactic(auto, unfolding(udp_tables::specs::VerilogPrimitives::declared_inputs))]
-fn primitive_inputs(cursor: &mut Cursor<'_>, inputs: &[Items<u8>]) -> Read<()>
+fn primitive_inputs(cursor: &mut Cursor<'_>, inputs: &[SmallBytes]) -> Read<()>
     ensures { Reads (read (spec.declared_inputs inputs.now) cursor.old) result cursor.new }
 {
     let count = while_next(cursor, b"input", &DeclaredInput(inputs), 0)?;
@@ -305,7 +305,7 @@ pub fn primitive(cursor: &mut Cursor<'_>, alloc: Global, names: &mut Names) -> R
     ensures reads { Reads (read (spec.primitive names.old) cursor.old) result cursor.new }
     ensures added { IfOk result (λ udp. names.new ≡ names.old ++ udp.name ∷ []) }
 {
-    let name = declare(cursor, alloc, names)?;
+    let name = SmallBytes::from_slice(alloc, declare(cursor, names)?)?;
     let header = primitive_header(cursor, alloc)?;
     primitive_output(cursor, header.output.as_slice())?;
     let sequential = primitive_register(cursor, &header)?;

@@ -3,27 +3,25 @@
 ghost use Rattle.std.specs.Prelude.{◌≡◌, [], ◌∷◌, ◌++◌, false, map, IfOk, IfErr, OnOk};
 ghost use Rattle.std.specs.List.{list_any};
 ghost use Rattle.std.specs.Str.{bytes_eq};
-ghost use Rattle.grammar_reader.specs.Next.{next_bytes};
-ghost use Rattle.grammar_reader.specs.Reading.{read, Reads};
+ghost use Rattle.grammar_reader.specs.Reading.{read, ReadsAs};
 ghost use Rattle.udp_tables.specs.VerilogRules as spec;
 
 use crate::language::{Cursor, Verilog};
 use bool_functions::Names;
 use cell_machine::Few;
 use grammar_reader::{Language, Read, Refusal, Stop};
-use sqlite_items::Items;
 use std::alloc::Global;
 use std::marker::Model;
 use verilog_tokens::is_name;
 
 /// How many names of a list are compared one by one.
-const NEAR: usize = 16;
+const NEAR: usize = 8;
 
 /// Names that are declared, as they stand in a text, in order. Contracts see the list of them. The first of them are compared one
 /// by one, which takes no memory; those behind them stand in a list that finds a name at once.
 #[derive(Drop)]
 pub struct TextNames<'a> {
-    near: Few<&'a [u8], 16>,
+    near: Few<&'a [u8], 8>,
     far: Names,
 }
 
@@ -85,11 +83,11 @@ impl<'a> TextNames<'a> {
 
     /// Whether a name is one of these, in the time of one look-up.
     #[inline(always)]
-    #[tactic(auto, using(crate::proofs::NearNames::any_parted))]
+    #[tactic(auto, using(crate::proofs::NearNames::any_parted, crate::proofs::NearNames::none_of_none))]
     pub fn has(&self, name: &[u8]) -> bool
         ensures { result ≡ is_among self.now name.now }
     {
-        is_one(self.near.as_slice(), name) || is_found(&self.far, name)
+        is_one(self.near.as_slice(), name) || self.far.len() > 0 && is_found(&self.far, name)
     }
 
     /// Puts one more name behind these, which is none of them.
@@ -108,12 +106,11 @@ impl<'a> TextNames<'a> {
     }
 }
 
-/// A name that is declared here, and is none of these.
+/// A name that is declared here, and is none of these, as it stands in the text.
 #[tactic(auto, using(crate::proofs::NewNames::new_fits, crate::proofs::NewNames::new_taken, crate::proofs::NewNames::new_other))]
-pub fn new_name(cursor: &mut Cursor<'_>, alloc: Global, names: &TextNames<'_>) -> Read<Items<u8>>
-    ensures reads { Reads (read (spec.new_name names.now) cursor.old) result cursor.new }
-    ensures named { IfOk result (λ name. name ≡ next_bytes cursor.old) }
-    ensures fresh { IfOk result (λ _. spec.is_among names.now (next_bytes cursor.old) ≡ false) }
+pub fn new_name<'a>(cursor: &mut Cursor<'a>, names: &TextNames<'_>) -> Read<&'a [u8]>
+    ensures reads { ReadsAs (λ name. name.now) (read (spec.new_name names.now) cursor.old) result cursor.new }
+    ensures fresh { IfOk result (λ name. spec.is_among names.now name.now ≡ false) }
 {
     let token = cursor.bytes();
     if !is_name(token) {
@@ -122,7 +119,6 @@ pub fn new_name(cursor: &mut Cursor<'_>, alloc: Global, names: &TextNames<'_>) -
     if names.has(token) {
         return Err(Stop::Refused(Refusal::Twice));
     }
-    let name = Items::from_slice(alloc, token)?;
     cursor.skip();
-    Ok(name)
+    Ok(token)
 }

@@ -9,9 +9,8 @@ ghost use Rattle.vhdl_grammar.specs.VhdlDeclarations as spec;
 ghost use Rattle.vhdl_declarations_reader.specs.Tails as tails;
 
 use grammar_reader::{Read, Refusal, RepeatedPart, Stop, one_or_more, with_read};
-use sqlite_items::Items;
 use std::alloc::Global;
-use udp_tables::VPort;
+use udp_tables::{SmallBytes, VPort};
 use vhdl_grammar::{Cursor, Ports, Vhdl, either_word, expect_all};
 use vhdl_tokens::{is_name, is_same};
 
@@ -62,7 +61,7 @@ fn port_name(
     alloc: Global,
     entity: &[u8],
     ports: &Ports,
-) -> Read<Items<u8>>
+) -> Read<SmallBytes>
     ensures reads { Reads (read (rules.named (spec.port_by entity.now ports.now)) cursor.old) result cursor.new }
     ensures named { IfOk result (λ name. is_name name ≡ true) }
     ensures fresh { IfOk result (λ name. rules.is_among (spec.port_names ports.now) name ≡ false) }
@@ -77,7 +76,7 @@ fn port_name(
     if is_same(token, entity) || ports.has(token)? {
         return Err(Stop::Refused(Refusal::Twice));
     }
-    let name = Items::from_slice(alloc, token)?;
+    let name = SmallBytes::from_slice(alloc, token)?;
     cursor.skip();
     Ok(name)
 }

@@ -8,7 +8,7 @@ use cell_machine::{Direction, Pin};
 use sqlite_items::Items;
 use std::alloc::{AllocError, Global};
 use vhdl_tokens::numbered_name;
-use vital_tables::primitives::{VPort, is_port};
+use vital_tables::primitives::{SmallBytes, VPort, is_port};
 
 /// The ports of the entity with this name, of a cell with these pins: its input and output pins in their order, with the names
 /// that VHDL keeps, and `pin` with the port's number from 1 for the others. A name is kept where it is a letter followed by
@@ -43,12 +43,13 @@ fn port_name(
     entity: &[u8],
     ports: &[VPort],
     name: &[u8],
-) -> Result<Items<u8>, AllocError>
+) -> Result<SmallBytes, AllocError>
     ensures { IfOk result (λ port. port ≡ port_name entity.now ports.now name.now) }
 {
     if is_kept_port_name(entity, ports, name) {
-        Ok(Items::from_slice(alloc, name)?)
+        Ok(SmallBytes::from_slice(alloc, name)?)
     } else {
-        Ok(numbered_name(alloc, b"pin", ports.len() + 1)?)
+        let name = numbered_name(alloc, b"pin", ports.len() + 1)?;
+        Ok(SmallBytes::from_items(alloc, name)?)
     }
 }

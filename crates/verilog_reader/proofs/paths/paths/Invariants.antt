@@ -6,5 +6,5 @@ use Rattle.verilog_reader.proofs.paths.paths.Given as goal
 
 abbrev pub invariant-loop-turn : goal.invariant-loop-turn
 invariant-loop-turn l =
-    repeat (λ _. begins_by is_path_start) (λ found x r. read (next_path l.model found x) r) (l._turn-end - l._turn) l.paths l.cursor
+    repeat (λ _. begins_by is_path_start) (λ found x r. read (next_path l.model found x) r) (l._turn-end - l._turn) l.paths.items l.cursor
     ≡ read (paths l.model) l.initial.cursor

@@ -283,7 +283,7 @@ fn table_rows(
     cursor.expect(b"endtable")
 }
 
-/// The table of a primitive, in a list without room for more rows.
+/// The table of a primitive.
 fn table(
     cursor: &mut Cursor<'_>,
     alloc: Global,
@@ -294,7 +294,6 @@ fn table(
 {
     let mut rows = Vec::with_capacity(alloc, SOME_ROWS)?;
     table_rows(cursor, alloc, sequential, inputs, &mut rows)?;
-    rows.shrink_to_fit();
     Ok(Items::from_vec(rows))
 }
 

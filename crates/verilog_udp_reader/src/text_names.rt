@@ -15,13 +15,13 @@ use std::marker::Model;
 use verilog_tokens::is_name;
 
 /// How many names of a list are compared one by one.
-const NEAR: usize = 8;
+const NEAR: usize = 16;
 
 /// Names that are declared, as they stand in a text, in order. Contracts see the list of them. The first of them are compared one
 /// by one, which takes no memory; those behind them stand in a list that finds a name at once.
 #[derive(Drop)]
 pub struct TextNames<'a> {
-    near: Few<&'a [u8], 8>,
+    near: Few<&'a [u8], 16>,
     far: Names,
 }
 

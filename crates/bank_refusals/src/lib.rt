@@ -10,6 +10,7 @@ pub mod refusal;
 mod refusals;
 mod related;
 mod shared;
+mod text_names;
 mod widths;
 
 pub use alike::{are_alike, stays};
@@ -17,5 +18,6 @@ pub use faults::Place;
 pub use fixed::are_fixed;
 pub use members::{Member, all_items, any_names, inner_pins, is_shared, own_items};
 pub use refusal::{BankReason, BankRefusal};
-pub use refusals::{bank_refusal, has_many, is_flip_flop, is_pins};
+pub use refusals::{bank_refusal, has_many, is_pins};
 pub use related::{pins_named, related_words};
+pub use text_names::{pin_texts, state_texts};

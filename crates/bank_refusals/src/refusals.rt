@@ -18,7 +18,7 @@ pub fn is_pins(group: &Group) -> bool
 }
 
 /// Whether a group that holds states holds flip-flops: it is one, or a bank of them.
-pub fn is_flip_flop(group: &Group) -> bool
+pub(crate) fn is_flip_flop(group: &Group) -> bool
     ensures { result ≡ spec.is_flip_flop group.now }
 {
     is_called(group, b"ff") || is_called(group, b"ff_bank")

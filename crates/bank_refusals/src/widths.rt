@@ -7,11 +7,12 @@ ghost use Rattle.bank_refusals.specs.Fixed.{varies};
 ghost use Rattle.bank_refusals.specs.Refusals as spec;
 
 use crate::alike::are_alike;
-use crate::faults::{Place, add_ff_texts, add_latch_texts, add_pin_texts};
+use crate::faults::{Place, add_texts};
 use crate::members::{Member, all_items, inner_pins, own_items};
-use crate::refusals::{is_flip_flop, is_pins};
+use crate::refusals::is_pins;
 use crate::related::add_all_timing_faults;
 use crate::shared::{joined, varying_items};
+use crate::text_names::{pin_texts, state_texts};
 use bus_texts::{
     Bank, BusTypes, Vector, Vectors, bank_of, cell_vectors, is_bank, is_called, pin_vectors,
     positions,
@@ -30,7 +31,7 @@ fn add_pin_faults(
         (found.new.items
         ≡ found.old.items ++ pin_faults place.entry.vectors.now place.entry.position (map (λ item. item.now) items.now)) }
 {
-    add_pin_texts(alloc, found, place, items)?;
+    add_texts(alloc, found, place, items, pin_texts())?;
     add_all_timing_faults(alloc, found, place, items)
 }
 
@@ -133,11 +134,7 @@ fn add_state_texts(
         ++ text_faults place.entry.vectors.now place.entry.position (spec.state_texts group.now) group.now.items) }
 {
     let items = all_items(alloc, group.items.as_slice())?;
-    if is_flip_flop(group) {
-        add_ff_texts(alloc, found, place, &items)
-    } else {
-        add_latch_texts(alloc, found, place, &items)
-    }
+    add_texts(alloc, found, place, &items, state_texts(group))
 }
 
 /// Adds the faults of the states of a bank.

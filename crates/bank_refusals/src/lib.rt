@@ -5,6 +5,7 @@ mod alike;
 mod faults;
 mod fixed;
 mod members;
+mod pin_faults;
 mod ranges;
 pub mod refusal;
 mod refusals;

@@ -322,6 +322,31 @@ def timing_that_names_a_bundle(n):
     return library(cell(*bundles))
 
 
+def statements_of_a_bundle(n):
+    """a bundle of this many outputs, whose function names another bundle, with three times as many statements that are not read"""
+    bundles = (
+        "bundle (%s) { members (%s); %s}\n" % (name, ", ".join("%s%d" % (name, k) for k in range(n)), said)
+        for name, said in (("A", "direction : input; "), ("B", 'direction : output; function : "A"; ' + "a : 1;\n" * (3 * n)))
+    )
+    return library(cell(*bundles))
+
+
+def functions_of_a_bundle(n):
+    """a bundle of this many outputs with as many functions, each of which names another bundle"""
+    bundles = (
+        "bundle (%s) { members (%s); %s}\n" % (name, ", ".join("%s%d" % (name, k) for k in range(n)), said)
+        for name, said in (("A", "direction : input; "), ("B", "direction : output; " + 'function : "A";\n' * n))
+    )
+    return library(cell(*bundles))
+
+
+def pins_of_a_bundle(n):
+    """a bundle of this many members with a pin group for each"""
+    members = ", ".join("B%d" % k for k in range(n))
+    pins = "".join("pin (B%d) { capacitance : 1; }\n" % k for k in range(n))
+    return library(cell("bundle (B) { members (%s); direction : input; %s}\n" % (members, pins)))
+
+
 def related_words(n):
     """as many buses as words of a related pin"""
     buses = ('bus (B%d) { bus_type : T; direction : input; }\n' % k for k in range(n))
@@ -537,6 +562,9 @@ TRANSLATED = {
     "timing_of_a_floating_bundle": (timing_of_a_floating_bundle, (100, 200, 400)),
     "timing_of_a_bundle_with_a_pin": (timing_of_a_bundle_with_a_pin, (100, 200, 400)),
     "timing_that_names_a_bundle": (timing_that_names_a_bundle, (100, 200, 400)),
+    "statements_of_a_bundle": (statements_of_a_bundle, (100, 200, 400)),
+    "functions_of_a_bundle": (functions_of_a_bundle, (250, 500, 1000)),
+    "pins_of_a_bundle": (pins_of_a_bundle, (1000, 2000, 4000)),
     "related_words": (related_words, (2000, 4000, 8000)),
     "lines_without_semicolons": (lines_without_semicolons, (2500000, 5000000, 10000000)),
     "delay_file": (delay_file, (150000, 300000, 600000)),

@@ -1,11 +1,11 @@
 //! The texts of statements at a position.
 ghost use Rattle.std.specs.Prelude.{◌≡◌, IfOk, map};
-ghost use Rattle.bank_refusals.specs.Faults.{pin_texts, timing_texts, ff_texts, latch_texts};
-ghost use Rattle.bank_refusals.specs.Refusals.{state_texts};
+ghost use Rattle.bank_refusals.specs.Faults.{pin_texts as pin_texts_of, timing_texts};
+ghost use Rattle.bank_refusals.specs.Refusals.{state_texts as state_texts_of};
 ghost use Rattle.bank_cells.specs.Expanded as spec;
 
 use crate::room::with_room;
-use bank_refusals::{Place, is_flip_flop};
+use bank_refusals::{Place, pin_texts, state_texts};
 use bus_texts::text_for;
 use liberty_groups::{Group, Item, Value, Values, copy_item, copy_text, copy_values, value_of};
 use sqlite_items::Items;
@@ -85,10 +85,9 @@ fn text_at(
 
 /// A statement of a pin that is no group, at a place.
 pub(crate) fn pin_text(alloc: Global, place: Place<'_>, item: &Item) -> Result<Item, AllocError>
-    ensures { IfOk result (λ made. made ≡ spec.text_at place.entry.vectors.now place.entry.position pin_texts item.now) }
+    ensures { IfOk result (λ made. made ≡ spec.text_at place.entry.vectors.now place.entry.position pin_texts_of item.now) }
 {
-    let names: [&[u8]; 3] = [b"function", b"state_function", b"three_state"];
-    text_at(alloc, place, &names, item)
+    text_at(alloc, place, pin_texts(), item)
 }
 
 /// A statement of a timing group that tells no related pins, at a place.
@@ -117,24 +116,6 @@ fn texts_at(
     Ok(made)
 }
 
-/// The statements of a flip-flop, at a place.
-fn ff_items(alloc: Global, place: Place<'_>, items: &[Item]) -> Result<Items<Item>, AllocError>
-    ensures { IfOk result
-        (λ made. made ≡ map (spec.text_at place.entry.vectors.now place.entry.position ff_texts) items.now) }
-{
-    let names: [&[u8]; 4] = [b"next_state", b"clocked_on", b"clear", b"preset"];
-    texts_at(alloc, place, &names, items)
-}
-
-/// The statements of a latch, at a place.
-fn latch_items(alloc: Global, place: Place<'_>, items: &[Item]) -> Result<Items<Item>, AllocError>
-    ensures { IfOk result
-        (λ made. made ≡ map (spec.text_at place.entry.vectors.now place.entry.position latch_texts) items.now) }
-{
-    let names: [&[u8]; 4] = [b"data_in", b"enable", b"clear", b"preset"];
-    texts_at(alloc, place, &names, items)
-}
-
 /// The statements of a state, at a place.
 pub(crate) fn state_items(
     alloc: Global,
@@ -142,12 +123,8 @@ pub(crate) fn state_items(
     group: &Group,
 ) -> Result<Items<Item>, AllocError>
     ensures { IfOk result
-        (λ made. made ≡ map (spec.text_at place.entry.vectors.now place.entry.position (state_texts group.now)) group.now.items) }
+        (λ made. made ≡ map (spec.text_at place.entry.vectors.now place.entry.position (state_texts_of group.now)) group.now.items) }
 {
     let items = group.items.as_slice();
-    if is_flip_flop(group) {
-        ff_items(alloc, place, items)
-    } else {
-        latch_items(alloc, place, items)
-    }
+    texts_at(alloc, place, state_texts(group), items)
 }

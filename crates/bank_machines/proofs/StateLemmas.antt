@@ -215,47 +215,55 @@ module _
           both2 = same.5 i;
         }
 
+    abbrev is_state : Type 0
+    is_state = groups_in numbers single (state_reading v (length pins) single) ≡ state_at cell (length pins) group at ∷ []
+
+    of_kind :
+        (k : GroupKind) → is_table single ≡ false → kind_of_texts numbers single reading ≡ k
+        → (state_reading v (length pins) single ≡ reading → k ≡ kind_at cell group at)
+        → AllByRecursion (Fits pins) (groups_in numbers single (state_reading v (length pins) single)) → is_state
+    of_kind k table kinds wanted fits =
+        let same : state_reading v (length pins) single ≡ reading = read_texts table in
+        ap (groups_in numbers single) same
+        ∙ state_of k (one_group table ∙ ap (λ k. state_with k ∷ []) kinds) (wanted same)
+        (subst (λ r. AllByRecursion (Fits pins) (groups_in numbers single r)) same fits)
+
+    -- the kind of its texts, where it holds flip-flops or not
+    abbrev texts_kind : Bool → GroupKind
+    texts_kind b = if b then kind.Ff (clocked numbers single reading) else kind.Latch (gated numbers single reading)
+
+    abbrev its_kind : Bool → GroupKind
+    its_kind b = if b then kind.Ff (clocked_at cell group at) else kind.Latch (gated_at cell group at)
+
+    named_texts : (name : List ℕ) → group.name ≡ name
+        → state_texts group ≡ (if bytes_eq name (codes "ff") || bytes_eq name (codes "ff_bank") then ff_texts else latch_texts)
+    named_texts name =
+        ap (λ n. if bytes_eq n (codes "ff") || bytes_eq n (codes "ff_bank") then ff_texts else latch_texts)
+
+    single_name : (b : Bool) → is_called (codes "ff_bank") group ≡ b → single.name ≡ (if b then codes "ff" else codes "latch")
+    single_name b bank_name = is.named ∙ ap (λ b. if b then codes "ff" else codes "latch") bank_name
+
     flip_flop :
         group.name ≡ codes "ff_bank" → IsSoundReading (state_reading v (length pins) single)
-        → AllByRecursion (Fits pins) (groups_in numbers single (state_reading v (length pins) single))
-        → groups_in numbers single (state_reading v (length pins) single) ≡ state_at cell (length pins) group at ∷ []
-    flip_flop named sound fits =
+        → AllByRecursion (Fits pins) (groups_in numbers single (state_reading v (length pins) single)) → is_state
+    flip_flop named sound =
         let bank_name : is_called (codes "ff_bank") group ≡ true = ap (λ name. bytes_eq name (codes "ff_bank")) named in
-        let name : single.name ≡ codes "ff" = is.named ∙ ap (λ b. if b then codes "ff" else codes "latch") bank_name in
-        let table : is_table single ≡ false = ap (λ n. bytes_eq n (codes "statetable")) name in
+        let name : single.name ≡ codes "ff" = single_name true bank_name in
         let ff : is_ff single ≡ true = ap (λ n. bytes_eq n (codes "ff")) name in
-        let texts : state_texts group ≡ ff_texts =
-        ap (λ n. if bytes_eq n (codes "ff") || bytes_eq n (codes "ff_bank") then ff_texts else latch_texts) named in
-        let same : state_reading v (length pins) single ≡ reading = read_texts table in
-        let kinds : kind_of_texts numbers single reading ≡ kind.Ff (clocked numbers single reading) =
-        ap (λ b. if b then kind.Ff (clocked numbers single reading) else kind.Latch (gated numbers single reading)) ff in
-        let wanted : kind.Ff (clocked numbers single reading) ≡ kind_at cell group at =
-        ap kind.Ff (clocked_same ff texts (subst (λ r. IsSoundReading r) same sound))
-        ∙ sym (ap (λ b. if b then kind.Ff (clocked_at cell group at) else kind.Latch (gated_at cell group at)) bank_name) in
-        ap (groups_in numbers single) same
-        ∙ state_of (kind.Ff (clocked numbers single reading)) (one_group table ∙ ap (λ k. state_with k ∷ []) kinds) wanted
-        (subst (λ r. AllByRecursion (Fits pins) (groups_in numbers single r)) same fits)
+        of_kind (texts_kind true) (ap (λ n. bytes_eq n (codes "statetable")) name) (ap texts_kind ff)
+        (λ same. ap kind.Ff (clocked_same ff (named_texts (codes "ff_bank") named) (subst (λ r. IsSoundReading r) same sound))
+        ∙ sym (ap its_kind bank_name))
 
     latch :
         group.name ≡ codes "latch_bank" → IsSoundReading (state_reading v (length pins) single)
-        → AllByRecursion (Fits pins) (groups_in numbers single (state_reading v (length pins) single))
-        → groups_in numbers single (state_reading v (length pins) single) ≡ state_at cell (length pins) group at ∷ []
-    latch named sound fits =
+        → AllByRecursion (Fits pins) (groups_in numbers single (state_reading v (length pins) single)) → is_state
+    latch named sound =
         let bank_name : is_called (codes "ff_bank") group ≡ false = ap (λ name. bytes_eq name (codes "ff_bank")) named in
-        let name : single.name ≡ codes "latch" = is.named ∙ ap (λ b. if b then codes "ff" else codes "latch") bank_name in
-        let table : is_table single ≡ false = ap (λ n. bytes_eq n (codes "statetable")) name in
+        let name : single.name ≡ codes "latch" = single_name false bank_name in
         let ff : is_ff single ≡ false = ap (λ n. bytes_eq n (codes "ff")) name in
-        let texts : state_texts group ≡ latch_texts =
-        ap (λ n. if bytes_eq n (codes "ff") || bytes_eq n (codes "ff_bank") then ff_texts else latch_texts) named in
-        let same : state_reading v (length pins) single ≡ reading = read_texts table in
-        let kinds : kind_of_texts numbers single reading ≡ kind.Latch (gated numbers single reading) =
-        ap (λ b. if b then kind.Ff (clocked numbers single reading) else kind.Latch (gated numbers single reading)) ff in
-        let wanted : kind.Latch (gated numbers single reading) ≡ kind_at cell group at =
-        ap kind.Latch (gated_same ff texts (subst (λ r. IsSoundReading r) same sound))
-        ∙ sym (ap (λ b. if b then kind.Ff (clocked_at cell group at) else kind.Latch (gated_at cell group at)) bank_name) in
-        ap (groups_in numbers single) same
-        ∙ state_of (kind.Latch (gated numbers single reading)) (one_group table ∙ ap (λ k. state_with k ∷ []) kinds) wanted
-        (subst (λ r. AllByRecursion (Fits pins) (groups_in numbers single r)) same fits)
+        of_kind (texts_kind false) (ap (λ n. bytes_eq n (codes "statetable")) name) (ap texts_kind ff)
+        (λ same. ap kind.Latch (gated_same ff (named_texts (codes "latch_bank") named) (subst (λ r. IsSoundReading r) same sound))
+        ∙ sym (ap its_kind bank_name))
 
     -- the state of a bank's expanded group is that of the bank
     pub state_is :

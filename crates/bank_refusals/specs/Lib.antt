@@ -4,3 +4,4 @@ pub mod Faults
 pub mod Refusals
 pub mod Fixed
 pub mod Alike
+pub mod Statements

@@ -72,7 +72,7 @@ pub(crate) fn add_named(
 }
 
 /// Adds the offsets of the texts of these names that cannot become what they have to.
-fn add_texts(
+pub(crate) fn add_texts(
     alloc: Global,
     found: &mut Vec<usize>,
     place: Place<'_>,
@@ -89,52 +89,4 @@ fn add_texts(
         add_named(alloc, found, place, items, name)?;
     }
     Ok(())
-}
-
-/// Adds the offsets of the texts of a pin that cannot become what they have to.
-pub(crate) fn add_pin_texts(
-    alloc: Global,
-    found: &mut Vec<usize>,
-    place: Place<'_>,
-    items: &[&Item],
-) -> Result<(), AllocError>
-    ensures { OnOk result
-        (found.new.items
-        ≡ found.old.items
-        ++ spec.text_faults place.entry.vectors.now place.entry.position spec.pin_texts (map (λ item. item.now) items.now)) }
-{
-    let names: [&[u8]; 3] = [b"function", b"state_function", b"three_state"];
-    add_texts(alloc, found, place, items, &names)
-}
-
-/// Adds the offsets of the texts of a flip-flop that cannot become what they have to.
-pub(crate) fn add_ff_texts(
-    alloc: Global,
-    found: &mut Vec<usize>,
-    place: Place<'_>,
-    items: &[&Item],
-) -> Result<(), AllocError>
-    ensures { OnOk result
-        (found.new.items
-        ≡ found.old.items
-        ++ spec.text_faults place.entry.vectors.now place.entry.position spec.ff_texts (map (λ item. item.now) items.now)) }
-{
-    let names: [&[u8]; 4] = [b"next_state", b"clocked_on", b"clear", b"preset"];
-    add_texts(alloc, found, place, items, &names)
-}
-
-/// Adds the offsets of the texts of a latch that cannot become what they have to.
-pub(crate) fn add_latch_texts(
-    alloc: Global,
-    found: &mut Vec<usize>,
-    place: Place<'_>,
-    items: &[&Item],
-) -> Result<(), AllocError>
-    ensures { OnOk result
-        (found.new.items
-        ≡ found.old.items
-        ++ spec.text_faults place.entry.vectors.now place.entry.position spec.latch_texts (map (λ item. item.now) items.now)) }
-{
-    let names: [&[u8]; 4] = [b"data_in", b"enable", b"clear", b"preset"];
-    add_texts(alloc, found, place, items, &names)
 }

@@ -1,12 +1,13 @@
 //! The reasons not to expand the group of a cell, tried on the group as it stands.
 ghost use Rattle.std.specs.Prelude.{◌≡◌, IfOk};
-ghost use Rattle.cell_machine.specs.Delay.{least as least_of, lesser as lesser_of};
+ghost use Rattle.cell_machine.specs.Delay.{least as least_of};
 ghost use Rattle.bus_texts.specs.BusTypes.{type_of as type_of_bus};
 ghost use Rattle.bank_refusals.specs.Refusals as spec;
 
 use crate::refusal::{BankReason, BankRefusal};
 use crate::widths::width_faults;
 use bus_texts::{BusTypes, bank_of, bundle_members, is_bank, is_called, type_of};
+use cell_machine::least::lesser;
 use liberty_groups::{Group, Item};
 use std::alloc::{AllocError, Global};
 
@@ -18,7 +19,7 @@ pub fn is_pins(group: &Group) -> bool
 }
 
 /// Whether a group that holds states holds flip-flops: it is one, or a bank of them.
-pub fn is_flip_flop(group: &Group) -> bool
+pub(crate) fn is_flip_flop(group: &Group) -> bool
     ensures { result ≡ spec.is_flip_flop group.now }
 {
     is_called(group, b"ff") || is_called(group, b"ff_bank")
@@ -91,16 +92,6 @@ fn shape_faults(alloc: Global, types: &BusTypes, cell: &Group) -> Result<Vec<usi
     Ok(found)
 }
 
-/// The lesser of an offset and one before it, if there is one.
-fn lesser(earlier: Option<usize>, at: usize) -> Option<usize>
-    ensures { result ≡ lesser_of earlier (Some at) }
-{
-    match earlier {
-        None => Some(at),
-        Some(earlier) => Some(earlier.min(at)),
-    }
-}
-
 /// The least of some offsets.
 #[tactic(auto, using(cell_machine::proofs::LeastLemmas::lesser_assoc))]
 fn least(offsets: &[usize]) -> Option<usize>
@@ -108,7 +99,7 @@ fn least(offsets: &[usize]) -> Option<usize>
 {
     let mut least = None;
     for at in offsets {
-        least = lesser(least, *at);
+        least = lesser(least, Some(*at));
     }
     least
 }

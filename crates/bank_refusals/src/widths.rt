@@ -1,124 +1,19 @@
 //! The bits that are named where there are none, in all pins and states of a cell.
-ghost use Rattle.std.specs.Prelude.{◌≡◌, ◌++◌, IfOk, OnOk, map, filter, flat_map};
+ghost use Rattle.std.specs.Prelude.{◌≡◌, ◌++◌, IfOk, OnOk, flat_map};
 ghost use Rattle.bus_texts.specs.Vectors.{positions as positions_of};
-ghost use Rattle.bank_refusals.specs.Faults.{pin_faults, text_faults};
-ghost use Rattle.bank_refusals.specs.Members.{inner_pins as inner_pins_of};
-ghost use Rattle.bank_refusals.specs.Fixed.{varies};
+ghost use Rattle.bank_refusals.specs.Faults.{text_faults};
 ghost use Rattle.bank_refusals.specs.Refusals as spec;
 
-use crate::alike::are_alike;
-use crate::faults::{Place, add_ff_texts, add_latch_texts, add_pin_texts};
-use crate::members::{Member, all_items, inner_pins, own_items};
-use crate::refusals::{is_flip_flop, is_pins};
-use crate::related::add_all_timing_faults;
-use crate::shared::{joined, varying_items};
+use crate::faults::{Place, add_texts};
+use crate::members::all_items;
+use crate::pin_faults::{add_pin_faults, add_pins_faults};
+use crate::refusals::is_pins;
+use crate::text_names::state_texts;
 use bus_texts::{
-    Bank, BusTypes, Vector, Vectors, bank_of, cell_vectors, is_bank, is_called, pin_vectors,
-    positions,
+    Bank, BusTypes, Vectors, bank_of, cell_vectors, is_bank, is_called, pin_vectors, positions,
 };
 use liberty_groups::{Group, Item};
 use std::alloc::{AllocError, Global};
-
-/// Adds the faults of a pin with these statements.
-fn add_pin_faults(
-    alloc: Global,
-    found: &mut Vec<usize>,
-    place: Place<'_>,
-    items: &[&Item],
-) -> Result<(), AllocError>
-    ensures { OnOk result
-        (found.new.items
-        ≡ found.old.items ++ pin_faults place.entry.vectors.now place.entry.position (map (λ item. item.now) items.now)) }
-{
-    add_pin_texts(alloc, found, place, items)?;
-    add_all_timing_faults(alloc, found, place, items)
-}
-
-/// Adds the faults of a member of a bus or bundle.
-fn add_member_faults(
-    alloc: Global,
-    found: &mut Vec<usize>,
-    vectors: &Vectors,
-    group: &Group,
-    pins: &[&Group],
-    varying: &[&Item],
-    member: Member<'_>,
-) -> Result<(), AllocError>
-    requires pins { map (λ pin. pin.now) pins.now ≡ inner_pins_of group.now.items }
-    requires varying { map (λ item. item.now) varying.now ≡ filter (varies vectors.now) group.now.items }
-    ensures { OnOk result
-        (found.new.items
-        ≡ found.old.items
-        ++ spec.member_faults vectors.now group.now member.entry.vector.now member.entry.at member.entry.name.now) }
-{
-    let position = Some(member.at);
-    let place = Place { vectors, position };
-    let own = own_items(alloc, pins, member)?;
-    let items = joined(alloc, varying, &own)?;
-    add_pin_faults(alloc, found, place, &items)
-}
-
-/// Adds the faults of all members of a bus or bundle of one name.
-fn add_vector_faults(
-    alloc: Global,
-    found: &mut Vec<usize>,
-    vectors: &Vectors,
-    group: &Group,
-    pins: &[&Group],
-    varying: &[&Item],
-    vector: &Vector,
-) -> Result<(), AllocError>
-    requires pins { map (λ pin. pin.now) pins.now ≡ inner_pins_of group.now.items }
-    requires varying { map (λ item. item.now) varying.now ≡ filter (varies vectors.now) group.now.items }
-    ensures { OnOk result (found.new.items ≡ found.old.items ++ spec.vector_faults vectors.now group.now vector.now) }
-{
-    for (at, name) in vector.members.as_slice().iter().enumerate() {
-        let name = name.as_slice();
-        let member = Member { vector, at, name };
-        add_member_faults(alloc, found, vectors, group, pins, varying, member)?;
-    }
-    Ok(())
-}
-
-/// Adds the faults of the pins that buses or bundles make.
-fn add_all_pins_faults(
-    alloc: Global,
-    found: &mut Vec<usize>,
-    vectors: &Vectors,
-    group: &Group,
-    pins: &[&Group],
-    varying: &[&Item],
-    made: &[Vector],
-) -> Result<(), AllocError>
-    requires pins { map (λ pin. pin.now) pins.now ≡ inner_pins_of group.now.items }
-    requires varying { map (λ item. item.now) varying.now ≡ filter (varies vectors.now) group.now.items }
-    ensures { OnOk result (found.new.items ≡ found.old.items ++ flat_map (spec.vector_faults vectors.now group.now) made.now) }
-{
-    for vector in made {
-        add_vector_faults(alloc, found, vectors, group, pins, varying, vector)?;
-    }
-    Ok(())
-}
-
-/// Adds the faults of all pins that a bus or bundle makes. Pins with the same statements have none.
-#[tactic(auto, using(crate::proofs::Faultless::none_fail))]
-fn add_pins_faults(
-    alloc: Global,
-    found: &mut Vec<usize>,
-    vectors: &Vectors,
-    group: &Group,
-    made: &[Vector],
-) -> Result<(), AllocError>
-    ensures { OnOk result (found.new.items ≡ found.old.items ++ flat_map (spec.vector_faults vectors.now group.now) made.now) }
-{
-    if are_alike(alloc, vectors, group)? {
-        return Ok(());
-    }
-    let items = group.items.as_slice();
-    let pins = inner_pins(alloc, items)?;
-    let varying = varying_items(alloc, vectors, items)?;
-    add_all_pins_faults(alloc, found, vectors, group, &pins, &varying, made)
-}
 
 /// Adds the faults of the texts of a state.
 fn add_state_texts(
@@ -133,11 +28,7 @@ fn add_state_texts(
         ++ text_faults place.entry.vectors.now place.entry.position (spec.state_texts group.now) group.now.items) }
 {
     let items = all_items(alloc, group.items.as_slice())?;
-    if is_flip_flop(group) {
-        add_ff_texts(alloc, found, place, &items)
-    } else {
-        add_latch_texts(alloc, found, place, &items)
-    }
+    add_texts(alloc, found, place, &items, state_texts(group))
 }
 
 /// Adds the faults of the states of a bank.

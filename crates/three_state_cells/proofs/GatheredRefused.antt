@@ -9,7 +9,6 @@ use Rattle.liberty_groups.specs.declared.tree.Group.{Group}
 use Rattle.bool_functions.specs.NameList.{number_of}
 use Rattle.cell_machine.specs.declared.groups.StateGroup.{StateGroup}
 use Rattle.cell_machine.specs.declared.outputs.OutputPin.{OutputPin}
-use Rattle.cell_machine.specs.declared.pins.Pin.{Pin}
 use Rattle.cell_machine.specs.CellRules.{is_name}
 use Rattle.cell_machine.specs.Delay.{least, lesser}
 use Rattle.timing_arcs.specs.declared.subject.Subject.{Subject}
@@ -23,11 +22,10 @@ use Rattle.cell_attributes.specs.States.{states_in, states_of}
 use Rattle.cell_attributes.specs.Scans.{direction_in, directions, three_state_in, three_states, bank_in, banks, left_out_in}
 use Rattle.cell_attributes.specs.Scans.{left_out_states, clear_preset_in, clear_presets, no_function_in, no_functions}
 use Rattle.cell_attributes.specs.Declarations.{Declared, declared_in, declared_of, clashes_after, duplicates, bad_name_in}
-use Rattle.cell_attributes.specs.Vocabulary.{Entry, Vocabulary, firsts_after, state_entries, pin_entry, pin_entries, entry_names}
-use Rattle.cell_attributes.specs.Vocabulary.{entry_classes, entry_targets, vocabulary}
+use Rattle.cell_attributes.specs.Vocabulary.{pin_entry, pin_entries}
+use Rattle.cell_attributes.specs.Vocabulary.{vocabulary}
 use Rattle.cell_attributes.specs.Texts.{malformed_at, unknown_at}
 use Rattle.cell_attributes.specs.TextFaults.{malformed_in, unknown_in}
-use Rattle.cell_attributes.specs.StateReadings.{state_reading}
 use Rattle.cell_attributes.specs.Outputs.{pin_text}
 use Rattle.cell_attributes.specs.Building.{cell_numbers, groups_from, outputs_from}
 use Rattle.cell_attributes.specs.CellLaws.{texts_of, outputs_of}
@@ -47,32 +45,15 @@ use Rattle.three_state_cells.proofs.Single.{same_no_function, same_wide_output, 
 use Rattle.three_state_cells.proofs.Single.{same_numbers, same_check_at, same_arc_at}
 use Rattle.three_state_cells.proofs.Lists.{apart, of_pins, by_name, least_join, least_same, states_apart, banks_apart}
 use Rattle.three_state_cells.proofs.Lists.{declared_apart}
+use Rattle.three_state_cells.proofs.Known.{Known, known, readings_by, words_by}
 use Rattle.three_state_cells.proofs.Cells.{places_apart, answers_apart, left_out_apart, outputs_apart, offsets_apart, at_apart}
 
--- what the states, the texts and the outputs of a cell hang on
-record Known : Type 0 where
-  pub pins : List Pin
-  pub states : List Group
-  pub words : Vocabulary
-
-abbrev known : Group → Known
-known cell = record { pins = pins_of cell; states = state_groups cell; words = vocabulary cell }
-
-abbrev readings_by : Known → List StateReading
-readings_by k = map (state_reading k.words (length k.pins)) k.states
-
+-- what the outputs of a cell hang on
 abbrev numbers_by : Known → List ℕ
 numbers_by k = cell_numbers (flat_map states_in k.states) (length k.pins) k.words
 
 abbrev groups_by : Known → List StateGroup
 groups_by k = groups_from (numbers_by k) k.states (readings_by k)
-
-abbrev words_by : List Group → List Entry → Vocabulary
-words_by states entries = record {
-  names = entry_names (firsts_after [] (entries ++ flat_map state_entries (flat_map states_in states)));
-  classes = entry_classes (firsts_after [] (entries ++ flat_map state_entries (flat_map states_in states)));
-  targets = entry_targets (firsts_after [] (entries ++ flat_map state_entries (flat_map states_in states)));
-}
 
 -- one reason after another
 next :

@@ -15,6 +15,7 @@ pub mod Owners
 pub mod Places
 pub mod Limits
 pub mod Reasons
+pub mod Known
 pub mod Refused
 pub mod Sinks
 pub mod ReadLemmas

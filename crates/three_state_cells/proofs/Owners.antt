@@ -21,7 +21,7 @@ pub next_pins : {A : Type 0} (pin : ℕ) (x : A) (xs : List A) → (pin + 1) + l
 next_pins pin x xs = omega arith
 
 -- A group of several pins is not trimmed.
-no_last : (a b c : Bool) → (a && (b && (false && c))) ≡ false
+pub no_last : (a b c : Bool) → (a && (b && (false && c))) ≡ false
 no_last true true c = refl
 no_last true false c = refl
 no_last false b c = refl

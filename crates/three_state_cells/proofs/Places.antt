@@ -1,7 +1,13 @@
 -- What is wrong in the timing of the pins of a cell is wrong in that of the trimmed cell or in that of the trimmed pins.
 use Rattle.std.proofs.Common.{◌≡◌, ℕ, ◌+◌, min, Bool, true, false, List, [], ◌∷◌, ◌++◌, if◌then◌else◌, refl, sym, ap, ◌∙◌, arith}
-use Rattle.std.proofs.Common.{Option, Some, None, Ok}
-use Rattle.std.specs.Prelude.{flat_map}
+use Rattle.std.proofs.Common.{◌&&◌, Option, Some, None, Ok, codes}
+use Rattle.std.specs.Prelude.{flat_map, bytes_eq}
+use Rattle.std.specs.List.{list_any, cons_option}
+use Rattle.std.proofs.lemmas.Bool.{or_parts}
+use Rattle.liberty_groups.specs.declared.tree.Item.{Item, out-Item}
+use Rattle.liberty_groups.specs.declared.tree.Item.TheOpen.{Item-F}
+use Rattle.liberty_groups.specs.declared.tree.Item.TheOpen as layer
+use Rattle.liberty_groups.specs.Attributes.{group_named, groups_named}
 use Rattle.liberty_groups.specs.declared.tree.Group.{Group}
 use Rattle.cell_machine.specs.Delay.{lesser, least}
 use Rattle.cell_machine.proofs.LeastLemmas.{lesser_none, lesser_assoc, least_append}
@@ -9,17 +15,18 @@ use Rattle.timing_arcs.specs.declared.fault.TimingFault.TheVariants as fault
 use Rattle.timing_arcs.specs.declared.subject.Subject.{Subject}
 use Rattle.timing_arcs.specs.declared.subject.PinTiming.{PinTiming}
 use Rattle.timing_arcs.specs.Timing.{malformed_at, unknown_names_at, own_conditions_at, numbers_at, bad_numbers_in, timing_groups}
+use Rattle.timing_arcs.specs.Timing.{malformed_in, unknown_in}
 use Rattle.timing_arcs.specs.Timing.{unless_at, timing_of, reading_answer}
 use Rattle.cell_reader.specs.declared.refusal.Reason.TheVariants as reason
 use Rattle.cell_reader.specs.declared.refusal.Refusal.{Refusal}
 use Rattle.cell_reader.specs.PinTimings.{subject_at, places_from}
 use Rattle.cell_reader.specs.Refusals.{refused_or}
-use Rattle.cell_reader.specs.Written.{own_conditions_of}
+use Rattle.cell_reader.specs.Written.{own_in, own_conditions_of}
 use Rattle.cell_reader.proofs.AsWritten.{own_conditions_same}
 use Rattle.cell_reader.proofs.Refused.{least_none}
 use Rattle.three_state_cells.specs.Refusals.{first_of_two}
 use Rattle.three_state_cells.specs.PinAttributes.{untimed}
-use Rattle.three_state_cells.specs.Trimmed.{is_trimmed, trimmed_pin, timing_told, wrong_pin, wrong_with}
+use Rattle.three_state_cells.specs.Trimmed.{is_trimmed, is_timing, is_timed, loses, trimmed_pin, timing_told, wrong_pin, wrong_with}
 use Rattle.three_state_cells.proofs.Untimed.{attribute_numbers, no_malformed, no_unknown, no_own, kept_numbers}
 use Rattle.three_state_cells.proofs.JoinedReasons.{IsAbove, above_or, joined}
 use Rattle.three_state_cells.proofs.Owners.{trimmed_owners}
@@ -48,27 +55,57 @@ exchanged a b c d =
 
 -- The offsets that are told of the timing of trimmed pins.
 abbrev pub dropped_at : (Subject → Group → List ℕ) → Subject → ℕ → Group → List ℕ
-dropped_at f s pin owner = if is_trimmed pin owner then f (subject_at s pin) owner else []
+dropped_at f s pin owner = if loses pin owner then f (subject_at s pin) owner else []
 
 abbrev pub dropped : (Subject → Group → List ℕ) → Subject → ℕ → List Group → List ℕ
 dropped f s pin [] = []
 dropped f s pin (owner ∷ owners) = dropped_at f s pin owner ++ dropped f s (pin + 1) owners
 
--- What is told of a group without its timing groups is told of the whole one.
-abbrev pub IsPart : (Subject → Group → List ℕ) → Type 0
-IsPart f = (s : Subject) (group : Group) → lesser (least (f s (untimed group))) (least (f s group)) ≡ least (f s group)
+-- What is told of a group without its timing groups is told of the whole one, and all of it where there are none.
+pub record IsPart (f : Subject → Group → List ℕ) : Type 0 where
+  pub part : (s : Subject) (group : Group) → lesser (least (f s (untimed group))) (least (f s group)) ≡ least (f s group)
+  pub same : (s : Subject) (group : Group) → is_timed group ≡ false → least (f s (untimed group)) ≡ least (f s group)
+
+untimed_groups : (items : List Item) → list_any (λ item. is_timing (out-Item item)) items ≡ false
+    → groups_named (codes "timing") items ≡ []
+untimed_groups [] e = refl
+untimed_groups (item ∷ items) e =
+    let parts = or_parts (is_timing (out-Item item)) (list_any (λ item. is_timing (out-Item item)) items) e in
+    by (out-Item item) parts.0 (untimed_groups items parts.1)
+  where
+    inner : (b : Bool) (group : Group) → b ≡ false → groups_named (codes "timing") items ≡ []
+        → cons_option (if b then Some group else None) (groups_named (codes "timing") items) ≡ []
+    inner true group e rest = absurd cc
+    inner false group e rest = rest
+
+    by : (y : Item-F Item Group) → is_timing y ≡ false → groups_named (codes "timing") items ≡ []
+        → cons_option (group_named (codes "timing") y) (groups_named (codes "timing") items) ≡ []
+    by (layer.Simple name value at) e rest = rest
+    by (layer.Complex name arguments at) e rest = rest
+    by (layer.Inner group) e rest = inner (bytes_eq group.name (codes "timing")) group e rest
+
+-- what is told of timing groups alone
+told_of_timing : (f : Subject → Group → List ℕ) → ((s : Subject) (group : Group) → f s (untimed group) ≡ [])
+    → ((s : Subject) (group : Group) → timing_groups group ≡ [] → f s group ≡ []) → IsPart f
+told_of_timing f none empty = record {
+  part = λ s group. ap (λ l. lesser (least l) (least (f s group))) (none s group);
+  same = λ s group e. ap least (none s group ∙ sym (empty s group (untimed_groups group.items e)));
+}
 
 pub malformed_part : IsPart malformed_at
-malformed_part s group = ap (λ l. lesser (least l) (least (malformed_at s group))) (no_malformed group s)
+malformed_part =
+    told_of_timing malformed_at (λ s group. no_malformed group s) (λ s group none. ap (flat_map (malformed_in s)) none)
 
 pub unknown_part : IsPart unknown_names_at
-unknown_part s group = ap (λ l. lesser (least l) (least (unknown_names_at s group))) (no_unknown group s)
+unknown_part =
+    told_of_timing unknown_names_at (λ s group. no_unknown group s) (λ s group none. ap (flat_map (unknown_in s)) none)
 
 pub own_part : IsPart own_conditions_of
-own_part s group = ap (λ l. lesser (least l) (least (own_conditions_of s group))) (no_own group s)
+own_part = told_of_timing own_conditions_of (λ s group. no_own group s) (λ s group none. ap (flat_map (own_in s)) none)
 
-pub numbers_part : IsPart numbers_at
-numbers_part s group =
+numbers_of_part : (s : Subject) (group : Group)
+    → lesser (least (numbers_at s (untimed group))) (least (numbers_at s group)) ≡ least (numbers_at s group)
+numbers_of_part s group =
     let tables : List ℕ = flat_map (bad_numbers_in s) (timing_groups group) in
     let others : List ℕ = attribute_numbers s group in
     ap (λ l. lesser (least l) (least (numbers_at s group))) (kept_numbers group s)
@@ -77,16 +114,27 @@ numbers_part s group =
     ∙ (lesser_assoc (least tables) (least others) (least others)
     ∙ (ap (lesser (least tables)) (again (least others)) ∙ sym (least_append tables others)))))
 
+pub numbers_part : IsPart numbers_at
+numbers_part = record {
+  part = numbers_of_part;
+  same = λ s group e.
+      ap least
+      (kept_numbers group s
+      ∙ sym (ap (λ l. flat_map (bad_numbers_in s) l ++ attribute_numbers s group) (untimed_groups group.items e)));
+}
+
 told_of_pin : (f : Subject → Group → List ℕ) → IsPart f → (s : Subject) (pin : ℕ) (owner : Group)
     → least (f (subject_at s pin) owner)
     ≡ lesser (least (f (subject_at s pin) (trimmed_pin pin owner))) (least (dropped_at f s pin owner))
-told_of_pin f part s pin owner = by (is_trimmed pin owner)
+told_of_pin f is s pin owner = by (is_trimmed pin owner) (is_timed owner) refl
   where
-    by : (b : Bool) → least (f (subject_at s pin) owner)
+    by : (b c : Bool) → is_timed owner ≡ c → least (f (subject_at s pin) owner)
         ≡ lesser (least (f (subject_at s pin) (if b then untimed owner else owner)))
-        (least (if b then f (subject_at s pin) owner else []))
-    by true = sym (part (subject_at s pin) owner)
-    by false = sym (lesser_none (least (f (subject_at s pin) owner)))
+        (least (if b && c then f (subject_at s pin) owner else []))
+    by true true e = sym (is.part (subject_at s pin) owner)
+    by true false e =
+        sym (lesser_none (least (f (subject_at s pin) (untimed owner))) ∙ is.same (subject_at s pin) owner e)
+    by false c e = sym (lesser_none (least (f (subject_at s pin) owner)))
 
 pub places_least : (f : Subject → Group → List ℕ) → IsPart f → (s : Subject) (pin : ℕ) (owners : List Group)
     → least (places_from f s pin owners)
@@ -166,7 +214,7 @@ kinds_dropped s pin owner =
     (least (dropped_at own_conditions_of s pin owner)) (least (dropped_at numbers_at s pin owner))
 
 wrong_kinds : (s : Subject) (pin : ℕ) (owner : Group) → wrong_pin s pin owner ≡ kinds_dropped s pin owner
-wrong_kinds s pin owner = by (is_trimmed pin owner)
+wrong_kinds s pin owner = by (loses pin owner)
   where
     by : (b : Bool) → (if b then timing_told (reading_answer (subject_at s pin) owner) else None)
         ≡ by_kinds (least (if b then malformed_at (subject_at s pin) owner else []))

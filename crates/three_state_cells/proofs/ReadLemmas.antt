@@ -1,5 +1,5 @@
 -- A trimmed group and what is wrong in the timing that it lost, as they are made of the statements of a cell.
-use Rattle.std.proofs.Common.{◌≡◌, ℕ, suc, ◌+◌, ◌<◌, ◌≤◌, ◌^◌, true, List, [], ◌∷◌, ◌++◌, length, refl, sym, ap, ◌∙◌, subst, arith}
+use Rattle.std.proofs.Common.{◌≡◌, ℕ, suc, ◌+◌, ◌<◌, ◌≤◌, ◌^◌, true, false, List, [], ◌∷◌, ◌++◌, length, refl, sym, ap, ◌∙◌, subst, arith}
 use Rattle.std.proofs.Common.{append-nil, if◌then◌else◌, Option, Some, None}
 use Rattle.std.specs.Prelude.{flat_map}
 use Rattle.std.specs.List.{fold}
@@ -25,7 +25,7 @@ use Rattle.cell_reader.specs.CellTexts.{subject_of, IsEarlyUnmet}
 use Rattle.core_groups.specs.Outputs.{three_state_outputs, CanBeNumbered}
 use Rattle.three_state_cells.specs.Refusals.{first_of_two, refusal_by, driven_refusal}
 use Rattle.three_state_cells.proofs.Deciding.{refused_early}
-use Rattle.three_state_cells.specs.Trimmed.{trimmed_items, trimmed, is_in_order, owners_among, wrong_with}
+use Rattle.three_state_cells.specs.Trimmed.{trimmed_items, trimmed, is_in_order, owners_among, wrong_with, LosesNothing}
 use Rattle.three_state_cells.specs.Sinks.{nothing_held, after_all, nothing_trimmed, after_trimmed, after_wrong}
 use Rattle.three_state_cells.specs.declared.trimmed_items.AllItems.{AllItems}
 use Rattle.three_state_cells.specs.declared.trimmed_items.TrimmedItems.{TrimmedItems}
@@ -33,7 +33,7 @@ use Rattle.three_state_cells.proofs.JoinedReasons.{IsAbove, above_or}
 use Rattle.three_state_cells.proofs.Owners.{trimmed_owners}
 use Rattle.three_state_cells.proofs.Places.{by_kinds, wrong_by_kinds}
 use Rattle.three_state_cells.proofs.Refused.{owners, refused_as, never_accepted}
-use Rattle.three_state_cells.proofs.Sinks.{all_trimmed, all_whole, all_wrong}
+use Rattle.three_state_cells.proofs.Sinks.{all_trimmed, all_whole, all_wrong, none_lost}
 
 -- The group of a cell with buses, bundles or banks is gathered.
 pub gathered_many : (types : List BusType) (cell : Group) → has_many cell ≡ true → gathered_cell types cell ≡ gathered types cell
@@ -83,6 +83,12 @@ module _ (types : List BusType) (cell : Group) where
       ∙ ap (with_items cell)
       (ap (λ (one : TrimmedItems). one.items) e
       ∙ (all_trimmed statements ∙ all_whole statements (sym (ap (λ (one : TrimmedItems). one.is_whole) e) ∙ whole)))
+
+  pub lost_none : (held : TrimmedItems) → held ≡ fold after_trimmed nothing_trimmed statements → held.loses ≡ false
+      → LosesNothing (gathered_cell types cell)
+  lost_none held e none s =
+      ap (λ l. wrong_with s None 0 (owners_among l)) its_items
+      ∙ none_lost s statements (sym (ap (λ (one : TrimmedItems). one.loses) e) ∙ none)
 
   -- The pins of the gathered group are as many as those of the trimmed one.
   same_count : (pin : ℕ) (groups : List Group) → length (trimmed_owners pin groups) ≡ length groups

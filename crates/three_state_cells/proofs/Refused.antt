@@ -11,7 +11,6 @@ use Rattle.liberty_groups.specs.declared.tree.Item.TheOpen.{Group-F}
 use Rattle.liberty_groups.specs.declared.tree.Item.TheViews.{out-roll-Group}
 use Rattle.liberty_groups.specs.declared.tree.Group.{Group}
 use Rattle.bool_functions.specs.NameList.{number_of}
-use Rattle.cell_machine.specs.declared.pins.Pin.{Pin}
 use Rattle.cell_machine.specs.CellRules.{is_name}
 use Rattle.cell_machine.specs.Delay.{least, lesser}
 use Rattle.cell_machine.proofs.LeastLemmas.{lesser_assoc, least_append}
@@ -26,11 +25,10 @@ use Rattle.cell_attributes.specs.States.{states_in, states_of}
 use Rattle.cell_attributes.specs.Scans.{direction_in, directions, three_state_in, three_states, bank_in, banks, left_out_in}
 use Rattle.cell_attributes.specs.Scans.{left_out_states, clear_preset_in, clear_presets, no_function_in, no_functions}
 use Rattle.cell_attributes.specs.Declarations.{declared_in, declared_of, clashes_after, duplicates, bad_name_in, bad_names}
-use Rattle.cell_attributes.specs.Vocabulary.{Entry, Vocabulary, firsts_after, state_entries, pin_entries, entry_names}
-use Rattle.cell_attributes.specs.Vocabulary.{entry_classes, entry_targets, vocabulary}
+use Rattle.cell_attributes.specs.Vocabulary.{pin_entries}
+use Rattle.cell_attributes.specs.Vocabulary.{vocabulary}
 use Rattle.cell_attributes.specs.Texts.{malformed_at, unknown_at}
 use Rattle.cell_attributes.specs.TextFaults.{malformed_in, unknown_in}
-use Rattle.cell_attributes.specs.StateReadings.{state_reading}
 use Rattle.cell_attributes.specs.Outputs.{pin_text}
 use Rattle.cell_attributes.specs.CellLaws.{texts_of}
 use Rattle.cell_attributes.specs.Limits.{first_past, place_of_group, state_at}
@@ -57,26 +55,8 @@ use Rattle.three_state_cells.proofs.Places.{commuted, again, dropped, IsPart, ma
 use Rattle.three_state_cells.proofs.Places.{by_kinds, wrong_by_kinds}
 use Rattle.three_state_cells.proofs.Limits.{past, MakesAbove, checks_above, arcs_above, places_above, all_whole, past_all}
 use Rattle.three_state_cells.proofs.Reasons.{all_joined}
+use Rattle.three_state_cells.proofs.Known.{known, readings_by, words_by}
 use Rattle.three_state_cells.specs.PinAttributes.{untimed}
-
--- what the states and the texts of a cell hang on
-record Known : Type 0 where
-  pub pins : List Pin
-  pub states : List Group
-  pub words : Vocabulary
-
-abbrev known : Group → Known
-known cell = record { pins = pins_of cell; states = state_groups cell; words = vocabulary cell }
-
-abbrev readings_by : Known → List StateReading
-readings_by k = map (state_reading k.words (length k.pins)) k.states
-
-abbrev words_by : List Group → List Entry → Vocabulary
-words_by states entries = record {
-  names = entry_names (firsts_after [] (entries ++ flat_map state_entries (flat_map states_in states)));
-  classes = entry_classes (firsts_after [] (entries ++ flat_map state_entries (flat_map states_in states)));
-  targets = entry_targets (firsts_after [] (entries ++ flat_map state_entries (flat_map states_in states)));
-}
 
 -- part by part
 least_parts : (xs ys zs : List ℕ) (a b : Option ℕ) → least zs ≡ lesser a b

@@ -1,5 +1,5 @@
 -- What is held of the statements of a cell that were handed on so far.
-use Rattle.std.specs.Prelude.{◌+◌, ◌-◌, ◌^◌, min, true, not, ◌&&◌, [], ◌∷◌, ◌++◌, Option, None, if◌then◌else◌}
+use Rattle.std.specs.Prelude.{◌+◌, ◌-◌, ◌^◌, min, true, false, not, ◌&&◌, ◌||◌, [], ◌∷◌, ◌++◌, Option, None, if◌then◌else◌}
 use Rattle.liberty_groups.specs.declared.tree.Item.{Item, out-Item}
 use Rattle.liberty_groups.specs.declared.tree.Item.TheOpen.{Item-F}
 use Rattle.liberty_groups.specs.declared.tree.Item.TheOpen as layer
@@ -12,7 +12,7 @@ use Rattle.three_state_cells.specs.Refusals.{first_of_two}
 use Rattle.three_state_cells.specs.declared.trimmed_items.AllItems.{AllItems}
 use Rattle.three_state_cells.specs.declared.trimmed_items.TrimmedItems.{TrimmedItems}
 use Rattle.three_state_cells.specs.declared.wrong_timings.WrongTimings.{WrongTimings}
-use Rattle.three_state_cells.specs.Trimmed.{is_trimmed, is_trimmed_item, pins_in_item, trimmed_item, timing_told}
+use Rattle.three_state_cells.specs.Trimmed.{is_trimmed_item, loses, loses_in, pins_in_item, trimmed_item, timing_told}
 
 abbrev pub nothing_held : AllItems
 nothing_held = record { items = [] }
@@ -22,7 +22,7 @@ abbrev pub after_all : AllItems → Item → AllItems
 after_all held item = record { items = held.items ++ item ∷ [] }
 
 abbrev pub nothing_trimmed : TrimmedItems
-nothing_trimmed = record { items = []; pins = 0; is_whole = true }
+nothing_trimmed = record { items = []; pins = 0; is_whole = true; loses = false }
 
 -- one more statement, trimmed
 abbrev pub after_trimmed : TrimmedItems → Item → TrimmedItems
@@ -30,11 +30,12 @@ after_trimmed held item = record {
   items = held.items ++ trimmed_item held.pins (out-Item item) ∷ [];
   pins = min (held.pins + pins_in_item (out-Item item)) 64;
   is_whole = held.is_whole && not (is_trimmed_item held.pins (out-Item item));
+  loses = held.loses || loses_in held.pins (out-Item item);
 }
 
 -- what is wrong in the timing of a statement, where this is the next pin
 abbrev pub wrong_group : Subject → Group → Option Refusal
-wrong_group subject group = if is_trimmed subject.place group then timing_told (reading_answer subject group) else None
+wrong_group subject group = if loses subject.place group then timing_told (reading_answer subject group) else None
 
 abbrev pub wrong_item : Subject → Item-F Item Group → Option Refusal
 wrong_item subject (layer.Simple name value at) = None

@@ -1,9 +1,9 @@
 -- A cell with more pins than the limit, of which pins behind the limit lose their timing groups and what is not read of them, and
 -- what is wrong in the timing. (This project's rule: such a cell is refused, by its number of pins or by a reason with a lesser
 -- number.)
-use Rattle.std.specs.Prelude.{ℕ, ◌+◌, Bool, true, false, ◌&&◌, nat_le, List, [], ◌∷◌, length, filter, flat_map, drop}
+use Rattle.std.specs.Prelude.{◌≡◌, ℕ, ◌+◌, Bool, true, false, ◌&&◌, nat_le, List, [], ◌∷◌, length, filter, flat_map, drop, codes}
 use Rattle.std.specs.Prelude.{Option, Some, None, Ok, Err, if◌then◌else◌}
-use Rattle.std.specs.List.{list_all}
+use Rattle.std.specs.List.{list_any, list_all}
 use Rattle.liberty_groups.specs.declared.tree.Value.{Value}
 use Rattle.liberty_groups.specs.declared.tree.Item.{Item, out-Item}
 use Rattle.liberty_groups.specs.declared.tree.Item.TheOpen.{Item-F}
@@ -13,7 +13,7 @@ use Rattle.liberty_groups.specs.declared.tree.Group.{Group, roll-Group}
 use Rattle.timing_arcs.specs.declared.subject.Subject.{Subject}
 use Rattle.timing_arcs.specs.declared.fault.TimingFault.TheVariants as fault
 use Rattle.timing_arcs.specs.Timing.{reading_answer}
-use Rattle.cell_attributes.specs.Groups.{is_pin, inner_groups}
+use Rattle.cell_attributes.specs.Groups.{is_called, is_pin, inner_groups}
 use Rattle.cell_attributes.specs.Pins.{owners_in, owners_of}
 use Rattle.cell_reader.specs.declared.refusal.Reason.{Reason}
 use Rattle.cell_reader.specs.declared.refusal.Reason.TheVariants as reason
@@ -51,6 +51,23 @@ abbrev pub is_trimmed_item : ℕ → Item-F Item Group → Bool
 is_trimmed_item pin (layer.Simple name value at) = false
 is_trimmed_item pin (layer.Complex name arguments at) = false
 is_trimmed_item pin (layer.Inner group) = is_trimmed pin group
+
+-- It loses timing where it has timing groups.
+abbrev pub is_timing : Item-F Item Group → Bool
+is_timing (layer.Simple name value at) = false
+is_timing (layer.Complex name arguments at) = false
+is_timing (layer.Inner group) = is_called (codes "timing") group
+
+abbrev pub is_timed : Group → Bool
+is_timed group = list_any (λ item. is_timing (out-Item item)) group.items
+
+abbrev pub loses : ℕ → Group → Bool
+loses pin group = is_trimmed pin group && is_timed group
+
+abbrev pub loses_in : ℕ → Item-F Item Group → Bool
+loses_in pin (layer.Simple name value at) = false
+loses_in pin (layer.Complex name arguments at) = false
+loses_in pin (layer.Inner group) = loses pin group
 
 -- How many pins a group of a cell makes.
 abbrev pub pins_made : Group → ℕ
@@ -92,7 +109,7 @@ are_behind (first ∷ owners) = list_all (stands_behind first.at) (first ∷ own
 abbrev pub is_in_order : Group → Bool
 is_in_order cell = are_behind (drop 64 (owners_of cell))
 
--- What is wrong in the timing of a trimmed pin, as reading it tells.
+-- What is wrong in the timing that a trimmed pin lost, as reading it tells.
 abbrev pub refused_for : Reason → ℕ → Option Refusal
 refused_for r at = Some (record { reason = r; at = at })
 
@@ -104,7 +121,7 @@ timing_told (Err (fault.OwnCondition at)) = refused_for reason.OwnCondition at
 timing_told (Err (fault.Number at)) = refused_for reason.Number at
 
 abbrev pub wrong_pin : Subject → ℕ → Group → Option Refusal
-wrong_pin cell pin owner = if is_trimmed pin owner then timing_told (reading_answer (subject_at cell pin) owner) else None
+wrong_pin cell pin owner = if loses pin owner then timing_told (reading_answer (subject_at cell pin) owner) else None
 
 -- What decides of a refusal and of all that is wrong in the timing of trimmed pins, where these groups make the pins from this
 -- number on.
@@ -119,3 +136,7 @@ owners_among items = flat_map owners_in (filter is_pin (inner_groups items))
 
 abbrev pub wrong_timing : Subject → List Item → Option Refusal
 wrong_timing cell items = wrong_with cell None 0 (owners_among items)
+
+-- nothing is wrong in what the pins of a cell lost
+abbrev pub LosesNothing : Group → Type 0
+LosesNothing cell = (subject : Subject) → wrong_with subject None 0 (owners_of cell) ≡ None

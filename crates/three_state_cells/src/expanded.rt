@@ -11,7 +11,7 @@ ghost use Rattle.cell_reader.specs.CellTexts.{subject_of as subject_of_cell, Tel
 ghost use Rattle.core_groups.specs.Outputs.{CanBeNumbered, three_state_outputs};
 ghost use Rattle.three_state_cells.specs.DrivenCells.{driven_data, driven_data_of};
 ghost use Rattle.three_state_cells.specs.Refusals.{driven_refusal, first_of_two as first_of_two_of};
-ghost use Rattle.three_state_cells.specs.Trimmed.{is_in_order, trimmed, wrong_with};
+ghost use Rattle.three_state_cells.specs.Trimmed.{is_in_order, trimmed, wrong_with, LosesNothing};
 ghost use Rattle.three_state_cells.specs.Sinks.{after_trimmed, nothing_trimmed};
 
 use crate::driven_cell::DrivenCell;
@@ -56,19 +56,27 @@ fn trimmed_items(alloc: Global, types: &BusTypes, cell: &Group) -> Result<Trimme
 #[derive(Drop)]
 struct TrimmedGroup {
     group: Group,
-    /// No timing is left out.
+    /// Nothing is left out.
     is_whole: bool,
+    /// Some timing is left out.
+    loses: bool,
 }
 
 /// That of a cell.
 fn trimmed_group(alloc: Global, types: &BusTypes, cell: &Group) -> Result<TrimmedGroup, AllocError>
     ensures group { IfOk result (λ made. made.group ≡ trimmed (gathered_cell types.now cell.now)) }
     ensures whole { IfOk result (λ made. made.is_whole ≡ true → made.group ≡ gathered_cell types.now cell.now) }
+    ensures lost { IfOk result (λ made. made.loses ≡ false → LosesNothing (gathered_cell types.now cell.now)) }
 {
     let held = trimmed_items(alloc, types, cell)?;
     let is_whole = held.is_whole;
+    let loses = held.loses;
     let group = with_items(alloc, cell, held.items)?;
-    Ok(TrimmedGroup { group, is_whole })
+    Ok(TrimmedGroup {
+        group,
+        is_whole,
+        loses,
+    })
 }
 
 /// Whether no output of a cell floats, and its pins behind the limit stand in order.
@@ -82,59 +90,70 @@ fn is_decided(alloc: Global, group: &Group) -> Result<bool, AllocError>
     Ok(pins.never_float() && are_behind(&owners))
 }
 
+/// What is read of a cell with buses, bundles or banks.
+#[derive(Clone, Copy)]
+struct Source<'a> {
+    /// The types of buses that stand before it.
+    types: &'a BusTypes,
+    cell: &'a Group,
+    /// The time unit of its library, if it is a known one.
+    unit: Option<Unit>,
+    /// The names of the cells before it.
+    earlier: &'a Names,
+}
+
 /// What decides of a refusal of a trimmed group and of all that is wrong in the timing that it lost.
 fn with_lost_timing(
     alloc: Global,
-    types: &BusTypes,
-    cell: &Group,
-    group: &Group,
-    unit: Option<Unit>,
+    source: Source<'_>,
+    made: &TrimmedGroup,
     refusal: Refusal,
-    earlier: &Names,
 ) -> Result<Refusal, AllocError>
-    requires group { group.now ≡ trimmed (gathered_cell types.now cell.now) }
-    requires few { CanBeNumbered (pin_groups group.now) }
-    requires floats { three_state_outputs group.now ≡ [] }
-    requires told { driven_refusal unit earlier.now group.now ≡ Some refusal }
+    requires group { made.now.group ≡ trimmed (gathered_cell source.types.now source.cell.now) }
+    requires lost { made.now.loses ≡ false → LosesNothing (gathered_cell source.types.now source.cell.now) }
+    requires few { CanBeNumbered (pin_groups made.now.group) }
+    requires floats { three_state_outputs made.now.group ≡ [] }
+    requires told { driven_refusal source.unit source.earlier.now made.now.group ≡ Some refusal }
     ensures { IfOk result
         (λ told. Some told
         ≡ first_of_two_of (Some refusal)
-        (wrong_with (subject_of_cell unit group.now) None 0 (owners_of_cell (gathered_cell types.now cell.now)))) }
+        (wrong_with (subject_of_cell source.entry.unit made.now.group) None 0
+        (owners_of_cell (gathered_cell source.entry.types.now source.entry.cell.now)))) }
 {
-    // only the clauses speak of the names of the cells before
-    let _earlier = earlier;
+    if !made.loses {
+        return Ok(refusal);
+    }
     if refusal.reason.number() < Reason::Malformed.number() {
         return Ok(refusal);
     }
     let mut wrong = WrongTimings {
-        subject: subject_of(alloc, group, unit)?,
+        subject: subject_of(alloc, &made.group, source.unit)?,
         found: None,
     };
-    gather(alloc, cell, types, &mut wrong)?;
+    gather(alloc, source.cell, source.types, &mut wrong)?;
     Ok(first_with(refusal, wrong.found))
 }
 
 /// The fault of a cell whose trimmed group has this one.
 fn fault_with_lost_timing(
     alloc: Global,
-    types: &BusTypes,
-    cell: &Group,
-    group: &Group,
-    unit: Option<Unit>,
-    earlier: &Names,
+    source: Source<'_>,
+    made: &TrimmedGroup,
     fault: CellFault,
 ) -> CellFault
-    requires group { group.now ≡ trimmed (gathered_cell types.now cell.now) }
-    requires few { CanBeNumbered (pin_groups group.now) }
-    requires floats { three_state_outputs group.now ≡ [] }
-    requires order { is_in_order group.now ≡ true }
-    requires told { Tells (driven_refusal unit earlier.now group.now) fault }
-    ensures { Tells (driven_refusal unit earlier.now (gathered_cell types.now cell.now)) result }
+    requires group { made.now.group ≡ trimmed (gathered_cell source.types.now source.cell.now) }
+    requires lost { made.now.loses ≡ false → LosesNothing (gathered_cell source.types.now source.cell.now) }
+    requires few { CanBeNumbered (pin_groups made.now.group) }
+    requires floats { three_state_outputs made.now.group ≡ [] }
+    requires order { is_in_order made.now.group ≡ true }
+    requires told { Tells (driven_refusal source.unit source.earlier.now made.now.group) fault }
+    ensures { Tells (driven_refusal source.entry.unit source.entry.earlier.now
+        (gathered_cell source.entry.types.now source.entry.cell.now)) result }
 {
     let CellFault::Refused(refusal) = fault else {
         return CellFault::Memory;
     };
-    match with_lost_timing(alloc, types, cell, group, unit, refusal, earlier) {
+    match with_lost_timing(alloc, source, made, refusal) {
         Ok(refusal) => CellFault::Refused(refusal),
         Err(AllocError) => CellFault::Memory,
     }
@@ -143,47 +162,50 @@ fn fault_with_lost_timing(
 /// The cell with this number, whose gathered group has more pins than a cell may have and is trimmed to this.
 fn read_trimmed(
     alloc: Global,
-    types: &BusTypes,
-    cell: &Group,
-    group: &Group,
+    source: Source<'_>,
+    made: &TrimmedGroup,
     number: usize,
-    unit: Option<Unit>,
-    earlier: &Names,
 ) -> Result<DrivenCell, CellFault>
-    requires group { group.now ≡ trimmed (gathered_cell types.now cell.now) }
-    requires few { CanBeNumbered (pin_groups group.now) }
-    requires floats { three_state_outputs group.now ≡ [] }
-    requires order { is_in_order group.now ≡ true }
-    ensures cell { IfOk result (λ driven. driven_data_of driven ≡ driven_data unit number (gathered_cell types.now cell.now)) }
-    ensures accepted { IfOk result (λ _. driven_refusal unit earlier.now (gathered_cell types.now cell.now) ≡ None) }
-    ensures refused { IfErr result (Tells (driven_refusal unit earlier.now (gathered_cell types.now cell.now))) }
+    requires group { made.now.group ≡ trimmed (gathered_cell source.types.now source.cell.now) }
+    requires lost { made.now.loses ≡ false → LosesNothing (gathered_cell source.types.now source.cell.now) }
+    requires few { CanBeNumbered (pin_groups made.now.group) }
+    requires floats { three_state_outputs made.now.group ≡ [] }
+    requires order { is_in_order made.now.group ≡ true }
+    ensures cell { IfOk result (λ driven. driven_data_of driven
+        ≡ driven_data source.entry.unit number (gathered_cell source.entry.types.now source.entry.cell.now)) }
+    ensures accepted { IfOk result (λ _. driven_refusal source.entry.unit source.entry.earlier.now
+        (gathered_cell source.entry.types.now source.entry.cell.now) ≡ None) }
+    ensures refused { IfErr result (Tells (driven_refusal source.entry.unit source.entry.earlier.now
+        (gathered_cell source.entry.types.now source.entry.cell.now))) }
 {
-    match read_driven(alloc, group, number, unit, earlier) {
+    match read_driven(alloc, &made.group, number, source.unit, source.earlier) {
         // It has too many pins.
         Ok(_) => unreachable!(),
-        Err(fault) => Err(fault_with_lost_timing(alloc, types, cell, group, unit, earlier, fault)),
+        Err(fault) => Err(fault_with_lost_timing(alloc, source, made, fault)),
     }
 }
 
 /// The cell with this number that a group with buses, bundles or banks describes, as its gathered group.
-fn read_gathered(
-    alloc: Global,
-    types: &BusTypes,
-    cell: &Group,
-    number: usize,
-    unit: Option<Unit>,
-    earlier: &Names,
-) -> Result<DrivenCell, CellFault>
-    ensures cell { IfOk result (λ driven. driven_data_of driven ≡ driven_data unit number (gathered_cell types.now cell.now)) }
-    ensures accepted { IfOk result (λ _. driven_refusal unit earlier.now (gathered_cell types.now cell.now) ≡ None) }
-    ensures refused { IfErr result (Tells (driven_refusal unit earlier.now (gathered_cell types.now cell.now))) }
+fn read_gathered(alloc: Global, source: Source<'_>, number: usize) -> Result<DrivenCell, CellFault>
+    ensures cell { IfOk result (λ driven. driven_data_of driven
+        ≡ driven_data source.entry.unit number (gathered_cell source.entry.types.now source.entry.cell.now)) }
+    ensures accepted { IfOk result (λ _. driven_refusal source.entry.unit source.entry.earlier.now
+        (gathered_cell source.entry.types.now source.entry.cell.now) ≡ None) }
+    ensures refused { IfErr result (Tells (driven_refusal source.entry.unit source.entry.earlier.now
+        (gathered_cell source.entry.types.now source.entry.cell.now))) }
 {
+    let Source {
+        types,
+        cell,
+        unit,
+        earlier,
+    } = source;
     let made = trimmed_group(alloc, types, cell)?;
     if made.is_whole {
         return read_driven(alloc, &made.group, number, unit, earlier);
     }
     if is_decided(alloc, &made.group)? {
-        return read_trimmed(alloc, types, cell, &made.group, number, unit, earlier);
+        return read_trimmed(alloc, source, &made, number);
     }
     let group = whole_group(alloc, types, cell)?;
     read_driven(alloc, &group, number, unit, earlier)
@@ -208,5 +230,11 @@ pub fn read_expanded(
     ensures accepted { IfOk result (λ _. driven_refusal unit earlier.now (expanded types.now cell.now) ≡ None) }
     ensures refused { IfErr result (Tells (driven_refusal unit earlier.now (expanded types.now cell.now))) }
 {
-    read_gathered(alloc, types, cell, number, unit, earlier)
+    let source = Source {
+        types,
+        cell,
+        unit,
+        earlier,
+    };
+    read_gathered(alloc, source, number)
 }

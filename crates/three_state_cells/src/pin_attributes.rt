@@ -1,12 +1,12 @@
 //! Pin groups without their timing groups, with the attributes alone that are read of a pin.
-ghost use Rattle.std.specs.Prelude.{◌≡◌, ◌++◌, IfOk, OnOk, map, flat_map, option_map, Some};
-ghost use Rattle.liberty_groups.specs.declared.tree.Item.{out-Item};
-ghost use Rattle.liberty_groups.specs.Attributes.{shown, simple_named};
-ghost use Rattle.cell_machine.specs.Delay.{lesser as lesser_of, least};
+ghost use Rattle.std.specs.Prelude.{◌≡◌, ◌++◌, IfOk, OnOk, map, flat_map, option_map};
+ghost use Rattle.liberty_groups.specs.Attributes.{shown};
+ghost use Rattle.cell_machine.specs.Delay.{least};
 ghost use Rattle.cell_attributes.specs.Groups.{offsets_of};
 ghost use Rattle.three_state_cells.specs.PinAttributes as spec;
 
 use bank_cells::with_items;
+use cell_machine::least::lesser;
 use liberty_groups::{
     Attribute, Group, Item, Values, copy_bytes, copy_text, last_attribute, simple_attribute,
     value_of,
@@ -59,36 +59,28 @@ fn add_counted(
     Ok(())
 }
 
-/// The lesser of an offset and one before it, if there is one.
-fn lesser(earlier: Option<usize>, at: usize) -> Option<usize>
-    ensures { result ≡ lesser_of earlier (Some at) }
-{
-    match earlier {
-        None => Some(at),
-        Some(earlier) => Some(earlier.min(at)),
-    }
-}
-
-/// The lesser of an offset and that of a statement, if it is an attribute of this name.
-fn lesser_with(earlier: Option<usize>, item: &Item, name: &[u8]) -> Option<usize>
-    ensures { result ≡ lesser_of earlier (option_map (λ attribute. attribute.at) (simple_named name.now (out-Item item.now))) }
-{
-    match simple_attribute(item, name) {
-        None => earlier,
-        Some(attribute) => lesser(earlier, attribute.at),
-    }
-}
-
 /// The least offset of the attributes of this name.
-#[tactic(auto, using(cell_machine::proofs::LeastLemmas::lesser_assoc))]
-fn least_place(group: &Group, name: &[u8]) -> Option<usize>
+#[tactic(auto, using(cell_machine::proofs::LeastLemmas::lesser_assoc, cell_machine::proofs::LeastLemmas::lesser_none))]
+fn first_offset(group: &Group, name: &[u8]) -> Option<usize>
     ensures { result ≡ least (offsets_of name.now group.now) }
 {
     let mut found = None;
     for item in group.items.as_slice() {
-        found = lesser_with(found, item, name);
+        if let Some(attribute) = simple_attribute(item, name) {
+            found = lesser(found, Some(attribute.at));
+        }
     }
     found
+}
+
+/// The attribute of this name of which the least offset counts.
+fn refusing(group: &Group, name: &[u8]) -> Option<Attribute<'static>>
+    ensures { option_map shown result ≡ spec.refusing_of group.now name.now }
+{
+    match first_offset(group, name) {
+        None => None,
+        Some(at) => Some(Attribute { text: &[], at }),
+    }
 }
 
 /// Adds the attributes of these names of which the least offset counts.
@@ -104,16 +96,6 @@ fn add_refusing(
         add_statement(alloc, found, name, refusing(group, name))?;
     }
     Ok(())
-}
-
-/// The attribute of this name of which the least offset counts.
-fn refusing(group: &Group, name: &[u8]) -> Option<Attribute<'static>>
-    ensures { option_map shown result ≡ spec.refusing_of group.now name.now }
-{
-    match least_place(group, name) {
-        None => None,
-        Some(at) => Some(Attribute { text: &[], at }),
-    }
 }
 
 /// The attributes that are read of a pin.

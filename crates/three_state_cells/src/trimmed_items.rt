@@ -1,5 +1,5 @@
 //! The statements of a cell, as they come and trimmed.
-use crate::trimming::{is_trimmed_item, pins_in_item, trimmed_item};
+use crate::trimming::{is_trimmed_item, loses_in, pins_in_item, trimmed_item};
 use bank_cells::ItemSink;
 use cell_attributes::limits::MOST_PINS;
 use liberty_groups::Item;
@@ -45,6 +45,8 @@ pub(crate) struct TrimmedItems {
     pub(crate) pins: usize,
     /// None of them lost anything.
     pub(crate) is_whole: bool,
+    /// Some of them lost timing groups.
+    pub(crate) loses: bool,
 }
 
 impl TrimmedItems {
@@ -59,6 +61,7 @@ impl TrimmedItems {
             items: Items::new(alloc),
             pins: 0,
             is_whole: true,
+            loses: false,
         }
     }
 }
@@ -71,10 +74,12 @@ impl ItemSink for TrimmedItems {
     fn take(&mut self, alloc: Global, item: Item) -> Result<(), AllocError> {
         let made = pins_in_item(&item);
         let is_whole = self.is_whole && !is_trimmed_item(self.pins, &item);
+        let loses = self.loses || loses_in(self.pins, &item);
         let kept = trimmed_item(alloc, self.pins, item)?;
         self.items.push(kept)?;
         self.pins = self.pins.saturating_add(made).min(MOST_PINS);
         self.is_whole = is_whole;
+        self.loses = loses;
         Ok(())
     }
 }

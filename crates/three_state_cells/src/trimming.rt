@@ -5,7 +5,7 @@ ghost use Rattle.liberty_groups.specs.declared.tree.Item.{out-Item};
 ghost use Rattle.three_state_cells.specs.Trimmed as spec;
 
 use crate::pin_attributes::untimed;
-use cell_attributes::groups::is_pin;
+use cell_attributes::groups::{is_called, is_pin};
 use cell_attributes::limits::MOST_PINS;
 use liberty_groups::{Group, Item, Value};
 use std::alloc::{AllocError, Global};
@@ -44,7 +44,7 @@ fn has_one(arguments: &[Value]) -> bool
 
 /// Whether a group loses its timing groups and what is not read of it, where so many pins stand before it: it makes one pin behind
 /// the limit, and none of its statements stands before it.
-pub(crate) fn is_trimmed(pin: usize, group: &Group) -> bool
+fn is_trimmed(pin: usize, group: &Group) -> bool
     ensures { result ≡ spec.is_trimmed pin group.now }
 {
     MOST_PINS <= pin
@@ -60,6 +60,45 @@ pub(crate) fn is_trimmed_item(pin: usize, item: &Item) -> bool
     match item {
         Item::Simple { .. } | Item::Complex { .. } => false,
         Item::Inner(group) => is_trimmed(pin, group),
+    }
+}
+
+/// Whether a statement is a timing group.
+fn is_timing(item: &Item) -> bool
+    ensures { result ≡ spec.is_timing (out-Item item.now) }
+{
+    match item {
+        Item::Simple { .. } | Item::Complex { .. } => false,
+        Item::Inner(group) => is_called(group, b"timing"),
+    }
+}
+
+/// Whether a group has timing groups.
+fn is_timed(group: &Group) -> bool
+    ensures { result ≡ spec.is_timed group.now }
+{
+    for item in group.items.as_slice() {
+        if is_timing(item) {
+            return true;
+        }
+    }
+    false
+}
+
+/// Whether a group loses timing groups, where so many pins stand before it.
+pub(crate) fn loses(pin: usize, group: &Group) -> bool
+    ensures { result ≡ spec.loses pin group.now }
+{
+    is_trimmed(pin, group) && is_timed(group)
+}
+
+/// Whether a statement of a cell is such a group.
+pub(crate) fn loses_in(pin: usize, item: &Item) -> bool
+    ensures { result ≡ spec.loses_in pin (out-Item item.now) }
+{
+    match item {
+        Item::Simple { .. } | Item::Complex { .. } => false,
+        Item::Inner(group) => loses(pin, group),
     }
 }
 

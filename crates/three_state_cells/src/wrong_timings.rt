@@ -4,8 +4,7 @@ ghost use Rattle.liberty_groups.specs.declared.tree.Item.{out-Item};
 ghost use Rattle.three_state_cells.specs.Trimmed.{timing_told as timing_told_of};
 ghost use Rattle.three_state_cells.specs.Sinks.{wrong_group as wrong_group_of, wrong_item as wrong_item_of};
 
-use crate::driver_refusals::first_of_two;
-use crate::trimming::{is_trimmed, pins_in_item};
+use crate::trimming::{loses, pins_in_item};
 use bank_cells::ItemSink;
 use cell_reader::{Reason, Refusal};
 use liberty_groups::{Group, Item};
@@ -26,7 +25,7 @@ fn timing_told(answer: &Result<PinTiming, TimingFault>) -> Option<Refusal>
     Some(Refusal { reason, at })
 }
 
-/// What is wrong in the timing of the pin of a group, where the subject is that pin and the group is trimmed.
+/// What is wrong in the timing that the pin of a group lost, where the subject is that pin.
 fn wrong_group(
     alloc: Global,
     subject: &Subject,
@@ -34,7 +33,7 @@ fn wrong_group(
 ) -> Result<Option<Refusal>, AllocError>
     ensures { IfOk result (λ wrong. wrong ≡ wrong_group_of subject.now group.now) }
 {
-    if !is_trimmed(subject.place, group) {
+    if !loses(subject.place, group) {
         return Ok(None);
     }
     let room = Room {

@@ -6,5 +6,5 @@ use Rattle.three_state_cells.proofs.expanded.fault_with_lost_timing.Goals as goa
 
 pub returns-in-Ok : goal.returns-in-Ok
 returns-in-Ok c =
-    refused_by c.args.types.now c.args.cell.now c.args.unit c.args.earlier.now c.args.group.now c.in-Refused.refusal c.in-Ok.refusal c.requires.group c.requires.floats c.requires.order
-    (subst (Tells (driven_refusal c.args.unit c.args.earlier.now c.args.group.now)) c.in-Refused.is c.requires.told) c.in-Ok.ensures
+    refused_by c.args.source.types.now c.args.source.cell.now c.args.source.unit c.args.source.earlier.now c.args.made.now.group c.in-Refused.refusal c.in-Ok.refusal c.requires.group c.requires.floats c.requires.order
+    (subst (Tells (driven_refusal c.args.source.unit c.args.source.earlier.now c.args.made.now.group)) c.in-Refused.is c.requires.told) c.in-Ok.ensures

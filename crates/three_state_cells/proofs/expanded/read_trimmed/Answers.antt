@@ -3,4 +3,4 @@ use Rattle.three_state_cells.proofs.expanded.read_trimmed.Goals as goal
 
 pub unreachable-requires : goal.unreachable-requires
 unreachable-requires c =
-    no_cell c.args.types.now c.args.cell.now c.args.unit c.args.earlier.now c.args.group.now c.requires.group c.requires.floats c.requires.order c.in-Ok.ensures.accepted
+    no_cell c.args.source.types.now c.args.source.cell.now c.args.source.unit c.args.source.earlier.now c.args.made.now.group c.requires.group c.requires.floats c.requires.order c.in-Ok.ensures.accepted

@@ -1,7 +1,7 @@
 use Rattle.std.proofs.Common.{◌≡◌, drop, map}
 use Rattle.liberty_groups.specs.Attributes.{Attribute, attributes_named}
 use Rattle.cell_machine.specs.Delay.{lesser, least}
-use Rattle.three_state_cells.proofs.pin_attributes.least_place.Given as goal
+use Rattle.three_state_cells.proofs.pin_attributes.first_offset.Given as goal
 
 abbrev pub invariant-loop-item : goal.invariant-loop-item
 invariant-loop-item l =

@@ -1,5 +1,5 @@
 -- The instances of a generated module that stand for the parts of its cell, and what feeds them.
-use Rattle.std.proofs.Common.{◌≡◌, ℕ, suc, ◌+◌, ◌<◌, Bool, true, false, not, List, [], ◌∷◌, ◌++◌, length, map, refl, sym, ap, ◌∙◌}
+use Rattle.std.proofs.Common.{◌≡◌, ℕ, ◌+◌, ◌<◌, Bool, true, false, not, List, [], ◌∷◌, ◌++◌, length, map, refl, sym, ap, ◌∙◌}
 use Rattle.std.proofs.Common.{subst, arith, IsTrue, Some, slice_get, nat_lt, if◌then◌else◌}
 use Rattle.std.specs.List.{list_all}
 use Rattle.std.specs.Option.{option_map_or}
@@ -16,6 +16,7 @@ use Rattle.cell_machine.specs.CellData.{CellData}
 use Rattle.cell_machine.specs.CellRules.{is_input_pin, is_source}
 use Rattle.cell_machine.specs.Values.{no_values}
 use Rattle.cell_machine.specs.CellTrace.{support_at, sources_at}
+use Rattle.cell_machine.proofs.ArcDelays.{some_at}
 use Rattle.udp_tables.specs.declared.table.Udp.{Udp}
 use Rattle.udp_tables.specs.Conditions.{conditions_of, condition_place}
 use Rattle.udp_tables.specs.CellPrimitives.{has_notifier, has_sources, output_primitive}
@@ -33,17 +34,12 @@ use Rattle.specify_blocks.proofs.PrimitiveLemmas.{get-left, condition_primitive-
 use Rattle.model_traces.proofs.PlaceLemmas.{get-within}
 use Rattle.model_traces.proofs.CellSteps.{IsOutputPin, place-is, no-sources}
 use Rattle.model_traces.proofs.ModuleParts.{group-instance-at, condition-instance-at, output-instance-at, condition-driver}
-use Rattle.model_traces.proofs.ModuleParts.{output-driver, sequential-are}
+use Rattle.model_traces.proofs.ModuleParts.{output-driver, sequential-are, length-each}
 use Rattle.table_audit.specs.module_terminals.Terminals.{sequential_instances, driving, nets_feeding, same_nets, group_nets}
 use Rattle.table_audit.specs.module_terminals.Terminals.{condition_nets, state_net, source_net, output_nets, stands_for}
 use Rattle.table_audit.specs.module_terminals.Feeding.{feeds_group, feeds_condition, output_net, feeds_output}
-use Rattle.audited_modules.proofs.ListLemmas.{place-within}
 use Rattle.audited_modules.proofs.StateWires.{instance-at}
 use Rattle.audited_modules.proofs.ApartNets.{found-at, same-nets}
-
-length-each : {X Y : Type 0} (make : ℕ → X → Y) (k : ℕ) (xs : List X) → length (each_from make k xs) ≡ length xs
-length-each make k [] = refl
-length-each make k (x ∷ xs) = ap suc (length-each make (k + 1) xs)
 
 -- an instance of a primitive without a state stands for a value of the nets that feed it, where there are some
 stands :
@@ -89,7 +85,7 @@ module _ (d : CellData) (sound : IsSound (module_of d)) where
 
   pub feeds-group : (g : ℕ) → g < length d.groups → IsTrue (feeds_group d m g)
   feeds-group g within =
-      let there = place-within d.groups g within in
+      let there = some_at d.groups g within in
       ap (λ o. option_map_or (λ i. same_nets (nets_feeding i) (group_nets d g)) o false) (group-at g there.0 there.1)
       ∙ ap (λ ns. same_nets ns (group_nets d g)) (group-feeds g there.0 there.1)
       ∙ same-nets (group_nets d g)
@@ -134,7 +130,7 @@ module _ (d : CellData) (sound : IsSound (module_of d)) where
   state-nets :
       (g : ℕ) → g < length d.groups → state_net m g ≡ net.Wire g
   state-nets g within =
-      let there = place-within d.groups g within in
+      let there = some_at d.groups g within in
       ap (λ o. option_map_or net_driven o net.Notifier) (group-at g there.0 there.1)
 
   source-nets :

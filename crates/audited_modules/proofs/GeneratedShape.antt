@@ -13,6 +13,7 @@ use Rattle.cell_machine.specs.declared.arcs.Arc.{Arc}
 use Rattle.cell_machine.specs.CellData.{CellData}
 use Rattle.cell_machine.specs.CellRules.{is_input_pin, is_output_pin, is_condition, has_events, longest_time, is_check, is_arc}
 use Rattle.cell_machine.specs.CellRules.{HoldsRules}
+use Rattle.cell_machine.proofs.ArcDelays.{some_at}
 use Rattle.udp_tables.specs.declared.timing_checks.TimingCheck.{TimingCheck}
 use Rattle.udp_tables.specs.Conditions.{condition_list, conditions_by}
 use Rattle.specify_blocks.proofs.cell_tables.CellLaws.{conditions_are_numbered-lem}
@@ -26,7 +27,7 @@ use Rattle.table_audit.specs.module_shapes.Shape.{both_or_neither, gated_by}
 use Rattle.table_audit.specs.module_terminals.Feeding.{gate_wire, Gating, gating, gating_of, check_gating, path_gating}
 use Rattle.table_audit.specs.module_terminals.Feeding.{feeds_condition}
 use Rattle.table_audit.specs.module_shapes.SameShape.{SameCheck, SamePath, HasShape}
-use Rattle.audited_modules.proofs.ListLemmas.{among-place, place-within}
+use Rattle.audited_modules.proofs.ListLemmas.{among-place}
 use Rattle.audited_modules.proofs.PortSides.{sides-are}
 use Rattle.audited_modules.proofs.GeneratedParts.{IsUsed, state-count, feeds-group, feeds-condition, feeds-output}
 
@@ -161,7 +162,7 @@ module _ (d : CellData) (rules : HoldsRules d.name d.pins d.groups d.outputs d.c
         path_inputs = λ i u e. fed u (path-gates i u e);
         outputs =
             λ k within.
-            let there = place-within d.outputs k within in
+            let there = some_at d.outputs k within in
             feeds-output d sound k there.0 there.1 (output-pin d rules k there.0 there.1);
       }
     where

@@ -21,6 +21,7 @@ use Rattle.cell_machine.specs.CellRules.{HoldsRules}
 use Rattle.cell_machine.specs.Outputs.{output_at, condition_at}
 use Rattle.cell_machine.specs.Values.{no_values}
 use Rattle.cell_machine.specs.CellTrace.{support_at, sources_at}
+use Rattle.cell_machine.proofs.ArcDelays.{some_at}
 use Rattle.udp_tables.specs.declared.table.Udp.{Udp}
 use Rattle.udp_tables.specs.declared.parts.Part.TheVariants as part
 use Rattle.udp_tables.specs.Primitive.{level_output}
@@ -48,7 +49,6 @@ use Rattle.table_audit.specs.module_tables.Tables.{arranged, next_at, next_by, g
 use Rattle.table_audit.specs.module_tables.Tables.{model_step, note_after, cell_forced, model_notified, cell_condition}
 use Rattle.table_audit.specs.module_tables.Tables.{model_condition, cell_output, model_output}
 use Rattle.table_audit.specs.module_tables.SameValues.{HasValues}
-use Rattle.audited_modules.proofs.ListLemmas.{place-within}
 use Rattle.audited_modules.proofs.StateWires.{instance-at}
 use Rattle.audited_modules.proofs.ApartNets.{own-place, own-values}
 use Rattle.audited_modules.proofs.GeneratedParts.{IsUsed, group-at, group-feeds, group-apart, condition-at, condition-driving}
@@ -93,7 +93,7 @@ module _ (d : CellData) (rules : HoldsRules d.name d.pins d.groups d.outputs d.c
         → group_next d m g (noted b note xs) changed old s
         ≡ udp_next (group_primitive d g).rows (set (noted b note xs) p old) (noted b note xs) s
     group-next b checks note xs long changed p at old s =
-        let there = place-within d.groups g within in
+        let there = some_at d.groups g within in
         let ys : List Trit = noted b note xs in
         let feeds = group-feeds d sound g there.0 there.1 in
         let own = group-apart d sound g there.0 there.1 in
@@ -232,6 +232,6 @@ module _ (d : CellData) (rules : HoldsRules d.name d.pins d.groups d.outputs d.c
         paths = λ i u xs e long. gating-value u (path-gates d rules i u e) xs long;
         outputs =
             λ k xs within long.
-            let there = place-within d.outputs k within in
+            let there = some_at d.outputs k within in
             output-value k there.0 there.1 (output-pin d rules k there.0 there.1) xs long;
       }

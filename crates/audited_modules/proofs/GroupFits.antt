@@ -6,7 +6,7 @@ use Rattle.std.specs.Prelude.{position}
 use Rattle.std.specs.List.{list_all}
 use Rattle.std.specs.Option.{option_map_or}
 use Rattle.std.proofs.lemmas.Bool.{eq-eqb}
-use Rattle.std.proofs.lemmas.List.{length-map, get_or-set_same}
+use Rattle.std.proofs.lemmas.List.{length-map}
 use Rattle.std.proofs.lemmas.Option.{get_or_from_slice_get}
 use Rattle.trit_cubes.specs.declared.trits.Trit.{Trit}
 use Rattle.trit_cubes.specs.declared.trits.Trit.TheVariants.{Zero, One, Unknown}
@@ -35,8 +35,8 @@ use Rattle.model_traces.specs.Primitives.{is_turned, entry_value, primitive_next
 use Rattle.model_traces.specs.Primitives as primitives
 use Rattle.model_traces.specs.ModuleRun.{turn_of, toggled}
 use Rattle.model_traces.specs.ModuleFits.{FitsGroup}
-use Rattle.model_traces.proofs.PlaceLemmas.{position-from, placed, get-map, get-within, apart}
-use Rattle.model_traces.proofs.PinNumbers.{input-pin-port}
+use Rattle.model_traces.proofs.PlaceLemmas.{position-from, get-within, apart}
+use Rattle.model_traces.proofs.PinNumbers.{input-pin-port, set-place}
 use Rattle.model_traces.proofs.CellSteps.{IsNamed, support-is, step-is, all-passes}
 use Rattle.table_audit.specs.module_terminals.Terminals.{sequential_instances, is_among, same_nets, group_nets}
 use Rattle.table_audit.specs.module_shapes.Shape.{cell_inputs, port_inputs}
@@ -201,24 +201,16 @@ module _ (d : CellData) (m : VModule) (ports : port_inputs m ≡ cell_inputs d) 
   stepped v c note s long inside event (Some p) e =
       let old : Trit = value_before v c in
       let xs : List Trit = pin_values d.pins (set v c.pin c.to) qs in
-      let found = placed (λ q. nat_eq (inputs.input_number d.pins q) c.pin) 0 qs p
-      (sym (position-from (λ q. nat_eq (inputs.input_number d.pins q) c.pin) qs) ∙ e) in
-      let here : found.0 ≡ p = omega (arith, found.2) in
-      let at_place : slice_get qs p ≡ Some found.1 = ap (slice_get qs) (sym here) ∙ found.3 in
-      let inside_qs = get-within qs p found.1 at_place in
+      let (q, at_place, number_is, now) = set-place d.pins qs v c.pin p c.to e (omega (arith, long, inside)) in
+      let inside_qs = get-within qs p q at_place in
       let many : length xs ≡ length qs = length-map qs (pin_value d.pins (set v c.pin c.to)) in
       let many_support : length xs ≡ length (support_at d g) = many ∙ ap length (sym (support-is d g group named)) in
-      let number_is : inputs.input_number d.pins found.1 ≡ c.pin = eqb-true (inputs.input_number d.pins found.1) c.pin found.4 in
-      let now : get_or xs p Unknown ≡ c.to =
-      get-map (pin_value d.pins (set v c.pin c.to)) qs p found.1 Unknown at_place
-      ∙ ap (λ i. get_or (set v c.pin c.to) i Unknown) number_is
-      ∙ get_or-set_same v c.pin c.to Unknown (omega (arith, long, inside)) in
       let other : old ≢ get_or xs p Unknown = subst (λ t. old ≢ t) (sym now) (apart old c.to event) in
-      let changed : pin_net d.pins found.1 ≡ place_net d g p =
+      let changed : pin_net d.pins q ≡ place_net d g p =
       ap (pin_net d.pins)
-      (sym (ap (λ ps. get_or ps p 0) (support-is d g group named) ∙ get_or_from_slice_get qs p found.1 0 at_place)) in
+      (sym (ap (λ ps. get_or ps p 0) (support-is d g group named) ∙ get_or_from_slice_get qs p q 0 at_place)) in
       ap (λ o. tables.next_at o udp (map (entry_value m.ports (set v c.pin c.to) note) nets) old s)
-      (one-turned c found.1 (among-place qs p found.1 at_place) number_is)
+      (one-turned c q (among-place qs p q at_place) number_is)
       ∙ (λ i. tables.next_at (position (same_net (changed i)) nets) udp (entries (set v c.pin c.to) note i) old s)
       ∙ sym (compared (noted (has_notifier d) note xs) (place_net d g p) old s)
       ∙ values.steps g p old xs note s within many_support (omega (arith, inside_qs, many)) other

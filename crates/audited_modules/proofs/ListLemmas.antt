@@ -1,5 +1,5 @@
 -- Lists: the first entry that passes a test, entries of filtered lists, and lists that fit place by place.
-use Rattle.std.proofs.Common.{◌≡◌, ℕ, zero, suc, ◌+◌, ◌<◌, Bool, true, false, ◌||◌, cond, List, [], ◌∷◌, length, get_or, inl, inr}
+use Rattle.std.proofs.Common.{◌≡◌, ℕ, zero, suc, ◌+◌, Bool, true, false, ◌||◌, cond, List, [], ◌∷◌, length, get_or, inl, inr}
 use Rattle.std.proofs.Common.{refl, sym, ap, ◌∙◌, arith, Some, None, slice_get, if◌then◌else◌}
 use Rattle.std.specs.Prelude.{filter, find}
 use Rattle.std.specs.List.{list_any, position_from}
@@ -20,12 +20,6 @@ pub among-place : {X : Type 0} (xs : List X) (i : ℕ) (x : X) → slice_get xs 
 among-place [] i x e = absurd cc
 among-place (y ∷ ys) zero x e = let same : y ≡ x = cc in inl same
 among-place (y ∷ ys) (suc i) x e = inr (among-place ys i x e)
-
--- an entry stands at a place within the list
-pub place-within : {X : Type 0} (xs : List X) (i : ℕ) → i < length xs → (x : X) × (slice_get xs i ≡ Some x)
-place-within [] i h = absurd (omega arith)
-place-within (x ∷ xs) zero h = (x, refl)
-place-within (x ∷ xs) (suc i) h = place-within xs i (omega arith)
 
 -- lists of which each entry fits the one at its place
 pub fit-places :

@@ -16,6 +16,7 @@ use Rattle.cell_machine.specs.CellRules.{is_input_pin, is_source, is_arc}
 use Rattle.cell_machine.specs.Outputs.{output_at}
 use Rattle.cell_machine.specs.CellTrace.{sources_at}
 use Rattle.cell_machine.specs.CellTrace as cell
+use Rattle.cell_machine.proofs.ArcDelays.{some_at}
 use Rattle.udp_tables.specs.Ports.{port_number}
 use Rattle.specify_blocks.specs.declared.model.VModule.{VModule}
 use Rattle.specify_blocks.specs.Sound.{IsSound}
@@ -30,7 +31,6 @@ use Rattle.table_audit.specs.module_terminals.Terminals.{sequential_instances, s
 use Rattle.table_audit.specs.module_terminals.Feeding.{output_net}
 use Rattle.table_audit.specs.module_shapes.SameShape.{HasShape}
 use Rattle.table_audit.specs.module_tables.SameValues.{HasValues}
-use Rattle.audited_modules.proofs.ListLemmas.{place-within}
 use Rattle.audited_modules.proofs.PortSides.{pin-value}
 use Rattle.audited_modules.proofs.StateWires.{state-value}
 use Rattle.audited_modules.proofs.PartValues.{part-value}
@@ -50,7 +50,7 @@ module _ (d : CellData) (m : VModule) (sound : IsSound m) (shape : HasShape d m)
   sources-read v states (source.State g ∷ sources) h =
       let parts = and_parts (nat_lt g (length d.groups)) (list_all (is_source d.pins d.groups) sources) h in
       let within : g < length d.groups = ltb-true g (length d.groups) parts.0 in
-      let there = place-within (sequential_instances m) g (omega (arith, within, shape.states)) in
+      let there = some_at (sequential_instances m) g (omega (arith, within, shape.states)) in
       λ i. state-value m sound g there.0 there.1 v states i ∷ sources-read v states sources parts.1 i
 
   pub fits-output :

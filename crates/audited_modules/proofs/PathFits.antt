@@ -3,13 +3,13 @@ use Rattle.std.proofs.Common.{◌≡◌, ℕ, Bool, true, false, not, ◌&&◌, 
 use Rattle.std.proofs.Common.{Some, None, is_some, slice_get, nat_eq}
 use Rattle.std.specs.Prelude.{filter}
 use Rattle.std.specs.List.{list_all, list_any}
-use Rattle.std.proofs.lemmas.Bool.{and_parts, or_parts}
+use Rattle.std.proofs.lemmas.Bool.{or_parts}
 use Rattle.trit_cubes.specs.declared.trits.Trit.{Trit}
 use Rattle.trit_cubes.proofs.ListLemmas.{Among}
 use Rattle.bool_functions.specs.declared.tree.Node.{Node}
 use Rattle.cell_machine.specs.declared.arcs.Arc.{Arc}
 use Rattle.cell_machine.specs.CellData.{CellData}
-use Rattle.cell_machine.specs.CellRules.{is_input_pin, is_output_pin, is_arc}
+use Rattle.cell_machine.specs.CellRules.{is_arc}
 use Rattle.cell_machine.specs.Inputs as inputs
 use Rattle.cell_machine.specs.Outputs.{is_zero}
 use Rattle.cell_machine.specs.CellTrace.{condition_value, same_pins}
@@ -25,8 +25,7 @@ use Rattle.model_traces.specs.FitLists.{FitEach}
 use Rattle.model_traces.specs.PortNumbers.{input_number}
 use Rattle.model_traces.specs.NetValues.{net_value}
 use Rattle.model_traces.specs.PathDelays.{is_off, is_quiet, is_active, path_at, is_between, paths_between}
-use Rattle.model_traces.proofs.PinNumbers.{is_port_pin, input-pin-port, output-pin-port, same-port}
-use Rattle.model_traces.proofs.CellSteps.{all-passes}
+use Rattle.model_traces.proofs.PinNumbers.{is_port_pin, same-port, starts-at-port, ends-at-port}
 use Rattle.table_audit.specs.module_shapes.Shape.{gated_by}
 use Rattle.table_audit.specs.module_terminals.Feeding.{gate_wire, Gating, gating, gating_of, path_gating}
 use Rattle.table_audit.specs.module_shapes.SameShape.{SamePath, HasShape}
@@ -83,15 +82,10 @@ module _ (d : CellData) (m : VModule) (shape : HasShape d m) (values : HasValues
       })
 
   from-port : (arc : Arc) → Among arc d.arcs → IsTrue (is_port_pin d.pins arc.from)
-  from-port arc among =
-      input-pin-port d.pins arc.from (and_parts (is_input_pin d.pins arc.from) _
-      (all-passes (is_arc d.pins) d.arcs arc arcs-hold among)).0
+  from-port = starts-at-port d.pins d.arcs arcs-hold
 
   to-port : (arc : Arc) → Among arc d.arcs → IsTrue (is_port_pin d.pins arc.to)
-  to-port arc among =
-      output-pin-port d.pins arc.to
-      (and_parts (is_output_pin d.pins arc.to) _
-      (and_parts (is_input_pin d.pins arc.from) _ (all-passes (is_arc d.pins) d.arcs arc arcs-hold among)).1).0
+  to-port = ends-at-port d.pins d.arcs arcs-hold
 
   off-same :
       (v states : List Trit) (arc : Arc) (path : VPath) → IsBeside d m arc path

@@ -7,10 +7,11 @@ use Rattle.trit_cubes.specs.declared.trits.Trit.TheVariants.{Unknown}
 use Rattle.trit_cubes.specs.Filling.{same, covers}
 use Rattle.cell_machine.specs.Machine.{insert, without, init, last}
 use Rattle.udp_tables.specs.Tables.{columns_match}
-use Rattle.udp_tables.specs.Edges.{moves}
+use Rattle.udp_tables.specs.Edges.{moves, with_last, change_columns}
 use Rattle.udp_tables.proofs.ColumnLemmas.{length-insert, at-insert, without-insert, columns-insert}
 use Rattle.udp_tables.proofs.CubeLemmas.{admits, covers-last}
 use Rattle.udp_tables.proofs.SymbolLemmas.{length-init}
+use Rattle.udp_tables.proofs.PairLemmas.{init-with}
 
 -- How entries of some kind match a column: one of a level what its place of a cube admits, one of an edge a change that both of
 -- its places admit.
@@ -21,6 +22,16 @@ pub record FitsEntries (V : Type 0) (fit : V → Trit → Trit → Bool) (level 
       → moves (old ∷ new ∷ rest) ≡ true → same a b ≡ false → fit (edge old new) a b ≡ (admits old a && admits new b)
   -- an edge does not match a column that keeps its value
   pub stays : (old new t : Trit) → fit (edge old new) t t ≡ false
+
+-- the columns of a change do not depend on the state
+pub columns-with :
+    {V : Type 0} (level : Trit → V) (edge : Trit → Trit → V) (p : ℕ) (t : Trit) (c : List Trit)
+    → 3 ≤ length c → change_columns level edge p (with_last t c) ≡ change_columns level edge p c
+columns-with level edge p t [] l = absurd (omega arith)
+columns-with level edge p t (old ∷ []) l = absurd (omega arith)
+columns-with level edge p t (old ∷ new ∷ []) l = absurd (omega arith)
+columns-with level edge p t (old ∷ new ∷ r ∷ rest) l =
+    ap (λ ts. insert p (edge old new) (map level ts)) (init-with t r rest)
 
 regroup : (x y c d : Bool) → (((x && y) && c) && d) ≡ (x && (y && (c && d)))
 regroup true true c d = refl

@@ -1,5 +1,5 @@
 -- The rows of changes serve, in both forms.
-use Rattle.std.proofs.Common.{◌≡◌, ℕ, suc, ◌<◌, ◌≤◌, Bool, true, false, ◌&&◌, List, [], ◌∷◌, map, length, get_or, refl, ap, arith}
+use Rattle.std.proofs.Common.{◌≡◌, ℕ, suc, ◌<◌, Bool, true, false, ◌&&◌, List, length, get_or, refl, ap, arith}
 use Rattle.std.proofs.lemmas.Bool.{and_left}
 use Rattle.trit_cubes.specs.declared.trits.Trit.{Trit}
 use Rattle.trit_cubes.specs.declared.trits.Trit.TheVariants.{One, Unknown}
@@ -12,22 +12,16 @@ use Rattle.udp_tables.specs.declared.table.UdpRow.{UdpRow}
 use Rattle.udp_tables.specs.Tables.{columns_match}
 use Rattle.udp_tables.specs.Primitive.{entry_matches, level_matches}
 use Rattle.udp_tables.specs.Generated.{level_entry}
-use Rattle.udp_tables.specs.Edges.{edge_cubes, edge_rows, with_last, compact_edge_rows}
+use Rattle.udp_tables.specs.Edges.{edge_cubes, edge_rows, compact_edge_rows}
 use Rattle.udp_tables.specs.Sequential.{row_matches, is_level_row, row_next, level_symbol, edge_entry, noted, edge_inputs}
 use Rattle.udp_tables.specs.Sequential.{edge_row, keep_row}
 use Rattle.udp_tables.proofs.ColumnLemmas.{and-true}
 use Rattle.udp_tables.proofs.CubeLemmas.{edge-long, edge-moves}
 use Rattle.cell_tables.proofs.ChangeRows.{symbol-admits, change-levels, columns-kept, columns-cover}
 use Rattle.cell_tables.proofs.StepRows.{Serves, next-value}
-use Rattle.udp_tables.proofs.PairLemmas.{init-with}
 use Rattle.cell_tables.proofs.RowForms.{FitsCubes, FitsPairs, rows-each, rows-right, rows-found, compact-each, compact-right}
 use Rattle.cell_tables.proofs.RowForms.{compact-found}
-
-inputs-with : (p : ℕ) (t : Trit) (c : List Trit) → 3 ≤ length c → edge_inputs p (with_last t c) ≡ edge_inputs p c
-inputs-with p t [] l = absurd (omega arith)
-inputs-with p t (old ∷ []) l = absurd (omega arith)
-inputs-with p t (old ∷ new ∷ []) l = absurd (omega arith)
-inputs-with p t (old ∷ new ∷ r ∷ rest) l = ap (λ ts. insert p (edge_entry old new) (map level_entry ts)) (init-with t r rest)
+use Rattle.cell_tables.proofs.ChangeColumns.{columns-with}
 
 -- whether the columns of a cube match a change, without the state
 abbrev columns : Bool → ℕ → Trit → Trit → List Trit → Trit → List Trit → Bool
@@ -65,7 +59,7 @@ pairs-fit checks p a b others x s =
       free = λ t c l.
           ap (λ es. columns_match entry_matches (noted checks (entry.Level level.Any) es) (noted checks x (insert p a others))
           (noted checks x (insert p b others)))
-          (inputs-with p t c l);
+          (columns-with level_entry edge_entry p t c l);
     }
 
 -- a row of a cube, with any symbol for the state, has a change entry and matches nothing where its input keeps its value

@@ -28,5 +28,6 @@ pub use level_rows::part_rows;
 pub use made_parts::all_made;
 pub use model_source::{ModelParts, ModelSource};
 pub use points::forced_at;
+pub use port_names::numbered_name;
 pub use step_rows::group_rows;
 pub use timing_checks::checks_of;

@@ -1,5 +1,5 @@
 //! The names of primitives and of their ports.
-ghost use Rattle.std.specs.Prelude.{◌≡◌, IfOk};
+ghost use Rattle.std.specs.Prelude.{◌≡◌, ◌++◌, decimal, IfOk};
 ghost use Rattle.udp_tables.specs.PortNames.{output_name, input_name, input_names};
 ghost use Rattle.udp_tables.specs.CellPrimitives.{primitive_name};
 
@@ -30,8 +30,15 @@ pub(crate) fn input_names(alloc: Global, count: usize) -> Result<Items<SmallByte
 fn input_name(alloc: Global, number: usize) -> Result<SmallBytes, AllocError>
     ensures { IfOk result (λ name. name ≡ input_name number) }
 {
+    numbered_name(alloc, b"i", number)
+}
+
+/// A word followed by a number. `AllocError` comes only where memory is wanting.
+pub fn numbered_name(alloc: Global, word: &[u8], number: usize) -> Result<Items<u8>, AllocError>
+    ensures { IfOk result (λ name. name ≡ word.now ++ decimal number) }
+{
     let mut buffer = Buffer::new();
-    let mut name = Vec::from_slice(alloc, b"i")?;
+    let mut name = Vec::from_slice(alloc, word)?;
     name.extend_from_slice(buffer.format(number).as_bytes())?;
     Ok(SmallBytes::from_items(alloc, Items::from_vec(name))?)
 }

@@ -115,22 +115,8 @@ impl<L: DriverLanguage> Wired<L> {
         })
     }
 
-    /// The terminal of an input, behind others.
-    #[tactic(auto, unfolding(crate::specs::Terminals::input_terminal))]
-    fn input_terminal(
-        &self,
-        cursor: &mut Cursor<'_, L>,
-        own: &[u8],
-        found: Terminals,
-    ) -> Read<Terminals>
-        ensures { Reads (read (spec.input_terminal L.is_name L.is_same L.value L.enable self.now.count own.now found) cursor.old)
-            result cursor.new }
-    {
-        cursor.this_name(own)?;
-        Ok(found)
-    }
-
     /// The terminal of a port, behind others.
+    #[tactic(auto, unfolding(crate::specs::Terminals::input_terminal))]
     fn port_terminal(
         &self,
         cursor: &mut Cursor<'_, L>,
@@ -140,11 +126,11 @@ impl<L: DriverLanguage> Wired<L> {
         ensures { Reads (read (spec.port_terminal L.is_name L.is_same L.value L.enable self.now.count port.now found) cursor.old)
             result cursor.new }
     {
-        if port.input {
-            self.input_terminal(cursor, port.name.as_slice(), found)
-        } else {
-            self.output_terminal(cursor, port.name.as_slice(), found)
+        if !port.input {
+            return self.output_terminal(cursor, port.name.as_slice(), found);
         }
+        cursor.this_name(port.name.as_slice())?;
+        Ok(found)
     }
 
     /// The terminals of ports, behind others.

@@ -6,7 +6,7 @@ use Rattle.std.specs.Prelude.{filter}
 use Rattle.std.specs.List.{list_all}
 use Rattle.std.specs.Option.{option_map_or}
 use Rattle.std.proofs.lemmas.Bool.{and_parts, and_from, eq-eqb}
-use Rattle.std.proofs.lemmas.List.{length-map, get_or-set_same}
+use Rattle.std.proofs.lemmas.List.{length-map}
 use Rattle.std.proofs.lemmas.Option.{slice_get-map, slice_get_within as get-within}
 use Rattle.trit_cubes.specs.declared.trits.Trit.{Trit}
 use Rattle.trit_cubes.specs.declared.trits.Trit.TheVariants.{Zero, Unknown}
@@ -56,9 +56,9 @@ use Rattle.model_traces.specs.ProcessValues.{truth_value, condition_value, is_en
 use Rattle.model_traces.specs.GatedPaths.{gate_holds, path_at, begins_at}
 use Rattle.model_traces.specs.ProcessRun.{columns}
 use Rattle.model_traces.specs.EntityFits.{FitsGroup, FitGroups, FitsCheck, FitsOutput, EntityFits}
-use Rattle.model_traces.proofs.PlaceLemmas.{position-from, placed, get-map, apart}
+use Rattle.model_traces.proofs.PlaceLemmas.{position-from, apart}
 use Rattle.model_traces.proofs.FitLemmas.{fit-made, measures-made}
-use Rattle.model_traces.proofs.PinNumbers.{number-tied, count-tied, still-values, changed-values}
+use Rattle.model_traces.proofs.PinNumbers.{number-tied, count-tied, still-values, changed-values, set-place}
 use Rattle.model_traces.proofs.CellSteps.{IsNamed, named, support-is, step-is, IsSupport, supported, place-is, check-place}
 use Rattle.model_traces.proofs.CellSteps.{arc-place, all-passes, no-sources, length-named}
 
@@ -115,16 +115,10 @@ module _ (states_step : StatesAreMachines) (outputs_resolve : OutputsResolve) (c
       let qs : List ℕ = g.group.support in
       let ys : List Trit = pin_values d.pins (set v c.pin c.to) qs in
       let first = sym (position-from (λ q. nat_eq (inputs.input_number d.pins q) c.pin) qs) ∙ at in
-      let found = placed (λ q. nat_eq (inputs.input_number d.pins q) c.pin) 0 qs p first in
-      let here : found.0 ≡ p = omega (arith, found.2) in
       let there : p ≡ 0 + p = omega arith in
-      let pin-at : slice_get qs p ≡ Some found.1 = ap (slice_get qs) (sym here) ∙ found.3 in
-      let within = get-within qs p found.1 pin-at in
+      let (q, pin-at, number, now) = set-place d.pins qs v c.pin p c.to at (omega (arith, long, inside)) in
+      let within = get-within qs p q pin-at in
       let many : length ys ≡ length qs = length-map qs (pin_value d.pins (set v c.pin c.to)) in
-      let now : get_or ys p Unknown ≡ c.to =
-      get-map (pin_value d.pins (set v c.pin c.to)) qs p found.1 Unknown pin-at
-      ∙ ap (λ n. get_or (set v c.pin c.to) n Unknown) (eqb-true (inputs.input_number d.pins found.1) c.pin found.4)
-      ∙ get_or-set_same v c.pin c.to Unknown (omega (arith, long, inside)) in
       let other : value_before v c ≢ get_or ys p Unknown =
       subst (λ t. value_before v c ≢ t) (sym now) (apart (value_before v c) c.to event) in
       ap (λ xs. lookup_state (state_table d i).rows (violated (has_violation d) violation xs) (violated (has_violation d) Zero ys)

@@ -1,12 +1,12 @@
 -- The module of a cell fits it.
 use Rattle.std.proofs.Common.{◌≡◌, ◌≢◌, ℕ, suc, ◌+◌, ◌<◌, Bool, true, false, not, ◌&&◌, ◌||◌, cond, List, [], ◌∷◌, ◌++◌, length}
 use Rattle.std.proofs.Common.{map, get_or, set, inl, inr, refl, sym, ap, ◌∙◌, subst, arith, IsTrue, Option, Some, None, is_some}
-use Rattle.std.proofs.Common.{option_map, slice_get, nat_eq, nat_lt, eqb-true, if◌then◌else◌}
+use Rattle.std.proofs.Common.{option_map, slice_get, nat_eq, nat_lt, if◌then◌else◌}
 use Rattle.std.specs.Prelude.{filter, position}
 use Rattle.std.specs.List.{list_all, list_any, position_from}
 use Rattle.std.specs.Option.{option_map_or}
 use Rattle.std.proofs.lemmas.Bool.{and_parts, or_parts, ltb-true}
-use Rattle.std.proofs.lemmas.List.{length-map, set-append_left, get_or-set_same}
+use Rattle.std.proofs.lemmas.List.{length-map, set-append_left}
 use Rattle.std.proofs.lemmas.Option.{get_or_from_slice_get, slice_get_within as get-within}
 use Rattle.trit_cubes.specs.declared.trits.Trit.{Trit}
 use Rattle.trit_cubes.specs.declared.trits.Trit.TheVariants.{Zero, One, Unknown}
@@ -68,11 +68,11 @@ use Rattle.model_traces.specs.PathDelays.{is_off, is_quiet, is_active, path_at, 
 use Rattle.model_traces.specs.ModuleRun.{turn_of, toggled}
 use Rattle.model_traces.specs.SequentialStates.{states_among}
 use Rattle.model_traces.specs.ModuleFits.{FitsGroup, FitGroups, FitsCheck, FitsOutput, FitOutputs, ModuleFits}
-use Rattle.model_traces.proofs.PlaceLemmas.{position-from, place-of-made, place-behind, placed, get-map, set-last}
+use Rattle.model_traces.proofs.PlaceLemmas.{position-from, place-of-made, place-behind, set-last}
 use Rattle.model_traces.proofs.PlaceLemmas.{apart}
 use Rattle.model_traces.proofs.FitLemmas.{fit-made, measures-made}
-use Rattle.model_traces.proofs.PinNumbers.{number-tied, count-tied, module-sides, outputs-by-sides, is_port_pin, input-pin-port}
-use Rattle.model_traces.proofs.PinNumbers.{output-pin-port, same-port}
+use Rattle.model_traces.proofs.PinNumbers.{number-tied, count-tied, module-sides, outputs-by-sides, is_port_pin}
+use Rattle.model_traces.proofs.PinNumbers.{output-pin-port, same-port, starts-at-port, ends-at-port, set-place}
 use Rattle.model_traces.proofs.CellSteps.{IsNamed, named, support-is, step-is, IsSupport, supported, place-is, check-place}
 use Rattle.model_traces.proofs.CellSteps.{arc-place, IsOutputPin, output-pin, all-passes, no-sources}
 use Rattle.model_traces.proofs.ModuleParts.{condition-instance-at, output-instance-at, state-driver, condition-driver}
@@ -157,16 +157,9 @@ module _ (parts_resolve : PartsResolve) (machines : GroupsAreMachines) (forces :
   stepped g group is support v c note s long inside event (Some p) e =
       let qs : List ℕ = group.group.support in
       let ys : List Trit = pin_values d.pins (set v c.pin c.to) qs in
-      let found = placed (λ q. nat_eq (inputs.input_number d.pins q) c.pin) 0 qs p
-      (sym (position-from (λ q. nat_eq (inputs.input_number d.pins q) c.pin) qs) ∙ e) in
-      let here : found.0 ≡ p = omega (arith, found.2) in
-      let at : slice_get qs p ≡ Some found.1 = ap (slice_get qs) (sym here) ∙ found.3 in
-      let within = get-within qs p found.1 at in
+      let (q, at, number, now) = set-place d.pins qs v c.pin p c.to e (omega (arith, long, inside)) in
+      let within = get-within qs p q at in
       let many : length ys ≡ length qs = length-map qs (pin_value d.pins (set v c.pin c.to)) in
-      let now : get_or ys p Unknown ≡ c.to =
-      get-map (pin_value d.pins (set v c.pin c.to)) qs p found.1 Unknown at
-      ∙ ap (λ i. get_or (set v c.pin c.to) i Unknown) (eqb-true (inputs.input_number d.pins found.1) c.pin found.4)
-      ∙ get_or-set_same v c.pin c.to Unknown (omega (arith, long, inside)) in
       let other : value_before v c ≢ get_or ys p Unknown =
       subst (λ t. value_before v c ≢ t) (sym now) (apart (value_before v c) c.to event) in
       ap (λ xs. udp_next (group_primitive d g).rows xs (noted (has_notifier d) note ys) s)
@@ -337,15 +330,10 @@ module _ (parts_resolve : PartsResolve) (machines : GroupsAreMachines) (forces :
 
   -- the ends of an arc are ports
   from-port : (arc : Arc) → Among arc d.arcs → IsTrue (is_port_pin d.pins arc.from)
-  from-port arc among =
-      input-pin-port d.pins arc.from (and_parts (is_input_pin d.pins arc.from) _
-      (all-passes (is_arc d.pins) d.arcs arc arcs-hold among)).0
+  from-port = starts-at-port d.pins d.arcs arcs-hold
 
   to-port : (arc : Arc) → Among arc d.arcs → IsTrue (is_port_pin d.pins arc.to)
-  to-port arc among =
-      output-pin-port d.pins arc.to
-      (and_parts (is_output_pin d.pins arc.to) _
-      (and_parts (is_input_pin d.pins arc.from) _ (all-passes (is_arc d.pins) d.arcs arc arcs-hold among)).1).0
+  to-port = ends-at-port d.pins d.arcs arcs-hold
 
   quiet-same : (v states : List Trit) (arc other : Arc) → Among arc d.arcs → Among other d.arcs
       → is_quiet m v states (path_of d arc) (path_of d other) ≡ cell.is_quiet d.pins v arc other

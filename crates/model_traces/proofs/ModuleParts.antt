@@ -38,7 +38,7 @@ use Rattle.model_traces.specs.NetValues.{driver}
 use Rattle.model_traces.specs.SequentialStates.{picked, states_among}
 use Rattle.model_traces.proofs.PlaceLemmas.{position-from, only-place, filter-all, filter-none}
 
-length-each : {X Y : Type 0} (make : ℕ → X → Y) (k : ℕ) (xs : List X) → length (each_from make k xs) ≡ length xs
+pub length-each : {X Y : Type 0} (make : ℕ → X → Y) (k : ℕ) (xs : List X) → length (each_from make k xs) ≡ length xs
 length-each make k [] = refl
 length-each make k (x ∷ xs) = ap suc (length-each make (k + 1) xs)
 

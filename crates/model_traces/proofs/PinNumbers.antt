@@ -1,28 +1,32 @@
 -- The numbers of a cell's pins among its inputs, among its ports, and of those ports among the inputs.
 use Rattle.std.proofs.Common.{◌≡◌, ℕ, zero, suc, ◌+◌, ◌<◌, ◌≤◌, Bool, true, false, ◌||◌, cond, List, [], ◌∷◌, ◌++◌, map, get_or}
 use Rattle.std.proofs.Common.{set, take, refl, sym, ap, ◌∙◌, arith, IsTrue, Option, Some, None, slice_get, nat_eq, nat_lt}
-use Rattle.std.proofs.Common.{eqb-true, if◌then◌else◌}
-use Rattle.std.specs.Prelude.{count_by}
+use Rattle.std.proofs.Common.{eqb-true, if◌then◌else◌, length}
+use Rattle.std.specs.Prelude.{count_by, position}
 use Rattle.std.specs.List.{list_all, position_from}
 use Rattle.std.specs.Option.{option_map_or}
 use Rattle.std.proofs.lemmas.Bool.{and_parts, eq-eqb, ne_eqb, ltb-true, ltb-false}
-use Rattle.std.proofs.lemmas.List.{get_or-set_other}
+use Rattle.std.proofs.lemmas.List.{get_or-set_other, get_or-set_same}
 use Rattle.std.proofs.lemmas.List.Sums.{sum_by-cons}
 use Rattle.trit_cubes.specs.declared.trits.Trit.{Trit}
 use Rattle.trit_cubes.specs.declared.trits.Trit.TheVariants.{Unknown}
+use Rattle.trit_cubes.proofs.ListLemmas.{Among}
 use Rattle.cell_machine.specs.declared.pins.Direction.{Direction}
 use Rattle.cell_machine.specs.declared.pins.Direction.TheVariants as direction
 use Rattle.cell_machine.specs.declared.pins.Pin.{Pin}
-use Rattle.cell_machine.specs.CellRules.{is_input, is_output, is_input_pin, is_output_pin}
+use Rattle.cell_machine.specs.declared.arcs.Arc.{Arc}
+use Rattle.cell_machine.specs.CellRules.{is_input, is_output, is_input_pin, is_output_pin, is_arc}
 use Rattle.cell_machine.specs.Inputs.{is_input_at, pin_value}
 use Rattle.cell_machine.specs.Inputs as cell
 use Rattle.cell_machine.specs.Supports.{AllAbove, Ascending}
 use Rattle.udp_tables.specs.declared.models.VPort.{VPort}
 use Rattle.specify_blocks.specs.Ports.{is_port, port_number, port_of, ports_from}
+use Rattle.specify_blocks.proofs.PortLemmas.{input-is-port, output-is-port}
 use Rattle.vital_models.proofs.PortFacts.{sides, inputs_of, port_number-cons}
 use Rattle.vital_models.proofs.PortFacts as vital
 use Rattle.run_parts.specs.PortNumbers.{is_input as is_input_of, input_count, input_number, output_by, outputs_from}
-use Rattle.model_traces.proofs.PlaceLemmas.{equal-numbers}
+use Rattle.model_traces.proofs.PlaceLemmas.{equal-numbers, position-from, placed, get-map}
+use Rattle.model_traces.proofs.CellSteps.{all-passes}
 
 -- how many of the sides are inputs
 abbrev ones : List Bool → ℕ
@@ -141,16 +145,6 @@ count-below test (pin ∷ pins) (suc p) (suc q) h t =
 abbrev pub is_port_pin : List Pin → ℕ → Bool
 is_port_pin pins p = option_map_or is_port (slice_get pins p) false
 
-input-is-port : (d : Direction) → IsTrue (is_input d) → IsTrue (is_input d || is_output d)
-input-is-port direction.Input h = refl
-input-is-port direction.Output h = absurd cc
-input-is-port direction.Internal h = absurd cc
-
-output-is-port : (d : Direction) → IsTrue (is_output d) → IsTrue (is_input d || is_output d)
-output-is-port direction.Input h = absurd cc
-output-is-port direction.Output h = refl
-output-is-port direction.Internal h = absurd cc
-
 -- a pin that passes a test passes what the test implies
 pin-implied :
     (test other : Pin → Bool) → ((pin : Pin) → IsTrue (test pin) → IsTrue (other pin))
@@ -163,8 +157,39 @@ input-pin-port pins p h = pin-implied (λ pin. is_input pin.direction) is_port (
     (slice_get pins p) h
 
 pub output-pin-port : (pins : List Pin) (p : ℕ) → IsTrue (is_output_pin pins p) → IsTrue (is_port_pin pins p)
-output-pin-port pins p h = pin-implied (λ pin. is_output pin.direction) is_port (λ pin k. output-is-port pin.direction k)
+output-pin-port pins p h = pin-implied (λ pin. is_output pin.direction) is_port (λ pin k. (output-is-port pin.direction k).0)
     (slice_get pins p) h
+
+-- the ends of an arc are ports
+module _ (pins : List Pin) (arcs : List Arc) (hold : IsTrue (list_all (is_arc pins) arcs)) where
+  pub starts-at-port : (arc : Arc) → Among arc arcs → IsTrue (is_port_pin pins arc.from)
+  starts-at-port arc among =
+      input-pin-port pins arc.from
+      (and_parts (is_input_pin pins arc.from) _ (all-passes (is_arc pins) arcs arc hold among)).0
+
+  pub ends-at-port : (arc : Arc) → Among arc arcs → IsTrue (is_port_pin pins arc.to)
+  ends-at-port arc among =
+      output-pin-port pins arc.to
+      (and_parts (is_output_pin pins arc.to) _
+      (and_parts (is_input_pin pins arc.from) _ (all-passes (is_arc pins) arcs arc hold among)).1).0
+
+-- where a change sets an input that stands at a place of a list of pins, that place has its value
+pub set-place :
+    (pins : List Pin) (qs : List ℕ) (v : List Trit) (input p : ℕ) (to : Trit)
+    → position (λ q. nat_eq (cell.input_number pins q) input) qs ≡ Some p → input < length v
+    → (q : ℕ) × (slice_get qs p ≡ Some q) × (cell.input_number pins q ≡ input)
+    × (get_or (cell.pin_values pins (set v input to) qs) p Unknown ≡ to)
+set-place pins qs v input p to e inside =
+    let test : ℕ → Bool = λ q. nat_eq (cell.input_number pins q) input in
+    let found = placed test 0 qs p (sym (position-from test qs) ∙ e) in
+    let here : found.0 ≡ p = omega (arith, found.2) in
+    let at : slice_get qs p ≡ Some found.1 = ap (slice_get qs) (sym here) ∙ found.3 in
+    let number : cell.input_number pins found.1 ≡ input = eqb-true (cell.input_number pins found.1) input found.4 in
+    let value : get_or (cell.pin_values pins (set v input to) qs) p Unknown ≡ to =
+    get-map (pin_value pins (set v input to)) qs p found.1 Unknown at
+    ∙ ap (λ i. get_or (set v input to) i Unknown) number
+    ∙ get_or-set_same v input to Unknown inside in
+    (found.1, at, number, value)
 
 swapped : (a b : ℕ) → nat_eq a b ≡ nat_eq b a
 swapped a b = by (nat_eq a b) refl

@@ -12,6 +12,7 @@ use Rattle.trit_cubes.specs.Sets.{point_of}
 use Rattle.trit_cubes.specs.Prime.{cubes_of}
 use Rattle.trit_cubes.proofs.PointLemmas.{point_of-number}
 use Rattle.cell_machine.specs.Machine.{without}
+use Rattle.cell_machine.proofs.Tables.{filling_wide}
 use Rattle.module_tables.specs.Lists.{trit_numbered, list_numbered}
 
 -- three lists of each length for one of the length before
@@ -110,17 +111,8 @@ without-parts (suc p) (x ∷ xs) l =
     ap (λ k. x ∷ take p xs ++ drop k (x ∷ xs)) next ∙ ap (λ ys. x ∷ ys) (without-parts p xs (omega (arith, l)))
 
 -- the point of a filling by its number
-filling-long : (ts : List Trit) (p : List Bool) → IsFilling ts p → length p ≡ length ts
-filling-long [] [] h = refl
-filling-long [] (b ∷ p) h = absurd h
-filling-long (t ∷ ts) [] h = absurd h
-filling-long (t ∷ ts) (b ∷ p) h = ap suc (filling-long ts p h.1)
-
 pub filling-point : (ts : List Trit) (p : List Bool) (n : ℕ) → IsFilling ts p → n ≡ length ts → point_of n (number p) ≡ p
-filling-point ts p n h e = ap (λ k. point_of k (number p)) (e ∙ sym (filling-long ts p h)) ∙ point_of-number p
-
-pub filling-wide : (ts : List Trit) (p : List Bool) → IsFilling ts p → length p ≡ length ts
-filling-wide = filling-long
+filling-point ts p n h e = ap (λ k. point_of k (number p)) (e ∙ sym (filling_wide ts p h)) ∙ point_of-number p
 
 pub list_long : (n k : ℕ) → length (list_numbered n k) ≡ n
 list_long zero k = refl

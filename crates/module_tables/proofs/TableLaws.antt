@@ -15,6 +15,7 @@ use Rattle.cell_machine.specs.declared.checks.Check.{Check}
 use Rattle.cell_machine.specs.declared.arcs.Arc.{Arc}
 use Rattle.cell_machine.specs.CellData.{CellData}
 use Rattle.cell_machine.specs.CellTrace.{support_at, sources_at}
+use Rattle.cell_machine.proofs.StillLemmas.{same-self}
 use Rattle.udp_tables.specs.Sequential.{noted}
 use Rattle.udp_tables.specs.CellPrimitives.{has_notifier}
 use Rattle.udp_tables.specs.declared.timing_checks.TimingCheck.{TimingCheck}
@@ -65,11 +66,6 @@ same-are One Zero h = absurd (true≢false (sym h))
 same-are One Unknown h = absurd (true≢false (sym h))
 same-are Unknown Zero h = absurd (true≢false (sym h))
 same-are Unknown One h = absurd (true≢false (sym h))
-
-pub same-self : (a : Trit) → same a a ≡ true
-same-self Zero = refl
-same-self One = refl
-same-self Unknown = refl
 
 alike : (cell model : Trit) → not (same cell model) ≡ false → model ≡ cell
 alike cell model h = sym (same-are cell model (like-by (same cell model) h))

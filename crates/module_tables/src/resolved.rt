@@ -6,18 +6,7 @@ ghost use Rattle.trit_cubes.specs.Resolution.{res};
 ghost use Rattle.trit_cubes.specs.Sets.{Gives, AreValuesOf, point_of};
 
 use cell_machine::Few;
-use trit_cubes::{Trit, resolve};
-
-/// The point of ten places with this number, in which place i weighs 2 to the power i.
-pub(crate) fn point_of(number: u16) -> [bool; 10]
-    ensures { result ≡ point_of 10 number }
-{
-    let mut point = [false; 10];
-    for i in 0..10u16 {
-        point[i as usize] = (number >> i) & 1 == 1;
-    }
-    point
-}
+use trit_cubes::{Trit, point_of, resolve};
 
 /// The value of a function at the point with this number.
 fn at_number<F: Fn(&[bool]) -> Trit>(function: &F, places: usize, number: u16) -> Trit
@@ -25,7 +14,7 @@ fn at_number<F: Fn(&[bool]) -> Trit>(function: &F, places: usize, number: u16) -
     requires few { places ≤ 10 }
     ensures { (t : Trit) → t ≡ result → FnReturnsAt F.Fn function.now (point_of places number) t }
 {
-    let point = point_of(number);
+    let point = point_of(number as u32);
     function(&point[..places])
 }
 

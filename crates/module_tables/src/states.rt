@@ -18,9 +18,9 @@ use crate::lists::{cube_of, list_count, list_numbered, trit_numbered};
 use crate::net_rows::NetRows;
 use cell_machine::{Cell, Few};
 use cell_tables::has_notifier;
-use module_terminals::terminals::{group_nets, pin_net, sequential_instance};
+use module_terminals::terminals::{group_nets, sequential_instance};
 use row_selection::NextStates;
-use specify_blocks::{VModule, VNet};
+use specify_blocks::{VModule, VNet, pin_net};
 use trit_cubes::Trit;
 
 /// The values with that of the register behind them, where there is one.

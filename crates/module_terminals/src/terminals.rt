@@ -9,15 +9,7 @@ ghost use Rattle.module_terminals.specs.Feeding.{output_net};
 
 use cell_machine::{Cell, Few, Pin, Source};
 use cell_tables::has_notifier;
-use specify_blocks::{Instance, VModule, VNet};
-use udp_tables::port_number;
-
-/// The net of a pin: its port.
-pub fn pin_net(pins: &[Pin], pin: usize) -> VNet
-    ensures { result ≡ pin_net pins.now pin }
-{
-    VNet::Port(port_number(pins, pin))
-}
+use specify_blocks::{Instance, VModule, VNet, pin_net};
 
 /// Whether this is the number of a primitive with a state.
 fn is_sequential(model: &VModule, udp: usize) -> bool

@@ -1,8 +1,8 @@
 //! The names in a module that are not the cell's own, and the names that take the place of those that are not kept.
-ghost use Rattle.std.specs.Prelude.{◌≡◌, ◌++◌, decimal, IfOk, OnOk};
+ghost use Rattle.std.specs.Prelude.{◌≡◌, ◌++◌, IfOk, OnOk};
 ghost use Rattle.specify_blocks.specs.Names.{module_name, driver_name, numbered, notifier_name};
 
-use itoa::Buffer;
+use cell_tables::numbered_name;
 use sqlite_items::Items;
 use std::alloc::{AllocError, Global};
 use verilog_tokens::is_kept_cell_name;
@@ -30,20 +30,6 @@ pub fn driver_name(alloc: Global, number: usize, name: &[u8]) -> Result<Items<u8
     let mut other = numbered_name(alloc, b"lib_", number)?;
     other.append(Items::from_slice(alloc, b"_z")?)?;
     Ok(other)
-}
-
-/// A word followed by a number.
-pub(crate) fn numbered_name(
-    alloc: Global,
-    word: &[u8],
-    number: usize,
-) -> Result<Items<u8>, AllocError>
-    ensures { IfOk result (λ name. name ≡ word.now ++ decimal number) }
-{
-    let mut buffer = Buffer::new();
-    let mut name = Vec::from_slice(alloc, word)?;
-    name.extend_from_slice(buffer.format(number).as_bytes())?;
-    Ok(Items::from_vec(name))
 }
 
 /// Adds a word and the numbers from 1 to `count`.

@@ -2,8 +2,8 @@
 ghost use Rattle.std.specs.Prelude.{◌≡◌, IfOk};
 ghost use Rattle.specify_blocks.specs.Ports.{port_name, port_of, ports_of};
 
-use crate::names::numbered_name;
 use cell_machine::{Direction, Pin};
+use cell_tables::numbered_name;
 use sqlite_items::Items;
 use std::alloc::{AllocError, Global};
 use udp_tables::{SmallBytes, VPort, is_port};

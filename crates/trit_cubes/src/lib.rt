@@ -19,6 +19,7 @@ mod word_primes;
 pub use covering::covers;
 pub use cubes::Cube;
 pub use merging::merge_primes;
+pub use points::point_of;
 pub use resolution::resolve;
 pub use splitting::primes;
 pub use trits::Trit;

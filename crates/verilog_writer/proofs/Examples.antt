@@ -5,6 +5,7 @@ use Rattle.cell_machine.specs.declared.checks.CheckKind.{CheckKind}
 use Rattle.cell_machine.specs.declared.checks.CheckKind.TheVariants as check_kind
 use Rattle.cell_machine.specs.declared.checks.Edge.{Edge}
 use Rattle.cell_machine.specs.declared.checks.Edge.TheVariants as edge
+use Rattle.cell_machine.specs.declared.checks.Event.{Event}
 use Rattle.udp_tables.specs.declared.table.Udp.{Udp}
 use Rattle.specify_blocks.specs.declared.model.VNet.TheVariants as net
 use Rattle.specify_blocks.specs.declared.model.Instance.TheVariants as instance
@@ -26,16 +27,12 @@ port name input = record { name = name; input = input }
 primitive : List ℕ → Bool → Udp
 primitive name sequential = record { name = name; output = codes "q"; inputs = []; sequential = sequential; rows = [] }
 
+abbrev event : ℕ → Edge → Event
+event p e = record { pin = p; edge = e }
+
 check : CheckKind → ℕ → ℕ → Edge → ℕ → Edge → Option ℕ → TimingCheck
 check kind limit p e q f condition =
-    record {
-      kind = kind;
-      first = record { pin = p; edge = e };
-      second = record { pin = q; edge = f };
-      limit = limit;
-      condition =
-          condition;
-    }
+    record { kind = kind; first = event p e; second = event q f; limit = limit; condition = condition }
 
 -- A flip-flop with a setup of 50 of D before rising CK, and delays of 100 and 120 from CK to Q.
 flip_flop : VModule

@@ -1,16 +1,15 @@
 -- The rows of changes serve, in both forms.
-use Rattle.std.proofs.Common.{◌≡◌, ℕ, suc, ◌<◌, ◌≤◌, Bool, true, false, ◌&&◌, List, [], ◌∷◌, map, length, refl, ap, arith}
+use Rattle.std.proofs.Common.{◌≡◌, ℕ, suc, ◌<◌, Bool, true, false, ◌&&◌, List, length, refl, ap, arith}
 use Rattle.std.proofs.lemmas.Bool.{and_left}
 use Rattle.trit_cubes.specs.declared.trits.Trit.{Trit}
 use Rattle.trit_cubes.specs.declared.trits.Trit.TheVariants.{One, Unknown}
 use Rattle.trit_cubes.specs.Filling.{same}
 use Rattle.cell_machine.specs.Machine.{Step, insert, last}
-use Rattle.vital_tables.specs.udp_tables.{Tables.columns_match, Edges.edge_cubes, Edges.edge_rows, Edges.with_last}
-use Rattle.vital_tables.specs.udp_tables.Edges.{compact_edge_rows}
+use Rattle.vital_tables.specs.udp_tables.{Tables.columns_match, Edges.edge_cubes, Edges.edge_rows, Edges.compact_edge_rows}
 use Rattle.vital_tables.proofs.udp_tables.{ColumnLemmas.and-true, CubeLemmas.edge-long, CubeLemmas.edge-moves}
-use Rattle.vital_tables.proofs.udp_tables.PairLemmas.{init-with}
 use Rattle.cell_tables.proofs.RowForms.{FitsCubes, FitsPairs, rows-each, rows-right, rows-found, compact-each, compact-right}
 use Rattle.cell_tables.proofs.RowForms.{compact-found}
+use Rattle.cell_tables.proofs.ChangeColumns.{columns-with}
 use Rattle.vital_tables.specs.declared.table.VSymbol.TheVariants as symbol
 use Rattle.vital_tables.specs.declared.table.Trits.TheVariants as trits
 use Rattle.vital_tables.specs.declared.table.VStateRow.{VStateRow}
@@ -19,12 +18,6 @@ use Rattle.vital_tables.specs.LookUps.{state_matches, row_next}
 use Rattle.vital_tables.specs.Rows.{level_of, level_symbol, edge_symbol, violated, edge_columns, edge_row, keep_row}
 use Rattle.vital_models.proofs.SymbolLemmas.{level-admits, columns-kept, columns-cover}
 use Rattle.vital_models.proofs.StateRows.{Serves, next-value}
-
-columns-with : (p : ℕ) (t : Trit) (c : List Trit) → 3 ≤ length c → edge_columns p (with_last t c) ≡ edge_columns p c
-columns-with p t [] l = absurd (omega arith)
-columns-with p t (old ∷ []) l = absurd (omega arith)
-columns-with p t (old ∷ new ∷ []) l = absurd (omega arith)
-columns-with p t (old ∷ new ∷ r ∷ rest) l = ap (λ ts. insert p (edge_symbol old new) (map level_symbol ts)) (init-with t r rest)
 
 -- whether the columns of a cube match a change, without the state
 abbrev columns : Bool → ℕ → Trit → Trit → List Trit → Trit → Trit → List Trit → Bool
@@ -62,7 +55,7 @@ pairs-fit checks p a b others x y s =
       free = λ t c l.
           ap (λ es. columns_match symbol_matches (violated checks (symbol.Level trits.Any) es)
           (violated checks x (insert p a others)) (violated checks y (insert p b others)))
-          (columns-with p t c l);
+          (columns-with level_symbol edge_symbol p t c l);
     }
 
 pub edge_rows-serve : (checks : Bool) (n : ℕ) (step : Step) → Serves checks n step (edge_rows (edge_row checks) step n)

@@ -5,7 +5,7 @@ use Rattle.trit_cubes.specs.Filling.{number}
 use Rattle.cell_machine.specs.Machine.{forced_at}
 use Rattle.cell_machine.specs.CellData.{data_of}
 use Rattle.cell_machine.specs.CellTrace.{step_at}
-use Rattle.module_tables.proofs.ListNumbers.{filling-wide}
+use Rattle.cell_machine.proofs.Tables.{filling_wide}
 use Rattle.module_tables.proofs.cell_values.forced_by.Goals as goal
 
 pub returns : goal.returns
@@ -15,5 +15,5 @@ returns c =
     (record {
       at_filling = λ q filling v says.
           let entry : v ≡ slice_index_or c.args.forces.now (number q) trit.Unknown = search rules in
-          entry ∙ c.requires.forces.values_at q (filling-wide values q filling ∙ c.requires.values);
+          entry ∙ c.requires.forces.values_at q (filling_wide values q filling ∙ c.requires.values);
     })

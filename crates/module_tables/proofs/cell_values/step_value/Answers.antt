@@ -8,7 +8,7 @@ use Rattle.cell_machine.specs.Machine.{edge_value, without}
 use Rattle.cell_machine.specs.CellData.{data_of}
 use Rattle.cell_machine.specs.CellTrace.{support_at, step_at}
 use Rattle.udp_tables.proofs.ColumnLemmas.{length-without}
-use Rattle.module_tables.proofs.ListNumbers.{filling-wide}
+use Rattle.cell_machine.proofs.Tables.{filling_wide}
 use Rattle.module_tables.proofs.cell_values.step_value.Goals as goal
 
 pub returns : goal.returns
@@ -26,6 +26,6 @@ returns c =
     (record {
       at_filling = λ q filling v says.
           let entry : v ≡ slice_index_or c.args.change.steps.now (number q) trit.Unknown = search rules in
-          entry ∙ c.requires.steps.values_at q (filling-wide c.as_slice.result.now q filling ∙ wide);
+          entry ∙ c.requires.steps.values_at q (filling_wide c.as_slice.result.now q filling ∙ wide);
     })
     ∙ ap (res (edge_value (step_at d g) p)) are

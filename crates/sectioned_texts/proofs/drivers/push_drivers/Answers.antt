@@ -17,7 +17,7 @@ loop-section-preserved g c =
     let drivers : List DriverModel = c.loop-section.drivers in
     let driver : DriverModel = c.in-Ok.driver in
     let first : Span = record { at = 0; end = 0 } in
-    let left : i < length sections = omega arith in
+    let left : i < length sections = c.loop-section-test.true in
     let all : c.with_driver.new.drivers ≡ drivers ++ driver ∷ [] = c.in_ok-names-in-Ok.ensures.added in
     record {
       names = c.in_ok-names-in-Ok.ensures.named

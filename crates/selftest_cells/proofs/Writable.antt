@@ -182,14 +182,21 @@ three_above l = suc (suc (suc l))
 plain_input : (l : ℕ) (name : List ℕ) → is_quotable (text name) ≡ true → item_is_writable (three_above l) (input name []) ≡ true
 plain_input l name h = pin_writable (suc (suc l)) name (codes "input") [] h refl refl
 
+-- a pin with one statement behind its direction
+stated_pin :
+    (l : ℕ) (name direction key value : List ℕ) → is_quotable (text name) ≡ true → is_quotable (text direction) ≡ true
+    → is_name key ≡ true → is_quotable (text value) ≡ true
+    → item_is_writable (three_above l) (pin name direction (simple key value ∷ [])) ≡ true
+stated_pin l name direction key value h k n q =
+    pin_writable (suc (suc l)) name direction (simple key value ∷ []) h k
+    (before (suc (suc l)) (simple key value) [] (simple_writable (suc (suc l)) key value n q) refl)
+
 function_items_writable :
     (l : ℕ) (f : List ℕ) → is_quotable (text f) ≡ true → list_all (item_is_writable (three_above l)) (function_items f) ≡ true
 unfolding function_items
 function_items_writable l f h =
-    let value = before (suc (suc l)) (simple (codes "function") f) [] (simple_writable (suc (suc l)) (codes "function") f refl h)
-    refl in
     rw (plain_input l (codes "A") refl) (rw (plain_input l (codes "B") refl) (rw (plain_input l (codes "C") refl)
-    (rw (pin_writable (suc (suc l)) (codes "Y") (codes "output") (simple (codes "function") f ∷ []) refl refl value) refl)))
+    (rw (stated_pin l (codes "Y") (codes "output") (codes "function") f refl refl refl h) refl)))
 
 setup_writable : (l : ℕ) → item_is_writable (suc (suc l)) setup ≡ true
 unfolding setup
@@ -240,18 +247,10 @@ the_latch_writable l =
 latch_writable : (l : ℕ) → list_all (item_is_writable (three_above l)) latch_items ≡ true
 unfolding latch_items
 latch_writable l =
-    let width =
-    before (suc (suc l)) (simple (codes "min_pulse_width_high") (codes "15")) []
-    (simple_writable (suc (suc l)) (codes "min_pulse_width_high") (codes "15") refl refl) refl in
-    let value =
-    before (suc (suc l)) (simple (codes "function") (codes "IQ")) []
-    (simple_writable (suc (suc l)) (codes "function") (codes "IQ") refl refl) refl in
     rw (the_latch_writable (suc (suc l)))
-    (rw (pin_writable (suc (suc l)) (codes "EN") (codes "input") (simple (codes "min_pulse_width_high") (codes "15") ∷ []) refl
-    refl width)
+    (rw (stated_pin l (codes "EN") (codes "input") (codes "min_pulse_width_high") (codes "15") refl refl refl refl)
     (rw (plain_input l (codes "D") refl)
-    (rw (pin_writable (suc (suc l)) (codes "Q") (codes "output") (simple (codes "function") (codes "IQ") ∷ []) refl refl value)
-    refl)))
+    (rw (stated_pin l (codes "Q") (codes "output") (codes "function") (codes "IQ") refl refl refl refl) refl)))
 
 state_rows_quotable : is_quotable (text state_rows) ≡ true
 unfolding state_rows
@@ -267,18 +266,10 @@ the_table_writable l =
 clock_gate_writable : (l : ℕ) → list_all (item_is_writable (three_above l)) clock_gate_items ≡ true
 unfolding clock_gate_items
 clock_gate_writable l =
-    let node =
-    before (suc (suc l)) (simple (codes "internal_node") (codes "IQ")) []
-    (simple_writable (suc (suc l)) (codes "internal_node") (codes "IQ") refl refl) refl in
-    let value =
-    before (suc (suc l)) (simple (codes "state_function") (codes "CK * IQ")) []
-    (simple_writable (suc (suc l)) (codes "state_function") (codes "CK * IQ") refl refl) refl in
     rw (the_table_writable (suc (suc l)))
     (rw (plain_input l (codes "CK") refl) (rw (plain_input l (codes "E") refl) (rw (plain_input l (codes "SE") refl)
-    (rw (pin_writable (suc (suc l)) (codes "IQ") (codes "internal") (simple (codes "internal_node") (codes "IQ") ∷ []) refl refl
-    node)
-    (rw (pin_writable (suc (suc l)) (codes "GCK") (codes "output") (simple (codes "state_function") (codes "CK * IQ") ∷ []) refl
-    refl value) refl)))))
+    (rw (stated_pin l (codes "IQ") (codes "internal") (codes "internal_node") (codes "IQ") refl refl refl refl)
+    (rw (stated_pin l (codes "GCK") (codes "output") (codes "state_function") (codes "CK * IQ") refl refl refl refl) refl)))))
 
 -- those of the cell with this number
 items_writable : (l kind number : ℕ) → list_all (item_is_writable (three_above l)) (items_by kind number) ≡ true

@@ -1,12 +1,13 @@
 -- The VITAL model of a cell is named by which names are given before it, however these are listed.
 use Rattle.std.proofs.Common.{◌≡◌, ℕ, Bool, true, false, ◌&&◌, ◌||◌, not, List, [], ◌∷◌, ◌++◌, codes, refl, sym, ap, subst, ◌∙◌}
-use Rattle.std.proofs.Common.{is_some, if◌then◌else◌}
+use Rattle.std.proofs.Common.{Some, is_some, if◌then◌else◌}
 use Rattle.std.specs.List.{list_any}
 use Rattle.std.specs.Str.{bytes_eq, str_eq_ignore_ascii_case}
 use Rattle.std.proofs.lemmas.List.Folds.{list_any-append}
 use Rattle.std.proofs.lemmas.Slice.Eq.{bytes_eq-Decides}
 use Rattle.library_simulation.specs.file_models.bool_functions.NameList.{number_of}
 use Rattle.written_driven_models.specs.liberty_groups.declared.tree.Group.{Group}
+use Rattle.cell_attributes.specs.Groups.{cell_name}
 use Rattle.cell_attributes.proofs.Clashes.{found_is}
 use Rattle.written_driven_models.specs.vhdl_tokens.Kept.{is_identifier, is_free, is_numbered, lowered}
 use Rattle.written_driven_models.specs.vital_models.Kept.{is_kept_entity_name, name_or_numbered, entity_name, driver_name}
@@ -14,7 +15,7 @@ use Rattle.written_driven_models.specs.three_state_cells.DrivenCells.{DrivenData
 use Rattle.written_driven_models.specs.VitalLibrary.{model_name}
 use Rattle.library_simulation.specs.library_reader.LibraryCells.{vital_name}
 use Rattle.library_simulation.specs.library_reader.declared.progress.Progress.{Progress}
-use Rattle.library_simulation.specs.library_reader.Progress.{names_with, next_data, next_entity}
+use Rattle.library_simulation.specs.library_reader.Progress.{names_with, next_data, next_entity, after_cell}
 
 -- two lists hold the same names
 abbrev pub AreAlike : List (List ℕ) → List (List ℕ) → Type 0
@@ -53,7 +54,7 @@ same_with known x name e = by (list_any (bytes_eq name) known) (bytes_eq name x)
     by false true h k = sym (subst (λ y. list_any (bytes_eq y) known ≡ true) (sym ((bytes_eq-Decides name x).0 k)) e) ∙ h
 
 -- one more name, which the second list is given once
-pub alike_with : (given known : List (List ℕ)) (x : List ℕ) → AreAlike given known
+alike_with : (given known : List (List ℕ)) (x : List ℕ) → AreAlike given known
     → AreAlike (given ++ x ∷ []) (names_with known x)
 alike_with given known x h name =
     list_any-append (bytes_eq name) given (x ∷ []) ∙ ap (λ (a : Bool). a || (bytes_eq name x || false)) (h name)
@@ -71,3 +72,12 @@ pub its_entity :
     → next_entity p group ≡ model_name (may_float (next_data p group)) given (next_data p group)
 unfolding next_entity
 its_entity p group given h = named_alike given p.entities (next_data p group) h
+
+-- the names behind it
+pub alike_after : (p : Progress) (group : Group) (given : List (List ℕ)) → AreAlike given p.entities
+    → AreAlike (given ++ lowered (model_name (may_float (next_data p group)) given (next_data p group)) ∷ [])
+    (after_cell p (cell_name group) (Some (next_entity p group))).entities
+alike_after p group given h =
+    subst (λ (name : List ℕ). AreAlike (given ++ lowered name ∷ []) (names_with p.entities (lowered (next_entity p group))))
+    (its_entity p group given h)
+    (alike_with given p.entities (lowered (next_entity p group)) h)

@@ -22,7 +22,7 @@ use Rattle.library_simulation.specs.library_reader.Endings.{library_limit}
 use Rattle.library_simulation.proofs.library_reader.CellLemmas.{bits_name, bits_unrefused}
 use Rattle.translate_cmd.specs.TranslatedModels.{cells_by, accepted_cells, cells_in}
 use Rattle.translate_cmd.proofs.ReadCells.{name_is_new}
-use Rattle.translate_cmd.proofs.EntityNames.{AreAlike, alike_with, its_entity}
+use Rattle.translate_cmd.proofs.EntityNames.{AreAlike, its_entity, alike_after}
 
 -- the accepted cells among these
 abbrev pub accepted_of : List CellEntry → List DrivenData
@@ -61,12 +61,9 @@ cell_kept :
 cell_kept p group items given follow h true None new = absurd (let b : true ≡ false = new refl in cc)
 cell_kept p group items given follow h false None new =
     let cell : DrivenData = next_data p group in
-    let named = its_entity p group given h in
-    let after : Progress = after_cell p (cell_name group) (Some (next_entity p group)) in
-    let rest = follow after (given ++ lowered (model_name (may_float cell) given cell) ∷ [])
-    (subst (λ (name : List ℕ). AreAlike (given ++ lowered name ∷ []) after.entities) named
-    (alike_with given p.entities (lowered (next_entity p group)) h)) in
-    record { same = ap (λ (cells : List DrivenData). cell ∷ cells) rest.same; named = (named, rest.named) }
+    let rest = follow (after_cell p (cell_name group) (Some (next_entity p group)))
+    (given ++ lowered (model_name (may_float cell) given cell) ∷ []) (alike_after p group given h) in
+    record { same = ap (λ (cells : List DrivenData). cell ∷ cells) rest.same; named = (its_entity p group given h, rest.named) }
 cell_kept p group items given follow h true (Some refusal) new = follow (after_cell p (cell_name group) None) given h
 cell_kept p group items given follow h false (Some refusal) new =
     let rest = follow (after_cell p (cell_name group) None) given h in

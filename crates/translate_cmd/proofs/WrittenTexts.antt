@@ -33,7 +33,7 @@ use Rattle.library_translation.specs.Cells.{accepted_written, written_by, items_
 use Rattle.library_translation.specs.Library.{outcome_at}
 use Rattle.translate_cmd.specs.TranslatedModels.{cells_by, accepted_cells}
 use Rattle.translate_cmd.specs.TranslatedLaws.{VerilogIsOfModules, VitalIsOfEntities}
-use Rattle.translate_cmd.proofs.EntityNames.{AreAlike, alike_with, its_entity}
+use Rattle.translate_cmd.proofs.EntityNames.{AreAlike, its_entity, alike_after}
 
 -- One cell.
 
@@ -92,13 +92,10 @@ cell_written :
     (joined (written_by p group o) (items_behind p group o items))
 cell_written p group items given follow h None =
     let cell : DrivenData = next_data p group in
-    let named = its_entity p group given h in
-    let after : Progress = after_cell p (cell_name group) (Some (next_entity p group)) in
-    let rest = follow after (given ++ lowered (model_name (may_float cell) given cell) ∷ [])
-    (subst (λ (name : List ℕ). AreAlike (given ++ lowered name ∷ []) after.entities) named
-    (alike_with given p.entities (lowered (next_entity p group)) h)) in
+    let rest = follow (after_cell p (cell_name group) (Some (next_entity p group)))
+    (given ++ lowered (model_name (may_float cell) given cell) ∷ []) (alike_after p group given h) in
     let first = in_verilog (next_entity p group) cell group ∙ one_verilog cell in
-    let second = in_vital (next_entity p group) cell group ∙ one_vital given cell (next_entity p group) named in
+    let second = in_vital (next_entity p group) cell group ∙ one_vital given cell (next_entity p group) (its_entity p group given h) in
     record {
       verilog = λ i. first i ++ rest.verilog i;
       vital = λ i. second i ++ rest.vital i;

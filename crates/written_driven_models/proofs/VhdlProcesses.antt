@@ -30,7 +30,8 @@ use Rattle.written_entities.proofs.SignalReading.{names_read}
 use Rattle.written_entities.proofs.Counting.{counted}
 use Rattle.written_driven_models.proofs.TerminalReading.{names_joined}
 use Rattle.written_driven_models.proofs.VhdlNames.{signals_named, inputs_named}
-use Rattle.written_driven_models.proofs.VhdlTokens.{next_name_front, listed_front, glitch_front, driven_variables_front}
+use Rattle.written_entities.proofs.VariableTokens.{glitch_front}
+use Rattle.written_driven_models.proofs.VhdlTokens.{next_name_front, listed_front, driven_variables_front}
 use Rattle.written_driven_models.proofs.VhdlTokens.{buffer_front}
 
 -- The list of signals.

@@ -14,7 +14,7 @@ use Rattle.written_entities.specs.vhdl_tokens.Spelling.{is_same}
 use Rattle.written_entities.specs.vhdl_grammar.VhdlDeclarations.{input_names}
 use Rattle.written_entities.specs.vhdl_grammar.WellFormed.{IsNumber, IsCount}
 use Rattle.written_entities.specs.vhdl_writer.Joined.{numbered_texts, apart_text}
-use Rattle.written_entities.specs.vhdl_writer.Declarations.{some_ports_text}
+use Rattle.written_entities.specs.vhdl_writer.Declarations.{some_ports_text, glitch_data_text}
 use Rattle.driven_traces.specs.declared.delays.DrivePath.{DrivePath}
 use Rattle.driven_traces.specs.Drivers.{IsPathOf}
 use Rattle.driver_models.specs.declared.model.DriverModel.{DriverModel}
@@ -37,17 +37,17 @@ use Rattle.written_modules.proofs.section_outlines.Offsets as offsets
 use Rattle.written_modules.proofs.grammar_reader.Fronts.{Front, Anything, each}
 use Rattle.written_modules.proofs.grammar_reader.Passages.{passes_found, unless_barred}
 use Rattle.written_modules.proofs.grammar_reader.ItemPlaces.{at_place}
-use Rattle.written_modules.proofs.grammar_reader.Spelling.{literal, joins, behind, nothing, each_spelled}
+use Rattle.written_modules.proofs.grammar_reader.Spelling.{literal, joins, behind, each_spelled}
 use Rattle.written_entities.proofs.Spelling.{vhdl, Spells, SpellsInside, inside, argument}
 use Rattle.written_entities.proofs.Names.{IsNamed, entity_named}
 use Rattle.written_entities.proofs.Words.{Ends, name, part, number, word_alone, word_token}
 use Rattle.written_entities.proofs.Tests.{some_items}
-use Rattle.written_entities.proofs.Parts.{shown, part_behind, fact_at, place_below}
+use Rattle.written_entities.proofs.Parts.{part_behind, fact_at, place_below}
 use Rattle.written_entities.proofs.QuotedNames.{quoted, quoted_behind}
 use Rattle.written_entities.proofs.Counting.{counted, counted_anywhere, apart_front, apart_spelled}
 use Rattle.written_entities.proofs.Elements.{comma, call_end, line_end, indented}
 use Rattle.written_entities.proofs.HeaderReading.{package_front, ports_front, AreNamed, some_ports_spelled}
-use Rattle.written_entities.proofs.VariableTokens.{variable_word, output_type, glitch_type}
+use Rattle.written_entities.proofs.VariableTokens.{variable_word, output_type, glitch_front, glitch_spelled}
 use Rattle.written_entities.proofs.PathReading.{path_start, event_word, rise_end, index_is, index_fits}
 use Rattle.written_entities.proofs.OutputReading.{path_call_word, paths_word, paths_end, takes}
 use Rattle.written_entities.proofs.EntityReading.{begin_word}
@@ -245,27 +245,14 @@ process_spelled m w =
 
 -- The variables.
 
-abbrev pub glitch_front : ℕ → List DrivePath → Front
-glitch_front n [] s = s
-glitch_front n (path ∷ paths) s =
-    codes "variable" ∷ (103 ∷ 95 ∷ decimal n) ∷ codes ":" ∷ codes "VitalGlitchDataType" ∷ codes ";" ∷ s
-
 abbrev pub driven_variables_front : DriverModel → ℕ → ℕ → Front
 driven_variables_front m n place s =
     codes "variable" ∷ (122 ∷ 95 ∷ decimal n) ∷ codes ":" ∷ codes "std_logic" ∷ codes ":=" ∷ codes "'X'" ∷ codes ";"
     ∷ glitch_front n (own_paths m n) s
 
-glitch_spelled : (n : ℕ) (paths : List DrivePath) → IsCount n
-    → Spells Anything false (if nat_lt 0 (length paths) then delays_text n else []) (glitch_front n paths) false
-unfolding delays_text
-glitch_spelled n [] h = nothing
-glitch_spelled n (path ∷ paths) h =
-    shown (nat_lt 0 (length (path ∷ paths))) (some_items (length paths))
-    (part_behind 103 n refl h variable_word (λ r q. refl) glitch_type)
-
 variables_spelled : (m : DriverModel) (n place : ℕ) → IsCount n
     → Spells Anything false (driven_variables_text m n place) (driven_variables_front m n place) false
-unfolding driven_variables_text
+unfolding driven_variables_text delays_text glitch_data_text
 variables_spelled m n place h = part_behind 122 n refl h variable_word (λ r q. refl)
     (behind output_type (glitch_spelled n (own_paths m n) h))
 

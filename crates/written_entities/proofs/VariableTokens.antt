@@ -56,7 +56,7 @@ state_front n state s =
     ∷ codes "std_logic_vector" ∷ codes "(" ∷ codes "1" ∷ codes "to" ∷ decimal (columns_of state) ∷ codes ")" ∷ codes ":=" ∷ codes
     "(" ∷ codes "others" ∷ codes "=>" ∷ codes "'X'" ∷ codes ")" ∷ codes ";" ∷ s
 
-abbrev pub glitch_front : ℕ → List HPath → Front
+abbrev pub glitch_front : {A : Type 0} → ℕ → List A → Front
 glitch_front n [] s = s
 glitch_front n (path ∷ paths) s =
     codes "variable" ∷ (103 ∷ 95 ∷ decimal n) ∷ codes ":" ∷ codes "VitalGlitchDataType" ∷ codes ";" ∷ s
@@ -157,7 +157,8 @@ state_spelled n state h e m =
     (part_behind 115 n refl h variable_word (λ r q. refl) (part_behind 112 n refl h state_type (λ r q. refl)
     (behind columns_type (joins (number (columns_of state) m) (λ r q. refl) columns_end))))
 
-glitch_spelled : (n : ℕ) (paths : List HPath) → IsCount n
+-- the data of the delays of paths, where there are some
+pub glitch_spelled : {A : Type 0} (n : ℕ) (paths : List A) → IsCount n
     → Spells Anything false (if nat_lt 0 (length paths) then glitch_data_text n else []) (glitch_front n paths) false
 unfolding glitch_data_text
 glitch_spelled n [] h = nothing

@@ -1,4 +1,4 @@
-//! The desks called once, a real file among them.
+//! The desk of real files, called once.
 
 ghost use Rattle.std.specs.Prelude.{◌≡◌, [], ◌∷◌, map, codes, string_bytes, IfOk, OnOk, IsTrue};
 ghost use Rattle.text_io.specs.declared.slots.InSlot.TheVariants.{Library};
@@ -6,14 +6,11 @@ ghost use Rattle.text_io.specs.declared.slots.OutSlot.TheVariants.{VerilogText, 
 ghost use Rattle.text_io.specs.declared.slots.Slot.TheVariants.{Input, Output};
 ghost use Rattle.text_io.specs.Plan.{plan};
 ghost use Rattle.text_io.specs.Desk.{is_bound};
-ghost use Rattle.text_io.specs.Memory.{memory_of};
 
 use std::alloc::{AllocError, Global};
 use std::fs;
 use std::test::Fail;
-use text_io::{
-    Desk, Failed, FileDesk, InSlot, MemoryDesk, NamedFile, OutSlot, Stop, read_all, write_whole,
-};
+use text_io::{Desk, Failed, FileDesk, InSlot, OutSlot, Stop, read_all, write_whole};
 
 /// The words of a translation of this library to this Verilog text, and of VHDL text to nowhere.
 fn words(alloc: Global, library: &str, verilog: &str) -> Result<Vec<String>, AllocError>
@@ -77,51 +74,5 @@ fn keeps_own_file(rt: &HostRuntime) -> Result<bool, Fail> {
 fn real_files_are_read_and_written(rt: HostRuntime) -> Result<(), Fail> {
     assert!(rt; copies_without_end(&rt)?);
     assert!(rt; keeps_own_file(&rt)?);
-    Ok(())
-}
-
-/// A file in memory, by the name of the library.
-fn named_file(alloc: Global, bytes: &[u8]) -> Result<NamedFile, AllocError> {
-    Ok(NamedFile {
-        name: String::from_str(alloc, "/dev/zero")?,
-        bytes: Vec::from_slice(alloc, bytes)?,
-    })
-}
-
-/// Two files of one name.
-fn folder(alloc: Global) -> Result<Vec<NamedFile>, AllocError> {
-    let mut folder = Vec::new(alloc);
-    folder.push(named_file(alloc, b"abcdef")?)?;
-    folder.push(named_file(alloc, b"ghijkl")?)?;
-    Ok(folder)
-}
-
-/// Whether a file in memory is read and written, up to the room of its output of three bytes.
-fn copies_to_room(alloc: Global, desk: &mut MemoryDesk) -> Result<bool, Fail>
-    requires { plan (memory_of desk.old).desk.words ≡ (Input Library, 1) ∷ (Output VerilogText, 2) ∷ (Output VitalText, 3) ∷ [] }
-{
-    bind(desk)?;
-    let is_copied = copies(alloc, desk, b"abcd")?;
-    Ok(is_copied && desk.written(OutSlot::VerilogText) == b"abc".as_slice() && desk.faults() == 1)
-}
-
-/// Whether that holds where a call moves at most two bytes.
-fn copies_in_pieces(alloc: Global) -> Result<bool, Fail> {
-    let words = words(alloc, "/dev/zero", "/dev/full")?;
-    let mut desk = MemoryDesk::in_pieces(alloc, words, folder(alloc)?, Vec::new(alloc), 3, 2)?;
-    copies_to_room(alloc, &mut desk)
-}
-
-/// Whether it holds where a call moves any number of bytes.
-fn copies_at_once(alloc: Global) -> Result<bool, Fail> {
-    let words = words(alloc, "/dev/zero", "/dev/full")?;
-    let mut desk = MemoryDesk::new(alloc, words, folder(alloc)?, Vec::new(alloc), 3)?;
-    copies_to_room(alloc, &mut desk)
-}
-
-#[test]
-fn files_in_memory_are_read_and_written(rt: HostRuntime) -> Result<(), Fail> {
-    assert!(rt; copies_in_pieces(rt.alloc())?);
-    assert!(rt; copies_at_once(rt.alloc())?);
     Ok(())
 }

@@ -1,6 +1,4 @@
 //! Examples from outside: texts with the trees and the faults that Liberty's syntax gives them.
-ghost use Rattle.std.specs.Prelude.{◌≤◌, IfSome};
-ghost use Rattle.bool_functions.specs.Tree.{name_bound};
 
 use bool_functions::{Function, FunctionFault, MAX_LEN, Names, read_free, read_function};
 use std::alloc::{AllocError, Global};
@@ -165,76 +163,4 @@ fn reads_deep_texts(rt: HostRuntime) -> Result<(), Fail> {
     assert!(rt; reads_inversions(rt.alloc(), 4095)?);
     assert!(rt; reads_brackets(rt.alloc(), 2047)?);
     Ok(())
-}
-
-/// The function of a text, and its names.
-#[derive(Drop)]
-struct ReadText {
-    function: Function,
-    names: Names,
-}
-
-/// The function of a text with two names, and the names.
-fn read_two(alloc: Global, text: &[u8]) -> Option<ReadText>
-    ensures { IfSome result (λ read. name_bound read.function ≤ 2) }
-{
-    let (function, names) = read_free(alloc, text).ok()?;
-    if names.len() != 2 {
-        return None;
-    }
-    Some(ReadText { function, names })
-}
-
-/// Whether a function of two names has these values, where the first name's value changes first.
-fn has_table(alloc: Global, function: &Function, wanted: &[bool]) -> bool
-    requires { name_bound function.now ≤ 2 }
-{
-    match function.table(alloc, &[0, 1]) {
-        Ok(table) => table.as_slice() == wanted,
-        Err(_) => false,
-    }
-}
-
-/// Whether the names of a function of two names have these numbers, and a third name has none.
-fn are_numbered(read: &ReadText, first: &[u8], second: &[u8], third: &[u8]) -> bool {
-    read.names.number(first) == Some(0)
-        && read.names.number(second) == Some(1)
-        && read.names.number(third).is_none()
-        && read.function.has(1)
-        && !read.function.has(2)
-}
-
-/// Whether a function of two names has other names where they are changed.
-fn is_renamed(alloc: Global, function: &Function) -> bool
-    requires { name_bound function.now ≤ 2 }
-{
-    match function.renamed(alloc, &[5, 3]) {
-        Ok(other) => depends_on(alloc, &other, &[3, 5]) && !other.same(function),
-        Err(_) => false,
-    }
-}
-
-/// Whether a function of two names is true where the first is, and not where the second is.
-fn has_value_of_first(function: &Function) -> bool
-    requires { name_bound function.now ≤ 2 }
-{
-    function.value(&[true, false]) && !function.value(&[false, true])
-}
-
-/// Whether the function of a text of the names C and A is true where C is.
-fn is_first_of_two(alloc: Global, text: &[u8]) -> bool {
-    match read_two(alloc, text) {
-        Some(read) => {
-            are_numbered(&read, b"C", b"A", b"B")
-                && has_table(alloc, &read.function, &[false, true, false, true])
-                && is_renamed(alloc, &read.function)
-                && has_value_of_first(&read.function)
-        }
-        None => false,
-    }
-}
-
-#[test]
-fn answers_with_ample_memory(rt: HostRuntime) {
-    assert!(rt; is_first_of_two(rt.alloc(), b"C*A+C"));
 }

@@ -2,7 +2,7 @@
 //! none.
 use super::scan_flip_flops::SCAN_FLIP_FLOP;
 use super::words_runs::{USAGE, WordsRun, unread};
-use command_runs::{
+use crate::tests::runs::{
     AUDIT, FLIP_FLOP, Files, Left, NO_MODULE, Status, THREE_CELLS, Whole, leaves_fronts_in_pieces,
     ran, translated,
 };

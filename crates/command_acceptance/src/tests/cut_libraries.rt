@@ -1,5 +1,5 @@
 //! A library that is cut at each of its bytes: the cells that ended before the cut are written.
-use command_runs::{
+use crate::tests::runs::{
     CORE_ENTITY, DRIVER_ENTITY, FIRST_ENTITY, FIRST_MODULE, Left, NO_MODULE, PIECES,
     SECOND_MODULES, Status, THREE_CELLS, THREE_ENTITIES, THREE_LINES, THREE_MODULES, TRANSLATE,
     library_alone, ran,

@@ -3,9 +3,10 @@
 use super::runs_on_test_cells::TWO_CELLS;
 use super::words_and_udp::AND;
 use super::words_runs::{USAGE, WordsRun, prints, unread};
-use command_runs::{
+use crate::tests::runs::{
     Limits, Status, THREE_CELLS, THREE_ENTITIES, THREE_LINES, THREE_MODULES, TRANSLATE, Whole,
-    desk_of, leaves_fronts, leaves_fronts_in_pieces, leaves_nothing, library_alone, run_gated,
+    desk_of, done, leaves_fronts, leaves_fronts_in_pieces, leaves_nothing, library_alone,
+    run_gated,
 };
 use std::alloc::Global;
 use std::test::Fail;

@@ -1,5 +1,5 @@
 //! A library with much behind its cells: their models are written before all of it is read.
-use command_runs::{
+use crate::tests::runs::{
     Left, Status, THREE_CELLS, THREE_ENTITIES, THREE_LINES, THREE_MODULES, TRANSLATE,
     library_alone, ran,
 };

@@ -1,6 +1,6 @@
 //! Cells whose outputs may float: their drivers, with the paths to the driven outputs, and the timing groups that are left out.
 use super::translations::TranslationEnd;
-use command_runs::Status;
+use crate::tests::runs::Status;
 use std::test::Fail;
 use table_tests::all_hold;
 

@@ -1,5 +1,5 @@
 //! Which cells are refused, by which number and where. The mark `@` stands at the offset of the refusal.
-use command_runs::{Left, translated};
+use crate::tests::runs::{Left, translated};
 use std::alloc::{AllocError, Global};
 use std::test::Fail;
 use table_tests::{Row, all_hold};

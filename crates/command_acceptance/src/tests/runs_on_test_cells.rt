@@ -1,5 +1,6 @@
 //! Runs of `selftest`.
 use super::words_runs::{USAGE, WordsRun, prints, unread};
+use crate::tests::runs::done;
 use std::test::Fail;
 use table_tests::all_hold;
 

@@ -1,7 +1,7 @@
 //! A scan flip-flop as libraries have it, with tables of seven by seven entries and groups that are skipped: the end of its
 //! module and the line on its test cell.
 use super::translations::TranslationEnd;
-use command_runs::Status;
+use crate::tests::runs::Status;
 use std::test::Fail;
 use table_tests::all_hold;
 

@@ -1,5 +1,5 @@
 //! What the files of a library of one cell have to hold whose output is tied to 1.
-use command_runs::entity_text;
+use crate::tests::runs::entity_text;
 
 /// The Verilog of a module of this name with these ports, of which these inputs are declared, and with this output, which is tied
 /// to 1.

@@ -1,5 +1,5 @@
 //! Timing groups of every type: those that make checks and paths, and those that are left out.
-use command_runs::{Left, Status, translated};
+use crate::tests::runs::{Left, Status, translated};
 use std::alloc::{AllocError, Global};
 use text_io::OutSlot;
 

@@ -1,7 +1,7 @@
 //! Runs of `udp` and of words without a reading.
 use super::words_runs::{USAGE, WordsRun, prints, unread};
-use command_runs::{
-    Left, Limits, Status, desk_of, library_alone, ran_without_files, run, run_sure, words_of,
+use crate::tests::runs::{
+    Left, Limits, Status, desk_of, done, library_alone, ran_without_files, run, run_sure, words_of,
 };
 use std::alloc::Global;
 use std::test::Fail;

@@ -1,5 +1,5 @@
 //! Runs of words that name no file, or that have no reading.
-use command_runs::{Status, Whole, ran_without_files};
+use crate::tests::runs::{Status, Whole, ran_without_files};
 use std::alloc::Global;
 use table_tests::Row;
 
@@ -24,7 +24,7 @@ macro_rules! prints {
     ([$($word:expr),*], $report:expr) => {
         WordsRun {
             words: &[$($word),*],
-            whole: command_runs::done!($report),
+            whole: done!($report),
         }
     };
 }

@@ -1,10 +1,11 @@
 //! Simulations of a library beside models that are given, or that translating a library writes.
-use command_runs::{Files, Left, Status, simulated, translated};
+use crate::tests::runs::{Files, Left, Status, simulated, translated};
 use std::alloc::Global;
 use table_tests::Row;
 use text_io::{Memory, OutSlot};
 
 /// A file of models: a text, or what translating a library writes.
+#[derive(Copy, Clone)]
 pub(crate) enum Models {
     Text(&'static str),
     Of(&'static str),

@@ -1,5 +1,5 @@
 //! An inverter, its models and a short stimulus, and what they come to.
-use command_runs::{FIRST_ENTITY, FIRST_MODULE, Files};
+use crate::tests::runs::{FIRST_ENTITY, FIRST_MODULE, Files};
 
 /// A library of one cell.
 pub(crate) const LIBRARY: &str = "library (L) {

@@ -1,5 +1,5 @@
 //! Files that are cut at each of their bytes.
-use command_runs::{Files, Left, Status, ran};
+use crate::tests::runs::{Files, Left, Status, ran};
 use std::alloc::Global;
 
 /// Which of the files is cut.

@@ -26,7 +26,6 @@ pub(crate) use gate_module;
 
 /// The text of an entity of this name with these ports, behind its context: what its architecture declares, and its only process
 /// from behind that word up to its end.
-#[macro_export]
 macro_rules! entity_text {
     ($name:literal, $ports:literal, [$($declared:literal),*], [$($process:literal),*]) => {
         concat!(
@@ -49,10 +48,12 @@ macro_rules! entity_text {
     };
 }
 
+pub(crate) use entity_text;
+
 /// The text of the entity of a gate of this name from A to Y, with these two rows of its table.
 macro_rules! gate_entity {
     ($name:literal, $first:literal, $second:literal) => {
-        $crate::entity_text!(
+        entity_text!(
             $name,
             "A : in std_ulogic; Y : out std_ulogic",
             ["  constant k_1 : VitalTruthTableType := (\n    (", $first, "),\n    (", $second, "));\n"],

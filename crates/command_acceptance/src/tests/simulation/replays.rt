@@ -1,5 +1,5 @@
 //! Runs of `replay-verilog` and `replay-vital`.
-use command_runs::{
+use crate::tests::runs::{
     FIRST_MODULE, Files, Left, PLAIN_FLIP_FLOP_ENTITY, REPLAY_VERILOG, REPLAY_VITAL,
     SECOND_MODULES, Status, THIRD_MODULE, TIMED_FLIP_FLOP_ENTITY, TIMED_FLIP_FLOP_MODULE, ran,
 };
@@ -8,8 +8,8 @@ use std::test::Fail;
 use table_tests::{Row, all_hold};
 use text_io::Memory;
 
-/// Words, the texts of the file of models, one behind the other, a stimulus, and what the replay ends with: its status, its report
-/// and its line of faults.
+/// Words, the texts of the file of models, one behind the other, a stimulus, and the status, report and line of faults with which
+/// the replay ends.
 struct Replay {
     words: &'static [&'static str],
     models: &'static [&'static str],
@@ -164,12 +164,12 @@ fn sections_are_printed_in_the_order_of_the_stimulus(rt: HostRuntime) -> Result<
 
 /// A replay that ends at one of its files.
 macro_rules! ended {
-    ($words:expr, $models:expr, $stimulus:literal, $status:expr, $faults:literal) => {
+    ($words:expr; $models:expr; $stimulus:literal => $status:ident $faults:literal) => {
         Replay {
             words: &$words,
             models: $models,
             stimulus: $stimulus,
-            status: $status,
+            status: Status::$status,
             report: "",
             faults: $faults,
         }
@@ -212,62 +212,14 @@ endmodule
 ";
 
 const ENDED: [Replay; 8] = [
-    ended!(
-        REPLAY_VERILOG,
-        &[],
-        "cell",
-        Status::Model,
-        "verilog refused at 0: syntax\n"
-    ),
-    ended!(
-        REPLAY_VERILOG,
-        &["`timescale 1ps/1ps\n/* open"],
-        "cell",
-        Status::Model,
-        "verilog refused at 19: lexical\n"
-    ),
-    ended!(
-        REPLAY_VITAL,
-        &["library IEEE; entity"],
-        "cell",
-        Status::Model,
-        "vital refused at 14: syntax\n"
-    ),
-    ended!(
-        REPLAY_VITAL,
-        &[],
-        "cell DFF",
-        Status::Stimulus,
-        "stimulus line 1: unknown cell\n"
-    ),
-    ended!(
-        REPLAY_VERILOG,
-        MODELS,
-        "cell INV\n5 A 1\n5 A 0\n",
-        Status::Stimulus,
-        "stimulus line 3: time\n"
-    ),
-    ended!(
-        REPLAY_VERILOG,
-        MODELS,
-        "cell TC\n",
-        Status::Stimulus,
-        "stimulus line 1: unknown cell\n"
-    ),
-    ended!(
-        REPLAY_VERILOG,
-        &[TWO_CHANGES],
-        "cell M",
-        Status::Model,
-        "verilog refused at 106: two edges\n"
-    ),
-    ended!(
-        REPLAY_VERILOG,
-        &[TWO_NUMBERS],
-        "cell M",
-        Status::Model,
-        "verilog refused at 150: unequal\n"
-    ),
+    ended![REPLAY_VERILOG; &[]; "cell" => Model "verilog refused at 0: syntax\n"],
+    ended![REPLAY_VERILOG; &["`timescale 1ps/1ps\n/* open"]; "cell" => Model "verilog refused at 19: lexical\n"],
+    ended![REPLAY_VITAL; &["library IEEE; entity"]; "cell" => Model "vital refused at 14: syntax\n"],
+    ended![REPLAY_VITAL; &[]; "cell DFF" => Stimulus "stimulus line 1: unknown cell\n"],
+    ended![REPLAY_VERILOG; MODELS; "cell INV\n5 A 1\n5 A 0\n" => Stimulus "stimulus line 3: time\n"],
+    ended![REPLAY_VERILOG; MODELS; "cell TC\n" => Stimulus "stimulus line 1: unknown cell\n"],
+    ended![REPLAY_VERILOG; &[TWO_CHANGES]; "cell M" => Model "verilog refused at 106: two edges\n"],
+    ended![REPLAY_VERILOG; &[TWO_NUMBERS]; "cell M" => Model "verilog refused at 150: unequal\n"],
 ];
 
 #[test]

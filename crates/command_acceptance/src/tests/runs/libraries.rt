@@ -1,11 +1,11 @@
 //! Libraries of one cell without timing.
 
 /// An output that is tied to 1, alone.
-pub const TIE: &str =
+pub(crate) const TIE: &str =
     "library (L) { cell (TIE) { pin (Y) { direction : output; function : \"1\"; } } }";
 
 /// A flip-flop without timing.
-pub const FLIP_FLOP: &str = "library (L) { cell (DFF) {
+pub(crate) const FLIP_FLOP: &str = "library (L) { cell (DFF) {
 ff (IQ, IQN) { next_state : \"D\"; clocked_on : \"CK\"; }
 pin (CK) { direction : input; } pin (D) { direction : input; } pin (Q) { direction : output; function : \"IQ\"; }
 } }
@@ -26,7 +26,7 @@ macro_rules! clock_gate {
 }
 
 /// A clock gate that keeps its node while the clock is high.
-pub const CLOCK_GATE: &str = clock_gate!(", H - - : - : N");
+pub(crate) const CLOCK_GATE: &str = clock_gate!(", H - - : - : N");
 
 /// One without a row for a high clock.
-pub const CLOCK_GATE_WITHOUT_KEEP: &str = clock_gate!("");
+pub(crate) const CLOCK_GATE_WITHOUT_KEEP: &str = clock_gate!("");

@@ -19,10 +19,10 @@ macro_rules! timed_flip_flop {
 }
 
 /// One whose setup time counts always.
-pub const TIMED_FLIP_FLOP: &str = timed_flip_flop!("", "");
+pub(crate) const TIMED_FLIP_FLOP: &str = timed_flip_flop!("", "");
 
 /// One with a condition of the setup time, over a pin that nothing sets.
-pub const GUARDED_FLIP_FLOP: &str = timed_flip_flop!(
+pub(crate) const GUARDED_FLIP_FLOP: &str = timed_flip_flop!(
     "when : \"!SE\"; ",
     "pin (SE) { direction : input; }\n"
 );
@@ -44,7 +44,7 @@ macro_rules! timed_flip_flop_module {
 }
 
 /// With a row for each two primes that differ in the state alone, which keeps it.
-pub const TIMED_FLIP_FLOP_MODULE: &str = timed_flip_flop_module!(
+pub(crate) const TIMED_FLIP_FLOP_MODULE: &str = timed_flip_flop_module!(
     "(01) 1 ? : ? : 1",
     "(1?) ? ? : ? : -",
     "(?0) ? ? : ? : -",
@@ -55,7 +55,7 @@ pub const TIMED_FLIP_FLOP_MODULE: &str = timed_flip_flop_module!(
 );
 
 /// In plain form, with a row for each prime.
-pub const PLAIN_FLIP_FLOP_MODULE: &str = timed_flip_flop_module!(
+pub(crate) const PLAIN_FLIP_FLOP_MODULE: &str = timed_flip_flop_module!(
     "(01) 1 ? : ? : 1",
     "(1?) ? ? : 1 : 1",
     "(?0) ? ? : 1 : 1",
@@ -95,7 +95,7 @@ macro_rules! timed_flip_flop_entity {
 }
 
 /// With a row for each two primes that differ in the state alone, which keeps it.
-pub const TIMED_FLIP_FLOP_ENTITY: &str = timed_flip_flop_entity!(
+pub(crate) const TIMED_FLIP_FLOP_ENTITY: &str = timed_flip_flop_entity!(
     "('-', '/', '1', '-', '1')",
     "('-', 'n', '-', '-', 'S')",
     "('-', 'N', '-', '-', 'S')",
@@ -106,7 +106,7 @@ pub const TIMED_FLIP_FLOP_ENTITY: &str = timed_flip_flop_entity!(
 );
 
 /// In plain form, with a row for each prime.
-pub const PLAIN_FLIP_FLOP_ENTITY: &str = timed_flip_flop_entity!(
+pub(crate) const PLAIN_FLIP_FLOP_ENTITY: &str = timed_flip_flop_entity!(
     "('-', '/', '1', '-', '1')",
     "('-', 'n', '-', '1', '1')",
     "('-', 'N', '-', '1', '1')",

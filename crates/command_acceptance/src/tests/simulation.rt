@@ -1,4 +1,4 @@
-//! The tests, and what they share.
+//! Runs of `simulate`, `replay-verilog` and `replay-vital`, and what they share.
 mod cut_files;
 mod cuts;
 mod differences;

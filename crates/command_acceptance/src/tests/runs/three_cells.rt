@@ -1,8 +1,8 @@
 //! A library of three cells, of which the second has an output that may float, and what it comes to.
-use crate::texts::{gate_entity, gate_module};
+use super::texts::{entity_text, gate_entity, gate_module};
 
 /// The library.
-pub const THREE_CELLS: &str = "library (L) {
+pub(crate) const THREE_CELLS: &str = "library (L) {
 cell (INV) { pin (A) { direction : input; } pin (Y) { direction : output; function : \"!A\"; } }
 cell (TB) { pin (A) { direction : input; } pin (Y) { direction : output; three_state : \"A\"; function : \"A\"; } }
 cell (BUF) { pin (A) { direction : input; } pin (Y) { direction : output; function : \"A\"; } }
@@ -10,11 +10,11 @@ cell (BUF) { pin (A) { direction : input; } pin (Y) { direction : output; functi
 ";
 
 /// The Verilog file without a cell.
-pub const NO_MODULE: &str = "`timescale 1ps/1ps
+pub(crate) const NO_MODULE: &str = "`timescale 1ps/1ps
 ";
 
 /// The Verilog file with the first cell.
-pub const FIRST_MODULE: &str = gate_module!(
+pub(crate) const FIRST_MODULE: &str = gate_module!(
     "`timescale 1ps/1ps\n",
     "INV",
     "lib_1_1",
@@ -23,7 +23,7 @@ pub const FIRST_MODULE: &str = gate_module!(
 );
 
 /// What the second cell adds to it: its core, and its driver.
-pub const SECOND_MODULES: &str = "primitive lib_2_1 (q, i1);
+pub(crate) const SECOND_MODULES: &str = "primitive lib_2_1 (q, i1);
   output q;
   input i1;
   table
@@ -59,13 +59,13 @@ endmodule
 ";
 
 /// What the third cell adds to it.
-pub const THIRD_MODULE: &str = gate_module!("", "BUF", "lib_3_1", "1 : 1", "0 : 0");
+pub(crate) const THIRD_MODULE: &str = gate_module!("", "BUF", "lib_3_1", "1 : 1", "0 : 0");
 
 /// The VHDL file with the first cell.
-pub const FIRST_ENTITY: &str = gate_entity!("INV", "'0', '1'", "'1', '0'");
+pub(crate) const FIRST_ENTITY: &str = gate_entity!("INV", "'0', '1'", "'1', '0'");
 
 /// The entity of the core of the second cell.
-pub const CORE_ENTITY: &str = crate::entity_text!(
+pub(crate) const CORE_ENTITY: &str = entity_text!(
     "cell2",
     "A : in std_ulogic; Y : out std_ulogic; pin3 : out std_ulogic",
     [
@@ -81,7 +81,7 @@ pub const CORE_ENTITY: &str = crate::entity_text!(
 );
 
 /// The driver of the second cell.
-pub const DRIVER_ENTITY: &str = "use work.all;
+pub(crate) const DRIVER_ENTITY: &str = "use work.all;
 library IEEE;
 use IEEE.std_logic_1164.all;
 use IEEE.VITAL_Timing.all;
@@ -104,16 +104,21 @@ end driven;
 ";
 
 /// What the third cell adds to it.
-pub const THIRD_ENTITY: &str = gate_entity!("BUF", "'1', '1'", "'0', '0'");
+pub(crate) const THIRD_ENTITY: &str = gate_entity!("BUF", "'1', '1'", "'0', '0'");
 
 /// The Verilog file.
-pub const THREE_MODULES: [&str; 3] = [FIRST_MODULE, SECOND_MODULES, THIRD_MODULE];
+pub(crate) const THREE_MODULES: [&str; 3] = [FIRST_MODULE, SECOND_MODULES, THIRD_MODULE];
 
 /// The VHDL file.
-pub const THREE_ENTITIES: [&str; 4] = [FIRST_ENTITY, CORE_ENTITY, DRIVER_ENTITY, THIRD_ENTITY];
+pub(crate) const THREE_ENTITIES: [&str; 4] = [
+    FIRST_ENTITY,
+    CORE_ENTITY,
+    DRIVER_ENTITY,
+    THIRD_ENTITY,
+];
 
 /// The report.
-pub const THREE_LINES: &str = "cell 1 INV ok
+pub(crate) const THREE_LINES: &str = "cell 1 INV ok
 cell 2 TB ok
 cell 3 BUF ok
 accepted 3 refused 0

@@ -3,7 +3,7 @@ use super::inverter::START;
 use super::libraries::INVERTER;
 use super::sections::{SECTIONS, Section};
 use super::simulations::{Models, Simulation};
-use command_runs::{
+use crate::tests::runs::{
     Files, PLAIN_FLIP_FLOP_MODULE, Status, TIMED_FLIP_FLOP, TIMED_FLIP_FLOP_ENTITY,
     TIMED_FLIP_FLOP_MODULE, simulated, simulated_beside_its_own,
 };

@@ -1,5 +1,5 @@
 //! A section on which a flip-flop and its module differ.
-use command_runs::{FLIP_FLOP, Files, Status, simulated, translated};
+use crate::tests::runs::{FLIP_FLOP, Files, Status, simulated, translated};
 use std::alloc::Global;
 use text_io::OutSlot;
 

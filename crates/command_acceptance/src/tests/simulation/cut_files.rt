@@ -1,7 +1,7 @@
 //! Each of the files of a simulation and of a replay cut at each of its bytes, and a stimulus of one byte.
 use super::cuts::{Cut, File, Outcome, is_each_cut_well};
 use super::inverter::{REPORT, START, VERILOG_REPORT, VITAL_REPORT, four_files};
-use command_runs::{Left, REPLAY_VERILOG, REPLAY_VITAL, SIMULATE, Status, ran};
+use crate::tests::runs::{Left, REPLAY_VERILOG, REPLAY_VITAL, SIMULATE, Status, ran};
 use std::alloc::Global;
 use std::test::Fail;
 use table_tests::{Row, all_hold};

@@ -1,7 +1,5 @@
-//! What tests of whole runs share: runs of commands over desks in memory, also with each call failing in its turn, and samples of
-//! libraries and models with what they come to; no product code.
-#![tactic(auto)]
-
+//! What the tests share: runs of commands over desks in memory, also with each call failing in its turn, and samples of libraries
+//! and models with what they come to.
 mod desks;
 mod fronts;
 mod libraries;
@@ -9,19 +7,20 @@ mod texts;
 mod three_cells;
 mod timed_flip_flops;
 
-pub use desks::{
+pub(crate) use desks::{
     AUDIT, Files, Left, Limits, PIECES, REPLAY_VERILOG, REPLAY_VITAL, SIMULATE, TRANSLATE, desk_of,
     library_alone, ran, ran_without_files, simulated, simulated_beside_its_own, translated,
     words_of,
 };
-pub use fronts::{Whole, leaves_fronts, leaves_fronts_in_pieces, leaves_nothing};
-pub use libraries::{CLOCK_GATE, CLOCK_GATE_WITHOUT_KEEP, FLIP_FLOP, TIE};
-pub use three_cells::{
+pub(crate) use fronts::{Whole, done, leaves_fronts, leaves_fronts_in_pieces, leaves_nothing};
+pub(crate) use libraries::{CLOCK_GATE, CLOCK_GATE_WITHOUT_KEEP, FLIP_FLOP, TIE};
+pub(crate) use texts::entity_text;
+pub(crate) use three_cells::{
     CORE_ENTITY, DRIVER_ENTITY, FIRST_ENTITY, FIRST_MODULE, NO_MODULE, SECOND_MODULES,
     THIRD_MODULE, THREE_CELLS, THREE_ENTITIES, THREE_LINES, THREE_MODULES,
 };
-pub use timed_flip_flops::{
+pub(crate) use timed_flip_flops::{
     GUARDED_FLIP_FLOP, PLAIN_FLIP_FLOP_ENTITY, PLAIN_FLIP_FLOP_MODULE, TIMED_FLIP_FLOP,
     TIMED_FLIP_FLOP_ENTITY, TIMED_FLIP_FLOP_MODULE,
 };
-pub use translate_cmd::{Status, run, run_gated, run_sure};
+pub(crate) use translate_cmd::{Status, run, run_gated, run_sure};

@@ -1,7 +1,7 @@
 //! Calls on the desk that fail, each in turn: what was written then is the front of what is written without, and no call is made
 //! behind it.
 use super::inverter::{REPORT, START, VERILOG_REPORT, VITAL_REPORT, four_files};
-use command_runs::{
+use crate::tests::runs::{
     Files, REPLAY_VERILOG, REPLAY_VITAL, SIMULATE, THREE_CELLS, Whole, done,
     leaves_fronts_in_pieces, leaves_nothing, translated,
 };

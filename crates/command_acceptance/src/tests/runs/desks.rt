@@ -4,23 +4,23 @@ use text_io::{Memory, MemoryDesk, NamedFile, OutSlot};
 use translate_cmd::{Status, run};
 
 /// Words that translate the library.
-pub const TRANSLATE: [&str; 4] = ["translate", "in.lib", "out.v", "out.vhd"];
+pub(crate) const TRANSLATE: [&str; 4] = ["translate", "in.lib", "out.v", "out.vhd"];
 
 /// Words that simulate the library beside both files of models.
-pub const SIMULATE: [&str; 5] = ["simulate", "in.lib", "in.v", "in.vhd", "in.stim"];
+pub(crate) const SIMULATE: [&str; 5] = ["simulate", "in.lib", "in.v", "in.vhd", "in.stim"];
 
 /// Words that replay the Verilog file.
-pub const REPLAY_VERILOG: [&str; 3] = ["replay-verilog", "in.v", "in.stim"];
+pub(crate) const REPLAY_VERILOG: [&str; 3] = ["replay-verilog", "in.v", "in.stim"];
 
 /// Words that replay the VHDL file.
-pub const REPLAY_VITAL: [&str; 3] = ["replay-vital", "in.vhd", "in.stim"];
+pub(crate) const REPLAY_VITAL: [&str; 3] = ["replay-vital", "in.vhd", "in.stim"];
 
 /// Words that compare the library with the Verilog file.
-pub const AUDIT: [&str; 3] = ["audit", "in.lib", "in.v"];
+pub(crate) const AUDIT: [&str; 3] = ["audit", "in.lib", "in.v"];
 
 /// The bytes of the files that those words name.
 #[derive(Copy, Clone)]
-pub struct Files<'a> {
+pub(crate) struct Files<'a> {
     pub library: &'a [u8],
     pub verilog: &'a [u8],
     pub vital: &'a [u8],
@@ -28,7 +28,7 @@ pub struct Files<'a> {
 }
 
 /// A library and no other file.
-pub fn library_alone(library: &[u8]) -> Files<'_> {
+pub(crate) fn library_alone(library: &[u8]) -> Files<'_> {
     Files {
         library,
         verilog: b"",
@@ -38,7 +38,7 @@ pub fn library_alone(library: &[u8]) -> Files<'_> {
 }
 
 /// The words of a desk.
-pub fn words_of(alloc: Global, texts: &[&str]) -> Result<Vec<String>, AllocError> {
+pub(crate) fn words_of(alloc: Global, texts: &[&str]) -> Result<Vec<String>, AllocError> {
     let mut words = Vec::new(alloc);
     for text in texts {
         words.push(String::from_str(alloc, text)?)?;
@@ -65,19 +65,19 @@ fn folder_of(alloc: Global, files: Files<'_>) -> Result<Vec<NamedFile>, AllocErr
 }
 
 /// How many bytes a call may move in the runs that are tried at several such numbers.
-pub const PIECES: [usize; 3] = [1, 7, 4096];
+pub(crate) const PIECES: [usize; 3] = [1, 7, 4096];
 
 /// What limits the calls on a desk: those with these numbers fail, an output has this room, in bytes, and a call moves at most
 /// `piece` bytes.
 #[derive(Copy, Clone)]
-pub struct Limits<'a> {
+pub(crate) struct Limits<'a> {
     pub failing: &'a [u64],
     pub room: usize,
     pub piece: usize,
 }
 
 /// A desk with these words, files and limits.
-pub fn desk_of(
+pub(crate) fn desk_of(
     alloc: Global,
     words: &[&str],
     files: Files<'_>,
@@ -92,21 +92,21 @@ pub fn desk_of(
 
 /// What a run left: its status, and the desk.
 #[derive(Drop)]
-pub struct Left {
+pub(crate) struct Left {
     pub status: Status,
     pub desk: MemoryDesk,
 }
 
 impl Left {
     /// Whether the run ended with this status, this report and these faults.
-    pub fn is(&self, status: Status, report: &str, faults: &str) -> bool {
+    pub(crate) fn is(&self, status: Status, report: &str, faults: &str) -> bool {
         self.status == status
             && self.desk.written(OutSlot::Report) == report.as_bytes()
             && self.desk.written(OutSlot::Faults) == faults.as_bytes()
     }
 
     /// Whether the run ended with this status, this report, and faults that begin so.
-    pub fn begins(&self, status: Status, report: &str, faults: &str) -> bool {
+    pub(crate) fn begins(&self, status: Status, report: &str, faults: &str) -> bool {
         self.status == status
             && self.desk.written(OutSlot::Report) == report.as_bytes()
             && self
@@ -116,12 +116,12 @@ impl Left {
     }
 
     /// Whether a slot has this text at its end.
-    pub fn ends_with(&self, slot: OutSlot, text: &str) -> bool {
+    pub(crate) fn ends_with(&self, slot: OutSlot, text: &str) -> bool {
         self.desk.written(slot).ends_with(text.as_bytes())
     }
 
     /// Whether a slot has these texts, one behind the other.
-    pub fn wrote(&self, slot: OutSlot, texts: &[&str]) -> bool {
+    pub(crate) fn wrote(&self, slot: OutSlot, texts: &[&str]) -> bool {
         let mut rest = self.desk.written(slot);
         for text in texts {
             rest = match rest.get(text.len()..) {
@@ -133,7 +133,7 @@ impl Left {
     }
 
     /// Whether a slot has a front of these texts, one behind the other.
-    pub fn wrote_front(&self, slot: OutSlot, texts: &[&str]) -> bool {
+    pub(crate) fn wrote_front(&self, slot: OutSlot, texts: &[&str]) -> bool {
         let mut rest = self.desk.written(slot);
         for text in texts {
             rest = match rest.get(text.len()..) {
@@ -163,7 +163,7 @@ const ROOM: usize = 10_000;
 
 /// Runs these words over these files, on a desk at which the calls with these numbers fail and a call moves at most `piece`
 /// bytes.
-pub fn ran(
+pub(crate) fn ran(
     alloc: Global,
     words: &[&str],
     files: Files<'_>,
@@ -186,23 +186,23 @@ const WIDE: Limits<'static> = Limits {
 };
 
 /// Translates a library.
-pub fn translated(alloc: Global, library: &str) -> Result<Left, Memory> {
+pub(crate) fn translated(alloc: Global, library: &str) -> Result<Left, Memory> {
     let files = library_alone(library.as_bytes());
     ran_within(alloc, &TRANSLATE, files, WIDE)
 }
 
 /// Runs words that name no file, on a desk at which no call fails.
-pub fn ran_without_files(alloc: Global, words: &[&str]) -> Result<Left, Memory> {
+pub(crate) fn ran_without_files(alloc: Global, words: &[&str]) -> Result<Left, Memory> {
     ran_within(alloc, words, library_alone(b""), WIDE)
 }
 
 /// Simulates these files.
-pub fn simulated(alloc: Global, files: Files<'_>) -> Result<Left, Memory> {
+pub(crate) fn simulated(alloc: Global, files: Files<'_>) -> Result<Left, Memory> {
     ran_within(alloc, &SIMULATE, files, WIDE)
 }
 
 /// Simulates a library beside its own models.
-pub fn simulated_beside_its_own(
+pub(crate) fn simulated_beside_its_own(
     alloc: Global,
     library: &str,
     stimulus: &str,

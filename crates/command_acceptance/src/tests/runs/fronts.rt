@@ -1,13 +1,13 @@
 //! Calls on the desk that fail, each in turn: what was written then is the front of what is written without, and no call is made
 //! behind it.
-use crate::desks::{Files, Left, PIECES, ran};
+use super::desks::{Files, Left, PIECES, ran};
 use std::alloc::Global;
 use text_io::{Memory, OutSlot};
 use translate_cmd::Status;
 
 /// What a run comes to where no call fails: each model file as the texts that stand in it, one behind the other.
 #[derive(Copy, Clone)]
-pub struct Whole {
+pub(crate) struct Whole {
     /// The status.
     pub status: Status,
     /// The Verilog that is written.
@@ -21,11 +21,10 @@ pub struct Whole {
 }
 
 /// A run that is done and writes no model, with this report.
-#[macro_export]
 macro_rules! done {
     ($report:expr) => {
-        $crate::Whole {
-            status: $crate::Status::Done,
+        $crate::tests::runs::Whole {
+            status: $crate::tests::runs::Status::Done,
             verilog: &[],
             vital: &[],
             report: $report,
@@ -34,9 +33,11 @@ macro_rules! done {
     };
 }
 
+pub(crate) use done;
+
 impl Whole {
     /// Whether a run left the whole.
-    pub fn is_left(&self, left: &Left) -> bool {
+    pub(crate) fn is_left(&self, left: &Left) -> bool {
         left.is(self.status, self.report, self.faults)
             && left.wrote(OutSlot::VerilogText, self.verilog)
             && left.wrote(OutSlot::VitalText, self.vital)
@@ -54,7 +55,7 @@ impl Whole {
 
 /// Whether each call that fails in its turn, the next one failing too, leaves a front and is the last, up to the run at which no
 /// call is left that could fail, where a call moves at most `piece` bytes.
-pub fn leaves_fronts(
+pub(crate) fn leaves_fronts(
     alloc: Global,
     words: &[&str],
     files: Files<'_>,
@@ -74,7 +75,7 @@ pub fn leaves_fronts(
 }
 
 /// Whether that holds of words, whatever a call moves of bytes.
-pub fn leaves_fronts_in_pieces(
+pub(crate) fn leaves_fronts_in_pieces(
     alloc: Global,
     words: &[&str],
     files: Files<'_>,
@@ -89,7 +90,7 @@ pub fn leaves_fronts_in_pieces(
 }
 
 /// Whether a run at which this call fails leaves nothing written.
-pub fn leaves_nothing(
+pub(crate) fn leaves_nothing(
     alloc: Global,
     words: &[&str],
     files: Files<'_>,

@@ -1,6 +1,0 @@
-//! Whole runs of `simulate`, `replay-verilog` and `replay-vital` over desks in memory, over desks that fail and over files that
-//! are cut, with the bytes that they have to leave; no product code.
-#![tactic(auto)]
-
-#[cfg(test)]
-mod tests;

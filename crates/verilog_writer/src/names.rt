@@ -13,13 +13,7 @@ pub(crate) struct ListedNames<'a>(pub(crate) &'a [u8]);
 impl ItemText<SmallBytes> for ListedNames<'_> {
     ghost text = { λ m name. m.0.now ++ name };
 
-    fn put<D: Desk>(
-        &self,
-        name: &SmallBytes,
-        line: &mut Line,
-        desk: &mut D,
-        slot: OutSlot,
-    ) -> Put {
+    fn put<D: Desk>(&self, name: &SmallBytes, line: &mut Line, desk: &mut D, slot: OutSlot) -> Put {
         line.put_pieces(desk, slot, &[self.0, name.as_slice()])
     }
 }
@@ -39,13 +33,7 @@ pub(crate) struct NameLines<'a>(pub(crate) &'a [u8]);
 impl ItemText<SmallBytes> for NameLines<'_> {
     ghost text = { λ m name. name_line m.0.now name };
 
-    fn put<D: Desk>(
-        &self,
-        name: &SmallBytes,
-        line: &mut Line,
-        desk: &mut D,
-        slot: OutSlot,
-    ) -> Put {
+    fn put<D: Desk>(&self, name: &SmallBytes, line: &mut Line, desk: &mut D, slot: OutSlot) -> Put {
         line.put_pieces(desk, slot, &[self.0, name.as_slice(), b";\n"])
     }
 }

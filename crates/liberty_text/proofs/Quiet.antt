@@ -1,6 +1,7 @@
 -- Bytes that are gone past at once.
-use Rattle.std.proofs.Common.{◌≡◌, ℕ, suc, ◌+◌, ◌-◌, ◌<◌, ◌≤◌, nat_lt, Bool, true, false, List, [], ◌∷◌, ◌++◌, ◌||◌, Some, None, take, drop}
-use Rattle.std.proofs.Common.{length, refl, sym, ap, subst, ◌∙◌, arith, take-add, take-take, length-take-le, get_or, zero, not, ◌&&◌, ◌==◌, cond}
+use Rattle.std.proofs.Common.{◌≡◌, ℕ, zero, suc, ◌+◌, ◌-◌, ◌<◌, ◌≤◌, nat_lt, Bool, true, false, not, ◌&&◌, ◌||◌, cond, ◌==◌}
+use Rattle.std.proofs.Common.{List, [], ◌∷◌, ◌++◌, Some, None, length, take, drop, get_or, take-add, take-take, length-take-le}
+use Rattle.std.proofs.Common.{refl, sym, ap, subst, ◌∙◌, arith}
 use Rattle.std.proofs.lemmas.Bool.Decides.{nat_tests}
 use Rattle.std.proofs.lemmas.List.{append-nil, append_assoc, take-append-drop, length-drop, get_or-drop}
 use Rattle.liberty_text.specs.declared.class.Class.{Class}
@@ -41,7 +42,8 @@ tokens_append mode at (b ∷ bs) ys =
     ∙ ap (λ (n : ℕ). tokens_ended s.0 (at + 1) bs ++ tokens_ended (mode_behind s.0 (at + 1) bs) n ys) same)
     ∙ sym (append_assoc s.1 (tokens_ended s.0 (at + 1) bs) (tokens_ended (mode_behind s.0 (at + 1) bs) (at + suc (length bs)) ys))
 
-mode_on : (mode : Mode) (at : ℕ) (bytes : List ℕ) (n : ℕ) (now : Mode) → n ≤ length bytes → now ≡ mode_behind mode at (take n bytes)
+mode_on : (mode : Mode) (at : ℕ) (bytes : List ℕ) (n : ℕ) (now : Mode) → n ≤ length bytes
+    → now ≡ mode_behind mode at (take n bytes)
     → (k : ℕ) → mode_behind now (at + n) (take k (drop n bytes)) ≡ mode_behind mode at (take (n + k) bytes)
 mode_on mode at bytes n now h m k =
     ap (λ (m : Mode). mode_behind m (at + n) (take k (drop n bytes))) m
@@ -50,7 +52,8 @@ mode_on mode at bytes n now h m k =
     ∙ sym (mode_append mode at (take n bytes) (take k (drop n bytes)))
     ∙ ap (mode_behind mode at) (sym (take-add n k bytes))
 
-tokens_on : (mode : Mode) (at : ℕ) (bytes : List ℕ) (n : ℕ) (now : Mode) → n ≤ length bytes → now ≡ mode_behind mode at (take n bytes)
+tokens_on : (mode : Mode) (at : ℕ) (bytes : List ℕ) (n : ℕ) (now : Mode) → n ≤ length bytes
+    → now ≡ mode_behind mode at (take n bytes)
     → (k : ℕ) → tokens_ended mode at (take (n + k) bytes)
     ≡ tokens_ended mode at (take n bytes) ++ tokens_ended now (at + n) (take k (drop n bytes))
 tokens_on mode at bytes n now h m k =
@@ -77,7 +80,8 @@ pub quiet_more : (mode : Mode) (at : ℕ) (bytes : List ℕ) (n : ℕ) (now behi
     → IsQuiet mode at bytes n now → IsQuiet now (at + n) (drop n bytes) k behind → IsQuiet mode at bytes (n + k) behind
 quiet_more mode at bytes n now behind k h q r = (
   r.0 ∙ mode_on mode at bytes n now h q.0 k,
-  tokens_on mode at bytes n now h q.0 k ∙ ap (λ (l : List Token). l ++ tokens_ended now (at + n) (take k (drop n bytes))) q.1 ∙ r.1,
+  tokens_on mode at bytes n now h q.0 k
+      ∙ ap (λ (l : List Token). l ++ tokens_ended now (at + n) (take k (drop n bytes))) q.1 ∙ r.1,
 )
 
 -- bytes that leave open what stands open
@@ -148,7 +152,8 @@ blank_first line at bytes h e = first_quiet (Between line) (Between line) at byt
 pub blanks : (bytes : List ℕ) (n : ℕ) → n ≤ length bytes → n ≡ front_run is_blank bytes → AreBlank bytes n
 blanks bytes n h e line at = quiet_idle (Between line) at bytes n h e
 
-pub more_blanks : (bytes : List ℕ) (n k : ℕ) → n ≤ length bytes → AreBlank bytes n → AreBlank (drop n bytes) k → AreBlank bytes (n + k)
+pub more_blanks : (bytes : List ℕ) (n k : ℕ) → n ≤ length bytes → AreBlank bytes n → AreBlank (drop n bytes) k
+    → AreBlank bytes (n + k)
 more_blanks bytes n k h b c line at =
     quiet_more (Between line) at bytes n (Between line) (Between line) k h (b line at) (c line (at + n))
 
@@ -205,7 +210,8 @@ module _ (mode : Mode) (at : ℕ) (bytes : List ℕ) (before behind : Scanner) (
       → behind.tokens.items ≡ before.tokens.items ++ (step now (at + n) (get_or bytes n 0)).1 → passed.count ≡ n + 1
       → (passed.goes_on ≡ true → (step now (at + n) (get_or bytes n 0)).0 ≡ Between passed.line_before)
       → (passed.goes_on ≡ true → is_mark_byte (get_or bytes n 0) ≡ false)
-      → (passed.goes_on ≡ false → behind.mode ≡ (step now (at + n) (get_or bytes n 0)).0) → Passes mode at bytes before behind passed
+      → (passed.goes_on ≡ false → behind.mode ≡ (step now (at + n) (get_or bytes n 0)).0)
+      → Passes mode at bytes before behind passed
   step_passes h q more count on unmarked off =
       let ended : tokens_ended mode at (take (n + 1) bytes) ≡ (step now (at + n) (get_or bytes n 0)).1 =
       ended_by mode at bytes n now h q.0 ∙ ap (λ (l : List Token). l ++ (step now (at + n) (get_or bytes n 0)).1) q.1 in
@@ -246,7 +252,8 @@ other_ends begun at b line WordByte e = absurd cc
 other_ends begun at b line Bad e = refl
 
 -- a Word ends at the first byte that may not stand in it
-pub word_ends : (begun at n : ℕ) (line : Bool) (bytes : List ℕ) (k : ℕ) → n ≡ 1 + k → k ≡ front_run is_plain_in_word (drop 1 bytes)
+pub word_ends : (begun at n : ℕ) (line : Bool) (bytes : List ℕ) (k : ℕ) → n ≡ 1 + k
+    → k ≡ front_run is_plain_in_word (drop 1 bytes)
     → n < length bytes → (get_or bytes n 0 == 47) ≡ false → step (InWord begun line None) at (get_or bytes n 0)
     ≡ after_token (token Word begun at line) (opened false at (get_or bytes n 0))
 word_ends begun at n line bytes k is e h f =
@@ -262,7 +269,8 @@ after_mode t (mode, ts) = refl
 after_tokens : (t : Token) (p : Mode × List Token) → (after_token t p).1 ≡ t ∷ p.1
 after_tokens t (mode, ts) = refl
 
-pub word_mode : (begun at n : ℕ) (line : Bool) (bytes : List ℕ) (k : ℕ) → n ≡ 1 + k → k ≡ front_run is_plain_in_word (drop 1 bytes)
+pub word_mode : (begun at n : ℕ) (line : Bool) (bytes : List ℕ) (k : ℕ) → n ≡ 1 + k
+    → k ≡ front_run is_plain_in_word (drop 1 bytes)
     → n < length bytes → (get_or bytes n 0 == 47) ≡ false
     → (step (InWord begun line None) at (get_or bytes n 0)).0 ≡ (opened false at (get_or bytes n 0)).0
 word_mode begun at n line bytes k is e h f =
@@ -330,5 +338,6 @@ module _ (mode : Mode) (at : ℕ) (bytes : List ℕ) (n : ℕ) (now : Mode) (fir
           ap (λ (j : ℕ). has_mark (tokens_ended mode at (take j bytes))) (sym same)
           ∙ ap has_mark (tokens_on mode at bytes n now h none.mode_is passed.count)
           ∙ has_mark_append (tokens_ended mode at (take n bytes)) (tokens_ended now (at + n) (take passed.count (drop n bytes)))
-          ∙ ap (λ (x : Bool). x || has_mark (tokens_ended now (at + n) (take passed.count (drop n bytes)))) (none.none n (omega arith))
+          ∙ ap (λ (x : Bool). x || has_mark (tokens_ended now (at + n) (take passed.count (drop n bytes))))
+          (none.none n (omega arith))
           ∙ p.unmarked on

@@ -86,7 +86,8 @@ impl Scanner {
         Ok(self.behind(end, mode, false))
     }
 
-    /// Goes past the Word that begins here and the byte behind it, or past the front of it where a slash stands in it or the bytes end.
+    /// Goes past the Word that begins here and the byte behind it, or past the front of it where a slash stands in it or the bytes
+    /// end.
     #[inline(always)]
     fn pass_word(
         &mut self,

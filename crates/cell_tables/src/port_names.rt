@@ -30,7 +30,10 @@ pub(crate) fn input_names(alloc: Global, count: usize) -> Result<Items<SmallByte
 fn input_name(alloc: Global, number: usize) -> Result<SmallBytes, AllocError>
     ensures { IfOk result (λ name. name ≡ input_name number) }
 {
-    numbered_name(alloc, b"i", number)
+    Ok(SmallBytes::from_items(
+        alloc,
+        numbered_name(alloc, b"i", number)?,
+    )?)
 }
 
 /// A word followed by a number. `AllocError` comes only where memory is wanting.
@@ -40,7 +43,7 @@ pub fn numbered_name(alloc: Global, word: &[u8], number: usize) -> Result<Items<
     let mut buffer = Buffer::new();
     let mut name = Vec::from_slice(alloc, word)?;
     name.extend_from_slice(buffer.format(number).as_bytes())?;
-    Ok(SmallBytes::from_items(alloc, Items::from_vec(name))?)
+    Ok(Items::from_vec(name))
 }
 
 /// The name of primitive `number`, from 1, of the cell with the number `cell`.

@@ -11,7 +11,7 @@ use Rattle.std.proofs.Math.Nat.{div-add-mod}
 use Rattle.liberty_text.specs.declared.decimal.Fixed.{Fixed}
 use Rattle.liberty_text.specs.declared.time.Unit.{Unit}
 use Rattle.liberty_text.specs.Time.{time_exponent, times_ten, over_ten, IsRoundedUp, IsTooLong, bounded, scaled, rounded_up}
-use Rattle.liberty_text.specs.Time.{IsWithin, picoseconds_of}
+use Rattle.liberty_text.specs.Time.{picoseconds_of}
 
 -- a number of parts is at most the whole
 pub quotient_part : (n p m : ℕ) → m ≤ n / p → m * p ≤ n
@@ -109,17 +109,6 @@ scaled_least m (negsuc n) k h =
     let high : div_ceil m q * q < (k + 1) * q = omega (arith, times.1, h) in
     let below = lt_of_mul-lt-mul_right q {m = div_ceil m q} {n = k + 1} high in
     omega (arith, below)
-
--- a time that is at most so much
-within_bounded : (n most : ℕ) → n ≤ most → most ≤ 999999999999999 → IsWithin most (bounded n)
-within_bounded n most h few = let small : nat_le n 999999999999999 ≡ true = grind (arith, nat_tests, h, few) in rw small h
-
-pub within_down : (m : ℕ) (e : ℤ) (most : ℕ) → e <ℤ pos 0 → most ≤ 999999999999999 → m ≤ most * 10 ^ nat_abs e
-    → IsWithin most (bounded (scaled m e))
-within_down m (pos n) most negative few h = absurd (omega (arith, ints, negative))
-within_down m (negsuc n) most negative few h =
-    let down : m ≤ most * 10 ^ (n + 1) = subst (λ k. m ≤ most * 10 ^ k) (sym (add-one n)) h in
-    within_bounded (scaled m (negsuc n)) most (scaled_least m (negsuc n) most (omega (arith, down))) few
 
 pub rounded_not_below : (m e : ℤ) → (m *ℤ pos (times_ten e)) ≤ℤ pos (rounded_up m e * over_ten e)
 rounded_not_below (pos m) e = at_most_from (m * times_ten e) (scaled m e * over_ten e) (scaled_not_below m e)

@@ -44,11 +44,6 @@ IsTooLong value unit = (m : ℕ) → IsAtMost value unit m → 999999999999999 <
 abbrev pub bounded : ℕ → Option ℕ
 bounded n = if nat_le n 999999999999999 then Some n else None
 
--- there is a time, and it is at most so many picoseconds
-abbrev pub IsWithin : ℕ → Option ℕ → Type 0
-IsWithin most None = ⊥
-IsWithin most (Some time) = time ≤ most
-
 -- the time of a number of parts
 abbrev pub scaled : ℕ → ℤ → ℕ
 scaled m (pos n) = m * 10 ^ n

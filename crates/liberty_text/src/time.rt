@@ -1,7 +1,7 @@
 //! Times in whole picoseconds.
 
-ghost use Rattle.std.specs.Prelude.{◌≡◌, ◌^◌, ◌≤◌, ◌<◌, ◌*◌, pos, negsuc, true, MatchOption, IfSome};
-ghost use Rattle.liberty_text.specs.Time.{IsRoundedUp, IsTooLong, IsWithin, picoseconds_of, unit_exponent, scaled, bounded};
+ghost use Rattle.std.specs.Prelude.{◌≡◌, ◌^◌, ◌≤◌, ◌<◌, ◌*◌, pos, negsuc, MatchOption, IfSome};
+ghost use Rattle.liberty_text.specs.Time.{IsRoundedUp, IsTooLong, picoseconds_of, unit_exponent, scaled, bounded};
 
 use crate::decimal::Fixed;
 
@@ -103,33 +103,6 @@ fn scaled(mantissa: u64, exponent: i16) -> Option<u64>
     } else {
         product(mantissa, power)
     }
-}
-
-/// Whether a positive number times ten to an exponent, rounded up, is surely at most so many picoseconds, which is told without a
-/// division.
-#[tactic(auto, using(crate::proofs::Times::within_down))]
-fn is_scaled_within(mantissa: u64, exponent: i16, most: u64) -> bool
-    requires { most ≤ 999999999999999 }
-    ensures { result ≡ true → IsWithin most (bounded (scaled mantissa exponent)) }
-{
-    if exponent >= 0 || exponent < -18 {
-        return false;
-    }
-    match most.checked_mul(power_of_ten(exponent.unsigned_abs())) {
-        Some(greatest) => mantissa <= greatest,
-        None => false,
-    }
-}
-
-/// Whether a time is surely at most so many picoseconds. Where this says no, it may be so all the same. Takes no memory.
-pub fn is_surely_within(value: Fixed, unit: Unit, most: u64) -> bool
-    ensures { result ≡ true → IsWithin most (picoseconds_of value unit) }
-{
-    if value.mantissa <= 0 || most > GREATEST {
-        return false;
-    }
-    let exponent = i16::from(value.exponent) + unit_exponent(unit);
-    is_scaled_within(value.mantissa.unsigned_abs(), exponent, most)
 }
 
 /// A time in picoseconds: the least whole number that is not below `value` times the unit, and so 0

@@ -4,6 +4,7 @@ ghost use Rattle.liberty_groups.specs.declared.tree.Item.{out-Item};
 ghost use Rattle.three_state_cells.specs.Trimmed.{timing_told as timing_told_of};
 ghost use Rattle.three_state_cells.specs.Sinks.{wrong_group as wrong_group_of, wrong_item as wrong_item_of};
 
+use crate::driver_refusals::first_of_two;
 use crate::trimming::{loses, pins_in_item};
 use bank_cells::ItemSink;
 use cell_reader::{Reason, Refusal};

@@ -187,14 +187,6 @@ joined unit at sum after text size time e within some t a =
     let has : (length word == 0) ≡ false = ap (λ n. n == 0) long ∙ some in
     a ∙ ap (with_time at sum) t ∙ sym (ap (λ q. cond q sum (with_entry unit at sum word)) has)
 
-pub joined_number : (unit : Option TimeUnit) (at : ℕ) (sum after : Sum) (text : List ℕ) (size : ℕ) (number : Fixed)
-    → size ≡ word_length is_separator text → size ≤ length text → (word_length is_separator text == 0) ≡ false
-    → fixed_of (take (word_length is_separator text) text) ≡ Ok number → after ≡ with_time at sum (time_in unit number)
-    → after ≡ with_word unit at sum (take (word_length is_separator text) text)
-joined_number unit at sum after text size number e within some f a =
-    joined unit at sum after text size (time_in unit number) e within some
-    (time_in_is unit (take (word_length is_separator text) text) number f) a
-
 -- no entry leaves it as it is
 
 pub none_there : (text : List ℕ) → (word_length is_separator text == 0) ≡ true → 0 ≡ word_length is_separator text

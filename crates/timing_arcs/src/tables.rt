@@ -1,5 +1,5 @@
 //! The tables of timing groups and the times in them.
-ghost use Rattle.std.specs.Prelude.{◌≡◌, ◌≤◌, ◌==◌, false, length, take};
+ghost use Rattle.std.specs.Prelude.{◌≡◌, ◌≤◌, length, take};
 ghost use Rattle.std.specs.Option.{option_copied};
 ghost use Rattle.liberty_groups.specs.declared.tree.Item.{out-Item};
 ghost use Rattle.liberty_groups.specs.Attributes.{groups_named, first_of};
@@ -14,7 +14,7 @@ use crate::offsets::lesser;
 use crate::plain_entries::plain_entry;
 use crate::words::{behind_first, entry_length, is_end};
 use liberty_groups::{Group, Item, Value, inner_group};
-use liberty_text::{Fixed, Unit, fixed, is_surely_within, picoseconds};
+use liberty_text::{Fixed, Unit, fixed, picoseconds};
 
 /// What some entries of tables give.
 #[derive(Clone, Copy)]
@@ -49,11 +49,39 @@ pub(crate) fn time(unit: Option<Unit>, text: &[u8]) -> Option<u64>
     }
 }
 
+/// The entry at the front of a text, up to its end or to a separator.
+#[derive(Clone, Copy)]
+struct FrontEntry {
+    /// How many bytes it has.
+    length: usize,
+    time: Option<u64>,
+}
+
 /// The time of a number, in picoseconds: nothing where the unit is unknown or the time is above the greatest.
 fn time_in(unit: Option<Unit>, number: Fixed) -> Option<u64>
     ensures { result ≡ time_in unit number }
 {
     picoseconds(number, unit?)
+}
+
+/// The entry at the front of a text.
+#[tactic(auto, using(crate::proofs::PlainEntries::time_in_is))]
+fn front_entry(unit: Option<Unit>, text: &[u8]) -> FrontEntry
+    ensures length { result.length ≡ word_length is_separator text.now }
+    ensures within { result.length ≤ length text.now }
+    ensures time { result.time ≡ time_of unit (take (word_length is_separator text.now) text.now) }
+{
+    if let Some(entry) = plain_entry(text) {
+        return FrontEntry {
+            length: entry.length,
+            time: time_in(unit, entry.number),
+        };
+    }
+    let (word, _) = text.split_at(entry_length(text));
+    FrontEntry {
+        length: word.len(),
+        time: time(unit, word),
+    }
 }
 
 impl Sum {
@@ -79,38 +107,8 @@ impl Sum {
         }
     }
 
-    /// Adds an entry, in the statement at this offset, that is a number. Most are below one before, which is told without the time.
-    fn add_number(&mut self, unit: Option<Unit>, at: usize, number: Fixed)
-        ensures { self.new ≡ with_time at self.old (time_in unit number) }
-    {
-        if let Some(unit) = unit
-            && is_surely_within(number, unit, self.greatest)
-        {
-            self.has_entry = true;
-            return;
-        }
-        self.add_time(at, time_in(unit, number));
-    }
-
-    /// Adds the entry at the front of a text, which has a byte, in the statement at this offset, and answers how many it has.
-    #[tactic(auto, using(crate::proofs::PlainEntries::joined))]
-    fn add_entry(&mut self, unit: Option<Unit>, at: usize, text: &[u8]) -> usize
-        requires { (word_length is_separator text.now == 0) ≡ false }
-        ensures sum { self.new ≡ with_word unit at self.old (take (word_length is_separator text.now) text.now) }
-        ensures length { result ≡ word_length is_separator text.now }
-        ensures within { result ≤ length text.now }
-    {
-        if let Some(entry) = plain_entry(text) {
-            self.add_number(unit, at, entry.number);
-            return entry.length;
-        }
-        let (word, _) = text.split_at(entry_length(text));
-        self.add_time(at, time(unit, word));
-        word.len()
-    }
-
     /// Adds the entry at the front of a text, in the statement at this offset, if it has a byte, and answers how many it has.
-    #[tactic(auto, using(crate::proofs::PlainEntries::passed, crate::proofs::PlainEntries::none_there))]
+    #[tactic(auto, using(crate::proofs::PlainEntries::joined, crate::proofs::PlainEntries::passed, crate::proofs::PlainEntries::none_there))]
     fn add_front(&mut self, unit: Option<Unit>, at: usize, text: &[u8]) -> usize
         ensures sum { self.new ≡ with_word unit at self.old (take (word_length is_separator text.now) text.now) }
         ensures length { result ≡ word_length is_separator text.now }
@@ -119,7 +117,9 @@ impl Sum {
         if is_end(text) {
             return 0;
         }
-        self.add_entry(unit, at, text)
+        let front = front_entry(unit, text);
+        self.add_time(at, front.time);
+        front.length
     }
 
     /// Adds the entries of a text, in the statement at this offset.

@@ -1,4 +1,4 @@
-use Rattle.std.proofs.Common.{◌≡◌, ◌≤◌, List, ℕ, [], ◌∷◌, length, take, drop, sym, ap, subst, ◌∙◌, rules}
+use Rattle.std.proofs.Common.{◌≡◌, [], ◌∷◌, take, drop, sym, ap, ◌∙◌, rules}
 use Rattle.liberty_text.proofs.Quiet.{four_spaces, more_blanks, within_behind}
 use Rattle.liberty_text.proofs.gaps.fours.Goals as goal
 

@@ -1,4 +1,4 @@
-use Rattle.std.proofs.Common.{◌+◌, ℕ, List, length, subst, arith}
+use Rattle.std.proofs.Common.{◌+◌, ℕ, List, subst}
 use Rattle.std.proofs.lemmas.Bool.{not-true as not_true, not-false as not_false}
 use Rattle.liberty_text.specs.declared.scanner.Mode.TheVariants.{Between}
 use Rattle.liberty_text.specs.Quiet.{Passes}

@@ -30,10 +30,7 @@ pub(crate) fn input_names(alloc: Global, count: usize) -> Result<Items<SmallByte
 fn input_name(alloc: Global, number: usize) -> Result<SmallBytes, AllocError>
     ensures { IfOk result (λ name. name ≡ input_name number) }
 {
-    Ok(SmallBytes::from_items(
-        alloc,
-        numbered_name(alloc, b"i", number)?,
-    )?)
+    Ok(SmallBytes::from_items(alloc, numbered_name(alloc, b"i", number)?)?)
 }
 
 /// A word followed by a number. `AllocError` comes only where memory is wanting.

@@ -91,6 +91,7 @@ impl<'a, L: Language> Cursor<'a, L> {
     }
 
     /// Whether the next token is a name.
+    #[inline(always)]
     pub fn is_next_name(&self) -> bool
         ensures { result ≡ is_next_name L.is_name self.now }
     {

@@ -111,6 +111,7 @@ impl<L: Language> Cursor<'_, L> {
     }
 
     /// This name.
+    #[inline(always)]
     pub fn this_name(&mut self, name: &[u8]) -> Result<(), Stop>
         ensures { Reads (read (spec.this_name L.is_name L.is_same (Some name.now)) self.old) result self.new }
     {

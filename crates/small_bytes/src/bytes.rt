@@ -98,6 +98,7 @@ impl SmallBytes {
     }
 
     /// A copy of some bytes. An `Err` comes only where memory is wanting.
+    #[inline(always)]
     pub fn from_slice(alloc: Global, bytes: &[u8]) -> Result<SmallBytes, AllocError>
         ensures { IfOk result (λ copy. copy ≡ bytes.now) }
     {
@@ -122,6 +123,7 @@ impl SmallBytes {
     }
 
     /// The bytes.
+    #[inline(always)]
     pub fn as_slice(&self) -> &[u8]
         ensures { result.now ≡ self.now }
     {

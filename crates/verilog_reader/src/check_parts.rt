@@ -77,6 +77,7 @@ fn notifier_name(cursor: &mut Cursor, model: &Netlist) -> Read<()>
 }
 
 /// The end of a check.
+#[inline(always)]
 #[tactic(auto, unfolding(verilog_grammar::specs::VerilogBlocks::check_end))]
 pub fn check_end(cursor: &mut Cursor, model: &Netlist) -> Read<()>
     ensures { Reads (read (spec.check_end model.now) cursor.old) result cursor.new }

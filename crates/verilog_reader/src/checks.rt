@@ -46,6 +46,7 @@ fn check_of(token: &[u8]) -> Option<CheckKind>
 }
 
 /// The limit and the end of a check of these events, behind its last event and its condition.
+#[inline(always)]
 #[tactic(auto, unfolding(crate::specs::Checks::limited))]
 fn limited(
     cursor: &mut Cursor,

@@ -74,6 +74,7 @@ fn feeding_terminal(
 }
 
 /// Adds one more net that feeds an instance.
+#[inline(always)]
 #[tactic(auto, unfolding(verilog_grammar::specs::VerilogModules::next_input), using(crate::proofs::SameTerminals::named_more))]
 fn next_terminal<'a>(
     cursor: &mut Cursor<'a>,

@@ -59,6 +59,7 @@ fn condition_of(model: &Netlist, name: &[u8]) -> Option<usize>
 }
 
 /// The name of an input.
+#[inline(always)]
 #[tactic(auto, unfolding(verilog_grammar::specs::VerilogBlocks::an_input))]
 pub fn input_name(cursor: &mut Cursor, model: &Netlist) -> Read<usize>
     ensures { Reads (read (spec.an_input model.now) cursor.old) result cursor.new }

@@ -10,6 +10,7 @@ use udp_tables::{Udp, is_input_port};
 use verilog_grammar::modules::VNet;
 
 /// The net of a name: a port, a wire or the register.
+#[inline(always)]
 pub fn net_of(model: &Netlist, name: &[u8]) -> Option<VNet>
     ensures { result ≡ spec.net_of model.now name.now }
 {

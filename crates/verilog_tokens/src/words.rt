@@ -10,6 +10,7 @@ ghost use Rattle.verilog_tokens.specs.Tokens as tokens;
 use crate::word_groups::words_from;
 
 /// Whether these bytes are a word of Verilog, which is no name. It takes no memory.
+#[inline(always)]
 pub fn is_verilog_word(name: &[u8]) -> bool
     ensures { result ≡ is_verilog_word name.now }
 {
@@ -20,6 +21,7 @@ pub fn is_verilog_word(name: &[u8]) -> bool
 }
 
 /// Whether these bytes are one of the words.
+#[inline(always)]
 fn is_among(name: &[u8], words: &[&[u8]]) -> bool
     ensures { result ≡ list_any (λ word. bytes_eq name.now word.now) words.now }
 {

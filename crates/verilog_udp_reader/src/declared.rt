@@ -11,6 +11,7 @@ use verilog_tokens::is_name;
 
 /// A name that is declared here, and was none of these before, as it stands in the text; it then is the last of them. Where the
 /// reading stops they may have one name more. It takes the time of one look-up, however many there are.
+#[inline(always)]
 #[tactic(auto, using(crate::proofs::NewNames::new_other, crate::proofs::NewNames::declared_taken))]
 pub fn declare<'a>(cursor: &mut Cursor<'a>, names: &mut Names) -> Read<&'a [u8]>
     ensures reads { ReadsAs (λ name. name.now) (read (new_name names.old) cursor.old) result cursor.new }

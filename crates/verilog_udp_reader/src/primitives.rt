@@ -57,6 +57,7 @@ fn first_name<'a>(cursor: &mut Cursor<'a>, alloc: Global) -> Read<(SmallBytes, T
 }
 
 /// Adds one more input of a header with this output.
+#[inline(always)]
 #[tactic(auto, unfolding(udp_tables::specs::VerilogPrimitives::next_input))]
 fn next_input<'a>(
     cursor: &mut Cursor<'a>,

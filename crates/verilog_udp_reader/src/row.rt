@@ -129,6 +129,7 @@ fn an_output(cursor: &mut Cursor<'_>, sequential: bool) -> Read<Next>
 }
 
 /// A change from a level to another, behind its bracket.
+#[inline(always)]
 #[tactic(auto, unfolding(udp_tables::specs::VerilogPrimitives::pair))]
 fn pair(cursor: &mut Cursor<'_>) -> Read<Entry>
     ensures { Reads (read spec.pair cursor.old) result cursor.new }

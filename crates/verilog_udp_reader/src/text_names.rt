@@ -47,6 +47,7 @@ fn is_one(names: &[&[u8]], name: &[u8]) -> bool
 }
 
 /// Whether a name is in a list that finds it at once.
+#[inline(always)]
 #[tactic(auto, using(crate::proofs::NearNames::numbered))]
 fn is_found(names: &Names, name: &[u8]) -> bool
     ensures { result ≡ list_any (bytes_eq name.now) names.now }
@@ -55,6 +56,7 @@ fn is_found(names: &Names, name: &[u8]) -> bool
 }
 
 /// Adds a name to a list that finds it at once, where it is none of them.
+#[inline(always)]
 #[tactic(auto, using(crate::proofs::NearNames::added))]
 fn add_far(far: &mut Names, name: &[u8]) -> Result<(), Stop>
     requires { list_any (bytes_eq name.now) far.old ≡ false }
@@ -107,6 +109,7 @@ impl<'a> TextNames<'a> {
 }
 
 /// A name that is declared here, and is none of these, as it stands in the text.
+#[inline(always)]
 #[tactic(auto, using(crate::proofs::NewNames::new_fits, crate::proofs::NewNames::new_taken, crate::proofs::NewNames::new_other))]
 pub fn new_name<'a>(cursor: &mut Cursor<'a>, names: &TextNames<'_>) -> Read<&'a [u8]>
     ensures reads { ReadsAs (λ name. name.now) (read (spec.new_name names.now) cursor.old) result cursor.new }

@@ -105,22 +105,6 @@ first_quiet mode next at (b ∷ bs) h e = (
   append-nil (step mode at b).1 ∙ ap (λ (p : Mode × List Token). p.1) e,
 )
 
-word_opens : (line : Bool) (at b : ℕ) → (b == 47) ≡ false → opened_by line at b WordByte ≡ (InWord at line None, [])
-word_opens line at b f = ap (λ q. (InWord at line (cond q (Some at) None), [])) f
-
--- a Word begins
-pub word_first : (line : Bool) (at : ℕ) (bytes : List ℕ) → 0 < length bytes → class_of (get_or bytes 0 0) ≡ WordByte
-    → (get_or bytes 0 0 == 47) ≡ false → IsQuiet (Between line) at bytes 1 (InWord at line None)
-word_first line at bytes h e f =
-    first_quiet (Between line) (InWord at line None) at bytes h
-    (ap (opened_by line at (get_or bytes 0 0)) e ∙ word_opens line at (get_or bytes 0 0) f)
-
--- a text begins
-pub text_first : (line : Bool) (at : ℕ) (bytes : List ℕ) → 0 < length bytes → class_of (get_or bytes 0 0) ≡ Quote
-    → IsQuiet (Between line) at bytes 1 (InText at line false)
-text_first line at bytes h e =
-    first_quiet (Between line) (InText at line false) at bytes h (ap (opened_by line at (get_or bytes 0 0)) e)
-
 -- a text or a Word as far as no token ends
 pub text_quiet : (line : Bool) (at : ℕ) (bytes text : List ℕ) (k : ℕ) → 0 < length bytes
     → IsQuiet (Between line) at bytes 1 (InText at line false) → text ≡ drop 1 bytes → k ≤ length text

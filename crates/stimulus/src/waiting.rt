@@ -29,28 +29,31 @@ pub(crate) fn put_tagged<D: Desk>(
     ensures cause { HasCause (D.faults desk.old) (D.faults desk.new) result }
 {
     if has_room(waiting, text, pieces) {
-        put_pieces(waiting, tag, pieces);
+        put_behind(waiting, tag, text, pieces);
         return Ok(());
     }
     write_first(desk, waiting, tag, text, pieces)
 }
 
-/// Whether a line whose rest is a text and pieces can wait: the text is empty, and there is room for the pieces and a tag.
+/// Whether there is room for a line whose rest is a text and pieces, behind a tag.
 #[inline(always)]
 fn has_room(waiting: &Waiting, text: &[u8], pieces: &Pieces) -> bool
-    ensures empty { result ≡ true → text.now ≡ [] }
-    ensures room { result ≡ true → length waiting.now + length pieces.now < 16384 }
+    ensures { result ≡ true → length waiting.now + length text.now + length pieces.now < 16384 }
 {
-    text.is_empty() && waiting.as_slice().len() + pieces.as_slice().len() < ROOM
+    let before = waiting.as_slice().len() + text.len();
+    before < ROOM && before + pieces.as_slice().len() < ROOM
 }
 
-/// Puts a tag and pieces behind the bytes that wait.
+/// Puts a tag, a text and pieces behind the bytes that wait.
 #[inline(always)]
-fn put_pieces(waiting: &mut Waiting, tag: u8, pieces: &Pieces)
-    requires { length waiting.old + length pieces.now < 16384 }
-    ensures { waiting.new ≡ waiting.old ++ tag ∷ pieces.now }
+fn put_behind(waiting: &mut Waiting, tag: u8, text: &[u8], pieces: &Pieces)
+    requires { length waiting.old + length text.now + length pieces.now < 16384 }
+    ensures { waiting.new ≡ waiting.old ++ tag ∷ (text.now ++ pieces.now) }
 {
     waiting.push(tag);
+    if !text.is_empty() {
+        waiting.append(text);
+    }
     waiting.append(pieces.as_slice());
 }
 
@@ -68,7 +71,7 @@ fn write_first<D: Desk>(
 {
     write_waiting(desk, waiting)?;
     if has_room(waiting, text, pieces) {
-        put_pieces(waiting, tag, pieces);
+        put_behind(waiting, tag, text, pieces);
         return Ok(());
     }
     write_line(desk, tag, text, pieces.as_slice())

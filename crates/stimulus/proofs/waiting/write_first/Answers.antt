@@ -1,4 +1,4 @@
-use Rattle.std.proofs.Common.{[], ◌∷◌, ◌++◌, ◌∙◌, ap, sym, refl}
+use Rattle.std.proofs.Common.{[], ◌∷◌, ◌++◌, ap, refl}
 use Rattle.text_io.proofs.LineLaws.{puts_on, put_stops}
 use Rattle.stimulus.proofs.Runs.{appended, written_alone}
 use Rattle.stimulus.proofs.waiting.write_first.Goals as goal
@@ -12,9 +12,7 @@ pub returns-then-has_room-clause-text : goal.returns-then-has_room-clause-text
 returns-then-has_room-clause-text g c =
     let mid = c.write_waiting.new.waiting in
     puts_on _ _ _ _ _ mid _ [] (c.args.tag ∷ (c.args.text.now ++ c.args.pieces.now)) _ c.in_ok-write_waiting.ensures.text.whole
-    (appended _ mid (c.args.tag ∷ (c.args.text.now ++ c.args.pieces.now)) _ _
-    (c.put_pieces.ensures
-    ∙ ap (λ t. mid ++ c.args.tag ∷ (t ++ c.args.pieces.now)) (sym (c.has_room.ensures.empty c.if-has_room.true))))
+    (appended _ mid (c.args.tag ∷ (c.args.text.now ++ c.args.pieces.now)) _ _ c.put_behind.ensures)
 
 pub returns-clause-text : goal.returns-clause-text
 returns-clause-text g c =

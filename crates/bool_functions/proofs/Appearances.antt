@@ -5,7 +5,7 @@ use Rattle.std.proofs.Common.{length, drop, slice_index_or, add-one, drop-cons, 
 use Rattle.std.specs.List.{list_any, AllByRecursion, IsDistinct}
 use Rattle.std.proofs.lemmas.List.Folds.{list_any-append}
 use Rattle.std.proofs.lemmas.Slice.Eq.{bytes_eq-Decides}
-use Rattle.std.proofs.lemmas.Bool.{or_right as either}
+use Rattle.std.proofs.lemmas.Bool.{not-true, or_right as either}
 use Rattle.bool_functions.specs.declared.tokens.Span.{Span}
 use Rattle.bool_functions.specs.NameList.{number_of, Adds, AreDistinct}
 use Rattle.bool_functions.specs.Token.{is_name, bytes_at, words_of, words, spans}
@@ -155,11 +155,7 @@ known_at names text t ts true e h k =
     h w (ap (list_any (bytes_eq w)) all ∙ ap (λ d. d || list_any (bytes_eq w) (words_of text ts)) itself) in
     ap (λ d. if d then Some t.start else first_unknown names text ts)
     (ap (λ d. d && is_none (number_of names w)) e ∙ absent_by names w true found)
-    ∙ k (λ v in_rest. h v (ap (list_any (bytes_eq v)) all ∙ later (bytes_eq v w) _ in_rest))
-  where
-    later : (a b : Bool) → b ≡ true → (a || b) ≡ true
-    later true b q = refl
-    later false b q = q
+    ∙ k (λ v in_rest. h v (ap (list_any (bytes_eq v)) all ∙ either (bytes_eq v w) _ in_rest))
 known_at names text t ts false e h k =
     ap (λ d. if d then Some t.start else first_unknown names text ts)
     (ap (λ d. d && is_none (number_of names (bytes_at text t))) e)
@@ -273,11 +269,7 @@ others_differ : (w : List ℕ) (xs : List (List ℕ)) → AllByRecursion (λ y. 
 others_differ w [] = tt
 others_differ w (x ∷ xs) =
     all_kept_at (λ y. bytes_eq w y ≡ false) (λ v. not (bytes_eq v w)) x xs (not (bytes_eq x w)) refl
-    (λ e. other_way w x (bytes_eq w x) refl (unnot (bytes_eq x w) e)) (others_differ w xs)
-  where
-    unnot : (b : Bool) → not b ≡ true → b ≡ false
-    unnot true e = absurd cc
-    unnot false e = refl
+    (λ e. other_way w x (bytes_eq w x) refl (not-true (bytes_eq x w) e)) (others_differ w xs)
 
 distinct_at : (q : List ℕ → Bool) (x : List ℕ) (xs : List (List ℕ)) (b : Bool) → q x ≡ b
     → AllByRecursion (λ y. bytes_eq x y ≡ false) xs → IsDistinct bytes_eq (filter q xs)

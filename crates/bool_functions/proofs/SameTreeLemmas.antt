@@ -61,25 +61,29 @@ equals-not f is g e =
     let (h, top, part) = from_not (same_tree f) (out-Node g) (sym (ap (λ t. t g) (fold-Not (Node → Bool) step f)) ∙ e) in
     ap node.Not (is h part) ∙ sym (rolls-Not h) ∙ by_top g (Node-F.Not h) top
 
+-- the same of an operator of two trees, where the other one has that operator on trees that pass
+equals_two :
+    (make : Node → Node → Node) (layer : Node → Node → Node-F Node) → ((h j : Node) → make h j ≡ roll-Node (layer h j))
+    → (f k g : Node) → Equals f → Equals k
+    → ((h : Node) × (j : Node) × (out-Node g ≡ layer h j) × (same_tree f h ≡ true) × (same_tree k j ≡ true)) → make f k ≡ g
+equals_two make layer rolled f k g is also parts =
+    let (h, j, top, left, right) = parts in
+    ap (λ x. make x k) (is h left) ∙ ap (make h) (also j right) ∙ rolled h j ∙ by_top g (layer h j) top
+
 equals-xor : (f k : Node) → Equals f → Equals k → Equals (node.Xor f k)
 equals-xor f k is also g e =
-    let (h, j, top, left, right) = from_xor (same_tree f) (same_tree k) (out-Node g)
-    (sym (ap (λ t. t g) (fold-Xor (Node → Bool) step f k)) ∙ e) in
-    ap (λ x. node.Xor x k) (is h left) ∙ ap (λ x. node.Xor h x) (also j right) ∙ sym (rolls-Xor h j)
-    ∙ by_top g (Node-F.Xor h j) top
+    equals_two (λ h j. node.Xor h j) (λ h j. Node-F.Xor h j) (λ h j. sym (rolls-Xor h j)) f k g is also
+    (from_xor (same_tree f) (same_tree k) (out-Node g) (sym (ap (λ t. t g) (fold-Xor (Node → Bool) step f k)) ∙ e))
 
 equals-and : (f k : Node) → Equals f → Equals k → Equals (node.And f k)
 equals-and f k is also g e =
-    let (h, j, top, left, right) = from_and (same_tree f) (same_tree k) (out-Node g)
-    (sym (ap (λ t. t g) (fold-And (Node → Bool) step f k)) ∙ e) in
-    ap (λ x. node.And x k) (is h left) ∙ ap (λ x. node.And h x) (also j right) ∙ sym (rolls-And h j)
-    ∙ by_top g (Node-F.And h j) top
+    equals_two (λ h j. node.And h j) (λ h j. Node-F.And h j) (λ h j. sym (rolls-And h j)) f k g is also
+    (from_and (same_tree f) (same_tree k) (out-Node g) (sym (ap (λ t. t g) (fold-And (Node → Bool) step f k)) ∙ e))
 
 equals-or : (f k : Node) → Equals f → Equals k → Equals (node.Or f k)
 equals-or f k is also g e =
-    let (h, j, top, left, right) = from_or (same_tree f) (same_tree k) (out-Node g)
-    (sym (ap (λ t. t g) (fold-Or (Node → Bool) step f k)) ∙ e) in
-    ap (λ x. node.Or x k) (is h left) ∙ ap (λ x. node.Or h x) (also j right) ∙ sym (rolls-Or h j) ∙ by_top g (Node-F.Or h j) top
+    equals_two (λ h j. node.Or h j) (λ h j. Node-F.Or h j) (λ h j. sym (rolls-Or h j)) f k g is also
+    (from_or (same_tree f) (same_tree k) (out-Node g) (sym (ap (λ t. t g) (fold-Or (Node → Bool) step f k)) ∙ e))
 
 -- trees that pass the test are equal
 pub same_tree-equal : (f : Node) → Equals f

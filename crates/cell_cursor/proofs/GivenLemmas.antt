@@ -22,7 +22,7 @@ use Rattle.cell_cursor.specs.Items.{rest_inside, library_end, rest_at, items_in,
 use Rattle.cell_cursor.specs.Leads.{LeadTo, is_start}
 use Rattle.cell_cursor.specs.Progress.{scanned_by}
 use Rattle.cell_cursor.specs.Scanned.{AreScanned, NoneOuter}
-use Rattle.cell_cursor.specs.Stands.{Keeps, Goes, MayTake, GoesBy}
+use Rattle.cell_cursor.specs.Stands.{Keeps, Goes, GoesBy}
 use Rattle.cell_cursor.proofs.Depths.{lexeme_kinds_behind}
 use Rattle.cell_cursor.proofs.EndsLemmas.{part_items}
 use Rattle.cell_cursor.proofs.LeadsLemmas.{leads_here}
@@ -196,37 +196,18 @@ goes_run o n may count bytes items place_is before_is bytes_are piece_is within 
 
 -- as found by the code, which has a second name for what was not scanned
 
-goes_seen : (o n : CellCursor) (may : Bool) (count : ℕ) (unread : List ℕ) → unread ≡ o.piece → n.place ≡ o.place
-    → n.part.before ≡ o.part.before → n.part.bytes ≡ o.part.bytes ++ take count unread →
+pub goes_as : (b : Bool) (o n : CellCursor) (may : Bool) (count : ℕ) (unread : List ℕ) → may ≡ b → unread ≡ o.piece
+    → n.place ≡ o.place → n.part.before ≡ o.part.before → n.part.bytes ≡ o.part.bytes ++ take count unread →
     n.piece ≡ drop count o.piece → count ≤ length unread → AreScanned n.part.bytes n.part.tokens n.part.mode
     → (has_outer o.place (kinds_of o.part.tokens) ≡ false → NoneOuter o.place o.part.bytes unread count) →
     (has_outer o.place (kinds_of o.part.tokens) ≡ false → ShowsOuter may o.place (kinds_of n.part.tokens))
-    → (bytes : List ℕ) (items : List LibraryItem) → Goes o bytes items → GoesBy may n bytes items
-goes_seen o n may count unread same place_is before_is bytes_are piece_is within scanned none outer bytes items g =
-    goes_run o n may count bytes items place_is before_is (bytes_are ∙ ap (λ (s : List ℕ). o.part.bytes ++ take count s) same)
+    → (bytes : List ℕ) (items : List LibraryItem) → Goes o bytes items → GoesBy b n bytes items
+goes_as b o n may count unread e same place_is before_is bytes_are piece_is within scanned none outer bytes items g =
+    subst (λ (x : Bool). GoesBy x n bytes items) e
+    (goes_run o n may count bytes items place_is before_is (bytes_are ∙ ap (λ (s : List ℕ). o.part.bytes ++ take count s) same)
     piece_is (subst (λ (s : List ℕ). count ≤ length s) same within) scanned
     (subst (λ (s : List ℕ). has_outer o.place (kinds_of o.part.tokens) ≡ false
-    → NoneOuter o.place o.part.bytes s count) same none) outer g
-
-pub goes_further : (o n : CellCursor) (may : Bool) (count : ℕ) (unread : List ℕ) → may ≡ false → unread ≡ o.piece
-    → n.place ≡ o.place → n.part.before ≡ o.part.before → n.part.bytes ≡ o.part.bytes ++ take count unread →
-    n.piece ≡ drop count o.piece → count ≤ length unread → AreScanned n.part.bytes n.part.tokens n.part.mode
-    → (has_outer o.place (kinds_of o.part.tokens) ≡ false → NoneOuter o.place o.part.bytes unread count) →
-    (has_outer o.place (kinds_of o.part.tokens) ≡ false → ShowsOuter may o.place (kinds_of n.part.tokens))
-    → (bytes : List ℕ) (items : List LibraryItem) → Goes o bytes items → Goes n bytes items
-goes_further o n may count unread e same place_is before_is bytes_are piece_is within scanned none outer bytes items g =
-    subst (λ (x : Bool). GoesBy x n bytes items) e
-    (goes_seen o n may count unread same place_is before_is bytes_are piece_is within scanned none outer bytes items g)
-
-pub goes_so_far : (o n : CellCursor) (may : Bool) (count : ℕ) (unread : List ℕ) → may ≡ true → unread ≡ o.piece
-    → n.place ≡ o.place → n.part.before ≡ o.part.before → n.part.bytes ≡ o.part.bytes ++ take count unread →
-    n.piece ≡ drop count o.piece → count ≤ length unread → AreScanned n.part.bytes n.part.tokens n.part.mode
-    → (has_outer o.place (kinds_of o.part.tokens) ≡ false → NoneOuter o.place o.part.bytes unread count) →
-    (has_outer o.place (kinds_of o.part.tokens) ≡ false → ShowsOuter may o.place (kinds_of n.part.tokens))
-    → (bytes : List ℕ) (items : List LibraryItem) → Goes o bytes items → MayTake n bytes items
-goes_so_far o n may count unread e same place_is before_is bytes_are piece_is within scanned none outer bytes items g =
-    subst (λ (x : Bool). GoesBy x n bytes items) e
-    (goes_seen o n may count unread same place_is before_is bytes_are piece_is within scanned none outer bytes items g)
+    → NoneOuter o.place o.part.bytes s count) same none) outer g)
 
 -- what was scanned and what is left are all
 pub sizes_of : (bytes bytes' piece piece' : List ℕ) (count : ℕ) (unread : List ℕ) → unread ≡ piece

@@ -1,6 +1,6 @@
 //! What a token tells as soon as it has ended, before any statement is read.
 
-use liberty_groups::{Standing, next_standing};
+use liberty_groups::{Place, Standing, goes_on, next_standing};
 use liberty_text::{Kept, Token};
 
 /// What the tokens of a part tell that ended last.
@@ -37,6 +37,10 @@ impl Watch {
         };
         for kept in tokens {
             let token = kept.token();
+            // most tokens of a library are arguments, behind which the next one stands where they do
+            if matches!(here, Standing::Arguments(_)) && goes_on(Place::Arguments, token) {
+                continue;
+            }
             let is_library = matches!(here, Standing::Start) && is_library(bytes, token);
             let Some(next) = next_standing(here, token, is_library) else {
                 self.standing = None;

@@ -187,6 +187,14 @@ module _ {A F : Type 0} (lang : Texts A F) (known : Known lang) where
   place-at : (bytes : List ℕ) (f : F) (j : Refusal) (n : ℕ) → f ≡ lang.faults.of_refusal j n → lang.faults.place f ≡ n
   place-at bytes f j n e = ap lang.faults.place e ∙ known.place_of_fault j n
 
+  -- a lexical fault stands behind each place before the end of the tokens
+  before_lexical : (bytes : List ℕ) (place : ℕ) (f : F) (at : ℕ) → place < stop_of (length bytes) (lexical_place lang.lexis bytes)
+      → lexical_place lang.lexis bytes ≡ Some at → f ≡ lang.faults.lexical at → place < lang.faults.place f
+  before_lexical bytes place f at below e i =
+      let d : stop_of (length bytes) (lexical_place lang.lexis bytes) ≡ at = ap (stop_of (length bytes)) e in
+      let p : lang.faults.place f ≡ at = ap lang.faults.place i ∙ known.place_of_lexical at in
+      omega (arith, below)
+
   -- the first token that breaks a strict rule
   foul_decided : (bytes : List ℕ) (k : Refusal) (x : List ℕ) (r : List (List ℕ))
       → Refuses lang.file (text_tokens lang.lexis bytes) k (x ∷ r) → Fouls lang.file (text_tokens lang.lexis bytes) k (x ∷ r) →
@@ -197,7 +205,7 @@ module _ {A F : Type 0} (lang : Texts A F) (known : Known lang) where
       token_decided bytes k x r h (inr (inl (k, x ∷ r, c, refl)))
       (λ f met.
       elim met [
-        | inl (at, e, i) ↦ inr (before_lexical f at e i)
+        | inl (at, e, i) ↦ inr (before_lexical bytes (token_place lang.lexis bytes (x ∷ r)) f at below e i)
         | inr (inl (j, n, d, i)) ↦ another f j n d i
         | inr (inr (inl (j, y, n, d, i))) ↦ inr (before_refusal f j y n d i)
         | inr (inr (inr (e, j, d, i))) ↦ inr (before_end f j e i)
@@ -208,13 +216,6 @@ module _ {A F : Type 0} (lang : Texts A F) (known : Known lang) where
 
       below : token_place lang.lexis bytes (x ∷ r) < stop_of (length bytes) (lexical_place lang.lexis bytes)
       below = (places_of bytes).within (x ∷ r) inside.0 inside.1
-
-      before_lexical : (f : F) (at : ℕ) → lexical_place lang.lexis bytes ≡ Some at → f ≡ lang.faults.lexical at
-          → token_place lang.lexis bytes (x ∷ r) < lang.faults.place f
-      before_lexical f at e i =
-          let d : stop_of (length bytes) (lexical_place lang.lexis bytes) ≡ at = ap (stop_of (length bytes)) e in
-          let p : lang.faults.place f ≡ at = ap lang.faults.place i ∙ known.place_of_lexical at in
-          omega (arith, below)
 
       before_end : (f : F) (j : Refusal) → lexical_place lang.lexis bytes ≡ None → f ≡ lang.faults.of_refusal j (length bytes)
           → token_place lang.lexis bytes (x ∷ r) < lang.faults.place f
@@ -264,7 +265,7 @@ module _ {A F : Type 0} (lang : Texts A F) (known : Known lang) where
       token_decided bytes k x r h (inr (inr (inl (k, x, r, c, refl))))
       (λ f met.
       elim met [
-        | inl (at, e, i) ↦ inr (before_lexical f at e i)
+        | inl (at, e, i) ↦ inr (before_lexical bytes (token_place lang.lexis bytes (x ∷ r)) f at below e i)
         | inr (inl (j, n, d, i)) ↦ absurd (clean j n d)
         | inr (inr (inl (j, y, n, d, i))) ↦ same f j y n d i
         | inr (inr (inr (e, j, d, i))) ↦ absurd (let z = (one-refusal (text_tokens lang.lexis bytes) k j (x ∷ r) [] c d).1 in cc)
@@ -272,13 +273,6 @@ module _ {A F : Type 0} (lang : Texts A F) (known : Known lang) where
     where
       below : token_place lang.lexis bytes (x ∷ r) < stop_of (length bytes) (lexical_place lang.lexis bytes)
       below = (places_of bytes).within (x ∷ r) (refusal_inside bytes k (x ∷ r) c) (omega arith)
-
-      before_lexical : (f : F) (at : ℕ) → lexical_place lang.lexis bytes ≡ Some at → f ≡ lang.faults.lexical at
-          → token_place lang.lexis bytes (x ∷ r) < lang.faults.place f
-      before_lexical f at e i =
-          let d : stop_of (length bytes) (lexical_place lang.lexis bytes) ≡ at = ap (stop_of (length bytes)) e in
-          let p : lang.faults.place f ≡ at = ap lang.faults.place i ∙ known.place_of_lexical at in
-          omega (arith, below)
 
       same : (f : F) (j : Refusal) (y : List ℕ) (n : List (List ℕ))
           → Refuses (loose lang.file) (text_tokens lang.lexis bytes) j (y ∷ n) →

@@ -9,5 +9,5 @@ pub mod Order
 pub mod Spelled
 pub mod EachToken
 pub mod ByteTables
-mod WordGroups
+pub mod WordGroups
 pub mod LawfulTexts

@@ -1,6 +1,6 @@
 -- Words by their first letters: where those of a table begin with one letter after another, a word is among them exactly where it
 -- is among those with its own first letter.
-use Rattle.std.proofs.Common.{◌≡◌, ℕ, zero, suc, ◌+◌, ◌<◌, Bool, true, false, ◌||◌, nat_eq, List, [], ◌∷◌, map}
+use Rattle.std.proofs.Common.{◌≡◌, ℕ, zero, suc, ◌+◌, ◌<◌, ◌≤◌, Bool, true, false, ◌||◌, nat_eq, List, [], ◌∷◌, map}
 use Rattle.std.proofs.Common.{length, get_or, refl, sym, ap, ◌∙◌, arith}
 use Rattle.std.proofs.lemmas.Bool.{and_parts, eqb-true}
 use Rattle.std.proofs.lemmas.Bool.Decides.{nat_tests}
@@ -21,6 +21,13 @@ none_of letter first rest n ((b ∷ bs) ∷ words) e =
     let other : nat_eq first b ≡ false = ap (nat_eq first) (eqb-true b letter p.0) ∙ n in
     rw other (none_of letter first rest n words p.1)
 
+-- words that begin with a letter are not empty
+none_empty : (letter : ℕ) (words : List (List ℕ)) → list_all (begins letter) words ≡ true → list_any (bytes_eq []) words ≡ false
+none_empty letter [] e = refl
+none_empty letter ([] ∷ words) e = absurd cc
+none_empty letter ((b ∷ bs) ∷ words) e =
+    none_empty letter words (and_parts (nat_eq b letter) (list_all (begins letter) words) e).1
+
 -- the groups of a table, each with its words
 module _ {G W : Type 0} (words : G → List W) (bytes : W → List ℕ) where
   abbrev texts : G → List (List ℕ)
@@ -33,7 +40,7 @@ module _ {G W : Type 0} (words : G → List W) (bytes : W → List ℕ) where
   at (g ∷ groups) (suc i) = at groups i
 
   -- a letter before that of the first group
-  before : (letter first : ℕ) (rest : List ℕ) (groups : List G) → begin_from groups words bytes letter ≡ true → first < letter
+  pub before : (letter first : ℕ) (rest : List ℕ) (groups : List G) → begin_from groups words bytes letter ≡ true → first < letter
       → list_any (bytes_eq (first ∷ rest)) (joined groups words bytes) ≡ false
   before letter first rest [] e h = refl
   before letter first rest (g ∷ groups) e h =
@@ -66,6 +73,27 @@ module _ {G W : Type 0} (words : G → List W) (bytes : W → List ℕ) where
   some_at [] i d h = absurd (omega arith)
   some_at (g ∷ groups) zero d h = refl
   some_at (g ∷ groups) (suc i) d h = some_at groups i d (omega arith)
+
+  none_behind : (groups : List G) (i : ℕ) → length groups ≤ i → at groups i ≡ []
+  none_behind [] i h = refl
+  none_behind (g ∷ groups) zero h = absurd (omega arith)
+  none_behind (g ∷ groups) (suc i) h = none_behind groups i (omega arith)
+
+  -- a letter behind that of the last group
+  pub untold : (letter first i : ℕ) (rest : List ℕ) (groups : List G) → begin_from groups words bytes letter ≡ true
+      → first ≡ letter + i → length groups ≤ i → list_any (bytes_eq (first ∷ rest)) (joined groups words bytes) ≡ false
+  untold letter first i rest groups e h k = by_place letter first i rest groups e h
+      ∙ ap (list_any (bytes_eq (first ∷ rest))) (none_behind groups i k)
+
+  -- no bytes are none of the words
+  pub nothing : (letter : ℕ) (groups : List G) → begin_from groups words bytes letter ≡ true
+      → list_any (bytes_eq []) (joined groups words bytes) ≡ false
+  nothing letter [] e = refl
+  nothing letter (g ∷ groups) e =
+      let p = and_parts (list_all (begins letter) (texts g)) (begin_from groups words bytes (letter + 1)) e in
+      list_any-append (bytes_eq []) (texts g) (joined groups words bytes)
+      ∙ ap (λ (b : Bool). b || list_any (bytes_eq []) (joined groups words bytes)) (none_empty letter (texts g) p.0)
+      ∙ nothing (letter + 1) groups p.1
 
   any_text : (test : List ℕ → Bool) (ws : List W) → list_any (λ w. test (bytes w)) ws ≡ list_any test (map bytes ws)
   any_text test [] = refl

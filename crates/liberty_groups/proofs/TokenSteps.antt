@@ -22,28 +22,27 @@ pub record Step (at : ℕ) (line : Bool) (bs : List ℕ) (us : List Token) (ther
       → Lexes at line (u ++ z) (us ++ V) s
   pub word : ends_word bs ≡ true → (z : List ℕ) → ends_word (u ++ z) ≡ true
 
-pub step_blank : {at : ℕ} {line : Bool} {b : ℕ} {rest : List ℕ} → class_of b ≡ Blank
-    → Step at line (b ∷ rest) [] (at + 1) line rest
-step_blank {b = b} e = record {
+-- a byte that is no token, and ends a Word
+passed : {at : ℕ} {line : Bool} {b : ℕ} {rest : List ℕ} (behind : Bool)
+    → ((z : List ℕ) (V : List Token) (s : Stop) → Lexes (at + 1) behind z V s → Lexes at line (b ∷ z) V s)
+    → ((z : List ℕ) → ends_word (b ∷ z) ≡ true) → Step at line (b ∷ rest) [] (at + 1) behind rest
+passed {b = b} behind adds ends = record {
   u = b ∷ [];
   split = refl;
   place = omega arith;
-  adds = λ z V s k x. lex.blank e x;
+  adds = λ z V s k x. adds z V s x;
   word =
-      λ _ z. rw e refl;
+      λ _ z. ends z;
 }
+
+pub step_blank : {at : ℕ} {line : Bool} {b : ℕ} {rest : List ℕ} → class_of b ≡ Blank
+    → Step at line (b ∷ rest) [] (at + 1) line rest
+step_blank {line = line} e = passed line (λ z V s x. lex.blank e x) (λ z. rw e refl)
 
 -- a byte that ends a line
 pub step_line_end : {at : ℕ} {line : Bool} {b : ℕ} {rest : List ℕ} → class_of b ≡ LineEnd
     → Step at line (b ∷ rest) [] (at + 1) true rest
-step_line_end {b = b} e = record {
-  u = b ∷ [];
-  split = refl;
-  place = omega arith;
-  adds = λ z V s k x. lex.line_end e x;
-  word =
-      λ _ z. rw e refl;
-}
+step_line_end e = passed true (λ z V s x. lex.line_end e x) (λ z. rw e refl)
 
 -- a byte that is a token of its own
 pub step_mark : {at : ℕ} {line : Bool} {b : ℕ} {rest : List ℕ} (kind : TokenKind) → class_of b ≡ Mark kind →

@@ -26,6 +26,7 @@ fn text(values: &[Value]) -> &[u8]
 }
 
 /// The simple attribute that a statement is, where it is one of this name.
+#[inline(always)]
 pub fn simple_attribute<'a>(item: &'a Item, wanted: &[u8]) -> Option<Attribute<'a>>
     ensures { option_map shown result ≡ simple_named wanted.now (out-Item item.now) }
 {

@@ -33,7 +33,7 @@ pub fn one_text(mut values: Values) -> SmallBytes
     let Some(Value { bytes, .. }) = values.pop() else {
         return SmallBytes::new();
     };
-    if values.is_empty() {
+    if values.as_slice().is_empty() {
         bytes
     } else {
         SmallBytes::new()

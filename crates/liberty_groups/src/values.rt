@@ -87,11 +87,16 @@ impl Values {
     }
 
     /// Adds a value at the end. An `Err` comes only where memory is wanting.
+    #[inline(always)]
     pub fn push(&mut self, alloc: Global, value: Value) -> Result<(), AllocError>
         ensures { OnOk result (self.new ≡ self.old ++ value ∷ []) }
     {
         if let HeldValues::Several(several) = &mut self.held {
             several.push(value)?;
+            return Ok(());
+        }
+        if let HeldValues::Nothing = &self.held {
+            self.held = HeldValues::One(value);
             return Ok(());
         }
         let held = replace(&mut self.held, HeldValues::Nothing);
@@ -121,20 +126,6 @@ impl Values {
             HeldValues::One(value) => from_ref(value),
             HeldValues::Several(several) => several.as_slice(),
         }
-    }
-
-    /// How many values there are.
-    pub fn len(&self) -> usize
-        ensures { result ≡ length self.now }
-    {
-        self.as_slice().len()
-    }
-
-    /// Whether there are none.
-    pub fn is_empty(&self) -> bool
-        ensures { IsTrue result ↔ (self.now ≡ []) }
-    {
-        self.as_slice().is_empty()
     }
 }
 

@@ -1,6 +1,6 @@
 -- Bytes that are gone past at once.
 use Rattle.std.proofs.Common.{◌≡◌, ℕ, zero, suc, ◌+◌, ◌-◌, ◌<◌, ◌≤◌, nat_lt, Bool, true, false, not, ◌&&◌, ◌||◌, cond, ◌==◌}
-use Rattle.std.proofs.Common.{List, [], ◌∷◌, ◌++◌, Some, None, length, take, drop, get_or, take-add, take-take, length-take-le}
+use Rattle.std.proofs.Common.{List, [], ◌∷◌, ◌++◌, None, length, take, drop, get_or, take-add, take-take, length-take-le}
 use Rattle.std.proofs.Common.{refl, sym, ap, subst, ◌∙◌, arith}
 use Rattle.std.proofs.lemmas.Bool.Decides.{nat_tests}
 use Rattle.std.proofs.lemmas.List.{append-nil, append_assoc, take-append-drop, length-drop, get_or-drop}
@@ -10,11 +10,11 @@ use Rattle.liberty_text.specs.declared.token.Token.{Token}
 use Rattle.liberty_text.specs.declared.scanner.Mode.{Mode}
 use Rattle.liberty_text.specs.declared.scanner.Scanner.{Scanner}
 use Rattle.liberty_text.specs.declared.passing.Passed.{Passed}
-use Rattle.liberty_text.specs.declared.scanner.Mode.TheVariants.{Between, InWord, InText, InContinuation}
+use Rattle.liberty_text.specs.declared.scanner.Mode.TheVariants.{Between, InWord, InContinuation}
 use Rattle.liberty_text.specs.declared.token.TokenKind.TheVariants.{Word}
 use Rattle.liberty_text.specs.Scanner.{class_of, step, opened, opened_by, in_word_by, after_token, token}
 use Rattle.liberty_text.specs.Tokens.{is_word_class}
-use Rattle.liberty_text.specs.Idle.{front_run, idle_run, is_blank, is_plain_in_word, is_plain_in_text, is_mark_byte}
+use Rattle.liberty_text.specs.Idle.{front_run, idle_run, is_blank, is_plain_in_word, is_mark_byte}
 use Rattle.liberty_text.specs.Runs.{mode_behind, tokens_ended, has_mark}
 use Rattle.liberty_text.specs.Quiet.{IsQuiet, AreBlank, Passes}
 use Rattle.liberty_text.proofs.Runs.{NoneEnded, mode_by, ended_by}
@@ -105,22 +105,13 @@ first_quiet mode next at (b ∷ bs) h e = (
   append-nil (step mode at b).1 ∙ ap (λ (p : Mode × List Token). p.1) e,
 )
 
--- a text or a Word as far as no token ends
-pub text_quiet : (line : Bool) (at : ℕ) (bytes text : List ℕ) (k : ℕ) → 0 < length bytes
-    → IsQuiet (Between line) at bytes 1 (InText at line false) → text ≡ drop 1 bytes → k ≤ length text
-    → k ≡ front_run is_plain_in_text text → IsQuiet (Between line) at bytes (1 + k) (InText at line false)
-text_quiet line at bytes text k some begins is within run =
-    quiet_more (Between line) at bytes 1 (InText at line false) (InText at line false) k (omega (arith, some)) begins
-    (subst (λ (l : List ℕ). IsQuiet (InText at line false) (at + 1) l k (InText at line false)) is
-    (quiet_idle (InText at line false) (at + 1) text k within run))
-
-pub word_quiet : (line : Bool) (at : ℕ) (bytes word : List ℕ) (k : ℕ) → 0 < length bytes
-    → IsQuiet (Between line) at bytes 1 (InWord at line None) → word ≡ drop 1 bytes → k ≤ length word
-    → k ≡ front_run is_plain_in_word word → IsQuiet (Between line) at bytes (1 + k) (InWord at line None)
-word_quiet line at bytes word k some begins is within run =
-    quiet_more (Between line) at bytes 1 (InWord at line None) (InWord at line None) k (omega (arith, some)) begins
-    (subst (λ (l : List ℕ). IsQuiet (InWord at line None) (at + 1) l k (InWord at line None)) is
-    (quiet_idle (InWord at line None) (at + 1) word k within run))
+-- a token as far as it stays open: its first byte, and a run of others
+pub open_quiet : (line : Bool) (at : ℕ) (bytes rest : List ℕ) (k : ℕ) (now : Mode) → 0 < length bytes
+    → IsQuiet (Between line) at bytes 1 now → rest ≡ drop 1 bytes → k ≤ length rest → k ≡ idle_run now rest
+    → IsQuiet (Between line) at bytes (1 + k) now
+open_quiet line at bytes rest k now some begins is within run =
+    quiet_more (Between line) at bytes 1 now now k (omega (arith, some)) begins
+    (subst (λ (l : List ℕ). IsQuiet now (at + 1) l k now) is (quiet_idle now (at + 1) rest k within run))
 
 pub within_behind : (bytes behind : List ℕ) (n k : ℕ) → n ≤ length bytes → behind ≡ drop n bytes → k ≤ length behind
     → n + k ≤ length bytes
@@ -273,24 +264,52 @@ pub never : {A : Type 0} (b : Bool) → b ≡ true → b ≡ false → A
 never true e f = absurd cc
 never false e f = absurd cc
 
+-- a token that stays open
+pub open_passes : (line : Bool) (at : ℕ) (bytes rest : List ℕ) (k : ℕ) (now : Mode) (before behind : Scanner) (passed : Passed)
+    → 0 < length bytes → IsQuiet (Between line) at bytes 1 now → rest ≡ drop 1 bytes → k ≤ length rest
+    → k ≡ idle_run now rest → behind.tokens.items ≡ before.tokens.items → passed.count ≡ 1 + k
+    → (passed.goes_on ≡ true → now ≡ Between passed.line_before) → (passed.goes_on ≡ false → behind.mode ≡ now)
+    → Passes (Between line) at bytes before behind passed
+open_passes line at bytes rest k now before behind passed some begins is within run same count on off =
+    quiet_passes (Between line) at bytes before behind passed (1 + k) now (omega arith)
+    (within_behind bytes rest 1 k (omega (arith, some)) is within) (open_quiet line at bytes rest k now some begins is within run)
+    same count on off
+
+-- quiet bytes, and blanks behind them
+pub gap_passes : (line next : Bool) (at n k : ℕ) (bytes rest : List ℕ) (scanner : Scanner) (passed : Passed) → 0 < n
+    → n ≤ length bytes → IsQuiet (Between line) at bytes n (Between next) → rest ≡ drop n bytes → k ≤ length rest
+    → AreBlank rest k → passed.count ≡ n + k → passed.goes_on ≡ true → passed.line_before ≡ next
+    → Passes (Between line) at bytes scanner scanner passed
+gap_passes line next at n k bytes rest scanner passed some h first is within blank count on line_is =
+    let behind = subst (λ (l : List ℕ). AreBlank l k) is blank in
+    quiet_passes (Between line) at bytes scanner scanner passed (n + k) (Between next) (omega (arith, some))
+    (within_behind bytes rest n k h is within)
+    (quiet_more (Between line) at bytes n (Between next) (Between next) k h first (behind next (at + n))) refl count
+    (λ _. ap Between (sym line_is)) (λ off. never passed.goes_on on off)
+
 -- behind more bytes
-module _ (mode : Mode) (at : ℕ) (bytes : List ℕ) (n : ℕ) (now : Mode) (first : List Token) (before behind : Scanner) where
-  pub passes_tokens : (passed : Passed) → NoneMarked mode at bytes n now first before.tokens.items → n ≤ length bytes
+module _ (mode : Mode) (at : ℕ) (bytes : List ℕ) (n : ℕ) (now : Mode) (first : List Token) (before behind : Scanner)
+    (left : List ℕ) (is : left ≡ drop n bytes) where
+  at_rest : (passed : Passed) → Passes now (at + n) left before behind passed
       → Passes now (at + n) (drop n bytes) before behind passed
+  at_rest passed p = subst (λ (l : List ℕ). Passes now (at + n) l before behind passed) is p
+
+  pub passes_tokens : (passed : Passed) → NoneMarked mode at bytes n now first before.tokens.items → n ≤ length bytes
+      → Passes now (at + n) left before behind passed
       → behind.tokens.items ≡ first ++ tokens_ended mode at (take (n + passed.count) bytes)
   passes_tokens passed none h p =
       let ended = tokens_ended now (at + n) (take passed.count (drop n bytes)) in
-      p.tokens_are ∙ ap (λ (l : List Token). l ++ ended) none.tokens_are
+      (at_rest passed p).tokens_are ∙ ap (λ (l : List Token). l ++ ended) none.tokens_are
       ∙ append_assoc first (tokens_ended mode at (take n bytes)) ended
       ∙ ap (λ (l : List Token). first ++ l) (sym (tokens_on mode at bytes n now h none.mode_is passed.count))
 
   pub passes_mode : (passed : Passed) → NoneMarked mode at bytes n now first before.tokens.items → n ≤ length bytes
-      → Passes now (at + n) (drop n bytes) before behind passed → passed.goes_on ≡ false
+      → Passes now (at + n) left before behind passed → passed.goes_on ≡ false
       → behind.mode ≡ mode_behind mode at (take (n + passed.count) bytes)
-  passes_mode passed none h p off = p.ends off ∙ mode_on mode at bytes n now h none.mode_is passed.count
+  passes_mode passed none h p off = (at_rest passed p).ends off ∙ mode_on mode at bytes n now h none.mode_is passed.count
 
   pub passes_none : (passed : Passed) → NoneMarked mode at bytes n now first before.tokens.items → n ≤ length bytes
-      → Passes now (at + n) (drop n bytes) before behind passed → (i : ℕ) → i < n + passed.count
+      → Passes now (at + n) left before behind passed → (i : ℕ) → i < n + passed.count
       → has_mark (tokens_ended mode at (take i bytes)) ≡ false
   passes_none passed none h p i less = by_test (nat_lt i (n + 1)) refl
     where
@@ -301,15 +320,15 @@ module _ (mode : Mode) (at : ℕ) (bytes : List ℕ) (n : ℕ) (now : Mode) (fir
           let few : i - n < passed.count = grind (arith, nat_tests, t, less) in
           ap (λ (j : ℕ). has_mark (tokens_ended mode at (take j bytes))) (sym same)
           ∙ ap has_mark (tokens_on mode at bytes n now h none.mode_is (i - n)
-          ∙ ap (λ (l : List Token). tokens_ended mode at (take n bytes) ++ l) (p.none_before (i - n) few)
+          ∙ ap (λ (l : List Token). tokens_ended mode at (take n bytes) ++ l) ((at_rest passed p).none_before (i - n) few)
           ∙ append-nil (tokens_ended mode at (take n bytes)))
           ∙ none.none n (omega arith)
 
   pub passes_marked : (passed : Passed) → NoneMarked mode at bytes n now first before.tokens.items → n ≤ length bytes
-      → Passes now (at + n) (drop n bytes) before behind passed → passed.goes_on ≡ true
+      → Passes now (at + n) left before behind passed → passed.goes_on ≡ true
       → NoneMarked mode at bytes (n + passed.count) (Between passed.line_before) first behind.tokens.items
   passes_marked passed none h p on = record {
-    mode_is = p.goes_on on ∙ mode_on mode at bytes n now h none.mode_is passed.count;
+    mode_is = (at_rest passed p).goes_on on ∙ mode_on mode at bytes n now h none.mode_is passed.count;
     tokens_are = passes_tokens passed none h p;
     none = λ i less. by_test i less (nat_lt i (n + passed.count)) refl;
   }
@@ -324,4 +343,4 @@ module _ (mode : Mode) (at : ℕ) (bytes : List ℕ) (n : ℕ) (now : Mode) (fir
           ∙ has_mark_append (tokens_ended mode at (take n bytes)) (tokens_ended now (at + n) (take passed.count (drop n bytes)))
           ∙ ap (λ (x : Bool). x || has_mark (tokens_ended now (at + n) (take passed.count (drop n bytes))))
           (none.none n (omega arith))
-          ∙ p.unmarked on
+          ∙ (at_rest passed p).unmarked on

@@ -114,7 +114,17 @@ exponent_parts (b ∷ bs) e f = by_test ((b == 101 || b == 69) && is_run (sign_o
         (n.some_exponent b s.sign parts.0 s.sign_is run.1 run.0 (ap (λ l. b ∷ l) s.split))
     by_test false g h = absurd cc
 
--- the parts that were found make the number
+-- the parts that were found
+abbrev parts_written : List ℕ → List ℕ → List ℕ → Bool × List ℕ → Written
+parts_written text whole rest e = record {
+  negative = (sign_of text).0;
+  whole = whole;
+  fraction = (fraction_of rest).0;
+  exponent_negative = e.0;
+  exponent = e.1;
+}
+
+-- they make the number
 pub number_made : (text whole rest : List ℕ) (e : Bool × List ℕ) (w : Written) → (sign_of text).1 ≡ whole ++ rest
     → AreDigits whole →
     exponent_of (fraction_of rest).1 ≡ Some e →
@@ -122,26 +132,12 @@ pub number_made : (text whole rest : List ℕ) (e : Bool × List ℕ) (w : Writt
 number_made text whole rest e w split digits tail = by_test (nat_lt 0 (length whole + length (fraction_of rest).0)) refl
   where
     by_test : (q : Bool) → nat_lt 0 (length whole + length (fraction_of rest).0) ≡ q
-        → cond q (Some (record {
-          negative = (sign_of text).0;
-          whole = whole;
-          fraction = (fraction_of rest).0;
-          exponent_negative =
-              e.0;
-          exponent = e.1;
-        })) None ≡ Some w → IsNumber text w
+        → cond q (Some (parts_written text whole rest e)) None ≡ Some w → IsNumber text w
     by_test true g h =
         let s = sign_parts text in
         let f = fraction_parts rest in
         let some : 0 < length whole + length (fraction_of rest).0 = grind (arith, nat_tests, g) in
-        let same : record {
-          negative = (sign_of text).0;
-          whole = whole;
-          fraction = (fraction_of rest).0;
-          exponent_negative =
-              e.0;
-          exponent = e.1;
-        } ≡ w = cc in
+        let same : parts_written text whole rest e ≡ w = cc in
         subst (IsNumber text) same
         (record {
           sign = s.sign;

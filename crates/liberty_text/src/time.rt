@@ -1,6 +1,7 @@
 //! Times in whole picoseconds.
 
 ghost use Rattle.std.specs.Prelude.{◌≡◌, ◌^◌, ◌≤◌, ◌<◌, ◌*◌, pos, negsuc, MatchOption, IfSome};
+ghost use Rattle.std.specs.Int.{div_ceil};
 ghost use Rattle.liberty_text.specs.Time.{IsRoundedUp, IsTooLong, picoseconds_of, unit_exponent, scaled, bounded};
 
 use crate::decimal::Fixed;
@@ -84,6 +85,22 @@ fn product(mantissa: u64, power: u64) -> Option<u64>
     }
 }
 
+/// A number over ten to another, rounded up. Nearly all times of a library have few places behind a picosecond, and a division by
+/// a constant is done as a multiplication.
+#[tactic(auto, using(crate::proofs::Times::power_some))]
+fn over_power(mantissa: u64, exponent: u16) -> u64
+    requires { exponent ≤ 18 }
+    ensures { result ≡ div_ceil mantissa (10 ^ exponent) }
+{
+    match exponent {
+        1 => mantissa.div_ceil(10),
+        2 => mantissa.div_ceil(100),
+        3 => mantissa.div_ceil(1_000),
+        4 => mantissa.div_ceil(10_000),
+        _ => mantissa.div_ceil(power_of_ten(exponent)),
+    }
+}
+
 /// A positive number times ten to an exponent, rounded up, where that is not above the greatest time.
 #[tactic(auto, using(crate::proofs::Times::far_up, crate::proofs::Times::far_down, crate::proofs::Times::scaled_up, crate::proofs::Times::scaled_down, crate::proofs::Times::power_some))]
 fn scaled(mantissa: u64, exponent: i16) -> Option<u64>
@@ -97,11 +114,11 @@ fn scaled(mantissa: u64, exponent: i16) -> Option<u64>
     if exponent < -18 {
         return Some(1);
     }
-    let power = power_of_ten(exponent.unsigned_abs());
+    let size = exponent.unsigned_abs();
     if exponent < 0 {
-        bounded(mantissa.div_ceil(power))
+        bounded(over_power(mantissa, size))
     } else {
-        product(mantissa, power)
+        product(mantissa, power_of_ten(size))
     }
 }
 

@@ -1,6 +1,6 @@
 //! Bytes, of which few stand in place.
 
-ghost use Rattle.std.specs.Prelude.{◌≡◌, ◌↔◌, ◌≤◌, [], length, IsTrue, IfOk};
+ghost use Rattle.std.specs.Prelude.{◌≡◌, ◌≤◌, [], length, IfOk};
 ghost use Rattle.small_bytes.specs.Bytes.{held_bytes};
 
 use crate::room::Room;
@@ -135,19 +135,5 @@ impl SmallBytes {
             HeldBytes::WideRow(block) => block.get().as_slice(),
             HeldBytes::Long(bytes) => bytes.get().as_slice(),
         }
-    }
-
-    /// How many bytes there are.
-    pub fn len(&self) -> usize
-        ensures { result ≡ length self.now }
-    {
-        self.as_slice().len()
-    }
-
-    /// Whether there are none.
-    pub fn is_empty(&self) -> bool
-        ensures { IsTrue result ↔ (self.now ≡ []) }
-    {
-        self.as_slice().is_empty()
     }
 }

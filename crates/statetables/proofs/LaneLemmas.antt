@@ -13,48 +13,47 @@ use Rattle.statetables.specs.declared.lanes.StepWords.{StepWords}
 use Rattle.statetables.specs.Symbols.{matches_in}
 use Rattle.statetables.specs.declared.table.TableRow.{TableRow}
 use Rattle.statetables.specs.Step.{inputs_match, row_matches, row_gives, row_of}
-use Rattle.statetables.specs.Lanes.{lane, before_at, after_at, found_at, is_one, is_zero}
+use Rattle.statetables.specs.Lanes.{lane, before_at, after_at, found_at}
 
-both_bits : (x y : ℕ) → x < 2 → y < 2 → nat_eq (min x y) 1 ≡ (nat_eq x 1 && nat_eq y 1)
-both_bits zero zero l m = refl
-both_bits zero (suc zero) l m = refl
-both_bits (suc zero) zero l m = refl
-both_bits (suc zero) (suc zero) l m = refl
-both_bits (suc (suc x)) y l m = absurd (omega (arith, l))
-both_bits zero (suc (suc y)) l m = absurd (omega (arith, m))
-both_bits (suc zero) (suc (suc y)) l m = absurd (omega (arith, m))
+-- two bits go together as the truth values that they stand for, where 0 and 1 do
+on_bits :
+    (f : ℕ → ℕ → ℕ) (g : Bool → Bool → Bool)
+    → nat_eq (f 0 0) 1 ≡ g false false → nat_eq (f 0 1) 1 ≡ g false true
+    → nat_eq (f 1 0) 1 ≡ g true false → nat_eq (f 1 1) 1 ≡ g true true
+    → (x y : ℕ) → x < 2 → y < 2 → nat_eq (f x y) 1 ≡ g (nat_eq x 1) (nat_eq y 1)
+on_bits f g none second first both zero zero l m = none
+on_bits f g none second first both zero (suc zero) l m = second
+on_bits f g none second first both (suc zero) zero l m = first
+on_bits f g none second first both (suc zero) (suc zero) l m = both
+on_bits f g none second first both (suc (suc x)) y l m = absurd (omega (arith, l))
+on_bits f g none second first both zero (suc (suc y)) l m = absurd (omega (arith, m))
+on_bits f g none second first both (suc zero) (suc (suc y)) l m = absurd (omega (arith, m))
 
-either_bits : (x y : ℕ) → x < 2 → y < 2 → nat_eq (max x y) 1 ≡ (nat_eq x 1 || nat_eq y 1)
-either_bits zero zero l m = refl
-either_bits zero (suc zero) l m = refl
-either_bits (suc zero) zero l m = refl
-either_bits (suc zero) (suc zero) l m = refl
-either_bits (suc (suc x)) y l m = absurd (omega (arith, l))
-either_bits zero (suc (suc y)) l m = absurd (omega (arith, m))
-either_bits (suc zero) (suc (suc y)) l m = absurd (omega (arith, m))
-
-less_bits : (x y : ℕ) → x < 2 → y < 2 → nat_eq ((x + min x y) % 2) 1 ≡ (nat_eq x 1 && not (nat_eq y 1))
-less_bits zero zero l m = refl
-less_bits zero (suc zero) l m = refl
-less_bits (suc zero) zero l m = refl
-less_bits (suc zero) (suc zero) l m = refl
-less_bits (suc (suc x)) y l m = absurd (omega (arith, l))
-less_bits zero (suc (suc y)) l m = absurd (omega (arith, m))
-less_bits (suc zero) (suc (suc y)) l m = absurd (omega (arith, m))
+-- the same of the bits of two words
+on_words :
+    (f : ℕ → ℕ → ℕ) (g : Bool → Bool → Bool)
+    → nat_eq (f 0 0) 1 ≡ g false false → nat_eq (f 0 1) 1 ≡ g false true
+    → nat_eq (f 1 0) 1 ≡ g true false → nat_eq (f 1 1) 1 ≡ g true true
+    → (a b k : ℕ) → nat_eq (f (bit_at a k) (bit_at b k)) 1 ≡ g (lane k a) (lane k b)
+unfolding lane
+on_words f g none second first both a b k =
+    on_bits f g none second first both (bit_at a k) (bit_at b k) (bit_at-lt a k) (bit_at-lt b k)
 
 pub lane_both : (a b k : ℕ) → lane k (bit_and a b) ≡ (lane k a && lane k b)
 unfolding lane
-lane_both a b k = ap (λ x. nat_eq x 1) (bit_at_and a b k) ∙ both_bits (bit_at a k) (bit_at b k) (bit_at-lt a k) (bit_at-lt b k)
+lane_both a b k =
+    ap (λ x. nat_eq x 1) (bit_at_and a b k) ∙ on_words (λ x y. min x y) (λ x y. x && y) refl refl refl refl a b k
 
 pub lane_either : (a b k : ℕ) → lane k (bit_or a b) ≡ (lane k a || lane k b)
 unfolding lane
-lane_either a b k = ap (λ x. nat_eq x 1) (bit_at_or a b k) ∙ either_bits (bit_at a k) (bit_at b k) (bit_at-lt a k) (bit_at-lt b k)
+lane_either a b k =
+    ap (λ x. nat_eq x 1) (bit_at_or a b k) ∙ on_words (λ x y. max x y) (λ x y. x || y) refl refl refl refl a b k
 
 pub lane_less : (a b k : ℕ) → lane k (bit_xor a (bit_and a b)) ≡ (lane k a && not (lane k b))
 unfolding lane
 lane_less a b k =
     ap (λ x. nat_eq x 1) (bit_at_xor a (bit_and a b) k ∙ ap (λ x. (bit_at a k + x) % 2) (bit_at_and a b k))
-    ∙ less_bits (bit_at a k) (bit_at b k) (bit_at-lt a k) (bit_at-lt b k)
+    ∙ on_words (λ x y. (x + min x y) % 2) (λ x y. x && not y) refl refl refl refl a b k
 
 pub lane_none : (k : ℕ) → lane k 0 ≡ false
 unfolding lane
@@ -71,7 +70,7 @@ none_left k points p m is none rest =
     lane_none k ∙ ap (λ b. b && rest) (sym (lane_none k) ∙ ap (lane k) (sym none) ∙ is) ∙ and_assoc p m rest
 
 -- columns of another number do not match
-inputs_match-unequal :
+pub inputs_match-unequal :
     (symbols : List InSymbol) (before after : List Bool)
     → length symbols ≢ length before → inputs_match symbols before after ≡ false
 inputs_match-unequal [] [] after h = absurd (h refl)

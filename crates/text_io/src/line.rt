@@ -6,13 +6,15 @@ ghost use Rattle.text_io.specs.declared.slots.Slot.TheVariants.{Output};
 ghost use Rattle.text_io.specs.Desk.{is_bound, HasCause, WritesText};
 ghost use Rattle.text_io.specs.Line.{PutsText, Gathers, StopsWithin};
 
+use crate::lists::{Each, OwnText};
 use crate::outside::{Desk, Failed};
+use crate::parts::Part;
 use crate::slots::OutSlot;
 use crate::writing::write_whole;
 use std::marker::Model;
 
 /// How many bytes are gathered before they are written.
-const ROOM: usize = 512;
+const ROOM: usize = 4096;
 
 /// Bytes that wait to be written, so that small pieces do not each cost a call. Contracts see the bytes.
 #[derive(Drop)]
@@ -28,7 +30,7 @@ impl Model for Line {
 
     ghost view = { λ line. take line.held line.bytes };
 
-    ghost invariant = { λ line. line.held ≤ 512 };
+    ghost invariant = { λ line. line.held ≤ 4096 };
 }
 
 impl Line {
@@ -54,6 +56,7 @@ impl Line {
     }
 
     /// Puts the pieces one after another, as `put` does with their joined bytes.
+    #[inline(always)]
     pub fn put_pieces<D: Desk>(
         &mut self,
         desk: &mut D,
@@ -65,10 +68,7 @@ impl Line {
             self.new result }
         ensures cause { HasCause (D.faults desk.old) (D.faults desk.new) result }
     {
-        for piece in pieces {
-            self.put(desk, slot, piece)?;
-        }
-        Ok(())
+        Each(OwnText, pieces).put(self, desk, slot)
     }
 
     /// Writes the bytes that wait. After `Failed` a prefix of them was written. It takes no memory.

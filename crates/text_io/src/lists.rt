@@ -21,6 +21,18 @@ pub trait ItemText<T> {
         ensures cause { HasCause (D.faults desk.old) (D.faults desk.new) result };
 }
 
+/// Bytes that are their own text.
+#[derive(Drop)]
+pub(crate) struct OwnText;
+
+impl ItemText<&[u8]> for OwnText {
+    ghost text = { λ _ bytes. bytes.now };
+
+    fn put<D: Desk>(&self, item: &&[u8], line: &mut Line, desk: &mut D, slot: OutSlot) -> Put {
+        line.put(desk, slot, item)
+    }
+}
+
 /// What each item of a list is as text, and the items, in order.
 #[derive(Drop)]
 pub struct Each<'a, M, T>(pub M, pub &'a [T]);
@@ -28,6 +40,7 @@ pub struct Each<'a, M, T>(pub M, pub &'a [T]);
 impl<M: ItemText<T>, T> Part for Each<'_, M, T> {
     ghost text = { λ e. flat_map (M.text e.0) e.1.now };
 
+    #[inline(always)]
     fn put<D: Desk>(&self, line: &mut Line, desk: &mut D, slot: OutSlot) -> Put {
         for item in self.1 {
             self.0.put(item, line, desk, slot)?;

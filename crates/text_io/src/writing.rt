@@ -5,9 +5,10 @@ ghost use Rattle.std.specs.List.{flat_map};
 ghost use Rattle.text_io.specs.declared.slots.Slot.TheVariants.{Output};
 ghost use Rattle.text_io.specs.Desk.{is_bound, HasCause, WritesText};
 
-use crate::line::Line;
+use crate::lists::{Each, OwnText};
 use crate::outside::{Desk, Failed};
 use crate::slots::OutSlot;
+use crate::whole::write_part;
 
 /// Appends all of `bytes` to a slot that is bound. After `Failed` a prefix of them was appended. It takes no memory.
 pub fn write_whole<D: Desk>(desk: &mut D, slot: OutSlot, bytes: &[u8]) -> Result<(), Failed>
@@ -29,7 +30,5 @@ pub fn write_pieces<D: Desk>(desk: &mut D, slot: OutSlot, pieces: &[&[u8]]) -> R
     ensures text { WritesText (D.state desk.old) (D.state desk.new) slot (flat_map (λ piece. piece.now) pieces.now) result }
     ensures cause { HasCause (D.faults desk.old) (D.faults desk.new) result }
 {
-    let mut line = Line::new();
-    line.put_pieces(desk, slot, pieces)?;
-    line.flush(desk, slot)
+    write_part(desk, slot, &Each(OwnText, pieces))
 }

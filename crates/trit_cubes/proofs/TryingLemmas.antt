@@ -2,7 +2,7 @@
 use Rattle.std.proofs.Common.{◌≡◌, ◌≢◌, ℕ, ◌+◌, ◌<◌, Bool, true, false, not, ◌&&◌, ◌||◌, List, [], ◌∷◌, ◌++◌, length, take}
 use Rattle.std.proofs.Common.{slice_index_or, slice_set, slice_get, Some, refl, sym, ◌∙◌, ap, arith}
 use Rattle.std.specs.List.{All, list_all}
-use Rattle.std.proofs.lemmas.Bool.{true≢false, and_right}
+use Rattle.std.proofs.lemmas.Bool.{true≢false, and_right, false_from_ne_true}
 use Rattle.std.proofs.lemmas.List.{take_more_set, take_more}
 use Rattle.std.proofs.lemmas.List.Elements.{Contains-get_or}
 use Rattle.std.proofs.lemmas.Option.{get_or_from_slice_get}
@@ -57,12 +57,8 @@ pub is_prime-leaves : (set : List Bool → Bool) (c : List Trit) (i : ℕ) → i
 is_prime-leaves set c i l h =
     let out = leaves-fixed (slice_index_or c i Unknown) (not (is_inside set (slice_set c i Unknown))) h in
     sym (and_right (is_inside set c) (list_all (λ d. not (is_inside set d)) (freed c))
-    (fails (list_all (λ d. not (is_inside set d)) (freed c))
+    (false_from_ne_true (list_all (λ d. not (is_inside set d)) (freed c))
     (λ e. true≢false (sym (all_freed-at (λ d. not (is_inside set d)) c e i l out.0) ∙ out.1))))
-  where
-    fails : (b : Bool) → (b ≡ true → ⊥) → b ≡ false
-    fails true f = absurd (f refl)
-    fails false f = refl
 
 -- one more place written
 pub take-written : (places cube : List Trit) (i : ℕ) (t : Trit) → i < length places → i < length cube → slice_get cube i ≡ Some t

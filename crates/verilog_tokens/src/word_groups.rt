@@ -114,8 +114,5 @@ static GROUPS: [&[&[u8]]; 26] = [
 pub fn words_from(first: u8) -> &'static [&'static [u8]]
     ensures { (rest : List ℕ) → list_any (λ word. bytes_eq (first ∷ rest) word.now) result.now ≡ is_verilog_word (first ∷ rest) }
 {
-    if !first.is_ascii_lowercase() {
-        return &[];
-    }
     group_of(&GROUPS, first)
 }

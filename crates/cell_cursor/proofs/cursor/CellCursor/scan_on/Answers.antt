@@ -1,5 +1,5 @@
-use Rattle.std.proofs.Common.{refl, arith}
-use Rattle.cell_cursor.proofs.GivenLemmas.{goes_further, goes_so_far, sizes_of}
+use Rattle.std.proofs.Common.{true, false, refl, arith}
+use Rattle.cell_cursor.proofs.GivenLemmas.{goes_as, sizes_of}
 use Rattle.cell_cursor.proofs.StandsLemmas.{goes_same}
 use Rattle.cell_cursor.proofs.cursor.CellCursor.scan_on.Goals as goal
 
@@ -11,7 +11,7 @@ loop-self-preserved c =
       answer = c.loop-self.invariant.answer;
       waiting = c.loop-self.invariant.waiting;
       goes = λ bytes items g.
-          goes_further c.loop-self.self _ c.in_ok-run.run'.may_end c.in_ok-run.run'.count c.unread-in-loop-self.result.now c.if-run.false c.unread-in-loop-self.ensures refl c.in_ok-run.ensures.before
+          goes_as false c.loop-self.self _ c.in_ok-run.run'.may_end c.in_ok-run.run'.count c.unread-in-loop-self.result.now c.if-run.false c.unread-in-loop-self.ensures refl c.in_ok-run.ensures.before
           c.in_ok-run.ensures.bytes c.take_out.ensures c.in_ok-run.ensures.count c.in_ok-run.ensures.scanned c.in_ok-run.ensures.none_before c.in_ok-run.ensures.outer bytes items (c.loop-self.invariant.goes bytes items g);
       taken = omega (arith, c.loop-self.invariant.taken, sizes.0, sizes.1, c.in_ok-run.ensures.before);
       shorter = omega (arith, c.loop-self.invariant.shorter, sizes.1);
@@ -19,7 +19,7 @@ loop-self-preserved c =
 
 pub returns-then-run-clause-goes : goal.returns-then-run-clause-goes
 returns-then-run-clause-goes c = λ bytes items g.
-    goes_so_far c.loop-self.self _ c.in_ok-run.run'.may_end c.in_ok-run.run'.count c.unread-in-loop-self.result.now c.if-run.true c.unread-in-loop-self.ensures refl c.in_ok-run.ensures.before
+    goes_as true c.loop-self.self _ c.in_ok-run.run'.may_end c.in_ok-run.run'.count c.unread-in-loop-self.result.now c.if-run.true c.unread-in-loop-self.ensures refl c.in_ok-run.ensures.before
     c.in_ok-run.ensures.bytes c.take_out.ensures c.in_ok-run.ensures.count c.in_ok-run.ensures.scanned c.in_ok-run.ensures.none_before c.in_ok-run.ensures.outer bytes items (c.loop-self.invariant.goes bytes items g)
 
 pub returns-clause-goes : goal.returns-clause-goes
@@ -27,10 +27,10 @@ returns-clause-goes c = λ bytes items g. goes_same c.loop-self.self _ refl refl
 
 pub returns-in-Misfit-clause-goes : goal.returns-in-Misfit-clause-goes
 returns-in-Misfit-clause-goes c = λ bytes items g.
-    goes_further c.loop-self.self _ c.in_ok-run.run'.may_end c.in_ok-run.run'.count c.unread-in-loop-self.result.now c.if-run.false c.unread-in-loop-self.ensures refl c.in_ok-run.ensures.before
+    goes_as false c.loop-self.self _ c.in_ok-run.run'.may_end c.in_ok-run.run'.count c.unread-in-loop-self.result.now c.if-run.false c.unread-in-loop-self.ensures refl c.in_ok-run.ensures.before
     c.in_ok-run.ensures.bytes c.take_out.ensures c.in_ok-run.ensures.count c.in_ok-run.ensures.scanned c.in_ok-run.ensures.none_before c.in_ok-run.ensures.outer bytes items (c.loop-self.invariant.goes bytes items g)
 
 pub returns-in-Name-clause-goes : goal.returns-in-Name-clause-goes
 returns-in-Name-clause-goes c = λ bytes items g.
-    goes_further c.loop-self.self _ c.in_ok-run.run'.may_end c.in_ok-run.run'.count c.unread-in-loop-self.result.now c.if-run.false c.unread-in-loop-self.ensures refl c.in_ok-run.ensures.before
+    goes_as false c.loop-self.self _ c.in_ok-run.run'.may_end c.in_ok-run.run'.count c.unread-in-loop-self.result.now c.if-run.false c.unread-in-loop-self.ensures refl c.in_ok-run.ensures.before
     c.in_ok-run.ensures.bytes c.take_out.ensures c.in_ok-run.ensures.count c.in_ok-run.ensures.scanned c.in_ok-run.ensures.none_before c.in_ok-run.ensures.outer bytes items (c.loop-self.invariant.goes bytes items g)

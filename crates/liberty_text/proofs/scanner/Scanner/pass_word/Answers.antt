@@ -6,7 +6,7 @@ use Rattle.liberty_text.specs.declared.token.TokenKind.TheVariants.{Word}
 use Rattle.liberty_text.specs.declared.scanner.Mode.TheVariants.{Between, InWord}
 use Rattle.liberty_text.specs.Idle.{front_run, is_plain_in_word}
 use Rattle.liberty_text.specs.Scanner.{opened, token}
-use Rattle.liberty_text.proofs.Quiet.{word_quiet, word_mode, word_tokens, quiet_passes, step_passes, within_behind}
+use Rattle.liberty_text.proofs.Quiet.{open_quiet, open_passes, word_mode, word_tokens, step_passes}
 use Rattle.liberty_text.proofs.scanner.Scanner.pass_word.Goals as goal
 
 pub returns-then-bytes-end-ne47 : goal.returns-then-bytes-end-ne47
@@ -19,7 +19,7 @@ returns-then-bytes-end-ne47 c =
     let old = c.args.self.now.tokens.items in
     let next = opened false (at + end) (get_or bytes end 0) in
     let quiet =
-    word_quiet line at bytes c.split_at.result.1.now run c.requires.some c.requires.begins c.split_at.ensures.back c.word_run-end.ensures.within c.word_run-end.ensures.value in
+    open_quiet line at bytes c.split_at.result.1.now run (InWord at line None) c.requires.some c.requires.begins c.split_at.ensures.back c.word_run-end.ensures.within c.word_run-end.ensures.value in
     let is_run : run ≡ front_run is_plain_in_word c.split_at.result.1.now = c.word_run-end.ensures.value in
     let front = is_run ∙ ap (front_run is_plain_in_word) c.split_at.ensures.back in
     let other : (get_or bytes end 0 == 47) ≡ false = grind (arith, nat_tests, c.if-bytes-end-ne47.true) in
@@ -38,10 +38,6 @@ pub returns : goal.returns
 returns c =
     let line = c.args.line_before in
     let at = c.args.at in
-    let bytes = c.args.bytes.now in
-    let quiet =
-    word_quiet line at bytes c.split_at.result.1.now c.word_run-end.result c.requires.some c.requires.begins c.split_at.ensures.back c.word_run-end.ensures.within c.word_run-end.ensures.value in
-    quiet_passes (Between line) at bytes c.args.self.now c.behind-2.new.self c.behind-2.result (1 + c.word_run-end.result)
-    (InWord at line None) (omega arith)
-    (within_behind bytes c.split_at.result.1.now 1 c.word_run-end.result (omega (arith, c.requires.some)) c.split_at.ensures.back c.word_run-end.ensures.within)
-    quiet c.behind-2.ensures.tokens c.behind-2.ensures.count c.behind-2.ensures.mode c.behind-2.ensures.ends
+    open_passes line at c.args.bytes.now c.split_at.result.1.now c.word_run-end.result (InWord at line None) c.args.self.now c.behind-2.new.self
+    c.behind-2.result c.requires.some c.requires.begins c.split_at.ensures.back c.word_run-end.ensures.within c.word_run-end.ensures.value
+    c.behind-2.ensures.tokens c.behind-2.ensures.count c.behind-2.ensures.mode c.behind-2.ensures.ends

@@ -40,10 +40,9 @@ use Rattle.cell_attributes.specs.Outputs.{output_with, output_text, pin_text_as,
 use Rattle.cell_attributes.specs.Limits.{wide_text, wide_output}
 use Rattle.cell_attributes.specs.Building.{function_of, groups_in, groups_from, sources_of, output_pin, output_in, outputs_from}
 use Rattle.cell_attributes.specs.CellLaws.{numbers_of, groups_of, outputs_of, OutputsKeepRules}
-use Rattle.cell_attributes.proofs.Distinct.{nil_parts}
+use Rattle.cell_attributes.proofs.Distinct.{nil_parts, no_place}
 use Rattle.cell_attributes.proofs.Members.{all_map}
 use Rattle.cell_attributes.proofs.Numbering.{state_flags, NumberIs, numbers_are}
-use Rattle.cell_attributes.proofs.OwnNames.{no_place}
 use Rattle.cell_attributes.proofs.TextNames.{text_names, is_absent, IsSound, names_of_written, absent_text, function_apart}
 use Rattle.cell_attributes.proofs.TextNames.{state_function_apart, is_value_number, names_values, function_names_are}
 use Rattle.cell_attributes.proofs.TextNames.{state_function_names_are, node_names_are}

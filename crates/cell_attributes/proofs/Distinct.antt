@@ -4,7 +4,7 @@ use Rattle.std.proofs.Common.{IsTrue, inl, inr, append_assoc, append-nil}
 use Rattle.std.specs.Prelude.{bytes_eq, flat_map, filter, if◌then◌else◌}
 use Rattle.std.specs.List.{list_all, list_any}
 use Rattle.std.proofs.lemmas.Slice.Eq.{bytes_eq-Decides}
-use Rattle.std.proofs.lemmas.Bool.{cases_Bool, and_parts, and_from}
+use Rattle.std.proofs.lemmas.Bool.{cases_Bool, and_parts, and_from, not-true as not_true}
 use Rattle.std.proofs.lemmas.Grind.{flat_map-append}
 use Rattle.std.proofs.lemmas.List.Folds.{list_all-append, list_any-append}
 use Rattle.std.proofs.lemmas.List.Elements.{filter-append}
@@ -110,7 +110,8 @@ solid_append xs ys =
     ap (map (λ (d : Declared). d.name)) (filter-append is_solid xs ys)
     ∙ map-append (λ (d : Declared). d.name) (filter is_solid xs) (filter is_solid ys)
 
-no_place : (b : Bool) (at : ℕ) → (if b then at ∷ [] else []) ≡ [] → b ≡ false
+-- where no place is given, the test fails
+pub no_place : (b : Bool) (at : ℕ) → (if b then at ∷ [] else []) ≡ [] → b ≡ false
 no_place true at h = absurd cc
 no_place false at h = refl
 
@@ -239,10 +240,6 @@ bytes_unlike x y h =
           absurd cc
       | inr e ↦ e
     ]
-
-not_true : (b : Bool) → IsTrue (not b) → b ≡ false
-not_true true h = absurd cc
-not_true false h = refl
 
 -- a name before fresh ones is not among them
 not_among :

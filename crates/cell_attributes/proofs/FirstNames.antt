@@ -3,7 +3,7 @@ use Rattle.std.proofs.Common.{◌≡◌, ℕ, Bool, true, false, not, ◌||◌, 
 use Rattle.std.proofs.Common.{IsTrue, append_assoc, append-nil}
 use Rattle.std.specs.Prelude.{flat_map, bytes_eq}
 use Rattle.std.specs.List.{list_all, list_any}
-use Rattle.std.proofs.lemmas.Bool.{and_parts, and_from, or_parts, or_from, false_from_ne_true}
+use Rattle.std.proofs.lemmas.Bool.{and_parts, and_from, or_parts, or_from, false_from_ne_true, not-true as not_true}
 use Rattle.std.proofs.lemmas.List.{map-append}
 use Rattle.std.proofs.lemmas.List.Folds.{list_any-append}
 use Rattle.std.proofs.lemmas.Slice.Eq.{bytes_eq-Decides}
@@ -21,10 +21,6 @@ use Rattle.cell_attributes.specs.Vocabulary.{entry_names}
 -- whether a name is not among these
 abbrev is_new : List (List ℕ) → List ℕ → Bool
 is_new known x = not (list_any (bytes_eq x) known)
-
-not_true : (b : Bool) → IsTrue (not b) → b ≡ false
-not_true true h = absurd cc
-not_true false h = refl
 
 -- names that are not one are not, the other way round
 pub other_names : (x y : List ℕ) → bytes_eq x y ≡ false → bytes_eq y x ≡ false

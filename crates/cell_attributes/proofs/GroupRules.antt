@@ -17,11 +17,10 @@ use Rattle.cell_attributes.specs.Texts.{text_support, malformed_at, unknown_at, 
 use Rattle.cell_attributes.specs.TextFaults.{malformed_in, unknown_in, coupled_in}
 use Rattle.cell_attributes.specs.StateReadings.{pins_among, names_read}
 use Rattle.cell_attributes.specs.Limits.{no_support_in, wide_support_in}
-use Rattle.cell_attributes.proofs.Distinct.{nil_parts}
+use Rattle.cell_attributes.proofs.Distinct.{nil_parts, no_place}
 use Rattle.cell_attributes.proofs.Members.{stand_in, all_from, all_both, in_passes, in_left, in_right, in_itself, all_insert_all}
 use Rattle.cell_attributes.proofs.Members.{in_placed, placed_ascend, in_filter, filter_in, filter_all, has_map, all_map}
 use Rattle.cell_attributes.proofs.Members.{has_append_left, has_append_right}
-use Rattle.cell_attributes.proofs.OwnNames.{no_place}
 use Rattle.cell_attributes.proofs.TextNames.{text_names, names_in_support, support_in_names, IsSound, is_kept_input}
 use Rattle.cell_attributes.proofs.TextNames.{is_input_or_own}
 

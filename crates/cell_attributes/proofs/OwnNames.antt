@@ -14,7 +14,7 @@ use Rattle.cell_attributes.specs.States.{states_of}
 use Rattle.cell_attributes.specs.Declarations.{Declared, clashes, clashes_after, declared_as, declared_state, declared_in}
 use Rattle.cell_attributes.specs.Declarations.{declared_of}
 use Rattle.cell_attributes.specs.Building.{is_second_name, number_in}
-use Rattle.cell_attributes.proofs.Distinct.{nil_parts}
+use Rattle.cell_attributes.proofs.Distinct.{nil_parts, no_place}
 use Rattle.cell_attributes.proofs.FirstNames.{other_names}
 use Rattle.cell_attributes.proofs.Numbering.{is_found}
 
@@ -29,11 +29,6 @@ clash_parts earlier (d ∷ xs) ys h =
       ap (λ front. front ++ clashes_after (earlier ++ d ∷ []) xs) parts.0 ∙ later.0,
       subst (λ e. clashes_after e ys ≡ []) (append_assoc earlier (d ∷ []) xs) later.1,
     )
-
--- where no place is given, the test fails
-pub no_place : (b : Bool) (at : ℕ) → (if b then at ∷ [] else []) ≡ [] → b ≡ false
-no_place true at h = absurd cc
-no_place false at h = refl
 
 -- a name that shares with none, declared somewhere
 abbrev plain : ℕ → List ℕ → Declared

@@ -116,21 +116,20 @@ behind_own : (p : ℕ → Bool) (m : ℕ) (xs ys : List ℕ) → (IsTrue (list_a
 behind_own p m xs ys pass h = let parts = and_parts (p m) (list_all p xs) h
     in and_from (p m) (list_all p ys) parts.0 (pass parts.1)
 
-second_names_pass : (p : ℕ → Bool) (m : ℕ) (k : GroupKind) → IsTrue (list_all p (second_support m k))
-    → IsTrue (list_all p (second_names m k))
-second_names_pass p m (kind.Ff k) h =
-    behind_own p m (supports_of_both k.clear k.preset) (names_of_both k.clear k.preset) (names_pass p k.clear k.preset) h
-second_names_pass p m (kind.Latch k) h =
-    behind_own p m (supports_of_both k.clear k.preset) (names_of_both k.clear k.preset) (names_pass p k.clear k.preset) h
-second_names_pass p m (kind.Table table node inputs) h = h
+-- each of two lists passes where the other one does
+abbrev PassAlike : (ℕ → Bool) → List ℕ → List ℕ → Type 0
+PassAlike p xs ys = (IsTrue (list_all p xs) → IsTrue (list_all p ys)) × (IsTrue (list_all p ys) → IsTrue (list_all p xs))
 
-second_support_passes : (p : ℕ → Bool) (m : ℕ) (k : GroupKind) → IsTrue (list_all p (second_names m k))
-    → IsTrue (list_all p (second_support m k))
-second_support_passes p m (kind.Ff k) h =
-    behind_own p m (names_of_both k.clear k.preset) (supports_of_both k.clear k.preset) (supports_pass p k.clear k.preset) h
-second_support_passes p m (kind.Latch k) h =
-    behind_own p m (names_of_both k.clear k.preset) (supports_of_both k.clear k.preset) (supports_pass p k.clear k.preset) h
-second_support_passes p m (kind.Table table node inputs) h = h
+both_pass_alike : (p : ℕ → Bool) (m : ℕ) (f g : Option Tree) → PassAlike p (m ∷ supports_of_both f g) (m ∷ names_of_both f g)
+both_pass_alike p m f g = (
+  behind_own p m (supports_of_both f g) (names_of_both f g) (names_pass p f g),
+  behind_own p m (names_of_both f g) (supports_of_both f g) (supports_pass p f g),
+)
+
+second_pass : (p : ℕ → Bool) (m : ℕ) (k : GroupKind) → PassAlike p (second_support m k) (second_names m k)
+second_pass p m (kind.Ff k) = both_pass_alike p m k.clear k.preset
+second_pass p m (kind.Latch k) = both_pass_alike p m k.clear k.preset
+second_pass p m (kind.Table table node inputs) = (λ h. h, λ h. h)
 
 -- what passes of whichever of two lists is taken
 either_passes :
@@ -140,21 +139,19 @@ either_passes :
 either_passes p true a c x y first second h = first h
 either_passes p false a c x y first second h = second h
 
-behind_pass : (p : ℕ → Bool) (m : ℕ) (groups : List StateGroup) (i : ℕ) → IsTrue (list_all p (stands_for m groups i))
-    → IsTrue (list_all p (names_behind m groups i))
-behind_pass p m [] i h = h
-behind_pass p m (group ∷ groups) i h =
-    either_passes p (nat_eq i (m + 1)) (second_support m group.kind) (stands_for (m + 2) groups i) (second_names m group.kind)
-    (names_behind (m + 2) groups i)
-    (second_names_pass p m group.kind) (λ k. behind_pass p (m + 2) groups i k) h
-
-stands_pass : (p : ℕ → Bool) (m : ℕ) (groups : List StateGroup) (i : ℕ) → IsTrue (list_all p (names_behind m groups i))
-    → IsTrue (list_all p (stands_for m groups i))
-stands_pass p m [] i h = h
-stands_pass p m (group ∷ groups) i h =
-    either_passes p (nat_eq i (m + 1)) (second_names m group.kind) (names_behind (m + 2) groups i) (second_support m group.kind)
-    (stands_for (m + 2) groups i)
-    (second_support_passes p m group.kind) (λ k. stands_pass p (m + 2) groups i k) h
+number_pass : (p : ℕ → Bool) (m : ℕ) (groups : List StateGroup) (i : ℕ)
+    → PassAlike p (stands_for m groups i) (names_behind m groups i)
+number_pass p m [] i = (λ h. h, λ h. h)
+number_pass p m (group ∷ groups) i =
+    let here = second_pass p m group.kind in
+    let rest = number_pass p (m + 2) groups i in
+    let stood = stands_for (m + 2) groups i in
+    let behind = names_behind (m + 2) groups i in
+    let support = second_support m group.kind in
+    let names = second_names m group.kind in (
+      either_passes p (nat_eq i (m + 1)) support stood names behind here.0 rest.0,
+      either_passes p (nat_eq i (m + 1)) names behind support stood here.1 rest.1,
+    )
 
 -- What values stand for.
 
@@ -318,7 +315,7 @@ module _ (pins : List Pin) (groups : List StateGroup) (f : Tree) where
   meant_held =
       all_flat_map (has held) (names_behind (length pins) groups) (names_of f)
       (list_all-implied (has (support_of f)) (λ i. list_all (has held) (names_behind (length pins) groups i)) (names_of f)
-      (λ i h. behind_pass (has held) (length pins) groups i
+      (λ i h. (number_pass (has held) (length pins) groups i).0
       (in_passes (has held) (stands_for (length pins) groups i) stood
       (in_flat_map (stands_for (length pins) groups) (support_of f) i h)
       (in_placed stood)))
@@ -329,7 +326,8 @@ module _ (pins : List Pin) (groups : List StateGroup) (f : Tree) where
       all_insert_all (has meant) [] stood refl
       (all_flat_map (has meant) (stands_for (length pins) groups) (support_of f)
       (list_all-implied (has (names_of f)) (λ i. list_all (has meant) (stands_for (length pins) groups i)) (support_of f)
-      (λ i h. stands_pass (has meant) (length pins) groups i (in_flat_map (names_behind (length pins) groups) (names_of f) i h))
+      (λ i h. (number_pass (has meant) (length pins) groups i).1
+      (in_flat_map (names_behind (length pins) groups) (names_of f) i h))
       (placed_in (names_of f))))
 
   held_are_sources :

@@ -306,22 +306,24 @@ module _
   node_number i n Node h k = variable_value n k
   node_number i n Variable h k = absurd cc
 
+  names_are : (s : Scope)
+      → ((i : ℕ) → is_allowed (use_at v.classes s i) ≡ true
+      → IsTrue (is_value_number (state_flags states) pins (slice_index to i)))
+      → (attribute : Option Attribute) → IsTrue (names_values (state_flags states) pins to (text_as v s attribute))
+  names_are s number attribute =
+      list_all-implied (λ i. is_allowed (use_at v.classes s i))
+      (λ i. is_value_number (state_flags states) pins (slice_index to i)) (text_names (text_as v s attribute)) number
+      (text_allowed v s attribute)
+
   pub function_names_are : (attribute : Option Attribute)
       → IsTrue (names_values (state_flags states) pins to (text_as v scope.Function attribute))
-  function_names_are attribute =
-      list_all-implied (λ i. is_allowed (use_at v.classes scope.Function i))
-      (λ i. is_value_number (state_flags states) pins (slice_index to i))
-      (text_names (text_as v scope.Function attribute))
-      (λ i h. function_number i (slice_index to i) (class_at v.classes i) h (numbers i)) (text_allowed v scope.Function attribute)
+  function_names_are =
+      names_are scope.Function (λ i h. function_number i (slice_index to i) (class_at v.classes i) h (numbers i))
 
   pub state_function_names_are : (attribute : Option Attribute)
       → IsTrue (names_values (state_flags states) pins to (text_as v scope.StateFunction attribute))
-  state_function_names_are attribute =
-      list_all-implied (λ i. is_allowed (use_at v.classes scope.StateFunction i))
-      (λ i. is_value_number (state_flags states) pins (slice_index to i))
-      (text_names (text_as v scope.StateFunction attribute))
-      (λ i h. state_function_number i (slice_index to i) (class_at v.classes i) h (numbers i))
-      (text_allowed v scope.StateFunction attribute)
+  state_function_names_are =
+      names_are scope.StateFunction (λ i h. state_function_number i (slice_index to i) (class_at v.classes i) h (numbers i))
 
   node_names_at : (at : ℕ) (number : Option ℕ) → IsTrue (names_values (state_flags states) pins to (node_at v.classes at number))
   node_names_at at None = refl

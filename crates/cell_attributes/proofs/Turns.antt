@@ -4,13 +4,13 @@ use Rattle.std.proofs.Common.{arith, nat_eq, append_assoc}
 use Rattle.std.specs.Prelude.{flat_map, bytes_eq}
 use Rattle.std.proofs.lemmas.List.{drop_more}
 use Rattle.bool_functions.specs.Support.{insert_all}
+use Rattle.bool_functions.proofs.Trees.{insert_all_append}
 use Rattle.statetables.specs.declared.table.StateTable.{StateTable}
 use Rattle.cell_machine.specs.declared.groups.GroupKind.TheVariants as kind
 use Rattle.cell_machine.specs.declared.groups.StateGroup.{StateGroup}
 use Rattle.cell_attributes.specs.declared.state_readings.StateReading.{StateReading}
 use Rattle.cell_attributes.specs.States.{StateName}
 use Rattle.cell_attributes.specs.Building.{stands_for, is_second_name, number_in, node_groups}
-use Rattle.cell_attributes.proofs.Inserting.{insert_append}
 
 pub insert_turn :
     {B : Type 0} (h : B → List ℕ) (xs : List B) (i : ℕ) (d : B) (found next : List ℕ)
@@ -18,7 +18,7 @@ pub insert_turn :
     → insert_all next (flat_map h (drop (i + 1) xs)) ≡ insert_all found (flat_map h (drop i xs))
 insert_turn h xs i d found next within more =
     rw (drop_more xs i d within)
-    (rw more (sym (insert_append found (h (get_or xs i d)) (flat_map h (drop (i + 1) xs)))))
+    (rw more (sym (insert_all_append found (h (get_or xs i d)) (flat_map h (drop (i + 1) xs)))))
 
 pub stands_turn :
     (pins place : ℕ) (groups : List StateGroup) (i : ℕ)

@@ -83,27 +83,21 @@ fn declare_state<'a>(
     ensures { OnOk result (map shown_name declared.new.items ≡ map shown_name declared.old.items
         ++ declared_state at (shown_state state.entry)) }
 {
-    let name = state.first;
-    match state.second {
-        None => {
-            declared.push(Declared {
-                name,
-                role: Role::Node,
-                at,
-            })?;
-        }
-        Some(second) => {
-            declared.push(Declared {
-                name,
-                role: Role::Plain,
-                at,
-            })?;
-            declared.push(Declared {
-                name: second,
-                role: Role::Plain,
-                at,
-            })?;
-        }
+    let role = match state.second {
+        None => Role::Node,
+        Some(_) => Role::Plain,
+    };
+    declared.push(Declared {
+        name: state.first,
+        role,
+        at,
+    })?;
+    if let Some(name) = state.second {
+        declared.push(Declared {
+            name,
+            role: Role::Plain,
+            at,
+        })?;
     }
     Ok(())
 }

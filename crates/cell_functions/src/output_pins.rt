@@ -66,37 +66,14 @@ impl OutputReader<'_, '_> {
         })
     }
 
-    /// Adds an output pin with the function of its text.
-    fn add_text(
-        &self,
-        outputs: &mut Items<OutputPin>,
-        pin: usize,
-        text: &Text,
-    ) -> Result<(), AllocError>
-        requires within { IsWithin self.now }
-        requires fits { FitsText (length self.now.to.now) text.now }
-        ensures { OnOk result (outputs.new ≡ outputs.old
-            ++ output_pin_of self.now.pins self.now.groups.now self.now.to.now pin text.now ∷ []) }
-    {
-        let output = self.pin(pin, text)?;
-        outputs.push(output)?;
-        Ok(())
-    }
-
-    /// Adds an output pin with the function that its group tells.
-    fn add_output(
-        &self,
-        outputs: &mut Items<OutputPin>,
-        pin: usize,
-        owner: &Group,
-    ) -> Result<(), AllocError>
+    /// An output pin with the function that its group tells.
+    fn output(&self, pin: usize, owner: &Group) -> Result<OutputPin, AllocError>
         requires { IsWithin self.now }
-        ensures { OnOk result
-            (outputs.new ≡ outputs.old ++ output_pin_of self.now.pins self.now.groups.now self.now.to.now pin
-            (pin_text_of (shown_vocabulary self.now.vocabulary.now) owner.now) ∷ []) }
+        ensures { IfOk result (λ output. output ≡ output_pin_of self.now.pins self.now.groups.now self.now.to.now pin
+            (pin_text_of (shown_vocabulary self.now.vocabulary.now) owner.now)) }
     {
         let text = pin_text(self.alloc, self.vocabulary, owner)?;
-        self.add_text(outputs, pin, &text)
+        self.pin(pin, &text)
     }
 
     /// Adds a pin, where its group makes outputs.
@@ -114,7 +91,7 @@ impl OutputReader<'_, '_> {
         if direction_of(owner) != Some(Direction::Output) {
             return Ok(());
         }
-        self.add_output(outputs, pin, owner)
+        outputs.push(self.output(pin, owner)?)
     }
 
     /// The outputs, from the groups of the pins.

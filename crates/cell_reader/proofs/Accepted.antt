@@ -27,7 +27,7 @@ use Rattle.cell_reader.proofs.Refused.{all_unmet, least_none}
 use Rattle.cell_reader.proofs.AllPlaces.{check_at_all, arc_at_all, wide_all}
 use Rattle.cell_reader.proofs.Decides.{all_read, coupled_told_is, supports_told_are, wide_supports_told_are}
 use Rattle.cell_reader.proofs.PartCounts.{IsWithinLimits, within_limits}
-use Rattle.cell_timings.proofs.TimingRules.{checks_rules, arcs_rules, arcs_apart}
+use Rattle.cell_timings.proofs.TimingRules.{timing_rules, arcs_apart}
 use Rattle.cell_attributes.proofs.CellGroups.{groups_keep_rules}
 use Rattle.cell_attributes.proofs.CellOutputs.{outputs_keep_rules}
 
@@ -116,7 +116,8 @@ accepted_cells_are_sound unit earlier cell h =
     let subject : Subject = subject_of unit cell in
     let here = accepted_meets_none_here subject earlier cell h in
     let sound = accepted_pins_are_sound subject earlier cell h in
-    let timing = timing_limits subject earlier cell h in (
+    let timing = timing_limits subject earlier cell h in
+    let rules = timing_rules subject (owners_of cell) timing.0 timing.1 timing.2 in (
       cell_of_rules (cell_name cell) (pins_of cell) (groups_of cell) (outputs_of cell) (checks_of subject cell)
           (arcs_of subject cell)
           (record {
@@ -124,8 +125,8 @@ accepted_cells_are_sound unit earlier cell h =
             of_pins = sound.1;
             of_groups = groups_keep_rules cell here;
             of_outputs = outputs_keep_rules cell here;
-            of_checks = checks_rules subject (owners_of cell) timing.0 timing.2;
-            of_arcs = arcs_rules subject (owners_of cell) timing.1 timing.2;
+            of_checks = rules.0;
+            of_arcs = rules.1;
           }),
       arcs_apart subject (owners_of cell),
     )

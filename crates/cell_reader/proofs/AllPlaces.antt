@@ -1,7 +1,6 @@
 -- The answers of reading the timing of pins tell as much of what is wrong as decides on a refusal.
 use Rattle.std.proofs.Common.{◌≡◌, ℕ, ◌+◌, List, [], ◌∷◌, ◌++◌, refl, sym, ◌∙◌, ap, Option, Some, None, Ok}
 use Rattle.std.specs.Prelude.{flat_map}
-use Rattle.std.specs.Option.{option_map_or}
 use Rattle.liberty_groups.specs.declared.tree.Group.{Group}
 use Rattle.timing_arcs.specs.declared.fault.TimingFault.TheVariants as fault
 use Rattle.timing_arcs.specs.declared.subject.Subject.{Subject}
@@ -15,6 +14,7 @@ use Rattle.cell_reader.specs.Written.{own_conditions_of, wide_conditions_of}
 use Rattle.cell_reader.proofs.AsWritten.{own_conditions_same, wide_conditions_same}
 use Rattle.cell_timings.specs.PinTimings.{Answer, subject_at, answers_from, places_from, arc_at_of, malformed_timing}
 use Rattle.cell_timings.specs.PinTimings.{unknown_timing, own_timing, number_timing, check_at_in, arc_at_in, wide_in}
+use Rattle.cell_timings.proofs.Told.{least_told}
 
 -- What an answer tells, by the least offset of each kind.
 
@@ -122,10 +122,6 @@ arc_at_here : (subject : Subject) (pin : Group) → all_kinds subject pin ≡ []
     → arc_at_in (reading_answer subject pin) ≡ arc_at_of subject pin
 arc_at_here subject pin h = ap arc_at_in (read_here subject pin h)
 
-one_at : (at : Option ℕ) → least (option_map_or (λ n. n ∷ []) at []) ≡ at
-one_at None = refl
-one_at (Some n) = refl
-
 wide_here : (subject : Subject) (pin : Group) → all_kinds subject pin ≡ []
     → least (wide_in (reading_answer subject pin)) ≡ least (wide_conditions_of subject pin)
 wide_here subject pin h =
@@ -133,7 +129,7 @@ wide_here subject pin h =
     (unknown_names_at subject pin ++ (own_conditions_of subject pin ++ numbers_at subject pin)) h in
     let second = nil_parts (unknown_names_at subject pin) (own_conditions_of subject pin ++ numbers_at subject pin) first.1 in
     ap (λ answer. least (wide_in answer)) (read_here subject pin h)
-    ∙ one_at (least (wide_at subject pin))
+    ∙ least_told (least (wide_at subject pin))
     ∙ ap least (wide_conditions_same subject pin second.0)
 
 -- All pins, where the first has this number.

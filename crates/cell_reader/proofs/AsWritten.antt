@@ -287,15 +287,20 @@ all_coupled_same v pins (group ∷ groups) h =
     ap (λ xs. xs ++ flat_map coupled_in (map (state_reading v pins) groups)) (coupled_same v pins group parts.0)
     ∙ ap (λ xs. coupled_of v pins group ++ xs) (all_coupled_same v pins groups parts.1)
 
+-- of groups that name nothing unknown or coupled it is told what is written
+abbrev pub IsAsWritten : (StateReading → List ℕ) → (Vocabulary → ℕ → Group → List ℕ) → Type 0
+IsAsWritten told written =
+    (v : Vocabulary) (pins : ℕ) (groups : List Group) → flat_map unknown_in (map (state_reading v pins) groups) ≡ []
+    → flat_map coupled_in (map (state_reading v pins) groups) ≡ []
+    → flat_map told (map (state_reading v pins) groups) ≡ flat_map (written v pins) groups
+
 -- what each group tells that names nothing unknown or coupled is told of all
 all_same :
     (told : StateReading → List ℕ) (written : Vocabulary → ℕ → Group → List ℕ)
     → ((v : Vocabulary) (pins : ℕ) (group : Group) → unknown_in (state_reading v pins group) ≡ []
     → coupled_in (state_reading v pins group) ≡ []
     → told (state_reading v pins group) ≡ written v pins group)
-    → (v : Vocabulary) (pins : ℕ) (groups : List Group) → flat_map unknown_in (map (state_reading v pins) groups) ≡ []
-    → flat_map coupled_in (map (state_reading v pins) groups) ≡ []
-    → flat_map told (map (state_reading v pins) groups) ≡ flat_map (written v pins) groups
+    → IsAsWritten told written
 all_same told written same v pins [] h k = refl
 all_same told written same v pins (group ∷ groups) h k =
     let r = state_reading v pins group in
@@ -304,14 +309,8 @@ all_same told written same v pins (group ∷ groups) h k =
     ap (λ xs. xs ++ flat_map told (map (state_reading v pins) groups)) (same v pins group first.0 second.0)
     ∙ ap (λ xs. written v pins group ++ xs) (all_same told written same v pins groups first.1 second.1)
 
-pub all_no_support_same :
-    (v : Vocabulary) (pins : ℕ) (groups : List Group) → flat_map unknown_in (map (state_reading v pins) groups) ≡ []
-    → flat_map coupled_in (map (state_reading v pins) groups) ≡ []
-    → flat_map no_support_in (map (state_reading v pins) groups) ≡ flat_map (no_support_of v pins) groups
+pub all_no_support_same : IsAsWritten no_support_in no_support_of
 all_no_support_same = all_same no_support_in no_support_of no_support_same
 
-pub all_wide_support_same :
-    (v : Vocabulary) (pins : ℕ) (groups : List Group) → flat_map unknown_in (map (state_reading v pins) groups) ≡ []
-    → flat_map coupled_in (map (state_reading v pins) groups) ≡ []
-    → flat_map wide_support_in (map (state_reading v pins) groups) ≡ flat_map (wide_support_of v pins) groups
+pub all_wide_support_same : IsAsWritten wide_support_in wide_support_of
 all_wide_support_same = all_same wide_support_in wide_support_of wide_support_same

@@ -5,9 +5,10 @@ use Rattle.liberty_groups.specs.declared.tree.Group.{Group}
 use Rattle.timing_arcs.specs.declared.subject.Subject.{Subject}
 use Rattle.cell_machine.specs.Delay.{lesser, least}
 use Rattle.timing_arcs.specs.Timing.{malformed_at as malformed_timing_at, unknown_names_at, check_at_of}
+use Rattle.cell_attributes.specs.declared.state_readings.StateReading.{StateReading}
 use Rattle.cell_attributes.specs.Groups.{state_groups}
 use Rattle.cell_attributes.specs.Pins.{pins_of, owners_of}
-use Rattle.cell_attributes.specs.Vocabulary.{vocabulary}
+use Rattle.cell_attributes.specs.Vocabulary.{Vocabulary, vocabulary}
 use Rattle.cell_attributes.specs.Scans.{no_functions}
 use Rattle.cell_attributes.specs.Declarations.{bad_names}
 use Rattle.cell_attributes.specs.Texts.{malformed_at, unknown_at}
@@ -25,7 +26,7 @@ use Rattle.cell_reader.specs.Refusals.{coupled, own_conditions, numbers, limits,
 use Rattle.cell_reader.specs.Written.{wide_conditions_of, no_support_of, wide_support_of}
 use Rattle.cell_reader.specs.Told.{malformed_told, unknown_told, coupled_told, own_told, number_told, limits_told, told_reasons}
 use Rattle.cell_reader.proofs.Refused.{least_none, all_unmet}
-use Rattle.cell_reader.proofs.AsWritten.{all_coupled_same, all_no_support_same, all_wide_support_same}
+use Rattle.cell_reader.proofs.AsWritten.{IsAsWritten, all_coupled_same, all_no_support_same, all_wide_support_same}
 use Rattle.cell_reader.proofs.AllPlaces.{AllRead, malformed_all, unknown_all, own_all, number_all, check_at_all, arc_at_all}
 use Rattle.cell_reader.proofs.AllPlaces.{wide_all}
 
@@ -71,21 +72,23 @@ pub coupled_told_is : (pins : Subject) (cell : Group) → unknown_names pins cel
 coupled_told_is pins cell u = all_coupled_same (vocabulary cell) (length (pins_of cell)) (state_groups cell)
     (unknown_states pins cell u)
 
-pub supports_told_are :
+-- of a cell that names nothing unknown or coupled it is told what is written
+abbrev pub AreTold : (StateReading → List ℕ) → (Vocabulary → ℕ → Group → List ℕ) → Type 0
+AreTold told written =
     (pins : Subject) (cell : Group) → unknown_names pins cell ≡ [] → coupled cell ≡ []
-    → flat_map no_support_in (readings_of cell) ≡ flat_map (no_support_of (vocabulary cell) (length (pins_of cell)))
-    (state_groups cell)
-supports_told_are pins cell u w =
-    all_no_support_same (vocabulary cell) (length (pins_of cell)) (state_groups cell) (unknown_states pins cell u)
+    → flat_map told (readings_of cell) ≡ flat_map (written (vocabulary cell) (length (pins_of cell))) (state_groups cell)
+
+are_told : (told : StateReading → List ℕ) (written : Vocabulary → ℕ → Group → List ℕ) → IsAsWritten told written
+    → AreTold told written
+are_told told written same pins cell u w =
+    same (vocabulary cell) (length (pins_of cell)) (state_groups cell) (unknown_states pins cell u)
     (coupled_told_is pins cell u ∙ w)
 
-pub wide_supports_told_are :
-    (pins : Subject) (cell : Group) → unknown_names pins cell ≡ [] → coupled cell ≡ []
-    → flat_map wide_support_in (readings_of cell) ≡ flat_map (wide_support_of (vocabulary cell) (length (pins_of cell)))
-    (state_groups cell)
-wide_supports_told_are pins cell u w =
-    all_wide_support_same (vocabulary cell) (length (pins_of cell)) (state_groups cell) (unknown_states pins cell u)
-    (coupled_told_is pins cell u ∙ w)
+pub supports_told_are : AreTold no_support_in no_support_of
+supports_told_are = are_told no_support_in no_support_of all_no_support_same
+
+pub wide_supports_told_are : AreTold wide_support_in wide_support_of
+wide_supports_told_are = are_told wide_support_in wide_support_of all_wide_support_same
 
 limits_same : (pins : Subject) (cell : Group) → AllRead pins (owners_of cell) → unknown_names pins cell ≡ [] → coupled cell ≡ []
     → limits_told pins cell ≡ limits pins cell

@@ -1,5 +1,5 @@
 -- The refusals one after another, and the rules that an accepted cell keeps.
-use Rattle.std.proofs.Common.{◌≡◌, ℕ, ◌≤◌, List, [], ◌∷◌, length, refl, sym, ◌∙◌, ap, IsTrue, Option, Some, None, nat_le, Result}
+use Rattle.std.proofs.Common.{◌≡◌, ℕ, ◌≤◌, List, [], ◌∷◌, length, refl, IsTrue, Option, Some, None, nat_le, Result}
 use Rattle.std.proofs.Common.{Ok, Err}
 use Rattle.std.specs.Prelude.{IfOk, IfErr}
 use Rattle.std.proofs.lemmas.Bool.{and_parts, leb-true}
@@ -12,7 +12,6 @@ use Rattle.cell_machine.specs.declared.checks.Check.{Check}
 use Rattle.cell_machine.specs.declared.arcs.Arc.{Arc}
 use Rattle.cell_machine.specs.CellRules.{are_distinct, is_cell, AreApart}
 use Rattle.timing_arcs.specs.declared.subject.Subject.{Subject}
-use Rattle.cell_machine.specs.Delay.{least}
 use Rattle.cell_attributes.specs.Groups.{inner_groups, cell_name}
 use Rattle.cell_attributes.specs.Pins.{pin_names, pins_of, owners_of}
 use Rattle.cell_attributes.specs.Declarations.{declared_of, clashes_after, known_cell}
@@ -23,7 +22,7 @@ use Rattle.cell_attributes.proofs.Distinct.{nil_parts, pins_are_distinct}
 use Rattle.cell_refusals.specs.declared.refusal.Refusal.{Refusal}
 use Rattle.cell_refusals.specs.declared.refusal.Reason.TheVariants as reason
 use Rattle.cell_reader.specs.CellTexts.{subject_of, IsUnmet}
-use Rattle.cell_reader.specs.Refusals.{met, refused_or, first_refusal, early_reasons, middle_reasons, later_reasons, refusal_of}
+use Rattle.cell_reader.specs.Refusals.{met, first_refusal, early_reasons, middle_reasons, later_reasons, refusal_of}
 use Rattle.cell_reader.specs.Refusals.{udp_inputs, checks_of, arcs_of}
 use Rattle.cell_reader.proofs.Refused.{all_unmet}
 use Rattle.cell_reader.proofs.Chains.{unmet_first, met_first}

@@ -13,7 +13,7 @@ use Rattle.cell_reader.specs.declared.parts.Parts.{Parts}
 use Rattle.cell_reader.specs.declared.numbered.Numbered.{Numbered}
 use Rattle.cell_reader.specs.CellTexts.{subject_of}
 use Rattle.cell_attributes.specs.CellLaws.{readings_of, texts_of, numbers_of, groups_of}
-use Rattle.cell_timings.specs.Held.{AreHeld}
+use Rattle.cell_timings.specs.CellTimings.{IsHeld}
 
 -- The groups are those of this cell.
 pub record AreGroups (cell : Group) (groups : CellGroups) : Type 0 where
@@ -37,7 +37,7 @@ pub record AreParts (parts : Parts) : Type 0 where
   pub of_vocabulary : shown_vocabulary parts.named.vocabulary ≡ vocabulary parts.cell.now
   pub of_readings : parts.said.readings ≡ readings_of parts.cell.now
   pub of_texts : parts.said.texts ≡ texts_of parts.cell.now
-  pub of_answers : AreHeld (subject_in parts) (owners_of parts.cell.now) parts.said.answers.items
+  pub of_timing : IsHeld (subject_in parts) (owners_of parts.cell.now) parts.said.timing
 
 -- The numbers and the groups are those of this cell.
 pub record AreNumbered (cell : Group) (numbered : Numbered) : Type 0 where

@@ -18,7 +18,7 @@ use Rattle.cell_attributes.specs.TextFaults.{malformed_in, unknown_in, coupled_i
 use Rattle.cell_attributes.specs.CellLaws.{readings_of, texts_of}
 use Rattle.cell_attributes.specs.Limits.{first_past, place_of_group, state_at, no_support_in, wide_support_in}
 use Rattle.cell_refusals.specs.declared.refusal.Reason.TheVariants as reason
-use Rattle.cell_timings.specs.PinTimings.{Answer, malformed_timing, unknown_timing, own_timing, number_timing, check_at_in}
+use Rattle.cell_timings.specs.PinTimings.{malformed_timing, unknown_timing, own_timing, number_timing, check_at_in}
 use Rattle.cell_timings.specs.PinTimings.{arc_at_in}
 use Rattle.cell_reader.specs.Refusals.{Met, met, timing_answers}
 

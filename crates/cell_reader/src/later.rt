@@ -1,9 +1,10 @@
 //! The refusals that are tried after the texts are read.
-ghost use Rattle.std.specs.Prelude.{◌≡◌, IfOk};
-ghost use Rattle.cell_machine.specs.Delay.{least};
+ghost use Rattle.std.specs.Prelude.{◌≡◌, IfOk, flat_map};
+ghost use Rattle.cell_machine.specs.Delay.{lesser as lesser_of, least};
+ghost use Rattle.cell_attributes.specs.CellLaws.{readings_of, texts_of};
 ghost use Rattle.cell_attributes.specs.Declarations.{bad_names as bad_names_of};
 ghost use Rattle.cell_reader.specs.Refusals.{middle_reasons, first_refusal};
-ghost use Rattle.cell_reader.specs.Told.{malformed_told, unknown_told, limits_told, told_reasons};
+ghost use Rattle.cell_reader.specs.Told.{limits_told, told_reasons, wrong_in, wrong_at};
 ghost use Rattle.cell_reader.specs.Parts.{subject_in, AreParts};
 
 use crate::limits::{WrongSupport, bad_cell_name, first_group_past, first_past, state_offsets};
@@ -14,35 +15,17 @@ use cell_attributes::declarations::first_bad_name;
 use cell_attributes::limits::{MOST_ARCS, MOST_CHECKS, MOST_PINS, MOST_STATES};
 use cell_machine::least::lesser;
 use cell_refusals::{Reason, Refusal, least_among, least_among_held, refused_or};
-use cell_timings::{WrongTiming, made_offsets};
 use std::alloc::{AllocError, Global};
 
-/// Where the texts of a cell, or the timing of its pins, are wrong in these ways. It is no function, since its contract would
-/// have to tell which way of texts and which of timing go together.
-macro_rules! least_wrong {
-    ($parts:expr, $text:expr, $timing:expr) => {{
-        let states = least_among(&$text, $parts.said.readings.as_slice());
-        let pins = least_among(&$text, $parts.said.texts.as_slice());
-        lesser(states, lesser(pins, least_among(&$timing, &$parts.said.answers)))
-    }};
-}
-
-/// Where a text or a table of the cell does not read.
-#[tactic(auto, using(cell_machine::proofs::LeastLemmas::least_append))]
-fn malformed(parts: &Parts<'_>) -> Option<usize>
+/// Where the texts of a cell are wrong in this way, or the timing of its pins, whose least offset this is.
+fn wrong_texts(parts: &Parts<'_>, wrong: WrongText, timing: Option<usize>) -> Option<usize>
     requires { AreParts parts.now }
-    ensures { result ≡ least (malformed_told (subject_in parts.now) parts.now.cell.now) }
+    ensures { result ≡ lesser_of (least (flat_map (wrong_in wrong) (readings_of parts.now.cell.now)))
+        (lesser_of (least (flat_map (wrong_at wrong) (texts_of parts.now.cell.now))) timing) }
 {
-    least_wrong!(parts, WrongText::Malformed, WrongTiming::Malformed)
-}
-
-/// Where a text of the cell names nothing of the kind that it may name.
-#[tactic(auto, using(cell_machine::proofs::LeastLemmas::least_append))]
-fn unknown_names(parts: &Parts<'_>) -> Option<usize>
-    requires { AreParts parts.now }
-    ensures { result ≡ least (unknown_told (subject_in parts.now) parts.now.cell.now) }
-{
-    least_wrong!(parts, WrongText::Unknown, WrongTiming::UnknownName)
+    let states = least_among(&wrong, parts.said.readings.as_slice());
+    let pins = least_among(&wrong, parts.said.texts.as_slice());
+    lesser(states, lesser(pins, timing))
 }
 
 /// Where a name of the cell is none.
@@ -66,11 +49,11 @@ fn limits(alloc: Global, parts: &Parts<'_>) -> Result<Option<usize>, AllocError>
     let names = bad_names(parts);
     let pins = first_group_past(MOST_PINS, &parts.named.owners);
     let states = state_offsets(alloc, &parts.groups.states)?;
-    let made = made_offsets(alloc, &parts.said.answers)?;
+    let made = &parts.said.timing;
     let supports = least_among(&WrongSupport::Empty, parts.said.readings.as_slice());
     let timing = lesser(
-        first_past(MOST_CHECKS, &made.checks),
-        lesser(first_past(MOST_ARCS, &made.arcs), supports),
+        first_past(MOST_CHECKS, made.check_at.as_slice()),
+        lesser(first_past(MOST_ARCS, made.arc_at.as_slice()), supports),
     );
     let counts = lesser(pins, lesser(first_past(MOST_STATES, &states), timing));
     Ok(lesser(names, counts))
@@ -78,22 +61,24 @@ fn limits(alloc: Global, parts: &Parts<'_>) -> Result<Option<usize>, AllocError>
 
 /// The first of the reasons that are tried after the texts are read, but for the last of all, where of each pin's timing the
 /// kind that is wrong first is known.
+#[tactic(auto, using(cell_machine::proofs::LeastLemmas::least_append))]
 fn told_refusal(alloc: Global, parts: &Parts<'_>) -> Result<Option<Refusal>, AllocError>
     requires { AreParts parts.now }
     ensures { IfOk result (λ refusal. refusal ≡ first_refusal (told_reasons (subject_in parts.now) parts.now.cell.now)) }
 {
     let over = limits(alloc, parts)?;
     let later = refused_or(Reason::Limit, over, None);
-    let number = least_among(&WrongTiming::Number, &parts.said.answers);
-    let later = refused_or(Reason::Number, number, later);
-    let own = least_among(&WrongTiming::OwnCondition, &parts.said.answers);
-    let later = refused_or(Reason::OwnCondition, own, later);
+    let least = &parts.said.timing.least;
+    let later = refused_or(Reason::Number, least.number, later);
+    let later = refused_or(Reason::OwnCondition, least.own_condition, later);
     let no_function = least_among_held(&NoFunctions, &parts.groups.pins);
     let later = refused_or(Reason::NoFunction, no_function, later);
     let coupled = least_among(&WrongText::Coupled, parts.said.readings.as_slice());
     let later = refused_or(Reason::Coupled, coupled, later);
-    let later = refused_or(Reason::UnknownName, unknown_names(parts), later);
-    Ok(refused_or(Reason::Malformed, malformed(parts), later))
+    let unknown = wrong_texts(parts, WrongText::Unknown, least.unknown_name);
+    let later = refused_or(Reason::UnknownName, unknown, later);
+    let malformed = wrong_texts(parts, WrongText::Malformed, least.malformed);
+    Ok(refused_or(Reason::Malformed, malformed, later))
 }
 
 /// The first of the reasons that are tried after the texts are read, but for the last of all.

@@ -19,7 +19,6 @@ use cell_functions::state_groups::state_groups;
 use cell_machine::StateGroup;
 use cell_machine::least::lesser;
 use cell_refusals::least_among;
-use cell_timings::WideTimings;
 use sqlite_items::Items;
 use std::alloc::{AllocError, Global};
 
@@ -80,7 +79,7 @@ fn wide_conditions(parts: &Parts<'_>) -> Option<usize>
     requires unmet { first_refusal (middle_reasons (subject_in parts.now) parts.now.cell.now) ≡ None }
     ensures { result ≡ least (timing_places wide_conditions_of (subject_in parts.now) parts.now.cell.now) }
 {
-    least_among(&WideTimings, &parts.said.answers)
+    parts.said.timing.least.wide
 }
 
 /// Where a state group names more than 8 pins.

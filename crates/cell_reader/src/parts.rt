@@ -9,7 +9,7 @@ ghost use Rattle.cell_attributes.specs.StateReadings.{state_reading};
 ghost use Rattle.cell_attributes.specs.Outputs.{pin_text};
 ghost use Rattle.cell_attributes.specs.Shown.{shown_state, shown_vocabulary};
 ghost use Rattle.cell_reader.specs.CellTexts.{subject_with};
-ghost use Rattle.cell_timings.specs.Held.{AreHeld};
+ghost use Rattle.cell_timings.specs.CellTimings.{IsHeld};
 ghost use Rattle.cell_reader.specs.Parts.{AreGroups, AreParts};
 
 use crate::cell_groups::CellGroups;
@@ -22,12 +22,12 @@ use cell_attributes::states::{StateName, states_of};
 use cell_attributes::texts::Text;
 use cell_attributes::vocabulary::{Vocabulary, read_vocabulary};
 use cell_machine::Pin;
-use cell_timings::timing_answers;
+use cell_timings::{CellTiming, cell_timing};
 use liberty_groups::Group;
 use liberty_text::Unit;
 use sqlite_items::Items;
 use std::alloc::{AllocError, Global};
-use timing_arcs::{PinTiming, Subject, TimingFault};
+use timing_arcs::Subject;
 
 /// What a cell is made from.
 #[derive(Drop)]
@@ -52,14 +52,14 @@ pub fn names_of(alloc: Global, pins: &[Pin]) -> Result<Names, AllocError>
     Ok(names)
 }
 
-/// The pins of a cell, and what reading the timing of each answers.
+/// The pins of a cell, and their timing.
 #[derive(Drop)]
 struct TimedPins {
     pins: Items<Pin>,
-    answers: Vec<Result<PinTiming, TimingFault>>,
+    timing: CellTiming,
 }
 
-/// These pins, and what reading the timing of each answers, where these are the groups that make them.
+/// These pins with their timing, where these are the groups that make them.
 fn read_timings(
     alloc: Global,
     unit: Option<Unit>,
@@ -69,8 +69,8 @@ fn read_timings(
     requires pins { pins ≡ flat_map pins_in (map (λ group. group.now) groups.now) }
     requires distinct { IsTrue (are_distinct (pin_names (flat_map pins_in (map (λ group. group.now) groups.now)))) }
     ensures pins { IfOk result (λ timed. timed.pins ≡ flat_map pins_in (map (λ group. group.now) groups.now)) }
-    ensures answers { IfOk result (λ timed. AreHeld (subject_with unit (flat_map pins_in (map (λ group. group.now) groups.now)))
-        (flat_map owners_in (map (λ group. group.now) groups.now)) timed.answers.items) }
+    ensures timing { IfOk result (λ timed. IsHeld (subject_with unit (flat_map pins_in (map (λ group. group.now) groups.now)))
+        (flat_map owners_in (map (λ group. group.now) groups.now)) timed.timing) }
 {
     let names = names_of(alloc, pins.as_slice())?;
     let mut subject = Subject {
@@ -79,10 +79,10 @@ fn read_timings(
         place: 0,
         unit,
     };
-    let answers = timing_answers(alloc, &mut subject, groups)?;
+    let timing = cell_timing(alloc, &mut subject, groups)?;
     Ok(TimedPins {
         pins: subject.pins,
-        answers,
+        timing,
     })
 }
 
@@ -127,8 +127,8 @@ pub struct Said {
     pub readings: Items<StateReading>,
     /// The text of each of the pin groups.
     pub texts: Items<Text>,
-    /// What reading the timing of each pin answers, as far as it decides or is wanted.
-    pub answers: Vec<Result<PinTiming, TimingFault>>,
+    /// The timing of the pins, as far as it decides or is wanted.
+    pub timing: CellTiming,
 }
 
 /// The pins that these groups make, and what the texts and the timing of these groups say, in a cell whose texts may name these.
@@ -146,9 +146,9 @@ fn read_said(
         (map (λ group. group.now) state_groups.now)) }
     ensures texts { IfOk result (λ said. said.texts ≡ map (pin_text (shown_vocabulary vocabulary.now))
         (map (λ group. group.now) pin_groups.now)) }
-    ensures answers { IfOk result (λ said. AreHeld
+    ensures timing { IfOk result (λ said. IsHeld
         (subject_with unit (flat_map pins_in (map (λ group. group.now) pin_groups.now)))
-        (flat_map owners_in (map (λ group. group.now) pin_groups.now)) said.answers.items) }
+        (flat_map owners_in (map (λ group. group.now) pin_groups.now)) said.timing) }
 {
     let pins = pins_of(alloc, pin_groups)?;
     let readings = state_readings(alloc, vocabulary, pins.len(), state_groups)?;
@@ -158,7 +158,7 @@ fn read_said(
         pins: timed.pins,
         readings,
         texts,
-        answers: timed.answers,
+        timing: timed.timing,
     })
 }
 
@@ -189,12 +189,12 @@ pub(crate) fn read_parts<'a>(
 }
 
 impl Parts<'_> {
-    /// The pins, and what reading the timing of each answers. All else is let go.
-    pub(crate) fn pins_and_answers(self) -> (Items<Pin>, Vec<Result<PinTiming, TimingFault>>)
+    /// The pins and their timing. All else is let go.
+    pub(crate) fn pins_and_timing(self) -> (Items<Pin>, CellTiming)
         ensures pins { result.0 ≡ self.entry.said.pins }
-        ensures answers { result.1 ≡ self.entry.said.answers }
+        ensures timing { result.1 ≡ self.entry.said.timing }
     {
         let said = self.said;
-        (said.pins, said.answers)
+        (said.pins, said.timing)
     }
 }

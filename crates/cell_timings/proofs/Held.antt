@@ -6,6 +6,7 @@ use Rattle.std.specs.Option.{option_map_or}
 use Rattle.std.proofs.lemmas.Bool.Decides.{nat_tests}
 use Rattle.std.proofs.lemmas.List.{length-take, take_all}
 use Rattle.liberty_groups.specs.declared.tree.Group.{Group}
+use Rattle.cell_machine.specs.Delay.{least}
 use Rattle.timing_arcs.specs.declared.subject.Subject.{Subject}
 use Rattle.timing_arcs.specs.declared.subject.Room.{Room}
 use Rattle.timing_arcs.specs.declared.subject.PinTiming.{PinTiming}
@@ -16,7 +17,8 @@ use Rattle.cell_attributes.proofs.PinRules.{within_limit}
 use Rattle.cell_timings.specs.PinTimings.{Answer, subject_at, answers_from, malformed_timing, unknown_timing, own_timing}
 use Rattle.cell_timings.specs.PinTimings.{number_timing, checks_in, arcs_in, check_at_in, arc_at_in, wide_in, left_out_in}
 use Rattle.cell_timings.specs.PinTimings.{left_out_from}
-use Rattle.cell_timings.specs.Held.{cell_room, left_room, held_from, AreHeld}
+use Rattle.cell_timings.specs.Held.{cell_room, left_room, held_from}
+use Rattle.cell_timings.specs.CellTimings.{timing_held, IsHeld}
 use Rattle.cell_timings.proofs.TimingRules.{check_count, arc_count, check_counts, arc_counts}
 
 -- what no room changes of a timing
@@ -33,13 +35,6 @@ same_of f h room subject pin (owner ∷ owners) =
     here : (answer : Answer) → f (held_answer room answer) ≡ f answer
     here (Ok timing) = h room timing
     here (Err e) = refl
-
-count_same : (room : Room) (subject : Subject) (pin : ℕ) (owners : List Group)
-    → length (held_from room subject pin owners) ≡ length owners
-count_same room subject pin [] = refl
-count_same room subject pin (owner ∷ owners) =
-    ap suc (count_same (left_room room (held_answer room (reading_answer (subject_at subject pin) owner))) subject
-    (pin + 1) owners)
 
 take-nil : {A : Type 0} (n : ℕ) → take {A = A} n [] ≡ []
 take-nil zero = refl
@@ -140,9 +135,9 @@ left_outs_same room subject pin at (owner ∷ owners) h =
 few : (n : ℕ) → n ≤ 64 → nat_le n 64 ≡ true
 few n h = grind (arith, nat_tests)
 
-pub are_held : (subject : Subject) (owners : List Group)
-    → AreHeld subject owners (held_from (cell_room (length owners)) subject 0 owners)
-are_held subject owners =
+pub is_held : (subject : Subject) (owners : List Group)
+    → IsHeld subject owners (timing_held (cell_room (length owners)) subject owners)
+is_held subject owners =
     let room : Room = cell_room (length owners) in
     let answers : List Answer = answers_from subject 0 owners in
     let check_at : flat_map check_at_in (held_from room subject 0 owners) ≡ take 257 (flat_map check_at_in answers) =
@@ -154,12 +149,11 @@ are_held subject owners =
     let arcs : flat_map arcs_in (held_from room subject 0 owners) ≡ take 1025 (flat_map arcs_in answers) =
     cut_of arcs_in arcs_in (λ (r : Room). r.arcs) arcs_cut arcs_cut (λ r a. refl) (λ s o. refl) room subject 0 owners in
     record {
-      count = count_same room subject 0 owners;
-      malformed = same_of malformed_timing (λ r t. refl) room subject 0 owners;
-      unknown = same_of unknown_timing (λ r t. refl) room subject 0 owners;
-      own = same_of own_timing (λ r t. refl) room subject 0 owners;
-      number = same_of number_timing (λ r t. refl) room subject 0 owners;
-      wide = same_of wide_in (λ r t. refl) room subject 0 owners;
+      malformed = ap least (same_of malformed_timing (λ r t. refl) room subject 0 owners);
+      unknown_name = ap least (same_of unknown_timing (λ r t. refl) room subject 0 owners);
+      own_condition = ap least (same_of own_timing (λ r t. refl) room subject 0 owners);
+      number = ap least (same_of number_timing (λ r t. refl) room subject 0 owners);
+      wide = ap least (same_of wide_in (λ r t. refl) room subject 0 owners);
       check_at = ap (first_past 256) check_at ∙ past_same 256 (flat_map check_at_in answers);
       arc_at = ap (first_past 1024) arc_at ∙ past_same 1024 (flat_map arc_at_in answers);
       checks = λ none.

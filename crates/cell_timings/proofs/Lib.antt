@@ -1,3 +1,3 @@
 pub mod TimingRules
 pub mod Held
-pub mod HeldSteps
+pub mod Told

@@ -255,21 +255,19 @@ few_made at made n answers count few =
     let less : length (flat_map made answers) ≤ n = omega arith in
     le-leb (length (flat_map made answers)) n less
 
-pub checks_rules : (subject : Subject) (owners : List Group)
+pub timing_rules : (subject : Subject) (owners : List Group)
     → first_past 256 (flat_map check_at_in (answers_from subject 0 owners)) ≡ []
-    → flat_map wide_in (answers_from subject 0 owners) ≡ []
-    → IsTrue (are_checks subject.pins (flat_map checks_in (answers_from subject 0 owners)))
-checks_rules subject owners few narrow =
-    and_from _ _ (few_made check_at_in checks_in 256 (answers_from subject 0 owners) (check_counts subject 0 owners) few)
-    (all_kept checks_in is_check checks_kept subject 0 owners narrow)
-
-pub arcs_rules : (subject : Subject) (owners : List Group)
     → first_past 1024 (flat_map arc_at_in (answers_from subject 0 owners)) ≡ []
     → flat_map wide_in (answers_from subject 0 owners) ≡ []
-    → IsTrue (are_arcs subject.pins (flat_map arcs_in (answers_from subject 0 owners)))
-arcs_rules subject owners few narrow =
-    and_from _ _ (few_made arc_at_in arcs_in 1024 (answers_from subject 0 owners) (arc_counts subject 0 owners) few)
-    (and_from _ _ (all_kept arcs_in is_arc arcs_kept subject 0 owners narrow) (arcs_in_order subject 0 owners))
+    → IsTrue (are_checks subject.pins (flat_map checks_in (answers_from subject 0 owners)))
+    × IsTrue (are_arcs subject.pins (flat_map arcs_in (answers_from subject 0 owners)))
+timing_rules subject owners few_checks few_arcs narrow =
+    let answers : List Answer = answers_from subject 0 owners in (
+      and_from _ _ (few_made check_at_in checks_in 256 answers (check_counts subject 0 owners) few_checks)
+          (all_kept checks_in is_check checks_kept subject 0 owners narrow),
+      and_from _ _ (few_made arc_at_in arcs_in 1024 answers (arc_counts subject 0 owners) few_arcs)
+          (and_from _ _ (all_kept arcs_in is_arc arcs_kept subject 0 owners narrow) (arcs_in_order subject 0 owners)),
+    )
 
 pub arcs_apart : (subject : Subject) (owners : List Group) → AreApart (flat_map arcs_in (answers_from subject 0 owners))
 arcs_apart subject owners = all_apart subject 0 owners

@@ -1,2 +1,3 @@
 pub mod PinTimings
 pub mod Held
+pub mod CellTimings

@@ -13,8 +13,6 @@ use Rattle.liberty_groups.specs.Attributes.{Attribute, attribute_of, group_named
 use Rattle.timing_arcs.specs.Timing.{reading_answer, placed_arcs}
 use Rattle.timing_arcs.specs.Merging.{merged_at}
 use Rattle.cell_timings.specs.declared.left_out.LeftOut.{LeftOut}
-use Rattle.cell_timings.specs.declared.timing_faults.WrongTiming.{WrongTiming}
-use Rattle.cell_timings.specs.declared.timing_faults.WrongTiming.TheVariants as wrong
 
 -- the pin with this number, in the same cell
 abbrev pub subject_at : Subject → ℕ → Subject
@@ -40,31 +38,21 @@ abbrev pub arc_at_of : Subject → Group → List ℕ
 arc_at_of subject pin = merged_at (placed_arcs subject pin)
 
 -- What an answer tells of what is wrong in a pin's timing in one way: of the kind that is wrong first, its least offset.
-abbrev pub told_timing : WrongTiming → Answer → List ℕ
-told_timing wrong.Malformed (Err (fault.Malformed at)) = at ∷ []
-told_timing wrong.UnknownName (Err (fault.UnknownName at)) = at ∷ []
-told_timing wrong.OwnCondition (Err (fault.OwnCondition at)) = at ∷ []
-told_timing wrong.Number (Err (fault.Number at)) = at ∷ []
-told_timing _ _ = []
-
 abbrev pub malformed_timing : Answer → List ℕ
-malformed_timing answer = told_timing wrong.Malformed answer
+malformed_timing (Err (fault.Malformed at)) = at ∷ []
+malformed_timing _ = []
 
 abbrev pub unknown_timing : Answer → List ℕ
-unknown_timing answer = told_timing wrong.UnknownName answer
+unknown_timing (Err (fault.UnknownName at)) = at ∷ []
+unknown_timing _ = []
 
 abbrev pub own_timing : Answer → List ℕ
-own_timing answer = told_timing wrong.OwnCondition answer
+own_timing (Err (fault.OwnCondition at)) = at ∷ []
+own_timing _ = []
 
 abbrev pub number_timing : Answer → List ℕ
-number_timing answer = told_timing wrong.Number answer
-
--- what an answer tells of what is wrong in this way in the timing of a pin
-abbrev pub wrong_timing : WrongTiming → Answer → List ℕ
-wrong_timing wrong.Malformed = malformed_timing
-wrong_timing wrong.UnknownName = unknown_timing
-wrong_timing wrong.OwnCondition = own_timing
-wrong_timing wrong.Number = number_timing
+number_timing (Err (fault.Number at)) = at ∷ []
+number_timing _ = []
 
 -- what the timing of a pin has of one kind, where it is answered
 abbrev pub in_timing : {A : Type 0} → (PinTiming → List A) → Answer → List A

@@ -1,9 +1,13 @@
-//! The timing of the pins of a cell.
-ghost use Rattle.std.specs.Prelude.{◌≡◌, [], ◌∷◌, ◌++◌, IfOk, OnOk, length, map, flat_map};
+//! What reading the timing of each pin answers, and the timing of the cell that it makes.
+ghost use Rattle.std.specs.Prelude.{◌≡◌, ◌+◌, IfOk, OnOk, length, map, flat_map};
+ghost use Rattle.std.specs.List.{fold};
+ghost use Rattle.timing_arcs.specs.GroupTexts.{cell_of};
 ghost use Rattle.timing_arcs.specs.Timing.{reading_answer, held_answer};
 ghost use Rattle.cell_attributes.specs.Pins.{owners_in};
-ghost use Rattle.cell_timings.specs.Held.{cell_room, left_room, next_answer, room_after, held_from, AreSharedTexts};
+ghost use Rattle.cell_timings.specs.Held.{cell_room, left_room, AreSharedTexts};
+ghost use Rattle.cell_timings.specs.CellTimings.{with_pin, timing_held};
 
+use crate::timings::CellTiming;
 use cell_attributes::limits::{MOST_ARCS, MOST_CHECKS, MOST_PINS};
 use liberty_groups::Group;
 use std::alloc::{AllocError, Global};
@@ -69,16 +73,25 @@ fn left_room(room: Room, answer: &Result<PinTiming, TimingFault>) -> Room
     }
 }
 
-/// What reading the timing of the pins so far answers.
+/// The number behind this one. More pins than there are addresses are want of memory.
+fn next_number(pin: usize) -> Result<usize, AllocError>
+    ensures { IfOk result (λ next. next ≡ pin + 1) }
+{
+    pin.checked_add(1).ok_or(AllocError)
+}
+
+/// The timing of the pins so far.
 #[derive(Drop)]
-struct HeldAnswers {
-    answers: Vec<Result<PinTiming, TimingFault>>,
-    /// The room that they leave.
+struct TimingSoFar {
+    timing: CellTiming,
+    /// How many pins they are.
+    pins: usize,
+    /// The room that their timing leaves.
     room: Room,
 }
 
-impl HeldAnswers {
-    /// Adds what reading the timing of the next pin answers.
+impl TimingSoFar {
+    /// Adds the timing of the next pin.
     fn add_pin(
         &mut self,
         alloc: Global,
@@ -87,35 +100,26 @@ impl HeldAnswers {
         texts: &Option<TimingTexts<'_>>,
     ) -> Result<(), AllocError>
         requires { AreSharedTexts subject.old owner.now texts.now }
-        ensures answers { OnOk result (self.new.answers.items ≡ self.old.answers.items
-            ++ next_answer self.old.room subject.old (length self.old.answers.items) owner.now ∷ []) }
-        ensures room { OnOk result (self.new.room ≡ left_room self.old.room
-            (next_answer self.old.room subject.old (length self.old.answers.items) owner.now)) }
-        ensures names { OnOk result (subject.new.names ≡ subject.old.names) }
-        ensures pins { OnOk result (subject.new.pins ≡ subject.old.pins) }
-        ensures unit { OnOk result (subject.new.unit ≡ subject.old.unit) }
+        ensures timing { OnOk result (self.new ≡ with_pin (cell_of subject.old) self.old owner.now) }
+        ensures cell { OnOk result (cell_of subject.new ≡ cell_of subject.old) }
     {
-        subject.place = self.answers.len();
+        subject.place = self.pins;
         let answer = timing_answer(alloc, subject, owner, texts, self.room)?;
         self.room = left_room(self.room, &answer);
-        self.answers.push(answer)?;
+        self.timing.add(alloc, self.pins, owner, answer)?;
+        self.pins = next_number(self.pins)?;
         Ok(())
     }
 
-    /// Adds what reading the timing of the next pins answers, which this group makes.
+    /// Adds the timing of the next pins, which this group makes.
     fn add_group(
         &mut self,
         alloc: Global,
         subject: &mut Subject,
         owner: &Group,
     ) -> Result<(), AllocError>
-        ensures answers { OnOk result (self.new.answers.items ≡ self.old.answers.items
-            ++ held_from self.old.room subject.old (length self.old.answers.items) (owners_in owner.now)) }
-        ensures room { OnOk result (self.new.room ≡ room_after self.old.room subject.old (length self.old.answers.items)
-            (owners_in owner.now)) }
-        ensures names { OnOk result (subject.new.names ≡ subject.old.names) }
-        ensures pins { OnOk result (subject.new.pins ≡ subject.old.pins) }
-        ensures unit { OnOk result (subject.new.unit ≡ subject.old.unit) }
+        ensures timing { OnOk result (self.new ≡ fold (with_pin (cell_of subject.old)) self.old (owners_in owner.now)) }
+        ensures cell { OnOk result (cell_of subject.new ≡ cell_of subject.old) }
     {
         let texts = shared_texts(alloc, subject, owner)?;
         for _name in owner.arguments.as_slice() {
@@ -125,23 +129,23 @@ impl HeldAnswers {
     }
 }
 
-/// What reading the timing of each pin answers, in order, as far as there is room, where these are the groups that make
-/// them.
-pub fn timing_answers(
+/// The timing of the pins of a cell, as far as there is room, where these are the groups that make them.
+pub fn cell_timing(
     alloc: Global,
     subject: &mut Subject,
     groups: &[&Group],
-) -> Result<Vec<Result<PinTiming, TimingFault>>, AllocError>
-    ensures pins { OnOk result (subject.new.pins ≡ subject.old.pins) }
-    ensures answers { IfOk result (λ answers. answers.items ≡ held_from (cell_room (length subject.old.pins)) subject.old 0
+) -> Result<CellTiming, AllocError>
+    ensures cell { OnOk result (cell_of subject.new ≡ cell_of subject.old) }
+    ensures timing { IfOk result (λ timing. timing ≡ timing_held (cell_room (length subject.old.pins)) (cell_of subject.old)
         (flat_map owners_in (map (λ group. group.now) groups.now))) }
 {
-    let mut held = HeldAnswers {
-        answers: Vec::new(alloc),
+    let mut held = TimingSoFar {
+        timing: CellTiming::new(alloc),
+        pins: 0,
         room: cell_room(subject.pins.len()),
     };
     for group in groups {
         held.add_group(alloc, subject, group)?;
     }
-    Ok(held.answers)
+    Ok(held.timing)
 }

@@ -1,14 +1,12 @@
 //! The timing groups that a cell leaves out.
-ghost use Rattle.std.specs.Prelude.{◌≡◌, ◌++◌, ◌<◌, OnOk, IfOk, length, map};
+ghost use Rattle.std.specs.Prelude.{◌≡◌, ◌++◌, OnOk, IfOk, map};
 ghost use Rattle.std.specs.Option.{option_copied};
-ghost use Rattle.cell_timings.specs.PinTimings.{type_text as type_text_of, type_at as type_at_of, left_out_as, left_out_in};
-ghost use Rattle.cell_timings.specs.PinTimings.{left_out_from};
+ghost use Rattle.cell_timings.specs.PinTimings.{type_text as type_text_of, type_at as type_at_of, left_out_as};
 
 use cell_machine::Shared;
 use liberty_groups::{Group, Item, inner_group, last_attribute};
 use sqlite_items::Items;
 use std::alloc::{AllocError, Global};
-use timing_arcs::{PinTiming, TimingFault};
 
 /// A timing group that makes no check and no arc of its type.
 #[derive(Drop)]
@@ -79,7 +77,7 @@ pub fn shared_kind(
 }
 
 /// Adds the timing groups at these places among the statements of a pin.
-fn add_left_out(
+pub(crate) fn add_left_out(
     alloc: Global,
     found: &mut Items<LeftOut>,
     pin: usize,
@@ -94,36 +92,4 @@ fn add_left_out(
         found.push(LeftOut { pin, kind })?;
     }
     Ok(())
-}
-
-/// Adds the left-out timing groups of a pin, by what reading its timing answers.
-fn add_answer(
-    alloc: Global,
-    found: &mut Items<LeftOut>,
-    pin: usize,
-    owner: &Group,
-    answer: &Result<PinTiming, TimingFault>,
-) -> Result<(), AllocError>
-    ensures { OnOk result (found.new ≡ found.old ++ left_out_in pin owner.now answer.now) }
-{
-    match answer {
-        Ok(timing) => add_left_out(alloc, found, pin, owner, timing.left_out.as_slice()),
-        Err(_) => Ok(()),
-    }
-}
-
-/// The left-out timing groups of all pins, where these are the groups that make them.
-pub fn left_out_of(
-    alloc: Global,
-    owners: &[&Group],
-    answers: &[Result<PinTiming, TimingFault>],
-) -> Result<Items<LeftOut>, AllocError>
-    requires { length owners.now ≡ length answers.now }
-    ensures { IfOk result (λ found. found ≡ left_out_from 0 (map (λ group. group.now) owners.now) answers.now) }
-{
-    let mut found = Items::new(alloc);
-    for (pin, answer) in answers.iter().enumerate() {
-        add_answer(alloc, &mut found, pin, owners[pin], answer)?;
-    }
-    Ok(found)
 }

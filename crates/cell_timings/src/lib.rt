@@ -5,11 +5,9 @@
 mod answers;
 pub mod left_out;
 mod offsets;
-mod timing_faults;
 mod timings;
 
-pub use answers::timing_answers;
-pub use left_out::{LeftOut, left_out_of, shared_kind, type_text};
-pub use offsets::{MadeOffsets, WideTimings, made_offsets};
-pub use timing_faults::WrongTiming;
-pub use timings::{CellTiming, cell_timing};
+pub use answers::cell_timing;
+pub use left_out::{LeftOut, shared_kind, type_text};
+pub use offsets::LeastOffsets;
+pub use timings::CellTiming;

@@ -1,49 +1,46 @@
-//! Where the timing of the pins makes checks and arcs, and where a condition of it names too much.
-ghost use Rattle.std.specs.Prelude.{◌≡◌, IfOk, flat_map};
-ghost use Rattle.cell_timings.specs.PinTimings.{check_at_in, arc_at_in, wide_in};
+//! Where the timing of the pins of a cell is wrong.
+ghost use Rattle.std.specs.Prelude.{◌≡◌};
+ghost use Rattle.cell_machine.specs.Delay.{lesser as lesser_of, least};
+ghost use Rattle.cell_timings.specs.PinTimings.{malformed_timing, unknown_timing, own_timing, number_timing, wide_in};
 
-use cell_refusals::Scan;
-use std::alloc::{AllocError, Global};
+use cell_machine::least::lesser;
 use timing_arcs::{PinTiming, TimingFault};
 
-/// For each check and for each arc the offset of what first makes it.
+/// The least offset at which the timing of some pins is wrong, for each way in which it may be.
 #[derive(Drop)]
-pub struct MadeOffsets {
-    pub checks: Vec<usize>,
-    pub arcs: Vec<usize>,
+pub struct LeastOffsets {
+    /// Where the text of a condition is malformed.
+    pub malformed: Option<usize>,
+    /// Where a related pin or a condition names what is not there.
+    pub unknown_name: Option<usize>,
+    /// Where a condition names its own pin.
+    pub own_condition: Option<usize>,
+    /// Where a time is none.
+    pub number: Option<usize>,
+    /// Where a condition has more than 10 names.
+    pub wide: Option<usize>,
 }
 
-/// Those of the timing of all pins.
-pub fn made_offsets(
-    alloc: Global,
-    answers: &[Result<PinTiming, TimingFault>],
-) -> Result<MadeOffsets, AllocError>
-    ensures checks { IfOk result (λ made. made.checks.items ≡ flat_map check_at_in answers.now) }
-    ensures arcs { IfOk result (λ made. made.arcs.items ≡ flat_map arc_at_in answers.now) }
-{
-    let mut made = MadeOffsets {
-        checks: Vec::new(alloc),
-        arcs: Vec::new(alloc),
-    };
-    for answer in answers {
-        if let Ok(timing) = answer {
-            made.checks.extend_from_slice(timing.check_at.as_slice())?;
-            made.arcs.extend_from_slice(timing.arc_at.as_slice())?;
-        }
-    }
-    Ok(made)
-}
-
-/// The least offset of a condition with more than 10 names, in the timing of a pin.
-pub struct WideTimings;
-
-impl Scan<Result<PinTiming, TimingFault>> for WideTimings {
-    ghost places = { λ _. wide_in };
-
-    fn least_in(&self, answer: &Result<PinTiming, TimingFault>) -> Option<usize> {
+impl LeastOffsets {
+    /// Takes in what reading the timing of a pin answers.
+    #[tactic(auto, using(cell_machine::proofs::LeastLemmas::lesser_none, crate::proofs::Told::least_told))]
+    pub(crate) fn add(&mut self, answer: &Result<PinTiming, TimingFault>)
+        ensures malformed { self.new.malformed ≡ lesser_of self.old.malformed (least (malformed_timing answer.now)) }
+        ensures unknown_name { self.new.unknown_name ≡ lesser_of self.old.unknown_name (least (unknown_timing answer.now)) }
+        ensures own_condition { self.new.own_condition ≡ lesser_of self.old.own_condition (least (own_timing answer.now)) }
+        ensures number { self.new.number ≡ lesser_of self.old.number (least (number_timing answer.now)) }
+        ensures wide { self.new.wide ≡ lesser_of self.old.wide (least (wide_in answer.now)) }
+    {
         match answer {
-            Ok(timing) => timing.wide,
-            Err(_) => None,
+            Ok(timing) => self.wide = lesser(self.wide, timing.wide),
+            Err(TimingFault::Malformed(at)) => self.malformed = lesser(self.malformed, Some(*at)),
+            Err(TimingFault::UnknownName(at)) => {
+                self.unknown_name = lesser(self.unknown_name, Some(*at));
+            }
+            Err(TimingFault::OwnCondition(at)) => {
+                self.own_condition = lesser(self.own_condition, Some(*at));
+            }
+            Err(TimingFault::Number(at)) => self.number = lesser(self.number, Some(*at)),
         }
     }
 }

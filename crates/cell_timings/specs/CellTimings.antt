@@ -1,0 +1,103 @@
+-- The timing of a cell: what the answers of reading the timing of its pins tell, and how much of them is held.
+use Rattle.std.specs.Prelude.{◌≡◌, ℕ, ◌+◌, ◌≤◌, List, [], ◌++◌, length, flat_map}
+use Rattle.liberty_groups.specs.declared.tree.Group.{Group}
+use Rattle.cell_machine.specs.Delay.{lesser, least}
+use Rattle.timing_arcs.specs.declared.subject.Subject.{Subject}
+use Rattle.timing_arcs.specs.declared.subject.Room.{Room}
+use Rattle.cell_attributes.specs.Limits.{first_past}
+use Rattle.cell_timings.specs.declared.timings.CellTiming.{CellTiming}
+use Rattle.cell_timings.specs.declared.answers.TimingSoFar.{TimingSoFar}
+use Rattle.cell_timings.specs.PinTimings.{Answer, answers_from, malformed_timing, unknown_timing, own_timing, number_timing}
+use Rattle.cell_timings.specs.PinTimings.{checks_in, arcs_in, check_at_in, arc_at_in, wide_in, left_out_in, left_out_from}
+use Rattle.cell_timings.specs.Held.{left_room, next_answer, held_from}
+
+-- The timing of pins, whose groups and whose answers these are, where the first has this number.
+abbrev pub timing_told : ℕ → List Group → List Answer → CellTiming
+timing_told pin owners answers = record {
+  checks = flat_map checks_in answers;
+  arcs = flat_map arcs_in answers;
+  check_at = flat_map check_at_in answers;
+  arc_at = flat_map arc_at_in answers;
+  left_out = left_out_from pin owners answers;
+  least = record {
+    malformed = least (flat_map malformed_timing answers);
+    unknown_name = least (flat_map unknown_timing answers);
+    own_condition = least (flat_map own_timing answers);
+    number = least (flat_map number_timing answers);
+    wide = least (flat_map wide_in answers);
+  };
+}
+
+-- The timing of pins, and then that of one more, whose number, group and answer these are.
+pub record HasAnswer (old new : CellTiming) (pin : ℕ) (owner : Group) (answer : Answer) : Type 0 where
+  pub checks : new.checks ≡ old.checks ++ checks_in answer
+  pub arcs : new.arcs ≡ old.arcs ++ arcs_in answer
+  pub check_at : new.check_at ≡ old.check_at ++ check_at_in answer
+  pub arc_at : new.arc_at ≡ old.arc_at ++ arc_at_in answer
+  pub left_out : new.left_out ≡ old.left_out ++ left_out_in pin owner answer
+  pub malformed : new.least.malformed ≡ lesser old.least.malformed (least (malformed_timing answer))
+  pub unknown_name : new.least.unknown_name ≡ lesser old.least.unknown_name (least (unknown_timing answer))
+  pub own_condition : new.least.own_condition ≡ lesser old.least.own_condition (least (own_timing answer))
+  pub number : new.least.number ≡ lesser old.least.number (least (number_timing answer))
+  pub wide : new.least.wide ≡ lesser old.least.wide (least (wide_in answer))
+
+-- the timing of pins and of those behind them
+abbrev pub timing_and : CellTiming → CellTiming → CellTiming
+timing_and first rest = record {
+  checks = first.checks ++ rest.checks;
+  arcs = first.arcs ++ rest.arcs;
+  check_at = first.check_at ++ rest.check_at;
+  arc_at = first.arc_at ++ rest.arc_at;
+  left_out = first.left_out ++ rest.left_out;
+  least = record {
+    malformed = lesser first.least.malformed rest.least.malformed;
+    unknown_name = lesser first.least.unknown_name rest.least.unknown_name;
+    own_condition = lesser first.least.own_condition rest.least.own_condition;
+    number = lesser first.least.number rest.least.number;
+    wide = lesser first.least.wide rest.least.wide;
+  };
+}
+
+-- the timing of one pin
+abbrev pub pin_told : ℕ → Group → Answer → CellTiming
+pin_told pin owner answer = record {
+  checks = checks_in answer;
+  arcs = arcs_in answer;
+  check_at = check_at_in answer;
+  arc_at = arc_at_in answer;
+  left_out = left_out_in pin owner answer;
+  least = record {
+    malformed = least (malformed_timing answer);
+    unknown_name = least (unknown_timing answer);
+    own_condition = least (own_timing answer);
+    number = least (number_timing answer);
+    wide = least (wide_in answer);
+  };
+}
+
+-- the timing so far, and that of the next pin of the cell, whose group this is, as far as there is room
+abbrev pub with_pin : Subject → TimingSoFar → Group → TimingSoFar
+with_pin cell before owner = record {
+  timing = timing_and before.timing (pin_told before.pins owner (next_answer before.room cell before.pins owner));
+  pins = before.pins + 1;
+  room = left_room before.room (next_answer before.room cell before.pins owner);
+}
+
+-- the timing of pins of a cell, whose groups these are, as far as there is room
+abbrev pub timing_held : Room → Subject → List Group → CellTiming
+timing_held room cell owners = timing_told 0 owners (held_from room cell 0 owners)
+
+-- What is held decides as all does, and is all where no limit is passed.
+pub record IsHeld (subject : Subject) (owners : List Group) (timing : CellTiming) : Type 0 where
+  pub malformed : timing.least.malformed ≡ least (flat_map malformed_timing (answers_from subject 0 owners))
+  pub unknown_name : timing.least.unknown_name ≡ least (flat_map unknown_timing (answers_from subject 0 owners))
+  pub own_condition : timing.least.own_condition ≡ least (flat_map own_timing (answers_from subject 0 owners))
+  pub number : timing.least.number ≡ least (flat_map number_timing (answers_from subject 0 owners))
+  pub wide : timing.least.wide ≡ least (flat_map wide_in (answers_from subject 0 owners))
+  pub check_at : first_past 256 timing.check_at ≡ first_past 256 (flat_map check_at_in (answers_from subject 0 owners))
+  pub arc_at : first_past 1024 timing.arc_at ≡ first_past 1024 (flat_map arc_at_in (answers_from subject 0 owners))
+  pub checks : first_past 256 (flat_map check_at_in (answers_from subject 0 owners)) ≡ []
+      → timing.checks ≡ flat_map checks_in (answers_from subject 0 owners)
+  pub arcs : first_past 1024 (flat_map arc_at_in (answers_from subject 0 owners)) ≡ []
+      → timing.arcs ≡ flat_map arcs_in (answers_from subject 0 owners)
+  pub left_out : length owners ≤ 64 → timing.left_out ≡ left_out_from 0 owners (answers_from subject 0 owners)

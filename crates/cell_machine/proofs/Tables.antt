@@ -125,7 +125,7 @@ others_long (old ∷ new ∷ r ∷ rest) l =
     omega (arith, ap length (ap (λ k. take k (r ∷ rest)) few ∙ init_taken r rest), init_long r rest)
 
 -- what holds of each entry, and of one more
-pub holds_of_more :
+holds_of_more :
     {A : Type 0} (P : ℕ → A → Type 0) (xs : List A) (x : A)
     → ((p : ℕ) (v : A) → slice_get xs p ≡ Some v → P p v) → P (length xs) x
     → (p : ℕ) (v : A) → slice_get (xs ++ x ∷ []) p ≡ Some v → P p v
@@ -133,6 +133,24 @@ holds_of_more P [] x h new zero v e = let same : x ≡ v = cc in subst (P 0) sam
 holds_of_more P [] x h new (suc p) v e = absurd cc
 holds_of_more P (y ∷ xs) x h new zero v e = h zero v e
 holds_of_more P (y ∷ xs) x h new (suc p) v e = holds_of_more (λ q. P (suc q)) xs x (λ q w. h (suc q) w) new p v e
+
+-- so many entries, of which each holds
+pub record HoldEach {A : Type 0} (P : ℕ → A → Type 0) (n : ℕ) (xs : List A) : Type 0 where
+  pub one_each : length xs ≡ n
+  pub are : (p : ℕ) (v : A) → slice_get xs p ≡ Some v → P p v
+
+-- and one more
+pub one_more_holds :
+    {A : Type 0} (P : ℕ → A → Type 0) (n : ℕ) (xs next : List A) (x : A)
+    → HoldEach P n xs → P n x → next ≡ xs ++ x ∷ [] → HoldEach P (n + 1) next
+one_more_holds {A} P n xs next x so_far new pushed =
+    let long = length-append xs (x ∷ []) in
+    record {
+      one_each = ap length pushed ∙ omega (arith, long, so_far.one_each);
+      are =
+          subst (λ ys. (p : ℕ) (v : A) → slice_get ys p ≡ Some v → P p v) (sym pushed)
+          (holds_of_more P xs x so_far.are (subst (λ m. P m x) (sym so_far.one_each) new));
+    }
 
 -- parts of a list
 

@@ -13,10 +13,9 @@ ghost use Rattle.cell_machine.specs.KeptConditions.{AreConditions};
 ghost use Rattle.cell_machine.specs.KeptArcs.{IsPair, AreKeptArcs};
 
 use crate::arcs::Arc;
-use crate::cells::Cell;
 use crate::edges::is_rise;
 use crate::kept_arcs::KeptArcs;
-use crate::kept_conditions::kept_condition;
+use crate::kept_conditions::{InputArcs, kept_condition};
 use sqlite_items::Items;
 use trit_cubes::Trit;
 
@@ -78,25 +77,18 @@ impl Delays {
 
 /// Whether another arc leaves an arc without condition active: it has other pins, or its condition is 0.
 #[tactic(auto, using(crate::proofs::KeptValues::off_is_zero))]
-fn is_quiet(
-    cell: &Cell,
-    names: &[Items<usize>],
-    arc: &Arc,
-    i: usize,
-    inputs: &[Trit],
-    kept: &mut Items<Option<Trit>>,
-) -> bool
-    requires names { names.now ≡ arc_names (data_of cell.now) }
-    requires inside { i < length cell.now.arcs }
-    requires kept { AreConditions cell.now.pins inputs.now cell.now.arcs kept.old }
-    ensures quiet { (other : ArcOf) → slice_get cell.now.arcs i ≡ Some other
-        → result ≡ is_quiet cell.now.pins inputs.now arc.now other }
-    ensures kept { AreConditions cell.now.pins inputs.now cell.now.arcs kept.new }
+fn is_quiet(arcs: &InputArcs, arc: &Arc, i: usize, kept: &mut Items<Option<Trit>>) -> bool
+    requires names { arcs.now.names.now ≡ arc_names (data_of arcs.now.cell.now) }
+    requires inside { i < length arcs.now.cell.now.arcs }
+    requires kept { AreConditions arcs.now.cell.now.pins arcs.now.inputs.now arcs.now.cell.now.arcs kept.old }
+    ensures quiet { (other : ArcOf) → slice_get arcs.now.cell.now.arcs i ≡ Some other
+        → result ≡ is_quiet arcs.now.cell.now.pins arcs.now.inputs.now arc.now other }
+    ensures kept { AreConditions arcs.now.cell.now.pins arcs.now.inputs.now arcs.now.cell.now.arcs kept.new }
 {
-    if !arc.same_pins(cell.arc(i)) {
+    if !arc.same_pins(arcs.cell.arc(i)) {
         return true;
     }
-    is_zero(kept_condition(cell, names, i, inputs, kept))
+    is_zero(kept_condition(arcs, i, kept))
 }
 
 /// Whether a value is 0.
@@ -108,21 +100,20 @@ fn is_zero(value: Trit) -> bool
 
 /// Whether all arcs with these numbers leave an arc without condition active.
 fn all_are_quiet(
-    cell: &Cell,
-    names: &[Items<usize>],
+    arcs: &InputArcs,
     places: &[usize],
     arc: &Arc,
-    inputs: &[Trit],
     kept: &mut Items<Option<Trit>>,
 ) -> bool
-    requires names { names.now ≡ arc_names (data_of cell.now) }
-    requires below { AreBelow (length cell.now.arcs) places.now }
-    requires kept { AreConditions cell.now.pins inputs.now cell.now.arcs kept.old }
-    ensures quiet { result ≡ list_all (is_quiet cell.now.pins inputs.now arc.now) (entries_at cell.now.arcs places.now) }
-    ensures kept { AreConditions cell.now.pins inputs.now cell.now.arcs kept.new }
+    requires names { arcs.now.names.now ≡ arc_names (data_of arcs.now.cell.now) }
+    requires below { AreBelow (length arcs.now.cell.now.arcs) places.now }
+    requires kept { AreConditions arcs.now.cell.now.pins arcs.now.inputs.now arcs.now.cell.now.arcs kept.old }
+    ensures quiet { result ≡ list_all (is_quiet arcs.now.cell.now.pins arcs.now.inputs.now arc.now)
+        (entries_at arcs.now.cell.now.arcs places.now) }
+    ensures kept { AreConditions arcs.now.cell.now.pins arcs.now.inputs.now arcs.now.cell.now.arcs kept.new }
 {
     for i in 0..places.len() {
-        if !is_quiet(cell, names, arc, places[i], inputs, kept) {
+        if !is_quiet(arcs, arc, places[i], kept) {
             return false;
         }
     }
@@ -130,50 +121,42 @@ fn all_are_quiet(
 }
 
 /// Whether an arc is active among those with these numbers.
-fn is_active(
-    cell: &Cell,
-    names: &[Items<usize>],
-    places: &[usize],
-    i: usize,
-    inputs: &[Trit],
-    kept: &mut Items<Option<Trit>>,
-) -> bool
-    requires names { names.now ≡ arc_names (data_of cell.now) }
-    requires below { AreBelow (length cell.now.arcs) places.now }
-    requires inside { i < length cell.now.arcs }
-    requires kept { AreConditions cell.now.pins inputs.now cell.now.arcs kept.old }
-    ensures active { (arc : ArcOf) → slice_get cell.now.arcs i ≡ Some arc
-        → result ≡ is_active cell.now.pins (entries_at cell.now.arcs places.now) inputs.now arc arc.condition }
-    ensures kept { AreConditions cell.now.pins inputs.now cell.now.arcs kept.new }
+fn is_active(arcs: &InputArcs, places: &[usize], i: usize, kept: &mut Items<Option<Trit>>) -> bool
+    requires names { arcs.now.names.now ≡ arc_names (data_of arcs.now.cell.now) }
+    requires below { AreBelow (length arcs.now.cell.now.arcs) places.now }
+    requires inside { i < length arcs.now.cell.now.arcs }
+    requires kept { AreConditions arcs.now.cell.now.pins arcs.now.inputs.now arcs.now.cell.now.arcs kept.old }
+    ensures active { (arc : ArcOf) → slice_get arcs.now.cell.now.arcs i ≡ Some arc
+        → result ≡ is_active arcs.now.cell.now.pins (entries_at arcs.now.cell.now.arcs places.now) arcs.now.inputs.now arc
+        arc.condition }
+    ensures kept { AreConditions arcs.now.cell.now.pins arcs.now.inputs.now arcs.now.cell.now.arcs kept.new }
 {
-    let arc = cell.arc(i);
+    let arc = arcs.cell.arc(i);
     match &arc.condition {
-        Some(_) => !is_zero(kept_condition(cell, names, i, inputs, kept)),
-        None => all_are_quiet(cell, names, places, arc, inputs, kept),
+        Some(_) => !is_zero(kept_condition(arcs, i, kept)),
+        None => all_are_quiet(arcs, places, arc, kept),
     }
 }
 
 /// The delays of an arc among those with these numbers.
 fn arc_delays(
-    cell: &Cell,
-    names: &[Items<usize>],
+    arcs: &InputArcs,
     places: &[usize],
     i: usize,
-    inputs: &[Trit],
     kept: &mut Items<Option<Trit>>,
 ) -> Delays
-    requires names { names.now ≡ arc_names (data_of cell.now) }
-    requires below { AreBelow (length cell.now.arcs) places.now }
-    requires inside { i < length cell.now.arcs }
-    requires kept { AreConditions cell.now.pins inputs.now cell.now.arcs kept.old }
-    ensures delays { (arc : ArcOf) → slice_get cell.now.arcs i ≡ Some arc
-        → result ≡ arc_delays cell.now.pins (entries_at cell.now.arcs places.now) inputs.now arc }
-    ensures kept { AreConditions cell.now.pins inputs.now cell.now.arcs kept.new }
+    requires names { arcs.now.names.now ≡ arc_names (data_of arcs.now.cell.now) }
+    requires below { AreBelow (length arcs.now.cell.now.arcs) places.now }
+    requires inside { i < length arcs.now.cell.now.arcs }
+    requires kept { AreConditions arcs.now.cell.now.pins arcs.now.inputs.now arcs.now.cell.now.arcs kept.old }
+    ensures delays { (arc : ArcOf) → slice_get arcs.now.cell.now.arcs i ≡ Some arc
+        → result ≡ arc_delays arcs.now.cell.now.pins (entries_at arcs.now.cell.now.arcs places.now) arcs.now.inputs.now arc }
+    ensures kept { AreConditions arcs.now.cell.now.pins arcs.now.inputs.now arcs.now.cell.now.arcs kept.new }
 {
-    if !is_active(cell, names, places, i, inputs, kept) {
+    if !is_active(arcs, places, i, kept) {
         return Delays::none();
     }
-    let arc = cell.arc(i);
+    let arc = arcs.cell.arc(i);
     Delays {
         rise: Some(arc.rise),
         fall: Some(arc.fall),
@@ -181,71 +164,59 @@ fn arc_delays(
 }
 
 /// The least delays of the arcs with these numbers.
-fn least_delays(
-    cell: &Cell,
-    names: &[Items<usize>],
-    places: &[usize],
-    inputs: &[Trit],
-    kept: &mut Items<Option<Trit>>,
-) -> Delays
-    requires names { names.now ≡ arc_names (data_of cell.now) }
-    requires below { AreBelow (length cell.now.arcs) places.now }
-    requires kept { AreConditions cell.now.pins inputs.now cell.now.arcs kept.old }
-    ensures delays { result ≡ least_delays_of cell.now.pins (entries_at cell.now.arcs places.now) inputs.now }
-    ensures kept { AreConditions cell.now.pins inputs.now cell.now.arcs kept.new }
+fn least_delays(arcs: &InputArcs, places: &[usize], kept: &mut Items<Option<Trit>>) -> Delays
+    requires names { arcs.now.names.now ≡ arc_names (data_of arcs.now.cell.now) }
+    requires below { AreBelow (length arcs.now.cell.now.arcs) places.now }
+    requires kept { AreConditions arcs.now.cell.now.pins arcs.now.inputs.now arcs.now.cell.now.arcs kept.old }
+    ensures delays { result ≡ least_delays_of arcs.now.cell.now.pins (entries_at arcs.now.cell.now.arcs places.now)
+        arcs.now.inputs.now }
+    ensures kept { AreConditions arcs.now.cell.now.pins arcs.now.inputs.now arcs.now.cell.now.arcs kept.new }
 {
     let mut best = Delays::none();
     for i in 0..places.len() {
-        best = best.lesser(arc_delays(cell, names, places, places[i], inputs, kept));
+        best = best.lesser(arc_delays(arcs, places, places[i], kept));
     }
     best
 }
 
 /// The same, of two pins whose first arc has the number `first`. They are found where none are kept, and then kept.
-fn kept_delays(
-    cell: &Cell,
-    names: &[Items<usize>],
-    places: &[usize],
-    first: usize,
-    inputs: &[Trit],
-    kept: &mut KeptArcs,
-) -> Delays
-    requires names { names.now ≡ arc_names (data_of cell.now) }
-    requires pair { IsPair (data_of cell.now) places.now }
+fn kept_delays(arcs: &InputArcs, places: &[usize], first: usize, kept: &mut KeptArcs) -> Delays
+    requires names { arcs.now.names.now ≡ arc_names (data_of arcs.now.cell.now) }
+    requires pair { IsPair (data_of arcs.now.cell.now) places.now }
     requires first { slice_get places.now 0 ≡ Some first }
-    requires inside { first < length cell.now.arcs }
-    requires kept { AreKeptArcs (data_of cell.now) inputs.now kept.old }
-    ensures delays { result ≡ least_delays_of cell.now.pins (entries_at cell.now.arcs places.now) inputs.now }
-    ensures kept { AreKeptArcs (data_of cell.now) inputs.now kept.new }
+    requires inside { first < length arcs.now.cell.now.arcs }
+    requires kept { AreKeptArcs (data_of arcs.now.cell.now) arcs.now.inputs.now kept.old }
+    ensures delays { result ≡ least_delays_of arcs.now.cell.now.pins (entries_at arcs.now.cell.now.arcs places.now)
+        arcs.now.inputs.now }
+    ensures kept { AreKeptArcs (data_of arcs.now.cell.now) arcs.now.inputs.now kept.new }
 {
     if let Some(delays) = kept.delays.as_slice()[first] {
         return delays;
     }
-    let delays = least_delays(cell, names, places, inputs, &mut kept.conditions);
+    let delays = least_delays(arcs, places, &mut kept.conditions);
     kept.delays.set(first, Some(delays));
     delays
 }
 
 /// The delay of a change of an output from one value to another: the least over the active arcs with these numbers, 0 where none
-/// is active. `names` are those of the arcs' conditions, and `kept` what is kept of the arcs.
+/// is active. `kept` is what is kept of the arcs.
 pub fn least_delay(
-    cell: &Cell,
-    names: &[Items<usize>],
+    arcs: &InputArcs,
     places: &[usize],
-    inputs: &[Trit],
     kept: &mut KeptArcs,
     from: Trit,
     to: Trit,
 ) -> u64
-    requires names { names.now ≡ arc_names (data_of cell.now) }
-    requires pair { IsPair (data_of cell.now) places.now }
-    requires kept { AreKeptArcs (data_of cell.now) inputs.now kept.old }
-    ensures delay { (input pin : ℕ) → places.now ≡ arcs_between (data_of cell.now) input pin
-        → result ≡ least_delay from to (paths_between cell.now.pins cell.now.arcs inputs.now input pin) }
-    ensures kept { AreKeptArcs (data_of cell.now) inputs.now kept.new }
+    requires names { arcs.now.names.now ≡ arc_names (data_of arcs.now.cell.now) }
+    requires pair { IsPair (data_of arcs.now.cell.now) places.now }
+    requires kept { AreKeptArcs (data_of arcs.now.cell.now) arcs.now.inputs.now kept.old }
+    ensures delay { (input pin : ℕ) → places.now ≡ arcs_between (data_of arcs.now.cell.now) input pin
+        → result ≡ least_delay from to (paths_between arcs.now.cell.now.pins arcs.now.cell.now.arcs arcs.now.inputs.now input
+        pin) }
+    ensures kept { AreKeptArcs (data_of arcs.now.cell.now) arcs.now.inputs.now kept.new }
 {
     match places.first() {
-        Some(first) => kept_delays(cell, names, places, *first, inputs, kept).of(from, to),
+        Some(first) => kept_delays(arcs, places, *first, kept).of(from, to),
         None => 0,
     }
 }

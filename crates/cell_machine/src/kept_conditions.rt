@@ -14,26 +14,32 @@ use bool_functions::Function;
 use sqlite_items::Items;
 use trit_cubes::Trit;
 
+/// The arcs of a cell as the values of its inputs leave them.
+#[derive(Clone, Copy)]
+pub struct InputArcs<'a> {
+    /// The cell.
+    pub cell: &'a Cell,
+    /// For each arc the pins that its condition names.
+    pub names: &'a [Items<usize>],
+    /// The values of the inputs.
+    pub inputs: &'a [Trit],
+}
+
 /// The value of the condition of the arc with this number, 0 where it has none. It is made where none is kept, and then kept.
-pub fn kept_condition(
-    cell: &Cell,
-    names: &[Items<usize>],
-    i: usize,
-    inputs: &[Trit],
-    kept: &mut Items<Option<Trit>>,
-) -> Trit
-    requires names { names.now ≡ arc_names (data_of cell.now) }
-    requires inside { i < length cell.now.arcs }
-    requires kept { AreConditions cell.now.pins inputs.now cell.now.arcs kept.old }
-    ensures value { (arc : ArcOf) → slice_get cell.now.arcs i ≡ Some arc
-        → result ≡ arc_condition_of cell.now.pins inputs.now arc.condition }
-    ensures kept { AreConditions cell.now.pins inputs.now cell.now.arcs kept.new }
+pub fn kept_condition(arcs: &InputArcs, i: usize, kept: &mut Items<Option<Trit>>) -> Trit
+    requires names { arcs.now.names.now ≡ arc_names (data_of arcs.now.cell.now) }
+    requires inside { i < length arcs.now.cell.now.arcs }
+    requires kept { AreConditions arcs.now.cell.now.pins arcs.now.inputs.now arcs.now.cell.now.arcs kept.old }
+    ensures value { (arc : ArcOf) → slice_get arcs.now.cell.now.arcs i ≡ Some arc
+        → result ≡ arc_condition_of arcs.now.cell.now.pins arcs.now.inputs.now arc.condition }
+    ensures kept { AreConditions arcs.now.cell.now.pins arcs.now.inputs.now arcs.now.cell.now.arcs kept.new }
 {
     if let Some(value) = kept.as_slice()[i] {
         return value;
     }
-    let condition = &cell.arc(i).condition;
-    let value = arc_condition(condition, names[i].as_slice(), cell.pins.as_slice(), inputs);
+    let condition = &arcs.cell.arc(i).condition;
+    let names = arcs.names[i].as_slice();
+    let value = arc_condition(condition, names, arcs.cell.pins.as_slice(), arcs.inputs);
     kept.set(i, Some(value));
     value
 }

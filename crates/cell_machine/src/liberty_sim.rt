@@ -115,13 +115,13 @@ impl<'a> CellSim for LibertySim<'a> {
         );
         let reported = any_true(self.reports.as_slice());
         let seen = SeenChange {
+            tables: &self.known.get().steps,
             reported,
             inputs,
             from,
             change,
         };
-        let steps = &self.known.get().steps;
-        change_states(self.cell, steps, &seen, &mut self.states);
+        change_states(self.cell, &seen, &mut self.states);
         let times = self.times.as_slice()[pin].stamped(at, from, to);
         self.times.set(pin, times);
         let places = &self.known.get().places;

@@ -14,6 +14,7 @@ use crate::changes::Change;
 use crate::delays::least_delay;
 use crate::entries::entry;
 use crate::kept_arcs::KeptArcs;
+use crate::kept_conditions::InputArcs;
 use crate::output_tables::output_value;
 use sqlite_items::Items;
 use std::alloc::{AllocError, Global};
@@ -62,8 +63,13 @@ fn shown_step(cell: &Cell, seen: &ShownChange, i: usize, was: Trit, kept: &mut K
     if was == value {
         return Shown { value, delay: None };
     }
+    let arcs = InputArcs {
+        cell,
+        names: seen.names,
+        inputs: seen.inputs,
+    };
     let places = entry(seen.places, i).as_slice();
-    let delay = least_delay(cell, seen.names, places, seen.inputs, kept, was, value);
+    let delay = least_delay(&arcs, places, kept, was, value);
     Shown {
         value,
         delay: Some(delay),
@@ -90,23 +96,6 @@ pub fn show_all(cell: &Cell, seen: &ShownChange, kept: &mut KeptArcs, shown: &mu
     }
 }
 
-/// What one output shows at the start.
-fn shown_first(
-    cell: &Cell,
-    outputs: &Items<Items<Trit>>,
-    i: usize,
-    inputs: &[Trit],
-    states: &[Trit],
-) -> Shown
-    requires outputs { AreOutputTables (data_of cell.now) outputs.now }
-    requires inside { i < length cell.now.outputs }
-    ensures { (output : OutputPinOf) → slice_get cell.now.outputs i ≡ Some output
-        → result ≡ shown_first cell.now.pins cell.now.groups inputs.now states.now output }
-{
-    let value = output_value(cell, outputs, i, inputs, states);
-    Shown { value, delay: None }
-}
-
 /// What the outputs show at the start, where the inputs and the states have these values: no delays. `outputs` are the values of
 /// their functions at all points.
 pub fn show_start(
@@ -122,7 +111,8 @@ pub fn show_start(
 {
     let mut shown = Items::new(alloc);
     for i in 0..cell.outputs.len() {
-        shown.push(shown_first(cell, outputs, i, inputs, states))?;
+        let value = output_value(cell, outputs, i, inputs, states);
+        shown.push(Shown { value, delay: None })?;
     }
     Ok(shown)
 }

@@ -23,6 +23,8 @@ use trit_cubes::Trit;
 /// A change of an input as the states see it.
 #[derive(Clone, Copy)]
 pub struct SeenChange<'a> {
+    /// For each group the tables of its steps, one for each input.
+    pub tables: &'a Items<Items<Option<InputStep>>>,
     /// Whether some check reports at it.
     pub reported: bool,
     /// The values of the inputs after it.
@@ -50,21 +52,15 @@ fn change_point(others: &[usize], seen: &SeenChange, state: Trit) -> Few<Trit, 1
 }
 
 /// The next state of a group where no check reports.
-fn moved(
-    cell: &Cell,
-    tables: &Items<Items<Option<InputStep>>>,
-    i: usize,
-    seen: &SeenChange,
-    state: Trit,
-) -> Trit
-    requires tables { AreStepTables (data_of cell.now) tables.now }
+fn moved(cell: &Cell, i: usize, seen: &SeenChange, state: Trit) -> Trit
+    requires tables { AreStepTables (data_of cell.now) seen.now.tables.now }
     requires inside { i < length cell.now.groups }
     requires pin { seen.now.change.pin < inputs_of (data_of cell.now) }
     ensures { (group : StateGroupOf) → slice_get cell.now.groups i ≡ Some group
         → result ≡ moved cell.now.pins (record { name = state_name (length cell.now.pins) i; group = group }) seen.now.inputs.now
         seen.now.from seen.now.change state }
 {
-    match entry(entry(tables, i), seen.change.pin) {
+    match entry(entry(seen.tables, i), seen.change.pin) {
         Some(table) => {
             let point = change_point(table.others.as_slice(), seen, state);
             tabled(table.values.as_slice(), point.as_slice())
@@ -86,14 +82,8 @@ fn violated(cell: &Cell, i: usize, inputs: &[Trit]) -> Trit
 }
 
 /// The next state of a group at a change of an input: forced where some check reports, else moved.
-fn state_step(
-    cell: &Cell,
-    tables: &Items<Items<Option<InputStep>>>,
-    i: usize,
-    seen: &SeenChange,
-    state: Trit,
-) -> Trit
-    requires tables { AreStepTables (data_of cell.now) tables.now }
+fn state_step(cell: &Cell, i: usize, seen: &SeenChange, state: Trit) -> Trit
+    requires tables { AreStepTables (data_of cell.now) seen.now.tables.now }
     requires inside { i < length cell.now.groups }
     requires pin { seen.now.change.pin < inputs_of (data_of cell.now) }
     ensures { (group : StateGroupOf) → slice_get cell.now.groups i ≡ Some group
@@ -104,18 +94,13 @@ fn state_step(
     if seen.reported {
         violated(cell, i, seen.inputs)
     } else {
-        moved(cell, tables, i, seen, state)
+        moved(cell, i, seen, state)
     }
 }
 
 /// Takes the states of all groups over a change: where it is no event they stay.
-pub fn change_states(
-    cell: &Cell,
-    tables: &Items<Items<Option<InputStep>>>,
-    seen: &SeenChange,
-    states: &mut Items<Trit>,
-)
-    requires tables { AreStepTables (data_of cell.now) tables.now }
+pub fn change_states(cell: &Cell, seen: &SeenChange, states: &mut Items<Trit>)
+    requires tables { AreStepTables (data_of cell.now) seen.now.tables.now }
     requires one_each { length states.old ≡ length cell.now.groups }
     requires pin { seen.now.change.pin < inputs_of (data_of cell.now) }
     ensures changed { states.new ≡ (if not (same seen.now.from seen.now.change.to)
@@ -124,18 +109,13 @@ pub fn change_states(
     ensures len { length states.new ≡ length states.old }
 {
     if seen.from != seen.change.to {
-        step_states(cell, tables, seen, states);
+        step_states(cell, seen, states);
     }
 }
 
 /// Takes the states of all groups over an event.
-fn step_states(
-    cell: &Cell,
-    tables: &Items<Items<Option<InputStep>>>,
-    seen: &SeenChange,
-    states: &mut Items<Trit>,
-)
-    requires tables { AreStepTables (data_of cell.now) tables.now }
+fn step_states(cell: &Cell, seen: &SeenChange, states: &mut Items<Trit>)
+    requires tables { AreStepTables (data_of cell.now) seen.now.tables.now }
     requires one_each { length states.old ≡ length cell.now.groups }
     requires pin { seen.now.change.pin < inputs_of (data_of cell.now) }
     ensures stepped { states.new ≡ each
@@ -145,6 +125,6 @@ fn step_states(
 {
     for i in 0..states.len() {
         let state = states.as_slice()[i];
-        states.set(i, state_step(cell, tables, i, seen, state));
+        states.set(i, state_step(cell, i, seen, state));
     }
 }

@@ -47,28 +47,22 @@ among-flat f y (x ∷ xs) m =
       | inr h ↦ let r = among-flat f y xs h in (r.0, inr r.1, r.2)
     ]
 
--- the number of a condition that a check or an arc names
-pub check-numbered :
-    (cell : CellData) (k : Check) (f : Node)
-    → Among k cell.checks → Among f (condition_list k.condition)
-    → condition_place (conditions_of cell) f < length (conditions_of cell)
-check-numbered cell k f m h =
-    conditions_are_numbered-lem cell f
-    (among-contains f (used_conditions cell)
-    (append-among_left f (flat_map (λ (k : Check). condition_list k.condition) cell.checks)
-    (flat_map (arc_conditions cell.arcs) cell.arcs)
-    (flat-among (λ (k : Check). condition_list k.condition) f cell.checks k m h)))
+-- a condition of a cell has a number
+abbrev IsNumbered : CellData → Node → Type 0
+IsNumbered cell f = condition_place (conditions_of cell) f < length (conditions_of cell)
 
-pub arc-numbered :
-    (cell : CellData) (arc : Arc) (f : Node)
-    → Among arc cell.arcs → Among f (arc_conditions cell.arcs arc)
-    → condition_place (conditions_of cell) f < length (conditions_of cell)
-arc-numbered cell arc f m h =
-    conditions_are_numbered-lem cell f
-    (among-contains f (used_conditions cell)
-    (append-among_right f (flat_map (λ (k : Check). condition_list k.condition) cell.checks)
-    (flat_map (arc_conditions cell.arcs) cell.arcs)
-    (flat-among (arc_conditions cell.arcs) f cell.arcs arc m h)))
+used-numbered : (cell : CellData) (f : Node) → Among f (used_conditions cell) → IsNumbered cell f
+used-numbered cell f m = conditions_are_numbered-lem cell f (among-contains f (used_conditions cell) m)
+
+-- so has one that a check or an arc names
+pub check-numbered : (cell : CellData) (k : Check) (f : Node) → Among k cell.checks → Among f (condition_list k.condition)
+    → IsNumbered cell f
+check-numbered cell k f m h =
+    used-numbered cell f (append-among_left f _ _ (flat-among (λ (k : Check). condition_list k.condition) f cell.checks k m h))
+
+pub arc-numbered : (cell : CellData) (arc : Arc) (f : Node) → Among arc cell.arcs → Among f (arc_conditions cell.arcs arc)
+    → IsNumbered cell f
+arc-numbered cell arc f m h = used-numbered cell f (append-among_right f _ _ (flat-among (arc_conditions cell.arcs) f cell.arcs arc m h))
 
 -- what trees are added to a list
 added-among : (trees : List Node) (f g : Node) (b : Bool) → Among g (if b then trees else trees ++ f ∷ []) → Among g trees

@@ -114,21 +114,34 @@ init-long : (n k : ℕ) → 0 < n → suc (length (init (point_of n k))) ≡ n
 init-long zero k l = absurd (omega arith)
 init-long (suc n) k l = let long = ap length (init-point_of n k) in let all = length-point_of n k in omega (arith, long, all)
 
+-- a step at the numbers of a point before and behind a change is that of the change, where input q turns, or none
+abbrev IsStepOf : Step → ℕ → ℕ → ℕ → ℕ → ℕ → Type 0
+IsStepOf step n p q number joint =
+    step (turned q (point_of n (joint % 2 ^ n))) (point_of n (joint % 2 ^ n)) (joint / 2 ^ n % 2 == 1)
+    ≡ edge_value step p (point_of (suc (suc n)) number)
+
+edge-by : (step : Step) (n p q number joint : ℕ) → p < n
+    → point_of (suc n) joint ≡ insert p (number / 2 % 2 == 1) (point_of n (number / 4))
+    → turned q (insert p (number / 2 % 2 == 1) (init (point_of n (number / 4))))
+    ≡ insert p (number % 2 == 1) (init (point_of n (number / 4)))
+    → IsStepOf step n p q number joint
+edge-by step n p q number joint l e before =
+    let parts = around n p number joint l e in
+    (λ i. step (turned q (parts.after i)) (parts.after i) (parts.state i))
+    ∙ ap (λ (old : List Bool). step old (insert p (number / 2 % 2 == 1) (init (point_of n (number / 4))))
+    (last false (point_of n (number / 4)))) before
+    ∙ sym (number-parts step n p number)
+
 -- where the value before is that behind the change nothing changes
 pub edge-kept : (step : Step) (n p number joint : ℕ) → p < n → number % 2 ≡ number / 2 % 2
-    → point_of (suc n) joint ≡ insert p (number / 2 % 2 == 1) (point_of n (number / 4))
-    → step (turned n (point_of n (joint % 2 ^ n))) (point_of n (joint % 2 ^ n)) (joint / 2 ^ n % 2 == 1)
-    ≡ edge_value step p (point_of (suc (suc n)) number)
+    → point_of (suc n) joint ≡ insert p (number / 2 % 2 == 1) (point_of n (number / 4)) → IsStepOf step n p n number joint
 edge-kept step n p number joint l same e =
-    let parts = around n p number joint l e in
     let others = init (point_of n (number / 4)) in
     let new : Bool = number / 2 % 2 == 1 in
     let long = init-long n (number / 4) (omega (arith, l)) in
     let full : length (insert p new others) ≤ n = let all = length-insert p new others in omega (arith, long, all) in
-    (λ i. step (turned n (parts.after i)) (parts.after i) (parts.state i))
-    ∙ ap (λ before. step before (insert p new others) (last false (point_of n (number / 4))))
+    edge-by step n p n number joint l e
     (turned_past n (insert p new others) full ∙ ap (λ b. insert p (b == 1) others) (sym same))
-    ∙ sym (number-parts step n p number)
 
 other-bit : (a b : ℕ) → a < 2 → b < 2 → (a ≡ b → ⊥) → not (b == 1) ≡ (a == 1)
 other-bit zero zero p q h = absurd (h refl)
@@ -141,17 +154,10 @@ other-bit (suc zero) (suc (suc b)) p q h = absurd (omega (arith, q))
 
 -- and else the input changes
 pub edge-turned : (step : Step) (n p number joint : ℕ) → p < n → (number % 2 ≡ number / 2 % 2 → ⊥)
-    → point_of (suc n) joint ≡ insert p (number / 2 % 2 == 1) (point_of n (number / 4))
-    → step (turned p (point_of n (joint % 2 ^ n))) (point_of n (joint % 2 ^ n)) (joint / 2 ^ n % 2 == 1)
-    ≡ edge_value step p (point_of (suc (suc n)) number)
+    → point_of (suc n) joint ≡ insert p (number / 2 % 2 == 1) (point_of n (number / 4)) → IsStepOf step n p p number joint
 edge-turned step n p number joint l other e =
-    let parts = around n p number joint l e in
     let others = init (point_of n (number / 4)) in
-    let new : Bool = number / 2 % 2 == 1 in
     let long = init-long n (number / 4) (omega (arith, l)) in
-    let inside : p ≤ length others = omega (arith, l, long) in
-    (λ i. step (turned p (parts.after i)) (parts.after i) (parts.state i))
-    ∙ ap (λ before. step before (insert p new others) (last false (point_of n (number / 4))))
-    (turned-insert p new others inside
+    edge-by step n p p number joint l e
+    (turned-insert p (number / 2 % 2 == 1) others (omega (arith, l, long))
     ∙ ap (λ b. insert p b others) (other-bit (number % 2) (number / 2 % 2) (omega arith) (omega arith) other))
-    ∙ sym (number-parts step n p number)

@@ -1,34 +1,22 @@
 -- The laws of the rows of steps, by the number of the changed input.
-use Rattle.std.proofs.Common.{◌≡◌, ◌≢◌, ℕ, ◌<◌, Bool, true, List, length, get_or, set, sym, ◌∙◌, arith}
+use Rattle.std.proofs.Common.{◌≡◌, ◌≢◌, ℕ, ◌<◌, Bool, true, List, length, get_or, set, sym, ◌∙◌}
 use Rattle.trit_cubes.specs.declared.trits.Trit.{Trit}
 use Rattle.trit_cubes.specs.declared.trits.Trit.TheVariants.{Unknown}
 use Rattle.cell_machine.specs.Machine.{Step, without, machine_step, forced}
-use Rattle.udp_tables.specs.declared.table.UdpRow.{UdpRow}
 use Rattle.udp_tables.specs.Edges.{edge_rows, compact_edge_rows}
-use Rattle.udp_tables.specs.Sequential.{udp_next, noted, step_rows, edge_row, keep_row, compact_rows}
+use Rattle.udp_tables.specs.Sequential.{udp_next, noted, sequential_rows, edge_row, keep_row, compact_rows}
 use Rattle.udp_tables.specs.Laws.{RowsAreMachine, NotifierForces, FormsAgree, FormsAgreeAtNotifier}
-use Rattle.udp_tables.proofs.ColumnLemmas.{length-without, before-change}
-use Rattle.udp_tables.proofs.CubeLemmas.{differ}
-use Rattle.cell_tables.proofs.StepRows.{Serves, step_rows-change, step_rows-note}
+use Rattle.cell_tables.proofs.ServingRows.{change-at}
+use Rattle.cell_tables.proofs.StepRows.{step_rows-change, step_rows-note}
 use Rattle.cell_tables.proofs.EdgeRowLemmas.{edge_rows-serve, compact_rows-serve}
 
 -- at a change of an input by its number
-pub change-at :
-    (checks : Bool) (n : ℕ) (step : Step) (changes : ℕ → List UdpRow) (p : ℕ) (old : Trit) (inputs : List Trit) (x s : Trit)
-    → Serves checks n step changes → length inputs ≡ n → p < n → old ≢ get_or inputs p Unknown
-    → udp_next (step_rows checks n step changes) (noted checks x (set inputs p old)) (noted checks x inputs) s
-    ≡ machine_step step p old (get_or inputs p Unknown) (without p inputs) s
-change-at checks n step changes p old inputs x s serves long l apart =
-    let within : p < length inputs = omega arith in
-    before-change (λ before after. udp_next (step_rows checks n step changes) (noted checks x before) (noted checks x after) s) p
-    old Unknown inputs within
-    ∙ step_rows-change checks n step changes p old (get_or inputs p Unknown) (without p inputs) x s serves l
-    (length-without p Unknown inputs within ∙ long) (differ old (get_or inputs p Unknown) apart)
-
 pub rows_are_machine-lem : RowsAreMachine
 rows_are_machine-lem checks n step p old inputs note state long l apart =
-    change-at checks n step (edge_rows (edge_row checks) step n) p old inputs note state (edge_rows-serve checks n step) long l
-    apart
+    change-at (λ before after. udp_next (sequential_rows checks n step) (noted checks note before) (noted checks note after) state)
+    step n state
+    (λ q a b others. step_rows-change checks n step (edge_rows (edge_row checks) step n) q a b others note state
+    (edge_rows-serve checks n step)) p old inputs long l apart
 
 pub notifier_forces-lem : NotifierForces
 notifier_forces-lem n step inputs old new state long apart =
@@ -41,8 +29,10 @@ pub compact_are_machine-lem :
     → udp_next (compact_rows checks n step) (noted checks note (set inputs p old)) (noted checks note inputs) state
     ≡ machine_step step p old (get_or inputs p Unknown) (without p inputs) state
 compact_are_machine-lem checks n step p old inputs note state long l apart =
-    change-at checks n step (compact_edge_rows (edge_row checks) (keep_row checks) step n) p old inputs note state
-    (compact_rows-serve checks n step) long l apart
+    change-at (λ before after. udp_next (compact_rows checks n step) (noted checks note before) (noted checks note after) state) step
+    n state
+    (λ q a b others. step_rows-change checks n step (compact_edge_rows (edge_row checks) (keep_row checks) step n) q a b others note
+    state (compact_rows-serve checks n step)) p old inputs long l apart
 
 pub compact_force-lem :
     (n : ℕ) (step : Step) (inputs : List Trit) (old new state : Trit)

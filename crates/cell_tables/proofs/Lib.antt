@@ -7,6 +7,7 @@ pub mod ConditionLemmas
 pub mod ChangeColumns
 pub mod RowForms
 pub mod ForcedRows
+pub mod ServingRows
 pub mod ChangeRows
 pub mod StepRows
 pub mod EdgeRowLemmas
@@ -20,3 +21,4 @@ pub mod RowLemmas
 pub mod EachBelow
 pub mod PartLemmas
 pub mod CubeRows
+pub mod NumberedValues

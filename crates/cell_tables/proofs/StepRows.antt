@@ -1,7 +1,7 @@
 -- Rows of a step whose changes serve: at each change of an input they give the machine's step, and at each change of the
 -- notifier the forced value.
-use Rattle.std.proofs.Common.{◌≡◌, ◌≢◌, ℕ, suc, ◌<◌, Bool, true, false, cond, not, ◌&&◌, List, [], ◌∷◌, ◌++◌, map, length}
-use Rattle.std.proofs.Common.{replicate, get_or, inl, inr, refl, sym, ◌∙◌, ap}
+use Rattle.std.proofs.Common.{◌≡◌, ℕ, suc, ◌<◌, Bool, true, false, cond, not, ◌&&◌, List, [], ◌∷◌, ◌++◌, map, length}
+use Rattle.std.proofs.Common.{replicate, inl, inr, refl, sym, ◌∙◌, ap}
 use Rattle.std.specs.List.{list_all, list_any}
 use Rattle.std.proofs.lemmas.Bool.{and_parts, and_from, and_left}
 use Rattle.std.proofs.lemmas.List.{length-map, length-replicate}
@@ -26,29 +26,14 @@ use Rattle.udp_tables.specs.Sequential.{notifier_rows, step_rows}
 use Rattle.udp_tables.proofs.FirstLemmas.{any-found, found-any, any-front, cond-same, first-gives}
 use Rattle.udp_tables.proofs.ColumnLemmas.{and-false, length-insert, columns-push}
 use Rattle.udp_tables.proofs.CubeLemmas.{same-self, known-or, value_rows-among, below-among, among-below}
-use Rattle.cell_tables.proofs.ForcedRows.{FitsForced, forced-given, forced-found, changed-own}
+use Rattle.cell_tables.proofs.ForcedRows.{FitsForced, forced-given, forced-found}
+use Rattle.cell_tables.proofs.ServingRows.{ServesChanges, served}
 use Rattle.cell_tables.proofs.ChangeRows.{state_row-levels, state_row-matches}
 
--- what the rows of the changes of each input have to do
+-- what the rows of the changes of each input have to do: they have a change entry, and they serve
 pub record Serves (checks : Bool) (n : ℕ) (step : Step) (changes : ℕ → List UdpRow) : Type 0 where
-  -- they have a change entry
   pub edges : (p : ℕ) (row : UdpRow) → p < n → Among row (changes p) → is_level_row row ≡ false
-  -- they match nothing where their input keeps its value
-  pub still :
-      (p : ℕ) (row : UdpRow) (olds news : List Trit) (x y s : Trit)
-      → p < n → Among row (changes p) → length olds ≡ n → length news ≡ n → get_or olds p Unknown ≡ get_or news p Unknown
-      → row_matches (noted checks x olds) (noted checks y news) s row ≡ false
-  -- where one matches a change of its input, it gives the machine's step
-  pub right :
-      (p : ℕ) (row : UdpRow) (a b : Trit) (others : List Trit) (x s : Trit)
-      → p < n → Among row (changes p) → suc (length others) ≡ n → same a b ≡ false
-      → row_matches (noted checks x (insert p a others)) (noted checks x (insert p b others)) s row ≡ true
-      → row_next s row ≡ machine_step step p a b others s
-  -- where the machine's step is known, some match
-  pub found :
-      (p : ℕ) (a b : Trit) (others : List Trit) (x s : Trit)
-      → p < n → suc (length others) ≡ n → same a b ≡ false → machine_step step p a b others s ≢ Unknown
-      → list_any (row_matches (noted checks x (insert p a others)) (noted checks x (insert p b others)) s) (changes p) ≡ true
+  pub rows : ServesChanges UdpRow row_matches row_next (noted checks) n step changes
 
 -- a row that gives x in place of no row
 or_row-next :
@@ -140,22 +125,20 @@ change-given :
     → row_matches (noted checks x (insert p a others)) (noted checks x (insert p b others)) s row ≡ true
     → row_next s row ≡ machine_step step p a b others s
 change-given checks n step changes p a b others x s serves l long apart row m h =
-    let olds : List Trit = insert p a others in
-    let news : List Trit = insert p b others in
-    let f : length olds ≡ n = length-insert p a others ∙ long in
-    let g : length news ≡ n = length-insert p b others ∙ long in
+    let f : length (insert p a others) ≡ n = length-insert p a others ∙ long in
+    let g : length (insert p b others) ≡ n = length-insert p b others ∙ long in
     elim (among-append row (forced_rows (state_row checks) n step ++ notifier_rows checks n) (each_below changes n) m) [
       | inl front ↦
           elim (among-append row (forced_rows (state_row checks) n step) (notifier_rows checks n) front) [
             | inl k ↦
-                let r = forced-given step (levels-fit checks n olds news x x s f g) row k h in
+                let r = forced-given step (levels-fit checks n (insert p a others) (insert p b others) x x s f g) row k h in
                 r.3 ∙ sym (forced_is_step-lem step p a b others s r.0 r.2 r.1)
-            | inr k ↦ let clash : false ≡ true = sym (notifier-still checks n row olds news x s k f g) ∙ h in absurd cc
+            | inr k ↦
+                let clash : false ≡ true
+                = sym (notifier-still checks n row (insert p a others) (insert p b others) x s k f g) ∙ h in
+                absurd cc
           ]
-      | inr k ↦
-          serves.right p row a b others x s l
-          (changed-own changes (row_matches (noted checks x olds) (noted checks x news) s) n p a b others l long
-          (λ q other inside c same_value. serves.still q other olds news x x s inside c f g same_value) row k h) long apart h
+      | inr k ↦ served serves.rows p a b others x x s l long apart row k h
     ]
 
 pub step_rows-change :
@@ -179,7 +162,7 @@ step_rows-change checks n step changes p a b others x s serves l long apart =
     (λ none.
     elim (known-or v) [
       | inl known ↦
-          let r = any-found (row_matches before after s) (changes p) (serves.found p a b others x s l long apart known) in
+          let r = any-found (row_matches before after s) (changes p) (serves.rows.found p a b others x x s l long apart known) in
           let hit : edge_hit before after s r.0 ≡ true
           = and_from (not (is_level_row r.0)) (row_matches before after s r.0) (ap not (serves.edges p r.0 l r.1)) r.2 in
           let some : list_any (edge_hit before after s) rows ≡ true
@@ -224,7 +207,7 @@ edge-given n step changes inputs old new s serves long row m h =
           ]
       | inr k ↦
           let r = below-among changes n row k in
-          let clash : false ≡ true = sym (serves.still r.0 row inputs inputs old new s r.1 r.2 long long refl) ∙ both.1
+          let clash : false ≡ true = sym (serves.rows.still r.0 row inputs inputs old new s r.1 r.2 long long refl) ∙ both.1
           in absurd cc
     ]
 

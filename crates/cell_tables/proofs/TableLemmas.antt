@@ -17,6 +17,7 @@ use Rattle.udp_tables.specs.Tables.{columns_match, value_rows, or_row}
 use Rattle.udp_tables.specs.Primitive.{entry_matches, is_level, next_of, inputs_match, level_output, IsCombinational}
 use Rattle.udp_tables.specs.Generated.{level_entry, next_to, level_row, function_rows, primitive_of}
 use Rattle.udp_tables.specs.PortNames.{input_name, input_names}
+use Rattle.udp_tables.proofs.FirstLemmas.{cond-same}
 
 -- the entry of a cube's place matches what the place covers
 entry-place : (w t : Trit) → entry_matches (level_entry w) t t ≡ (is_unknown w || same w t)
@@ -42,10 +43,6 @@ first-cubes ts v [] rows = refl
 first-cubes ts v (c ∷ cs) rows =
     rw (columns-covers c ts, first-cubes ts v cs rows)
     (cond-or (covers c ts) (any_covers cs ts) (next_of Unknown (next_to v)) (level_output rows ts))
-
-cond-same : {V : Type 0} (p : Bool) (v : V) → cond p v v ≡ v
-cond-same true v = refl
-cond-same false v = refl
 
 -- a row that gives x in place of no row
 pub first-or_row : (ts c : List Trit) (rows : List UdpRow)

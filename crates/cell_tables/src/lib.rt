@@ -4,7 +4,6 @@
 mod cell_conditions;
 mod cell_cubes;
 mod cell_primitives;
-mod cell_values;
 mod change_cubes;
 mod cubes;
 mod function_cubes;

@@ -6,11 +6,10 @@ ghost use Rattle.cell_machine.specs.CellTrace.{sources_at, output_value_at};
 ghost use Rattle.udp_tables.specs.Conditions.{IsSmall, support_of, condition_at};
 ghost use Rattle.cell_tables.specs.Cubes.{function_cubes};
 
-use crate::cell_values::output_value;
 use crate::cubes::FunctionCubes;
 use crate::function_cubes::{function_cubes, table_cubes};
 use bool_functions::Function;
-use cell_machine::Cell;
+use cell_machine::{Cell, point_value};
 use std::alloc::{AllocError, Global};
 use trit_cubes::{Trit, values_of};
 
@@ -56,7 +55,7 @@ fn output_values(alloc: Global, cell: &Cell, output: usize) -> Result<Vec<Trit>,
     let values = values_of(
         alloc,
         places,
-        &|point: &[bool]| { output_value(cell, output, point) },
+        &|point: &[bool]| { point_value(cell, output, point) },
     )?;
     Ok(values)
 }

@@ -1,14 +1,14 @@
 -- Points restricted to places.
-use Rattle.std.proofs.Common.{◌≡◌, ◌≢◌, ◌⊎◌, ℕ, ◌^◌, ◌<◌, min, max, Bool, true, false, not, cond, nat_eq, bit_and, List, [], ◌∷◌}
-use Rattle.std.proofs.Common.{Option, Some, None, refl, sym, ap, subst, ◌∙◌, inl, inr, eqb-true, arith}
+use Rattle.std.proofs.Common.{◌≡◌, ◌≢◌, ◌⊎◌, ℕ, ◌^◌, ◌*◌, ◌<◌, min, max, Bool, true, false, not, cond, nat_eq, bit_and, List, []}
+use Rattle.std.proofs.Common.{◌∷◌, Option, Some, None, refl, sym, ap, subst, ◌∙◌, inl, inr, eqb-true, arith}
 use Rattle.std.specs.Prelude.{bit_or, bit_xor, unwrap_or, position}
 use Rattle.std.specs.List.{list_all}
 use Rattle.std.specs.Option.{option_map_or}
 use Rattle.std.specs.Int.{bit_at}
 use Rattle.std.proofs.lemmas.Bool.{cases_eq, true≢false, and_parts, and_from}
 use Rattle.std.proofs.lemmas.Nat.{and_comm, and_assoc, and_le_l, or_comm}
-use Rattle.std.proofs.lemmas.Nat.Bits.{bit_at_and, bit_at_or, bit_at_xor, bit_at-pow_same, bit_at-pow_other, bit_at-lt}
-use Rattle.std.proofs.lemmas.Nat.Bits.{same_from_bits}
+use Rattle.std.proofs.lemmas.Nat.Bits.{and_pow, bit_at_and, bit_at_or, bit_at_xor, bit_at-pow_same, bit_at-lt, same_from_bits}
+use lib.Bits.{xor_zero_r}
 use Rattle.cell_machine.specs.declared.outputs.Source.{Source}
 use Rattle.cell_machine.specs.declared.outputs.Source.TheVariants as source
 use Rattle.scan_cells.specs.Views.{ViewData}
@@ -62,42 +62,48 @@ pub inactive_kept :
 unfolding is_inactive
 inactive_kept view places point mask h = idle_kept view point mask (position (same_source (source.Pin view.enable)) places) h
 
+-- a mask of a point that is changed in some places
+and_over_xor : (point more mask : ℕ) → bit_and (bit_xor point more) mask ≡ bit_xor (bit_and point mask) (bit_and more mask)
+and_over_xor point more mask =
+    same_from_bits (bit_and (bit_xor point more) mask) (bit_xor (bit_and point mask) (bit_and more mask)) (λ i.
+    let left = bit_at_and (bit_xor point more) mask i in
+    let turned = bit_at_xor point more i in
+    let right = bit_at_xor (bit_and point mask) (bit_and more mask) i in
+    let kept = bit_at_and point mask i in
+    let also = bit_at_and more mask i in
+    let small = bit_at-lt point i in
+    let little = bit_at-lt more i in
+    let few = bit_at-lt mask i in
+    elim (cases_eq (bit_at mask i) 1) [
+      | inl one ↦ omega (arith, left, turned, right, kept, also, small, little, one)
+      | inr other ↦
+          let none : bit_at mask i ≡ 0 = omega (arith, few, other) in
+          omega (arith, left, turned, right, kept, also, small, little, none)
+    ])
+
+-- what the mask has of a place
+place_masked : (k mask b : ℕ) → bit_at mask k ≡ b → bit_and (2 ^ k) mask ≡ b * 2 ^ k
+place_masked k mask b e = and_comm (2 ^ k) mask ∙ and_pow mask k ∙ ap (λ n. n * 2 ^ k) e
+
+one_of : (m : ℕ) → 1 * m ≡ m
+one_of m = omega arith
+
+none_of : (m : ℕ) → 0 * m ≡ 0
+none_of m = omega arith
+
 -- a changed place that the mask has, and one that it has not
 pub changed_in : (point k mask : ℕ) → is_set k mask ≡ true → bit_and (changed_at point k) mask ≡ changed_at (bit_and point mask) k
 unfolding changed_at
-changed_in point k mask e = same_from_bits (bit_and (bit_xor point (2 ^ k)) mask) (bit_xor (bit_and point mask) (2 ^ k)) (λ i.
-    let left = bit_at_and (bit_xor point (2 ^ k)) mask i in
-    let turned = bit_at_xor point (2 ^ k) i in
-    let right = bit_at_xor (bit_and point mask) (2 ^ k) i in
-    let kept = bit_at_and point mask i in
-    let small = bit_at-lt point i in
-    let few = bit_at-lt mask i in
-    elim (cases_eq i k) [
-      | inl here ↦
-          let one : bit_at mask i ≡ 1 = ap (bit_at mask) here ∙ is_one k mask e in
-          let weight : bit_at (2 ^ k) i ≡ 1 = ap (bit_at (2 ^ k)) here ∙ bit_at-pow_same k in
-          omega (arith, left, turned, right, kept, small, few, one, weight)
-      | inr other ↦
-          let weight : bit_at (2 ^ k) i ≡ 0 = bit_at-pow_other k i other in
-          omega (arith, left, turned, right, kept, small, few, weight)
-    ])
+changed_in point k mask e =
+    and_over_xor point (2 ^ k) mask
+    ∙ ap (bit_xor (bit_and point mask)) (place_masked k mask 1 (is_one k mask e) ∙ one_of (2 ^ k))
 
 pub changed_out : (point k mask : ℕ) → is_set k mask ≡ false → bit_and (changed_at point k) mask ≡ bit_and point mask
 unfolding changed_at
-changed_out point k mask e = same_from_bits (bit_and (bit_xor point (2 ^ k)) mask) (bit_and point mask) (λ i.
-    let left = bit_at_and (bit_xor point (2 ^ k)) mask i in
-    let turned = bit_at_xor point (2 ^ k) i in
-    let kept = bit_at_and point mask i in
-    let small = bit_at-lt point i in
-    let few = bit_at-lt mask i in
-    elim (cases_eq i k) [
-      | inl here ↦
-          let none : bit_at mask i ≡ 0 = ap (bit_at mask) here ∙ is_none k mask e in
-          omega (arith, left, turned, kept, small, few, none)
-      | inr other ↦
-          let weight : bit_at (2 ^ k) i ≡ 0 = bit_at-pow_other k i other in
-          omega (arith, left, turned, kept, small, few, weight)
-    ])
+changed_out point k mask e =
+    and_over_xor point (2 ^ k) mask
+    ∙ ap (bit_xor (bit_and point mask)) (place_masked k mask 0 (is_none k mask e) ∙ none_of (2 ^ k))
+    ∙ xor_zero_r (bit_and point mask)
 
 -- a point that equals another one or differs from it in one of n places
 abbrev pub Near : ℕ → ℕ → ℕ → Type 0

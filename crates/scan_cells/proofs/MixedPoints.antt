@@ -9,7 +9,7 @@ use Rattle.cell_machine.specs.declared.outputs.Source.{Source}
 use Rattle.cell_machine.specs.CellData.{CellData}
 use Rattle.cell_machine.specs.CellTrace.{step_at, sources_at, output_value_at}
 use Rattle.scan_cells.specs.Views.{ViewData}
-use Rattle.scan_cells.specs.Places.{is_set, changed_at, is_inactive}
+use Rattle.scan_cells.specs.Places.{is_set, values_at, changed_at, is_inactive}
 use Rattle.scan_cells.specs.Masks.{IsMask}
 use Rattle.scan_cells.specs.Comparison.{first_some, cell_support, view_support, step_places, cell_step, view_step}
 use Rattle.scan_cells.specs.Comparison.{state_difference, change_difference, after_difference, output_support, output_places}
@@ -63,23 +63,15 @@ agrees_after cell view g after h =
     none_states cell view g (changed_at after k) after
     (h idle (changed_at after k) (inr (k, omega (arith, place), refl)) idle')))))
 
-cell_kept :
-    (cell : CellData) (view : ViewData) (g before after mask : ℕ) (s : Bool)
-    → IsMask view (step_places cell view g) (cell_support cell g) mask
-    → cell_step cell view g (bit_and before mask) (bit_and after mask) s ≡ cell_step cell view g before after s
-unfolding cell_step
-cell_kept cell view g before after mask s h =
-    let kept = values_kept (step_places cell view g) (cell_support cell g) in
-    λ i. step_at cell g (kept before mask h.of_support i) (kept after mask h.of_support i) s
-
-view_kept :
-    (cell : CellData) (view : ViewData) (g before after mask : ℕ) (s : Bool)
-    → IsMask view (step_places cell view g) (view_support view g) mask
-    → view_step cell view g (bit_and before mask) (bit_and after mask) s ≡ view_step cell view g before after s
-unfolding view_step
-view_kept cell view g before after mask s h =
-    let kept = values_kept (step_places cell view g) (view_support view g) in
-    λ i. step_at view.cell g (kept before mask h.of_support i) (kept after mask h.of_support i) s
+-- the steps of a group over a support whose places the mask has
+steps_kept :
+    (of : CellData) (view : ViewData) (places support : List Source) (g before after mask : ℕ) (s : Bool)
+    → IsMask view places support mask
+    → step_at of g (values_at places support (bit_and before mask)) (values_at places support (bit_and after mask)) s
+    ≡ step_at of g (values_at places support before) (values_at places support after) s
+steps_kept of view places support g before after mask s h =
+    λ i. step_at of g (values_kept places support before mask h.of_support i)
+    (values_kept places support after mask h.of_support i) s
 
 -- a mask over the places by another name
 mask_over : (view : ViewData) (from places support : List Source) (mask : ℕ) → from ≡ places → IsMask view from support mask
@@ -99,10 +91,13 @@ pub mixed_steps :
     → IsMask view from (cell_support cell g) a → IsMask view from (view_support view g) b
     → bit_and point a ≢ point → bit_and point b ≢ point
     → ((p : ℕ) → p < point → after_difference cell view g p ≡ None) → after_difference cell view g point ≡ None
+unfolding cell_step view_step
 mixed_steps cell view g point a b from are a_mask b_mask first second none =
     let places = step_places cell view g in
     let of_cell = mask_over view from places (cell_support cell g) a are a_mask in
     let of_view = mask_over view from places (view_support view g) b are b_mask in
+    let cell_kept = steps_kept cell view places (cell_support cell g) g in
+    let view_kept = steps_kept view.cell view places (view_support view g) g in
     let n = length places in
     let idle : (p mask : ℕ) → is_inactive view places p ≡ true → IsMask view places (cell_support cell g) mask
     ⊎ IsMask view places (view_support view g) mask → is_inactive view places (bit_and p mask) ≡ true
@@ -113,22 +108,22 @@ mixed_steps cell view g point a b from are a_mask b_mask first second none =
     agrees_after cell view g point (λ here before near there s.
     let to_cell = near_kept n point before a near in
     let to_view = near_kept n point before b near in
-    sym (cell_kept cell view g before point a s of_cell)
+    sym (cell_kept before point a s of_cell)
     ∙ after_agrees cell view g (bit_and point a) (none (bit_and point a) (less_masked point a first))
     (idle point a here (inl of_cell))
     (bit_and before a) to_cell (idle before a there (inl of_cell)) s
-    ∙ sym (view_kept cell view g (bit_and before a) (bit_and point a) b s of_view)
+    ∙ sym (view_kept (bit_and before a) (bit_and point a) b s of_view)
     ∙ (λ i. view_step cell view g (masks_swap before a b i) (masks_swap point a b i) s)
     ∙ sym (after_agrees cell view g (bit_and (bit_and point b) a)
     (none (bit_and (bit_and point b) a) (less_twice point b a second))
     (idle (bit_and point b) a (idle point b here (inr of_view)) (inl of_cell))
     (bit_and (bit_and before b) a) (near_kept n (bit_and point b) (bit_and before b) a to_view)
     (idle (bit_and before b) a (idle before b there (inr of_view)) (inl of_cell)) s)
-    ∙ cell_kept cell view g (bit_and before b) (bit_and point b) a s of_cell
+    ∙ cell_kept (bit_and before b) (bit_and point b) a s of_cell
     ∙ after_agrees cell view g (bit_and point b) (none (bit_and point b) (less_masked point b second))
     (idle point b here (inr of_view))
     (bit_and before b) to_view (idle before b there (inr of_view)) s
-    ∙ view_kept cell view g before point b s of_view)
+    ∙ view_kept before point b s of_view)
 
 -- the steps of groups at a change of a place, restricted to some places, where nothing differs before the point nor at it
 -- unchanged
@@ -177,10 +172,13 @@ pub mixed_change :
     → ((p : ℕ) → p < after → after_difference cell view g p ≡ None) → change_difference cell view g after after ≡ None
     → is_inactive view from after ≡ true
     → change_difference cell view g after (changed_at after k) ≡ None
+unfolding cell_step view_step
 mixed_change cell view g after k a b from are a_mask b_mask first second inside none same idle =
     let places = step_places cell view g in
     let of_cell = mask_over view from places (cell_support cell g) a are a_mask in
     let of_view = mask_over view from places (view_support view g) b are b_mask in
+    let cell_kept = steps_kept cell view places (cell_support cell g) g in
+    let view_kept = steps_kept view.cell view places (view_support view g) g in
     let place : k < length places = subst (λ xs. k < length xs) are inside in
     let here : is_inactive view places after ≡ true = ap (λ xs. is_inactive view xs after) (sym are) ∙ idle in
     let before = changed_at after k in
@@ -197,16 +195,16 @@ mixed_change cell view g after k a b from are a_mask b_mask first second inside 
     first (omega (arith, most, least, whole)) in
     let idle_both : (p : ℕ) → is_inactive view places p ≡ true → is_inactive view places (bit_and p (bit_and a b)) ≡ true
     = λ p e. ap (is_inactive view places) (sym (and_assoc b p a)) ∙ idle_view (bit_and p a) (idle_cell p e) in
-    sym (cell_kept cell view g before after a s of_cell)
+    sym (cell_kept before after a s of_cell)
     ∙ masked_agrees cell view g after k none same place a first (idle_cell after here) (idle_cell before there) s
-    ∙ sym (view_kept cell view g (bit_and before a) (bit_and after a) b s of_view)
+    ∙ sym (view_kept (bit_and before a) (bit_and after a) b s of_view)
     ∙ (λ i. view_step cell view g (and_assoc b before a i) (and_assoc b after a i) s)
     ∙ sym (masked_agrees cell view g after k none same place (bit_and a b) both (idle_both after here) (idle_both before there) s)
     ∙ sym (λ i. cell_step cell view g (and_assoc b before a i) (and_assoc b after a i) s)
     ∙ (λ i. cell_step cell view g (masks_swap before a b i) (masks_swap after a b i) s)
-    ∙ cell_kept cell view g (bit_and before b) (bit_and after b) a s of_cell
+    ∙ cell_kept (bit_and before b) (bit_and after b) a s of_cell
     ∙ masked_agrees cell view g after k none same place b second (idle_view after here) (idle_view before there) s
-    ∙ view_kept cell view g before after b s of_view))
+    ∙ view_kept before after b s of_view))
 
 -- the values of outputs
 point_agrees :
@@ -218,42 +216,38 @@ point_agrees cell view i j point h idle =
     (view_output cell view i j point)
     (guarded (is_inactive view (output_places cell view i j) point) _ h idle)
 
-cell_output_kept :
-    (cell : CellData) (view : ViewData) (i j point mask : ℕ) → IsMask view (output_places cell view i j) (sources_at cell i) mask
-    → cell_output cell view i j (bit_and point mask) ≡ cell_output cell view i j point
-unfolding cell_output
-cell_output_kept cell view i j point mask h =
-    ap (output_value_at cell i) (values_kept (output_places cell view i j) (sources_at cell i) point mask h.of_support)
-
-view_output_kept :
-    (cell : CellData) (view : ViewData) (i j point mask : ℕ)
-    → IsMask view (output_places cell view i j) (output_support view j) mask
-    → view_output cell view i j (bit_and point mask) ≡ view_output cell view i j point
-unfolding view_output
-view_output_kept cell view i j point mask h =
-    ap (output_value_at view.cell j) (values_kept (output_places cell view i j) (output_support view j) point mask h.of_support)
+-- the value of an output over a support whose places the mask has
+value_kept :
+    (of : CellData) (view : ViewData) (places support : List Source) (output point mask : ℕ) → IsMask view places support mask
+    → output_value_at of output (values_at places support (bit_and point mask))
+    ≡ output_value_at of output (values_at places support point)
+value_kept of view places support output point mask h =
+    ap (output_value_at of output) (values_kept places support point mask h.of_support)
 
 pub mixed_outputs :
     (cell : CellData) (view : ViewData) (i j point a b : ℕ) (from : List Source) → from ≡ output_places cell view i j
     → IsMask view from (sources_at cell i) a → IsMask view from (output_support view j) b
     → bit_and point a ≢ point → bit_and point b ≢ point
     → ((p : ℕ) → p < point → point_difference cell view i j p ≡ None) → point_difference cell view i j point ≡ None
+unfolding cell_output view_output
 mixed_outputs cell view i j point a b from are a_mask b_mask first second none =
     let places = output_places cell view i j in
     let of_cell = mask_over view from places (sources_at cell i) a are a_mask in
     let of_view = mask_over view from places (output_support view j) b are b_mask in
+    let cell_kept = value_kept cell view places (sources_at cell i) i in
+    let view_kept = value_kept view.cell view places (output_support view j) j in
     guard (is_inactive view places point) _ (λ here.
     let at_cell = inactive_kept view places point a of_cell.of_enable ∙ here in
     let at_view = inactive_kept view places point b of_view.of_enable ∙ here in
     let at_both = inactive_kept view places (bit_and point b) a of_cell.of_enable ∙ at_view in
     difference_none (length cell.groups + i + 1) point point false (cell_output cell view i j point)
     (view_output cell view i j point)
-    (sym (cell_output_kept cell view i j point a of_cell)
+    (sym (cell_kept point a of_cell)
     ∙ point_agrees cell view i j (bit_and point a) (none (bit_and point a) (less_masked point a first)) at_cell
-    ∙ sym (view_output_kept cell view i j (bit_and point a) b of_view)
+    ∙ sym (view_kept (bit_and point a) b of_view)
     ∙ ap (view_output cell view i j) (masks_swap point a b)
     ∙ sym (point_agrees cell view i j (bit_and (bit_and point b) a)
     (none (bit_and (bit_and point b) a) (less_twice point b a second)) at_both)
-    ∙ cell_output_kept cell view i j (bit_and point b) a of_cell
+    ∙ cell_kept (bit_and point b) a of_cell
     ∙ point_agrees cell view i j (bit_and point b) (none (bit_and point b) (less_masked point b second)) at_view
-    ∙ view_output_kept cell view i j point b of_view))
+    ∙ view_kept point b of_view))

@@ -8,9 +8,9 @@ use Rattle.std.specs.Int.{bit_at}
 use Rattle.std.proofs.lemmas.Bool.{true≢false, cases_eq, eq-eqb, ne_eqb}
 use Rattle.std.proofs.lemmas.Nat.Bits.{bit_at_xor, bit_at-pow_same, bit_at-pow_other, bit_at-lt}
 use Rattle.trit_cubes.specs.declared.trits.Trit.{Trit}
-use Rattle.trit_cubes.specs.declared.trits.Trit.TheVariants.{Zero, One, Unknown}
 use Rattle.trit_cubes.specs.Filling.{same}
 use Rattle.cell_machine.specs.CellData.{CellData}
+use Rattle.cell_machine.proofs.StillLemmas.{same-is, same-self}
 use Rattle.scan_cells.specs.declared.answers.Agreement.TheVariants.{Same}
 use Rattle.scan_cells.specs.declared.answers.Difference.{Difference}
 use Rattle.scan_cells.specs.Views.{ViewData}
@@ -55,34 +55,18 @@ guard true o h = h refl
 guard false o h = refl
 
 -- the values of a difference
-same_are : (a b : Trit) → same a b ≡ true → a ≡ b
-same_are Zero Zero h = refl
-same_are One One h = refl
-same_are Unknown Unknown h = refl
-same_are Zero One h = absurd (true≢false (sym h))
-same_are Zero Unknown h = absurd (true≢false (sym h))
-same_are One Zero h = absurd (true≢false (sym h))
-same_are One Unknown h = absurd (true≢false (sym h))
-same_are Unknown Zero h = absurd (true≢false (sym h))
-same_are Unknown One h = absurd (true≢false (sym h))
-
-same_self : (a : Trit) → same a a ≡ true
-same_self Zero = refl
-same_self One = refl
-same_self Unknown = refl
-
 by_same : (c : Bool) (d : Difference) → cond c None (Some d) ≡ None → c ≡ true
 by_same true d h = refl
 by_same false d h = absurd cc
 
 pub no_difference : (p b a : ℕ) (s : Bool) (x y : Trit) → difference p b a s x y ≡ None → x ≡ y
 no_difference p b a s x y h =
-    same_are x y
+    same-is x y
     (by_same (same x y) (record { part = p; before = b; after = a; state = s; of_cell = x; of_view = y }) h)
 
 pub difference_none : (p b a : ℕ) (s : Bool) (x y : Trit) → x ≡ y → difference p b a s x y ≡ None
 difference_none p b a s x y e = subst (λ z. difference p b a s x z ≡ None) e
-    (ap (λ c. cond c None (Some (record { part = p; before = b; after = a; state = s; of_cell = x; of_view = x }))) (same_self x))
+    (ap (λ c. cond c None (Some (record { part = p; before = b; after = a; state = s; of_cell = x; of_view = x }))) (same-self x))
 
 answered_same : (o : Option Difference) → answered o ≡ Same → o ≡ None
 answered_same None h = refl
@@ -267,7 +251,7 @@ real_all cell view =
     (real_first (output_difference cell view) _ (λ i. real_pair cell view i (output_in_view view (output_pin cell i))))
 
 unequal : (a b : Trit) → same a b ≡ false → a ≢ b
-unequal a b h e = true≢false (sym (same_self b) ∙ ap (λ t. same t b) (sym e) ∙ h)
+unequal a b h e = true≢false (sym (same-self b) ∙ ap (λ t. same t b) (sym e) ∙ h)
 
 pub differences_differ-lem : DifferencesDiffer
 differences_differ-lem cell view d e = unequal d.of_cell d.of_view (subst IsReal e (real_all cell view))

@@ -12,11 +12,15 @@ use Rattle.trit_cubes.specs.Filling.{bit, number}
 use Rattle.trit_cubes.specs.Sets.{point_of}
 use Rattle.trit_cubes.proofs.PointLemmas.{point_of-number}
 use Rattle.cell_machine.specs.declared.outputs.Source.{Source}
-use Rattle.cell_machine.specs.CellData.{CellData}
+use Rattle.cell_machine.specs.declared.cells.Cell.{Cell}
+use Rattle.cell_machine.specs.CellData.{data_of}
 use Rattle.cell_machine.proofs.EachLemmas.{map-take-more}
 use Rattle.cell_machine.specs.CellTrace.{output_value_at}
 use Rattle.step_tables.specs.GroupPoints.{steps_between}
 use Rattle.scan_cells.specs.Places.{same_source, is_set, value_at, values_at}
+use Rattle.scan_cells.specs.declared.point_steps.PointSteps.{PointSteps}
+use Rattle.scan_cells.specs.declared.output_table.OutputTable.{OutputTable}
+use Rattle.scan_cells.specs.OverPlaces.{AreSteps, AreValues}
 use Rattle.scan_cells.specs.Weights.{weight_of, has_weight, weighed, IsSplit}
 
 positive : (m : ℕ) → 0 < m → nat_eq m 0 ≡ false
@@ -55,22 +59,26 @@ values_weighed from places support weights point are same_places =
     ap (λ ws. weighed ws point) (are ∙ ap (λ ps. map (weight_of ps) support) same_places) ∙ weighed_values places support point
 
 -- the steps by the weights of a support
-pub steps_weighed :
-    (of cell : CellData) (h g : ℕ) (from places support : List Source) (weights : List ℕ) (before after : ℕ)
-    → of ≡ cell → h ≡ g → weights ≡ map (weight_of from) support → from ≡ places
-    → steps_between of h (weighed weights before) (weighed weights after)
-    ≡ steps_between cell g (values_at places support before) (values_at places support after)
-steps_weighed of cell h g from places support weights before after same_cell same_group are same_places =
-    λ i. steps_between (same_cell i) (same_group i) (values_weighed from places support weights before are same_places i)
-    (values_weighed from places support weights after are same_places i)
+pub are_steps :
+    (cell : Cell) (g : ℕ) (from places support : List Source) (steps : PointSteps) (before after : ℕ)
+    → AreSteps cell g from support steps → from ≡ places
+    → steps_between (data_of steps.table.cell.now) steps.table.group (weighed steps.numbering.weights before)
+    (weighed steps.numbering.weights after)
+    ≡ steps_between (data_of cell) g (values_at places support before) (values_at places support after)
+are_steps cell g from places support steps before after h same =
+    λ i. steps_between (data_of (h.of_cell i)) (h.of_group i)
+    (values_weighed from places support steps.numbering.weights before h.weigh same i)
+    (values_weighed from places support steps.numbering.weights after h.weigh same i)
 
 -- an output's value by the weights of its support
-pub output_weighed :
-    (of cell : CellData) (h k : ℕ) (from places support : List Source) (weights : List ℕ) (point : ℕ)
-    → of ≡ cell → h ≡ k → weights ≡ map (weight_of from) support → from ≡ places
-    → output_value_at of h (weighed weights point) ≡ output_value_at cell k (values_at places support point)
-output_weighed of cell h k from places support weights point same_cell same_output are same_places =
-    λ i. output_value_at (same_cell i) (same_output i) (values_weighed from places support weights point are same_places i)
+pub is_value :
+    (cell : Cell) (k : ℕ) (from places support : List Source) (values : OutputTable) (point : ℕ)
+    → AreValues cell k from support values → from ≡ places
+    → output_value_at (data_of values.cell.now) values.output (weighed values.numbering.weights point)
+    ≡ output_value_at (data_of cell) k (values_at places support point)
+is_value cell k from places support values point h same =
+    λ i. output_value_at (data_of (h.of_cell i)) (h.of_output i)
+    (values_weighed from places support values.numbering.weights point h.weigh same i)
 
 -- one source more has its weight
 pub weights_turn :

@@ -11,6 +11,7 @@ use Rattle.cell_machine.specs.declared.outputs.Source.{Source}
 use Rattle.cell_machine.specs.declared.outputs.OutputPin.{OutputPin}
 use Rattle.cell_machine.specs.CellData.{CellData}
 use Rattle.cell_machine.specs.CellTrace.{step_at, support_at, sources_at, output_value_at}
+use Rattle.step_tables.specs.declared.group_points.StateSteps.{StateSteps}
 use Rattle.scan_cells.specs.declared.answers.Agreement.{Agreement}
 use Rattle.scan_cells.specs.declared.answers.Agreement.TheVariants.{Same, Differs}
 use Rattle.scan_cells.specs.declared.answers.Difference.{Difference}
@@ -53,6 +54,15 @@ unfoldable pub view_step : CellData → ViewData → ℕ → ℕ → ℕ → Boo
 view_step cell view g before after s =
     step_at view.cell g (values_at (step_places cell view g) (view_support view g) before)
     (values_at (step_places cell view g) (view_support view g) after) s
+
+-- the same from both states
+abbrev pub cell_steps : CellData → ViewData → ℕ → ℕ → ℕ → StateSteps
+cell_steps cell view g before after =
+    record { «zero» = cell_step cell view g before after false; one = cell_step cell view g before after true }
+
+abbrev pub view_steps : CellData → ViewData → ℕ → ℕ → ℕ → StateSteps
+view_steps cell view g before after =
+    record { «zero» = view_step cell view g before after false; one = view_step cell view g before after true }
 
 -- the difference of the steps
 abbrev pub step_difference : CellData → ViewData → ℕ → ℕ → ℕ → Bool → Option Difference

@@ -8,3 +8,4 @@ pub mod Comparison
 pub mod Laws
 pub mod TestLines
 pub mod Weights
+pub mod OverPlaces

@@ -1,12 +1,12 @@
 //! The steps of a state group of a cell beside those of its view's.
-ghost use Rattle.std.specs.Prelude.{◌≡◌, ℕ, ◌+◌, ◌<◌, false, true, None, length, map};
+ghost use Rattle.std.specs.Prelude.{◌≡◌, ℕ, ◌+◌, ◌<◌, true, None, length};
 ghost use Rattle.cell_machine.specs.CellData.{data_of};
 ghost use Rattle.scan_cells.specs.Views.{view_data, StandsBeside};
 ghost use Rattle.std.specs.List.{range_with_len};
 ghost use Rattle.scan_cells.specs.Places.{is_inactive, changed_at as changed_at_place};
 ghost use Rattle.scan_cells.specs.Masks.{IsMask};
-ghost use Rattle.scan_cells.specs.Weights.{weight_of};
-ghost use Rattle.scan_cells.specs.Comparison.{first_some, cell_support, view_support, step_places, cell_step, view_step};
+ghost use Rattle.scan_cells.specs.OverPlaces.{AreSteps};
+ghost use Rattle.scan_cells.specs.Comparison.{first_some, cell_support, view_support, step_places, cell_steps, view_steps};
 ghost use Rattle.scan_cells.specs.Comparison.{difference, state_difference, change_difference, after_difference};
 ghost use Rattle.scan_cells.specs.Comparison.{group_difference as group_difference_of};
 
@@ -31,14 +31,12 @@ pub struct GroupPair<'a> {
     over: ComparedPlaces<'a>,
     ghost are_places: { over.places ≡ step_places (data_of cell.now) (view_data over.view.now) group },
     ghost inside: { group < length cell.now.groups },
-    ghost is_cell: { of_cell.table.cell.now ≡ cell.now },
-    ghost is_view: { of_view.table.cell.now ≡ over.view.now.cell },
-    ghost is_of_cell: { of_cell.table.group ≡ group },
-    ghost is_of_view: { of_view.table.group ≡ group },
-    ghost weigh_cell: { of_cell.numbering.weights ≡ map (weight_of over.places) (cell_support (data_of cell.now) group) },
-    ghost weigh_view: { of_view.numbering.weights ≡ map (weight_of over.places) (view_support (view_data over.view.now) group) },
+    ghost tells_cell: { AreSteps cell.now group over.places (cell_support (data_of cell.now) group) of_cell },
+    ghost tells_view: { AreSteps over.view.now.cell group over.places
+        (view_support (view_data over.view.now) group) of_view },
     ghost is_cell_mask: { IsMask (view_data over.view.now) over.places (cell_support (data_of cell.now) group) over.cell_mask },
-    ghost is_view_mask: { IsMask (view_data over.view.now) over.places (view_support (view_data over.view.now) group) over.view_mask },
+    ghost is_view_mask: { IsMask (view_data over.view.now) over.places
+        (view_support (view_data over.view.now) group) over.view_mask },
 }
 
 impl<'a> GroupPair<'a> {
@@ -64,23 +62,15 @@ impl<'a> GroupPair<'a> {
     }
 
     /// The steps of the cell's group.
-    #[tactic(auto, unfolding(crate::specs::Comparison::cell_step))]
     fn cell_steps(&self, before: u32, after: u32) -> StateSteps
-        ensures zero { result.«zero» ≡ cell_step (data_of self.now.cell.now) (view_data self.now.over.view.now) self.now.group before
-            after false }
-        ensures one { result.one ≡ cell_step (data_of self.now.cell.now) (view_data self.now.over.view.now) self.now.group before after
-            true }
+        ensures { result ≡ cell_steps (data_of self.now.cell.now) (view_data self.now.over.view.now) self.now.group before after }
     {
         self.of_cell.steps(before, after)
     }
 
     /// The steps of the view's group.
-    #[tactic(auto, unfolding(crate::specs::Comparison::view_step))]
     fn view_steps(&self, before: u32, after: u32) -> StateSteps
-        ensures zero { result.«zero» ≡ view_step (data_of self.now.cell.now) (view_data self.now.over.view.now) self.now.group before
-            after false }
-        ensures one { result.one ≡ view_step (data_of self.now.cell.now) (view_data self.now.over.view.now) self.now.group before after
-            true }
+        ensures { result ≡ view_steps (data_of self.now.cell.now) (view_data self.now.over.view.now) self.now.group before after }
     {
         self.of_view.steps(before, after)
     }

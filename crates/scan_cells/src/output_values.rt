@@ -1,10 +1,10 @@
 //! The values of an output of a cell beside those of its view's.
-ghost use Rattle.std.specs.Prelude.{◌≡◌, ◌<◌, length, map, IfSome};
+ghost use Rattle.std.specs.Prelude.{◌≡◌, ◌<◌, length, IfSome};
 ghost use Rattle.cell_machine.specs.CellData.{data_of};
 ghost use Rattle.cell_machine.specs.CellTrace.{sources_at};
 ghost use Rattle.scan_cells.specs.Views.{view_data};
 ghost use Rattle.scan_cells.specs.Masks.{IsMask};
-ghost use Rattle.scan_cells.specs.Weights.{weight_of};
+ghost use Rattle.scan_cells.specs.OverPlaces.{AreValues};
 ghost use Rattle.scan_cells.specs.Comparison.{is_on_pin as is_on_pin_of, output_in_view as output_in_view_of, output_support};
 ghost use Rattle.scan_cells.specs.Comparison.{output_places, cell_output, view_output, point_difference, pair_difference};
 ghost use Rattle.scan_cells.specs.Comparison.{output_difference as output_difference_of};
@@ -30,14 +30,12 @@ pub struct OutputPair<'a> {
     ghost in_cell: { output < length cell.now.outputs },
     ghost in_view: { view_output < length over.view.now.cell.outputs },
     ghost are_places: { over.places ≡ output_places (data_of cell.now) (view_data over.view.now) output view_output },
-    ghost is_cell: { of_cell.cell.now ≡ cell.now },
-    ghost is_view: { of_view.cell.now ≡ over.view.now.cell },
-    ghost is_of_cell: { of_cell.output ≡ output },
-    ghost is_of_view: { of_view.output ≡ view_output },
-    ghost weigh_cell: { of_cell.numbering.weights ≡ map (weight_of over.places) (sources_at (data_of cell.now) output) },
-    ghost weigh_view: { of_view.numbering.weights ≡ map (weight_of over.places) (output_support (view_data over.view.now) view_output) },
+    ghost tells_cell: { AreValues cell.now output over.places (sources_at (data_of cell.now) output) of_cell },
+    ghost tells_view: { AreValues over.view.now.cell view_output over.places
+        (output_support (view_data over.view.now) view_output) of_view },
     ghost is_cell_mask: { IsMask (view_data over.view.now) over.places (sources_at (data_of cell.now) output) over.cell_mask },
-    ghost is_view_mask: { IsMask (view_data over.view.now) over.places (output_support (view_data over.view.now) view_output) over.view_mask },
+    ghost is_view_mask: { IsMask (view_data over.view.now) over.places
+        (output_support (view_data over.view.now) view_output) over.view_mask },
 }
 
 impl<'a> OutputPair<'a> {
@@ -64,7 +62,6 @@ impl<'a> OutputPair<'a> {
     }
 
     /// The value of the cell's output at a point.
-    #[tactic(auto, unfolding(crate::specs::Comparison::cell_output))]
     fn cell_output(&self, point: u32) -> Trit
         ensures { result ≡ cell_output (data_of self.now.cell.now) (view_data self.now.over.view.now) self.now.output
             self.now.view_output point }
@@ -73,7 +70,6 @@ impl<'a> OutputPair<'a> {
     }
 
     /// The value of the view's output at a point.
-    #[tactic(auto, unfolding(crate::specs::Comparison::view_output))]
     fn view_output(&self, point: u32) -> Trit
         ensures { result ≡ view_output (data_of self.now.cell.now) (view_data self.now.over.view.now) self.now.output
             self.now.view_output point }

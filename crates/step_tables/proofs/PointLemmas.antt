@@ -25,20 +25,30 @@ turned_past p [] h = refl
 turned_past zero (b ∷ point) h = absurd (omega (arith, h))
 turned_past (suc p) (b ∷ point) h = ap (λ q. b ∷ q) (turned_past p point (omega (arith, h)))
 
--- the common value around a point, from this place on
-pub around_turn :
-    (g : List Bool → Trit) (point : List Bool) (p : ℕ) → p < length point
-    → agreed (around (λ q. g (take (suc p) point ++ q)) (drop (suc p) point)) (g (turned p point))
-    ≡ around (λ q. g (take p point ++ q)) (drop p point)
+-- the common value of a function at a point and at each that differs from it in one of the places from this one on
+abbrev pub from_place : (List Bool → Trit) → List Bool → ℕ → Trit
+from_place g point p = around (λ q. g (take p point ++ q)) (drop p point)
+
+around_turn : (g : List Bool → Trit) (point : List Bool) (p : ℕ) → p < length point
+    → agreed (from_place g point (suc p)) (g (turned p point)) ≡ from_place g point p
 around_turn g [] p h = absurd (omega (arith, h))
 around_turn g (b ∷ point) zero h = refl
 around_turn g (b ∷ point) (suc p) h = around_turn (λ q. g (b ∷ q)) point p (omega (arith, h))
 
-pub around_end :
-    (g : List Bool → Trit) (point : List Bool)
-    → g (turned (length point) point) ≡ around (λ q. g (take (length point) point ++ q)) (drop (length point) point)
+around_end : (g : List Bool → Trit) (point : List Bool) → g (turned (length point) point) ≡ from_place g point (length point)
 around_end g [] = refl
 around_end g (b ∷ point) = around_end (λ q. g (b ∷ q)) point
+
+-- the value behind the last place, and that from the place before one
+pub from_end : (g : List Bool → Trit) (point : List Bool) (n m : ℕ) → length point ≡ n → m ≡ n
+    → g (turned n point) ≡ from_place g point m
+from_end g point n m long all =
+    ap (λ k. g (turned k point)) (sym long) ∙ around_end g point ∙ ap (from_place g point) (long ∙ sym all)
+
+pub from_before : (g : List Bool → Trit) (point : List Bool) (p m : ℕ) → p < length point → m ≡ suc p
+    → agreed (from_place g point m) (g (turned p point)) ≡ from_place g point p
+from_before g point p m inside next =
+    ap (λ k. agreed (from_place g point k) (g (turned p point))) next ∙ around_turn g point p inside
 
 -- what holds of each entry, and of one more
 pub push_each :

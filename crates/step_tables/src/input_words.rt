@@ -6,6 +6,7 @@ ghost use Rattle.statetables.specs.Lanes.{lane, before_at, after_at};
 ghost use Rattle.cell_machine.specs.Values.{no_values, written, picked};
 ghost use Rattle.step_tables.specs.Turned.{turned};
 
+use crate::points::MOST_PLACES;
 use cell_machine::Few;
 use statetables::InputWords;
 
@@ -19,7 +20,7 @@ pub const MOST_INPUTS: usize = 64;
 const MOST_NAMES: usize = 96;
 
 /// A word for each place of a support.
-pub type PlaceWords = Few<u64, 8>;
+pub type PlaceWords = Few<u64, MOST_PLACES>;
 
 /// The words of a table's inputs.
 pub type TableWords = Few<InputWords, MOST_INPUTS>;

@@ -10,3 +10,4 @@ pub mod RowMatches
 pub mod SequentialRows
 pub mod ModelFaultPlaces
 pub mod FaultCases
+pub mod FlipFlop

@@ -9,7 +9,7 @@ use Rattle.cell_machine.proofs.delays.all_are_quiet.Given as goal
 abbrev pub invariant-loop-i : goal.invariant-loop-i
 invariant-loop-i l = record {
   rest :
-      list_all (is_quiet l.cell.pins l.inputs l.arc) (drop l.i (entries_at l.cell.arcs l.places))
-      ≡ list_all (is_quiet l.cell.pins l.inputs l.arc) (entries_at l.cell.arcs l.places);
-  kept : AreConditions l.cell.pins l.inputs l.cell.arcs l.kept;
+      list_all (is_quiet l.arcs.cell.now.pins l.arcs.inputs.now l.arc) (drop l.i (entries_at l.arcs.cell.now.arcs l.places))
+      ≡ list_all (is_quiet l.arcs.cell.now.pins l.arcs.inputs.now l.arc) (entries_at l.arcs.cell.now.arcs l.places);
+  kept : AreConditions l.arcs.cell.now.pins l.arcs.inputs.now l.arcs.cell.now.arcs l.kept;
 }

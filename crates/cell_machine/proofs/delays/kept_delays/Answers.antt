@@ -17,15 +17,15 @@ offset_bounds-as_slice-first c =
 
 pub returns-in-Some-clause-delays : goal.returns-in-Some-clause-delays
 returns-in-Some-clause-delays c =
-    let cell = data_of c.args.cell.now in
-    let v = c.args.inputs.now in
+    let cell = data_of c.args.arcs.now.cell.now in
+    let v = c.args.arcs.now.inputs.now in
     pair-delays cell v c.args.places.now c.args.first c.in-Some.delays c.requires.pair c.requires.first
     (kept_at (AreDelaysAt cell v) _ c.args.kept.now.delays c.args.first None c.in-Some.delays c.requires.kept.delays_are c.requires.inside
     (ap (λ ks. get_or ks c.args.first None) (sym c.as_slice.ensures) ∙ c.in-Some.is))
 
 pub least_delays-delays-requires-clause-below : goal.least_delays-delays-requires-clause-below
 least_delays-delays-requires-clause-below c =
-    let cell = data_of c.args.cell.now in
+    let cell = data_of c.args.arcs.now.cell.now in
     let pair = c.requires.pair in
     subst (AreBelow (length cell.arcs)) (sym pair.are) (places-below (is_between cell.pins pair.input pair.output.pin) cell.arcs)
 
@@ -34,8 +34,8 @@ set-requires c = omega (arith, c.requires.inside, c.requires.kept.delays_are.0)
 
 pub returns-clause-kept : goal.returns-clause-kept
 returns-clause-kept c =
-    let cell = data_of c.args.cell.now in
-    let v = c.args.inputs.now in
+    let cell = data_of c.args.arcs.now.cell.now in
+    let v = c.args.arcs.now.inputs.now in
     record {
       conditions_are = c.least_delays-delays.ensures.kept;
       delays_are =

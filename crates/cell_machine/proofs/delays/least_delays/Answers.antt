@@ -12,7 +12,7 @@ use Rattle.cell_machine.proofs.delays.least_delays.Goals as goal
 
 pub loop-i-preserved : goal.loop-i-preserved
 loop-i-preserved c =
-    let cell = c.args.cell.now in
+    let cell = c.args.arcs.now.cell.now in
     let places = c.args.places.now in
     let pair = entries_at cell.arcs places in
     let few : c.loop-i.i < length places = omega arith in
@@ -21,13 +21,13 @@ loop-i-preserved c =
     let is = c.arc_delays.ensures.delays here.0 (sym (entries-get cell.arcs places c.loop-i.i c.requires.below few) ∙ here.1) in
     record {
       rise =
-          ap (λ (d : Delays). lesser d.rise (least_of cell.pins pair c.args.inputs.now Zero One (drop (c.loop-i.i + 1) pair))) c.lesser-best.ensures
-          ∙ least_of-more cell.pins pair c.args.inputs.now Zero One pair c.loop-i.i here.0 c.loop-i.best.rise c.arc_delays.result.rise
+          ap (λ (d : Delays). lesser d.rise (least_of cell.pins pair c.args.arcs.now.inputs.now Zero One (drop (c.loop-i.i + 1) pair))) c.lesser-best.ensures
+          ∙ least_of-more cell.pins pair c.args.arcs.now.inputs.now Zero One pair c.loop-i.i here.0 c.loop-i.best.rise c.arc_delays.result.rise
           here.1 (ap (λ (d : Delays). d.rise) is)
           ∙ c.loop-i.invariant.rise;
       fall =
-          ap (λ (d : Delays). lesser d.fall (least_of cell.pins pair c.args.inputs.now One Zero (drop (c.loop-i.i + 1) pair))) c.lesser-best.ensures
-          ∙ least_of-more cell.pins pair c.args.inputs.now One Zero pair c.loop-i.i here.0 c.loop-i.best.fall c.arc_delays.result.fall
+          ap (λ (d : Delays). lesser d.fall (least_of cell.pins pair c.args.arcs.now.inputs.now One Zero (drop (c.loop-i.i + 1) pair))) c.lesser-best.ensures
+          ∙ least_of-more cell.pins pair c.args.arcs.now.inputs.now One Zero pair c.loop-i.i here.0 c.loop-i.best.fall c.arc_delays.result.fall
           here.1 (ap (λ (d : Delays). d.fall) is)
           ∙ c.loop-i.invariant.fall;
       kept = c.arc_delays.ensures.kept;
@@ -35,9 +35,9 @@ loop-i-preserved c =
 
 pub returns-clause-delays : goal.returns-clause-delays
 returns-clause-delays c =
-    let cell = c.args.cell.now in
+    let cell = c.args.arcs.now.cell.now in
     let places = c.args.places.now in
-    let v = c.args.inputs.now in
+    let v = c.args.arcs.now.inputs.now in
     let pair = entries_at cell.arcs places in
     let best = c.loop-i.best in
     let few : length places ≤ c.loop-i.i = omega arith in

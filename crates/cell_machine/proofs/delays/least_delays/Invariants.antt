@@ -11,11 +11,11 @@ abbrev pub invariant-loop-i : goal.invariant-loop-i
 invariant-loop-i l = record {
   rise :
       lesser l.best.rise
-      (least_of l.cell.pins (entries_at l.cell.arcs l.places) l.inputs Zero One (drop l.i (entries_at l.cell.arcs l.places)))
-      ≡ least_of l.cell.pins (entries_at l.cell.arcs l.places) l.inputs Zero One (entries_at l.cell.arcs l.places);
+      (least_of l.arcs.cell.now.pins (entries_at l.arcs.cell.now.arcs l.places) l.arcs.inputs.now Zero One (drop l.i (entries_at l.arcs.cell.now.arcs l.places)))
+      ≡ least_of l.arcs.cell.now.pins (entries_at l.arcs.cell.now.arcs l.places) l.arcs.inputs.now Zero One (entries_at l.arcs.cell.now.arcs l.places);
   fall :
       lesser l.best.fall
-      (least_of l.cell.pins (entries_at l.cell.arcs l.places) l.inputs One Zero (drop l.i (entries_at l.cell.arcs l.places)))
-      ≡ least_of l.cell.pins (entries_at l.cell.arcs l.places) l.inputs One Zero (entries_at l.cell.arcs l.places);
-  kept : AreConditions l.cell.pins l.inputs l.cell.arcs l.kept;
+      (least_of l.arcs.cell.now.pins (entries_at l.arcs.cell.now.arcs l.places) l.arcs.inputs.now One Zero (drop l.i (entries_at l.arcs.cell.now.arcs l.places)))
+      ≡ least_of l.arcs.cell.now.pins (entries_at l.arcs.cell.now.arcs l.places) l.arcs.inputs.now One Zero (entries_at l.arcs.cell.now.arcs l.places);
+  kept : AreConditions l.arcs.cell.now.pins l.arcs.inputs.now l.arcs.cell.now.arcs l.kept;
 }

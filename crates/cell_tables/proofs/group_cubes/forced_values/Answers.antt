@@ -1,37 +1,21 @@
-use Rattle.std.proofs.Common.{◌≡◌, ◌+◌, ◌^◌, vec_len, slice_index_or, refl, ap, ◌∙◌, subst, inl, inr, rules, arith}
-use Rattle.std.proofs.lemmas.Bool.{cases_lt}
-use Rattle.trit_cubes.specs.declared.trits.Trit.TheVariants.{Unknown}
-use Rattle.trit_cubes.specs.Sets.{AreValuesOf, point_of}
-use Rattle.trit_cubes.proofs.PointLemmas.{values-points}
+use Rattle.std.proofs.Common.{◌≡◌, ◌^◌, ◌∙◌, subst, arith}
+use Rattle.trit_cubes.specs.Sets.{AreValuesOf}
 use Rattle.cell_machine.specs.Machine.{forced_at}
 use Rattle.cell_machine.specs.CellData.{data_of}
 use Rattle.cell_machine.specs.CellTrace.{step_at}
+use Rattle.cell_tables.proofs.NumberedValues.{numbered-more, numbered-all}
 use Rattle.cell_tables.proofs.group_cubes.forced_values.Goals as goal
 
 pub loop-number-preserved : goal.loop-number-preserved
 loop-number-preserved c =
-    let f = forced_at (step_at (data_of c.args.steps.now.cell.now) c.args.steps.now.group) in
-    let so_far = c.loop-number.invariant in
-    let pushed = c.in_ok-push.ensures in
-    let number = c.loop-number.number in (
-      pushed.len ∙ ap (λ n. n + 1) so_far.0,
-      λ j l.
-          elim (cases_lt j number) [
-            | inl below ↦ pushed.by_index.0 j Unknown (omega (arith, so_far.0, below)) ∙ so_far.1 j below
-            | inr least ↦
-                let here : j ≡ vec_len c.loop-number.values = omega (arith, so_far.0, least, l) in
-                let numbered : number ≡ j = omega (arith, least, l) in
-                ap (λ k. slice_index_or c.push.new.self.items k Unknown) here ∙ pushed.by_index.1 Unknown refl ∙ c.forced.ensures
-                ∙ ap (λ k. f (point_of c.args.steps.now.places k)) numbered
-          ],
-    )
+    c.in_ok-push.ensures.items
+    ∙ numbered-more c.args.steps.now.places (forced_at (step_at (data_of c.args.steps.now.cell.now) c.args.steps.now.group))
+    c.loop-number.number c.loop-number.values.items c.forced.result c.loop-number.invariant c.forced.ensures
 
 pub returns : goal.returns
 returns c =
-    let places = c.args.steps.now.places in
     let f = forced_at (step_at (data_of c.args.steps.now.cell.now) c.args.steps.now.group) in
-    let all : c.loop-number.number ≡ 2 ^ places
+    let all : c.loop-number.number ≡ 2 ^ c.args.steps.now.places
     = omega (arith, c.point_count-points.ensures.is, c.loop-number-test.false, c.loop-number.auto.number-end) in
     subst (λ n. AreValuesOf n f c.loop-number.values.items) c.args.steps.now.are_places
-    (values-points places f c.loop-number.values.items (search rules ∙ c.loop-number.invariant.0 ∙ all)
-    (λ j l. c.loop-number.invariant.1 j (omega (arith, all, l))))
+    (numbered-all c.args.steps.now.places f c.loop-number.number c.loop-number.values.items all c.loop-number.invariant)

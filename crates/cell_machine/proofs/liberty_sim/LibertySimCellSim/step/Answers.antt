@@ -4,15 +4,14 @@ use Rattle.trit_cubes.specs.declared.trits.Trit.TheVariants.{Zero, Unknown}
 use Rattle.cell_machine.specs.declared.cell_start.CellStart.{CellStart}
 use Rattle.cell_machine.specs.Report.{any_true}
 use Rattle.cell_machine.specs.Times.{no_times, stamped}
-use Rattle.cell_machine.specs.Places.{AreBelow}
 use Rattle.cell_machine.specs.CellData.{data_of}
 use Rattle.cell_machine.specs.CellTrace.{inputs_of}
 use Rattle.cell_machine.specs.KeptConditions.{AreForgotten}
 use Rattle.cell_machine.specs.KeptArcs.{AreKeptArcs}
-use Rattle.cell_machine.specs.ArcPlaces.{arcs_naming, arcs_from, firsts_naming}
+use Rattle.cell_machine.specs.ArcPlaces.{arcs_from}
 use Rattle.cell_machine.proofs.RuleLemmas.{checks_hold}
 use Rattle.cell_machine.proofs.KeptValues.{range-at}
-use Rattle.cell_machine.proofs.ForgottenArcs.{each-input, naming-below, pairs-below, left-is-kept}
+use Rattle.cell_machine.proofs.ForgottenArcs.{entries-there, forgotten-below, left-is-kept}
 use Rattle.cell_machine.proofs.Standing.{change-stands}
 use Rattle.cell_machine.proofs.liberty_sim.LibertySimCellSim.step.Goals as goal
 
@@ -41,35 +40,29 @@ returns-clause-stands c = λ h st.
 pub entry-requires : goal.entry-requires
 entry-requires c =
     let sim = c.args.self.now in
-    let cell = data_of sim.cell.now in
-    subst (λ (k : CellStart). c.args.pin < length k.places.between) (sym c.get-3.ensures)
-    (each-input cell (arcs_from cell) sim.known.places.between c.args.pin sim.placed_arcs.between_are c.requires.pin)
+    (entries-there (data_of sim.cell.now) c.get-3.result.now sim.known c.args.pin c.get-3.ensures sim.placed_arcs c.requires.pin).between
 
 pub forget-requires-clause-naming : goal.forget-requires-clause-naming
 forget-requires-clause-naming c =
     let sim = c.args.self.now in
-    let cell = data_of sim.cell.now in
-    subst (λ (k : CellStart). c.args.pin < length k.places.naming) (sym c.get-3.ensures)
-    (each-input cell (arcs_naming cell) sim.known.places.naming c.args.pin sim.placed_arcs.naming_are c.requires.pin)
+    (entries-there (data_of sim.cell.now) c.get-3.result.now sim.known c.args.pin c.get-3.ensures sim.placed_arcs c.requires.pin).naming
 
 pub forget-requires-clause-firsts : goal.forget-requires-clause-firsts
 forget-requires-clause-firsts c =
     let sim = c.args.self.now in
-    let cell = data_of sim.cell.now in
-    subst (λ (k : CellStart). c.args.pin < length k.places.firsts) (sym c.get-3.ensures)
-    (each-input cell (firsts_naming cell) sim.known.places.firsts c.args.pin sim.placed_arcs.firsts_are c.requires.pin)
+    (entries-there (data_of sim.cell.now) c.get-3.result.now sim.known c.args.pin c.get-3.ensures sim.placed_arcs c.requires.pin).firsts
 
 pub forget-requires-clause-conditions : goal.forget-requires-clause-conditions
 forget-requires-clause-conditions c =
     let sim = c.args.self.now in
-    subst (λ (k : CellStart). AreBelow (length sim.kept.conditions) (get_or k.places.naming c.args.pin [])) (sym c.get-3.ensures)
-    (naming-below (data_of sim.cell.now) sim.inputs sim.known.places sim.kept c.args.pin sim.placed_arcs c.requires.time.1.0.kept_are c.requires.pin)
+    (forgotten-below (data_of sim.cell.now) c.get-3.result.now sim.known sim.kept c.args.pin c.get-3.ensures sim.placed_arcs
+    c.requires.time.1.0.kept_are c.requires.pin).0
 
 pub forget-requires-clause-delays : goal.forget-requires-clause-delays
 forget-requires-clause-delays c =
     let sim = c.args.self.now in
-    subst (λ (k : CellStart). AreBelow (length sim.kept.delays) (get_or k.places.firsts c.args.pin [])) (sym c.get-3.ensures)
-    (pairs-below (data_of sim.cell.now) sim.inputs sim.known.places sim.kept c.args.pin sim.placed_arcs c.requires.time.1.0.kept_are c.requires.pin)
+    (forgotten-below (data_of sim.cell.now) c.get-3.result.now sim.known sim.kept c.args.pin c.get-3.ensures sim.placed_arcs
+    c.requires.time.1.0.kept_are c.requires.pin).1
 
 pub show_all-requires-clause-places : goal.show_all-requires-clause-places
 show_all-requires-clause-places c =

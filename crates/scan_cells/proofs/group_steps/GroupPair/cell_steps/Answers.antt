@@ -1,20 +1,8 @@
-use Rattle.std.proofs.Common.{ap, ◌∙◌}
-use Rattle.cell_machine.specs.CellData.{data_of}
-use Rattle.step_tables.specs.declared.group_points.StateSteps.{StateSteps}
-use Rattle.scan_cells.specs.Views.{view_data}
-use Rattle.scan_cells.specs.Comparison.{cell_support, step_places, cell_step}
-use Rattle.scan_cells.proofs.WeightLemmas.{steps_weighed}
+use Rattle.std.proofs.Common.{◌∙◌}
+use Rattle.scan_cells.specs.Comparison.{cell_step}
+use Rattle.scan_cells.proofs.WeightLemmas.{are_steps}
 use Rattle.scan_cells.proofs.group_steps.GroupPair.cell_steps.Goals as goal
 
 pub returns : goal.returns
 unfolding cell_step
-returns c =
-    let self = c.args.self.now in
-    let cell = data_of self.cell.now in
-    let view = view_data self.over.view.now in
-    let g = self.group in
-    let same = c.steps.ensures
-    ∙ steps_weighed (data_of self.of_cell.table.cell.now) cell self.of_cell.table.group g self.over.places (step_places cell view g)
-    (cell_support cell g) self.of_cell.numbering.weights c.args.before c.args.after (ap data_of self.is_cell) self.is_of_cell
-    self.weigh_cell self.are_places in
-    record { «zero» = ap (λ (steps : StateSteps). steps.zero) same; one = ap (λ (steps : StateSteps). steps.one) same }
+returns c = c.steps.ensures ∙ are_steps _ _ _ _ _ _ c.args.before c.args.after c.args.self.now.tells_cell c.args.self.now.are_places

@@ -28,14 +28,18 @@ invariant_of-result c =
           c.of-over.ensures.places
           ∙ (λ i. places_of cell ((c.as_slice-4.ensures ∙ of_cell) i) ((c.as_slice-5.ensures ∙ of_view) i));
       inside = c.requires.group;
-      is_cell = c.of.ensures.cell;
-      is_view = c.of-2.ensures.cell ∙ ap (λ (v : View). v.cell) (sym c.of-over.ensures.view);
-      is_of_cell = c.of.ensures.group;
-      is_of_view = c.of-2.ensures.group;
-      weigh_cell =
-          c.of.ensures.weights ∙ (λ i. map (weight_of (c.as_slice-6.ensures.is i)) ((c.as_slice-7.ensures ∙ of_cell) i));
-      weigh_view =
-          c.of-2.ensures.weights ∙ (λ i. map (weight_of (c.as_slice-8.ensures.is i)) ((c.as_slice-9.ensures ∙ of_view) i));
+      tells_cell = record {
+        of_cell = c.of.ensures.cell;
+        of_group = c.of.ensures.group;
+        weigh =
+            c.of.ensures.weights ∙ (λ i. map (weight_of (c.as_slice-6.ensures.is i)) ((c.as_slice-7.ensures ∙ of_cell) i));
+      };
+      tells_view = record {
+        of_cell = c.of-2.ensures.cell ∙ ap (λ (v : View). v.cell) (sym c.of-over.ensures.view);
+        of_group = c.of-2.ensures.group;
+        weigh =
+            c.of-2.ensures.weights ∙ (λ i. map (weight_of (c.as_slice-8.ensures.is i)) ((c.as_slice-9.ensures ∙ of_view) i));
+      };
       is_cell_mask =
           mask_of given view c.of-over.result.places c.as_slice-4.result.now (cell_support cell g) c.of-over.result.cell_mask same
           (c.as_slice-4.ensures ∙ of_cell) c.of-over.ensures.cell_mask;

@@ -29,12 +29,16 @@ invariant_of-result c =
       in_cell = c.requires.output;
       in_view = subst (λ (v : View). j < length v.cell.outputs) (sym c.of-over.ensures.view) c.requires.view_output;
       are_places = c.of-over.ensures.places ∙ (λ t. places_of cell (of_cell t) ((c.as_slice-2.ensures ∙ of_view) t));
-      is_cell = c.of.ensures.cell;
-      is_view = c.of-2.ensures.cell ∙ ap (λ (v : View). v.cell) (sym c.of-over.ensures.view);
-      is_of_cell = c.of.ensures.output;
-      is_of_view = c.of-2.ensures.output;
-      weigh_cell = c.of.ensures.weights ∙ (λ t. map (weight_of (c.as_slice-3.ensures.is t)) (of_cell t));
-      weigh_view = c.of-2.ensures.weights ∙ (λ t. map (weight_of (c.as_slice-4.ensures.is t)) ((c.as_slice-5.ensures ∙ of_view) t));
+      tells_cell = record {
+        of_cell = c.of.ensures.cell;
+        of_output = c.of.ensures.output;
+        weigh = c.of.ensures.weights ∙ (λ t. map (weight_of (c.as_slice-3.ensures.is t)) (of_cell t));
+      };
+      tells_view = record {
+        of_cell = c.of-2.ensures.cell ∙ ap (λ (v : View). v.cell) (sym c.of-over.ensures.view);
+        of_output = c.of-2.ensures.output;
+        weigh = c.of-2.ensures.weights ∙ (λ t. map (weight_of (c.as_slice-4.ensures.is t)) ((c.as_slice-5.ensures ∙ of_view) t));
+      };
       is_cell_mask =
           mask_of given view c.of-over.result.places c.as_slice-of_cell.result.now (sources_at cell i) c.of-over.result.cell_mask same
           of_cell c.of-over.ensures.cell_mask;

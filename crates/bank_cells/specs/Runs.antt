@@ -72,7 +72,7 @@ have_same vectors group one other =
 pub record AreOfOneGroup (statements : Statements) : Type 0 where
   pub shared : map shown_shared statements.shared.items ≡ shared_items statements.vectors.now statements.group.now.items
   pub stay : statements.stay ≡ list_all (shared_stays statements.vectors.now) statements.group.now.items
-  pub pins : map (λ pin. pin.now) statements.pins.items ≡ inner_pins statements.group.now.items
+  pub pins : statements.pins ≡ inner_pins statements.group.now.items
   pub inner : map shown_inner statements.inner.items ≡ judged_pins statements.vectors.now statements.group.now.items
 
 -- Neighbours with the same statements: the first of them, and the names of all.

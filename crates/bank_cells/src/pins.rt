@@ -9,7 +9,7 @@ use crate::rewritten::pin_text;
 use crate::room::with_room;
 use crate::shared::{Shared, add_shared_at};
 use crate::timings::timing_at;
-use bank_refusals::{Member, Place, all_items, own_items};
+use bank_refusals::{InnerPins, Member, Place, all_items, named_items};
 use bus_texts::{Vectors, is_called};
 use liberty_groups::{Group, Item, copy_item};
 use sqlite_items::Items;
@@ -51,11 +51,11 @@ pub(crate) fn member_pin_items(
     alloc: Global,
     vectors: &Vectors,
     group: &Group,
-    pins: &[&Group],
+    pins: &InnerPins<'_>,
     shared: &[Shared<'_>],
     member: Member<'_>,
 ) -> Result<Items<Item>, AllocError>
-    requires pins { map (λ pin. pin.now) pins.now ≡ inner_pins group.now.items }
+    requires pins { pins.now ≡ inner_pins group.now.items }
     requires shared { map shown_shared shared.now ≡ shared_items vectors.now group.now.items }
     ensures { IfOk result
         (λ items.
@@ -63,7 +63,7 @@ pub(crate) fn member_pin_items(
         ≡ map (spec.pin_item vectors.now (Some member.entry.at))
         (member_items group.now member.entry.vector.now member.entry.at member.entry.name.now)) }
 {
-    let own = own_items(alloc, pins, member)?;
+    let own = named_items(alloc, pins, member)?;
     let mut items = with_room(alloc, shared.len())?;
     let position = Some(member.at);
     add_shared_at(alloc, &mut items, vectors, member.at, shared)?;

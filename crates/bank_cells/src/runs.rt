@@ -7,7 +7,7 @@ use crate::inner_pins::{InnerPin, all_shared_stay, judged_pins, same_of_all};
 use crate::pins::member_pin_items;
 use crate::shared::{Shared, shared_items};
 use crate::sink::ItemSink;
-use bank_refusals::{Member, inner_pins};
+use bank_refusals::{InnerPins, Member, indexed_pins};
 use bus_texts::{Vector, Vectors};
 use liberty_groups::{Group, Item, Value, Values, copy_arguments, copy_text};
 use std::alloc::{AllocError, Global};
@@ -76,7 +76,7 @@ struct Statements<'a> {
     shared: Vec<Shared<'a>>,
     /// The shared ones become the same at each position.
     stay: bool,
-    pins: Vec<&'a Group>,
+    pins: InnerPins<'a>,
     /// The inner pins, with whether their statements become the same at each position.
     inner: Vec<InnerPin<'a>>,
 }
@@ -95,8 +95,8 @@ impl<'a> Statements<'a> {
         let items = group.items.as_slice();
         let shared = shared_items(alloc, vectors, items)?;
         let stay = all_shared_stay(alloc, vectors, items)?;
-        let pins = inner_pins(alloc, items)?;
-        let inner = judged_pins(alloc, vectors, &pins)?;
+        let pins = indexed_pins(alloc, items)?;
+        let inner = judged_pins(alloc, vectors, pins.groups())?;
         Ok(Statements {
             vectors,
             group,

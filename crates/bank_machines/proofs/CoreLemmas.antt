@@ -1,23 +1,20 @@
 -- The statements of a core: its states, its pins and their texts.
 use Rattle.std.proofs.Common.{◌≡◌, ℕ, ◌+◌, Bool, true, false, List, [], ◌∷◌, ◌++◌, length, map, filter, Option, None, Some}
-use Rattle.std.proofs.Common.{if◌then◌else◌, refl, sym, ap, subst, ◌∙◌, codes, decimal, append-nil, arith, append_assoc}
+use Rattle.std.proofs.Common.{if◌then◌else◌, refl, sym, ap, subst, ◌∙◌, codes, append-nil, arith, append_assoc}
 use Rattle.std.specs.Prelude.{flat_map, bytes_eq}
 use Rattle.std.specs.List.{cons_option, AllByRecursion}
 use Rattle.std.proofs.lemmas.Bool.{and_parts}
-use Rattle.std.proofs.lemmas.List.{map-append}
-use Rattle.std.proofs.lemmas.Slice.Eq.{bytes_eq-Decides}
-use Rattle.liberty_groups.specs.declared.tree.Value.{Value}
 use Rattle.liberty_groups.specs.declared.tree.Item.{Item, out-Item}
 use Rattle.liberty_groups.specs.declared.tree.Item.TheOpen.{Item-F, Group-F}
 use Rattle.liberty_groups.specs.declared.tree.Item.TheOpen as layer
 use Rattle.liberty_groups.specs.declared.tree.Item.TheVariants as made
-use Rattle.liberty_groups.specs.declared.tree.Item.TheViews.{outs-Simple, out-roll-Group}
-use Rattle.liberty_groups.specs.declared.tree.Group.{Group, roll-Group}
-use Rattle.liberty_groups.specs.Attributes.{Attribute, text_of, simple_named, attributes_named, last_or, attribute_of}
+use Rattle.liberty_groups.specs.declared.tree.Item.TheViews.{out-roll-Group}
+use Rattle.liberty_groups.specs.declared.tree.Group.{Group}
+use Rattle.liberty_groups.specs.Attributes.{Attribute, simple_named, attributes_named, last_or, attribute_of}
 use Rattle.cell_machine.specs.declared.groups.StateGroup.{StateGroup}
 use Rattle.cell_machine.specs.declared.pins.Direction.{Direction}
 use Rattle.cell_machine.specs.declared.pins.Direction.TheVariants as direction
-use Rattle.cell_attributes.specs.Groups.{inner_of, is_pin, is_state}
+use Rattle.cell_attributes.specs.Groups.{inner_of, inner_groups, is_pin, is_state}
 use Rattle.cell_attributes.specs.Pins.{direction_as, direction_of, owner_as, owners_in}
 use Rattle.cell_attributes.specs.Scans.{is_output_group}
 use Rattle.cell_attributes.specs.Vocabulary.{Vocabulary}
@@ -26,11 +23,16 @@ use Rattle.cell_attributes.specs.Outputs.{node_as, output_with, pin_text_as, pin
 use Rattle.cell_attributes.specs.Building.{output_pin, output_in, outputs_from}
 use Rattle.three_state_cells.specs.Outputs.{ThreeStateOutput, three_state_of, is_three_state}
 use Rattle.three_state_cells.specs.CoreGroups.{stays_in_core, core_pin, core_statement_as, core_statement, one_value}
-use Rattle.three_state_cells.specs.CoreGroups.{enable_function, enable_statements, enable_pin_of, enable_pins}
-use Rattle.three_state_cells.proofs.Statements.{not_false, attributes_kept}
+use Rattle.three_state_cells.specs.CoreGroups.{enable_function, enable_pin_of, enable_pins}
+use Rattle.three_state_cells.specs.Trimmed.{in_core}
+use Rattle.three_state_cells.proofs.Statements.{attributes_kept}
+use Rattle.three_state_cells.proofs.CorePins.{core_as, enable_as}
+use Rattle.three_state_cells.proofs.Cores.{inner_in_core}
+use Rattle.three_state_cells.proofs.CoreOwners.{owners_in_core, enable_group}
+use Rattle.three_state_cells.proofs.UntimedCores.{gone, its_attributes}
 use Rattle.bus_texts.specs.Vectors.{is_called}
 use Rattle.bank_machines.proofs.StateLists.{single_states, states_append, inner_cons, state_word, pin_apart}
-use Rattle.bank_machines.proofs.PinLists.{owner_list, owners_append, owned, inner_cons as owner_cons, pin_word}
+use Rattle.bank_machines.proofs.PinLists.{owner_list, owners_append, inner_cons as owner_cons, pin_word}
 use Rattle.bank_machines.proofs.PinLemmas.{ReadsText}
 
 -- Texts of a pin of the core.
@@ -39,29 +41,11 @@ pub three_state_pin : (group : Group) → is_three_state group ≡ true → is_c
 unfolding is_three_state
 three_state_pin group h = (and_parts (is_called (codes "pin") group) _ (and_parts (is_pin group) _ h).0).0
 
-abbrev core_as : Group → Group-F Item Group
-core_as pin = record {
-  name = pin.name;
-  arguments = pin.arguments;
-  items =
-      filter (λ item. stays_in_core (out-Item item)) pin.items;
-  at = pin.at;
-}
-
-module _ (name : List ℕ) (other : bytes_eq (codes "three_state") name ≡ false) where
-  gone : (one : Item-F Item Group) → stays_in_core one ≡ false → simple_named name one ≡ None
-  gone (layer.Simple n value at) h =
-      let named : n ≡ codes "three_state" =
-      (bytes_eq-Decides n (codes "three_state")).0 (not_false (bytes_eq n (codes "three_state")) h) in
-      ap (λ m. if bytes_eq m name then Some (record { text = text_of value; at = at }) else None) named
-      ∙ ap (λ b. if b then Some (record { text = text_of value; at = at }) else None) other
-  gone (layer.Complex n arguments at) h = refl
-  gone (layer.Inner group) h = refl
-
-  core_attribute : (pin : Group) → attribute_of (core_pin pin) name ≡ attribute_of pin name
-  core_attribute pin =
-      ap (λ (one : Group-F Item Group). last_or None (attributes_named name one.items)) (out-roll-Group (core_as pin))
-      ∙ ap (λ (found : List Attribute). last_or None found) (attributes_kept name stays_in_core gone pin.items)
+core_attribute : (name : List ℕ) → bytes_eq (codes "three_state") name ≡ false → (pin : Group)
+    → attribute_of (core_pin pin) name ≡ attribute_of pin name
+core_attribute name other pin =
+    ap (λ (one : Group-F Item Group). last_or None (attributes_named name one.items)) (out-roll-Group (core_as pin))
+    ∙ ap (λ (found : List Attribute). last_or None found) (attributes_kept name stays_in_core (gone name other) pin.items)
 
 core_direction : (pin : Group) → direction_of (core_pin pin) ≡ direction_of pin
 core_direction pin = ap direction_as (core_attribute (codes "direction") refl pin)
@@ -82,24 +66,17 @@ core_text v pin = ap (pin_text_as v (core_pin pin)) (core_direction pin) ∙ by 
         (core_attribute (codes "function") refl pin))
     by (Some direction.Internal) = ap (node_as v) (core_attribute (codes "internal_node") refl pin)
 
--- the group of a pin in the core
-abbrev pub core_owner : Group → Group
-core_owner group = if is_three_state group then core_pin group else group
-
 core_named : (pin : Group) → (core_pin pin).name ≡ pin.name
 core_named pin = ap (λ (one : Group-F Item Group). one.name) (out-roll-Group (core_as pin))
 
-core_arguments : (pin : Group) → (core_pin pin).arguments ≡ pin.arguments
-core_arguments pin = ap (λ (one : Group-F Item Group). one.arguments) (out-roll-Group (core_as pin))
-
-owner_text : (v : Vocabulary) (group : Group) → pin_text v (core_owner group) ≡ pin_text v group
+owner_text : (v : Vocabulary) (group : Group) → pin_text v (in_core group) ≡ pin_text v group
 owner_text v group = by (is_three_state group)
   where
     by : (b : Bool) → pin_text v (if b then core_pin group else group) ≡ pin_text v group
     by true = core_text v group
     by false = refl
 
-owner_direction : (group : Group) → direction_of (core_owner group) ≡ direction_of group
+owner_direction : (group : Group) → direction_of (in_core group) ≡ direction_of group
 owner_direction group = by (is_three_state group)
   where
     by : (b : Bool) → direction_of (if b then core_pin group else group) ≡ direction_of group
@@ -135,18 +112,6 @@ core_states (item ∷ items) =
     ∙ (ap (λ gs. single_states (item ∷ []) ++ gs) (core_states items) ∙ sym (states_append (item ∷ []) items)))
 
 -- The pins that are added.
-
-abbrev enable_as : ℕ → Attribute → Group-F Item Group
-enable_as number floats = record {
-  name = codes "pin";
-  arguments = one_value (codes "-e" ++ decimal (number + 1));
-  items =
-      enable_statements floats;
-  at = floats.at;
-}
-
-abbrev pub enable_group : ℕ → Attribute → Group
-enable_group number floats = roll-Group (enable_as number floats)
 
 abbrev pub enable_owner_of : ℕ → Option Attribute → List Group
 enable_owner_of number None = []
@@ -184,67 +149,9 @@ states_of_core items outputs =
 
 -- Pins.
 
-through_all : (owner : Group → Group) (group single : Group) → owner group ≡ single → (arguments : List Value)
-    → map (owner_as single) arguments ≡ map owner (map (owner_as group) arguments)
-through_all owner group single e [] = refl
-through_all owner group single e (value ∷ arguments) =
-    ap (λ (g : Group). g ∷ map (owner_as single) arguments) (sym e)
-    ∙ ap (λ gs. owner group ∷ gs) (through_all owner group single e arguments)
-
-owned_through :
-    (owner : Group → Group) (group single : Group) → owner group ≡ single → single.name ≡ group.name
-    → single.arguments ≡ group.arguments
-    → owned single ≡ map owner (owned group)
-owned_through owner group single e named same =
-    ap (λ name. if pin_word name single.arguments then map (owner_as single) single.arguments else []) named
-    ∙ (ap (λ arguments. if pin_word group.name arguments then map (owner_as single) arguments else []) same ∙ by (is_pin group))
-  where
-    by : (b : Bool) → (if b then map (owner_as single) group.arguments else []) ≡ map owner
-        (if b then map (owner_as group) group.arguments else [])
-    by true = through_all owner group single e group.arguments
-    by false = refl
-
-own_list : (item : Item) (group : Group) → out-Item item ≡ layer.Inner group → owner_list (item ∷ []) ≡ owned group
-own_list item group e =
-    ap (λ one. flat_map owners_in (filter is_pin (cons_option (inner_of one) []))) e ∙ by (is_pin group) refl
-  where
-    by : (b : Bool) → is_pin group ≡ b → flat_map owners_in (filter is_pin (group ∷ [])) ≡ owned group
-    by true t = rw t (append-nil (owners_in group))
-    by false t = rw t refl
-
-by_owner : (item : Item) (group : Group) (b : Bool) → out-Item item ≡ layer.Inner group → is_three_state group ≡ b
-    → owner_list ((if b then made.Inner (core_pin group) else item) ∷ []) ≡ map core_owner (owner_list (item ∷ []))
-by_owner item group true e t =
-    let chosen : core_owner group ≡ core_pin group = ap (λ b. if b then core_pin group else group) t in
-    owner_cons (core_pin group) []
-    ∙ (append-nil (owned (core_pin group))
-    ∙ (owned_through core_owner group (core_pin group) chosen (core_named group) (core_arguments group)
-    ∙ sym (ap (map core_owner) (own_list item group e))))
-by_owner item group false e t =
-    let chosen : core_owner group ≡ group = ap (λ b. if b then core_pin group else group) t in
-    own_list item group e
-    ∙ (owned_through core_owner group group chosen refl refl ∙ sym (ap (map core_owner) (own_list item group e)))
-
-abbrev listed : Item-F Item Group → List Group
-listed one = flat_map owners_in (filter is_pin (cons_option (inner_of one) []))
-
-owner_statement : (item : Item) → owner_list (core_statement item ∷ []) ≡ map core_owner (owner_list (item ∷ []))
-owner_statement item = by (out-Item item) refl
-  where
-    by : (one : Item-F Item Group) → out-Item item ≡ one
-        → owner_list (core_statement_as item one ∷ []) ≡ map core_owner (owner_list (item ∷ []))
-    by (layer.Simple name value at) e = ap listed e ∙ sym (ap (λ one. map core_owner (listed one)) e)
-    by (layer.Complex name arguments at) e = ap listed e ∙ sym (ap (λ one. map core_owner (listed one)) e)
-    by (layer.Inner group) e = by_owner item group (is_three_state group) e refl
-
-core_owners : (items : List Item) → owner_list (map core_statement items) ≡ map core_owner (owner_list items)
-core_owners [] = refl
-core_owners (item ∷ items) =
-    owners_append (core_statement item ∷ []) (map core_statement items)
-    ∙ (ap (λ gs. gs ++ owner_list (map core_statement items)) (owner_statement item)
-    ∙ (ap (λ gs. map core_owner (owner_list (item ∷ [])) ++ gs) (core_owners items)
-    ∙ (sym (map-append core_owner (owner_list (item ∷ [])) (owner_list items))
-    ∙ sym (ap (map core_owner) (owners_append (item ∷ []) items)))))
+core_owners : (items : List Item) → owner_list (map core_statement items) ≡ map in_core (owner_list items)
+core_owners items =
+    ap (λ groups. flat_map owners_in (filter is_pin groups)) (inner_in_core items) ∙ owners_in_core (inner_groups items)
 
 by_enable_owner : (number : ℕ) (floats : Option Attribute)
     → owner_list (enable_pin_of number floats) ≡ enable_owner_of number floats
@@ -266,12 +173,12 @@ enables_owned number (output ∷ outputs) =
 -- the pins of a core
 pub owners_of_core :
     (items : List Item) (outputs : List ThreeStateOutput)
-    → owner_list (map core_statement items ++ enable_pins 0 outputs) ≡ map core_owner (owner_list items)
+    → owner_list (map core_statement items ++ enable_pins 0 outputs) ≡ map in_core (owner_list items)
     ++ enable_owners 0 outputs
 owners_of_core items outputs =
     owners_append (map core_statement items) (enable_pins 0 outputs)
     ∙ (ap (λ gs. gs ++ owner_list (enable_pins 0 outputs)) (core_owners items)
-    ∙ ap (λ gs. map core_owner (owner_list items) ++ gs) (enables_owned 0 outputs))
+    ∙ ap (λ gs. map in_core (owner_list items) ++ gs) (enables_owned 0 outputs))
 
 -- Outputs.
 
@@ -291,22 +198,22 @@ module _ (v : Vocabulary) (pins : ℕ) (states : List StateGroup) (to : List ℕ
       (outputs_from v pins states to (number + length (x ∷ xs)) ys))
 
   core_output : (number : ℕ) (group : Group)
-      → output_in v pins states to number (core_owner group) ≡ output_in v pins states to number group
+      → output_in v pins states to number (in_core group) ≡ output_in v pins states to number group
   core_output number group =
-      ap (λ d. if is_output_group d then output_pin pins states to number (pin_text v (core_owner group)) ∷ [] else [])
+      ap (λ d. if is_output_group d then output_pin pins states to number (pin_text v (in_core group)) ∷ [] else [])
       (owner_direction group)
       ∙ ap (λ t. if is_output_group (direction_of group) then output_pin pins states to number t ∷ [] else [])
       (owner_text v group)
 
   pub core_outputs :
       (groups : List Group) (number : ℕ)
-      → outputs_from v pins states to number (map core_owner groups) ≡ outputs_from v pins states to number groups
+      → outputs_from v pins states to number (map in_core groups) ≡ outputs_from v pins states to number groups
   core_outputs [] number = refl
   core_outputs (group ∷ groups) number =
-      ap (λ os. os ++ outputs_from v pins states to (number + 1) (map core_owner groups)) (core_output number group)
+      ap (λ os. os ++ outputs_from v pins states to (number + 1) (map in_core groups)) (core_output number group)
       ∙ ap (λ os. output_in v pins states to number group ++ os) (core_outputs groups (number + 1))
 
-pub core_reads : (v : Vocabulary) (groups : List Group) → AllByRecursion (ReadsText v) (map core_owner groups)
+pub core_reads : (v : Vocabulary) (groups : List Group) → AllByRecursion (ReadsText v) (map in_core groups)
     → AllByRecursion (ReadsText v) groups
 core_reads v [] h = tt
 core_reads v (group ∷ groups) h =
@@ -319,14 +226,4 @@ pub enable_attribute :
     ≡ last_or None
     (cons_option (simple_named name (layer.Simple (codes "direction") (one_value (codes "output")) floats.at))
     (cons_option (simple_named name (layer.Simple (codes "function") (one_value (enable_function floats.text)) floats.at)) []))
-enable_attribute number floats name =
-    ap (λ (one : Group-F Item Group). last_or None (attributes_named name one.items)) (out-roll-Group (enable_as number floats))
-    ∙ (ap
-    (λ one. last_or None (cons_option (simple_named name one)
-    (attributes_named name (made.Simple (codes "function") (one_value (enable_function floats.text)) floats.at ∷ []))))
-    (outs-Simple (codes "direction") (one_value (codes "output")) floats.at)
-    ∙ ap
-    (λ one. last_or None (cons_option
-    (simple_named name (layer.Simple (codes "direction") (one_value (codes "output")) floats.at))
-    (cons_option (simple_named name one) [])))
-    (outs-Simple (codes "function") (one_value (enable_function floats.text)) floats.at))
+enable_attribute number floats name = ap (last_or None) (its_attributes number floats name)

@@ -5,9 +5,6 @@ use Rattle.std.specs.Prelude.{flat_map}
 use Rattle.std.proofs.lemmas.List.{length-map}
 use Rattle.std.specs.List.{AllByRecursion}
 use Rattle.liberty_text.specs.declared.time.Unit.{Unit as TimeUnit}
-use Rattle.liberty_groups.specs.declared.tree.Item.{Item}
-use Rattle.liberty_groups.specs.declared.tree.Item.TheOpen.{Group-F}
-use Rattle.liberty_groups.specs.declared.tree.Item.TheViews.{out-roll-Group}
 use Rattle.liberty_groups.specs.declared.tree.Group.{Group}
 use Rattle.cell_machine.specs.declared.groups.StateGroup.{StateGroup}
 use Rattle.cell_machine.specs.declared.outputs.OutputPin.{OutputPin}
@@ -21,9 +18,11 @@ use Rattle.cell_reader.specs.CellTexts.{subject_of}
 use Rattle.cell_reader.specs.Refusals.{refusal_of}
 use Rattle.cell_reader.proofs.Accepted.{accepted_meets_none_here}
 use Rattle.three_state_cells.specs.Outputs.{ThreeStateOutput, three_state_outputs, outputs_from as three_states_from}
-use Rattle.three_state_cells.specs.CoreGroups.{core_statement, enable_pins, core_group}
+use Rattle.three_state_cells.specs.CoreGroups.{core_group}
 use Rattle.three_state_cells.specs.DrivenCells.{cell_data, core_name, floating_of, data_by, driven_data}
 use Rattle.three_state_cells.specs.Refusals.{first_of_two, driver_refusal, floating_refusal, refusal_by, driven_refusal}
+use Rattle.three_state_cells.specs.Trimmed.{in_core}
+use Rattle.three_state_cells.proofs.CorePins.{core_statements}
 use Rattle.bus_texts.specs.declared.bus_types.BusType.{BusType}
 use Rattle.bus_texts.specs.declared.vectors.Vector.{Vector}
 use Rattle.bus_texts.specs.Vectors.{cell_vectors}
@@ -34,27 +33,16 @@ use Rattle.bank_machines.specs.BankOutputs.{WrittenPin, pins_made}
 use Rattle.bank_machines.specs.BankCores.{enables_among, bank_core}
 use Rattle.bank_machines.specs.BankMachine.{joined, names_with, state_lists}
 use Rattle.bank_machines.specs.Laws.{RunsAs, BankMachineIsExpandedCore, bank_by, AcceptedCellsRunAsBanks}
-use Rattle.bank_machines.proofs.StateLists.{all_split, single_states}
+use Rattle.bank_machines.proofs.Lists.{all_split}
+use Rattle.bank_machines.proofs.StateLists.{single_states}
 use Rattle.bank_machines.proofs.PinLemmas.{owner_of, Placed, ReadsText}
 use Rattle.bank_machines.proofs.PinLists.{owner_list, owners_are, placed_are, scalars_are, own_are}
 use Rattle.bank_machines.proofs.Spelling.{cell_spells}
-use Rattle.bank_machines.proofs.CoreLemmas.{core_owner, enable_owners, states_of_core, owners_of_core, outputs_append}
+use Rattle.bank_machines.proofs.CoreLemmas.{enable_owners, states_of_core, owners_of_core, outputs_append}
 use Rattle.bank_machines.proofs.CoreLemmas.{core_outputs, core_reads}
 use Rattle.bank_machines.proofs.EnableLemmas.{FloatsAs, owners_float, scalars_float, scalars_placed, enables_are}
 use Rattle.bank_machines.proofs.Machines.{unrefused, expanded_items, plain_items, reads, many_states, many_outputs, few_states}
 use Rattle.bank_machines.proofs.Machines.{few_outputs, outputs_over, runs_as, machines_are}
-
-core_items : (cell : Group) → (core_group cell).items ≡ map core_statement cell.items ++ enable_pins 0 (three_state_outputs cell)
-unfolding core_group
-core_items cell =
-    ap (λ (one : Group-F Item Group). one.items)
-    (out-roll-Group (record {
-      name = cell.name;
-      arguments = cell.arguments;
-      items = map core_statement cell.items
-          ++ enable_pins 0 (three_state_outputs cell);
-      at = cell.at;
-    }))
 
 module _ (types : List BusType) (cell : Group) (meets : CellMeetsNone (core_group (expanded types cell))) where
   abbrev single : Group
@@ -88,15 +76,15 @@ module _ (types : List BusType) (cell : Group) (meets : CellMeetsNone (core_grou
   added = three_state_outputs single
 
   states_same : single_states core.items ≡ single_states single.items
-  states_same = ap single_states (core_items single) ∙ states_of_core single.items added
+  states_same = ap single_states (core_statements single) ∙ states_of_core single.items added
 
-  owners_same : owner_list core.items ≡ map core_owner (owner_list single.items) ++ enable_owners 0 added
-  owners_same = ap owner_list (core_items single) ∙ owners_of_core single.items added
+  owners_same : owner_list core.items ≡ map in_core (owner_list single.items) ++ enable_owners 0 added
+  owners_same = ap owner_list (core_statements single) ∙ owners_of_core single.items added
 
-  all_reads : AllByRecursion (ReadsText v) (map core_owner (owner_list single.items))
+  all_reads : AllByRecursion (ReadsText v) (map in_core (owner_list single.items))
       × AllByRecursion (ReadsText v) (enable_owners 0 added)
   all_reads =
-      all_split (ReadsText v) (map core_owner (owner_list single.items)) (enable_owners 0 added)
+      all_split (ReadsText v) (map in_core (owner_list single.items)) (enable_owners 0 added)
       (subst (λ gs. AllByRecursion (ReadsText v) gs) owners_same (reads types cell core meets))
 
   cell_reads : AllByRecursion (ReadsText v) (owner_list single.items)
@@ -109,13 +97,13 @@ module _ (types : List BusType) (cell : Group) (meets : CellMeetsNone (core_grou
       ≡ outputs_from v pins states numbers 0 (owner_list single.items)
       ++ outputs_from v pins states numbers (length (owner_list single.items)) (enable_owners 0 added)
   split_outputs same =
-      let count : 0 + length (map core_owner (owner_list single.items)) ≡ length (owner_list single.items) =
-      let e : length (map core_owner (owner_list single.items)) ≡ length (owner_list single.items) =
-      length-map (owner_list single.items) core_owner in omega (arith, e) in
+      let count : 0 + length (map in_core (owner_list single.items)) ≡ length (owner_list single.items) =
+      let e : length (map in_core (owner_list single.items)) ≡ length (owner_list single.items) =
+      length-map (owner_list single.items) in_core in omega (arith, e) in
       outputs_over types cell core meets same
       ∙ (ap (outputs_from v pins states numbers 0) owners_same
-      ∙ (outputs_append v pins states numbers 0 (map core_owner (owner_list single.items)) (enable_owners 0 added)
-      ∙ (ap (λ os. os ++ outputs_from v pins states numbers (0 + length (map core_owner (owner_list single.items)))
+      ∙ (outputs_append v pins states numbers 0 (map in_core (owner_list single.items)) (enable_owners 0 added)
+      ∙ (ap (λ os. os ++ outputs_from v pins states numbers (0 + length (map in_core (owner_list single.items)))
       (enable_owners 0 added))
       (core_outputs v pins states numbers (owner_list single.items) 0)
       ∙ ap (λ n. outputs_from v pins states numbers 0 (owner_list single.items)

@@ -32,12 +32,13 @@ use Rattle.bank_machines.specs.BankTexts.{CellNames}
 use Rattle.bank_machines.specs.BankOutputs.{WrittenPin, output_by}
 use Rattle.bank_machines.specs.BankCores.{enabled_by, enable_with, enables_among}
 use Rattle.bank_machines.proofs.TextLemmas.{Spells}
-use Rattle.bank_machines.proofs.MovedTexts.{moved, cell_names}
+use Rattle.bank_machines.proofs.MovedTexts.{made_of, moved, cell_names}
 use Rattle.bank_machines.proofs.PinLemmas.{owner_of, unfaulted_at, Placed, ReadsText, apart_text, text_attribute, direction_same}
 use Rattle.bank_machines.proofs.PinLemmas.{unmoved}
 use Rattle.bank_machines.proofs.PinLists.{pin_word}
 use Rattle.bank_machines.proofs.EnableTexts.{enable_is}
-use Rattle.bank_machines.proofs.CoreLemmas.{enable_group, enable_owner_of, enable_owners, enable_attribute}
+use Rattle.three_state_cells.proofs.CoreOwners.{enable_group}
+use Rattle.bank_machines.proofs.CoreLemmas.{enable_owner_of, enable_owners, enable_attribute}
 
 -- the group of a pin says as its statements when the pin floats
 pub record FloatsAs (vectors : List Vector) (owner : WrittenPin → Group) (pin : WrittenPin) : Type 0 where
@@ -57,13 +58,7 @@ module _ (vectors : List Vector) (v : Vocabulary) (numbers : List ℕ) (spell : 
   owner_is_pin : (pin : WrittenPin) → is_pin (owner_of vectors pin) ≡ is_pin pin.group
   owner_is_pin pin =
       ap (λ (one : Group-F Item Group). pin_word one.name one.arguments)
-      (out-roll-Group (record {
-        name = pin.group.name;
-        arguments = pin.group.arguments;
-        items =
-            map (pin_item vectors pin.position) pin.group.items;
-        at = pin.group.at;
-      }))
+      (out-roll-Group (made_of pin.group (map (pin_item vectors pin.position) pin.group.items)))
 
   owner_same : (pin : WrittenPin) → is_three_state (owner_of vectors pin) ≡ is_three_state pin.group
   unfolding is_three_state

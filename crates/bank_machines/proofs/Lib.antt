@@ -1,4 +1,5 @@
 pub mod Examples
+pub mod Lists
 pub mod PartFacts
 pub mod TextLemmas
 pub mod Supports

@@ -41,6 +41,7 @@ use Rattle.bank_machines.specs.BankOutputs.{WrittenPin, pins_made, output_of, ou
 use Rattle.bank_machines.specs.BankMachine.{BankCell, joined, names_with, state_lists, bank_cell_with, bank_cell, named_lists}
 use Rattle.bank_machines.specs.BankMachine.{bank_states_after, bank_output_after, bank_delay_after, bank_line}
 use Rattle.bank_machines.specs.Laws.{RunsAs, BankMachineIsExpandedCell}
+use Rattle.bank_machines.proofs.MovedTexts.{made_of}
 use Rattle.bank_machines.proofs.Supports.{Fits}
 use Rattle.bank_machines.proofs.StateLists.{single_states, Sound, groups_read, states_are, plain_states_are, all_sound}
 use Rattle.bank_machines.proofs.StateLists.{groups_are, all_fit}
@@ -70,12 +71,7 @@ unfolding expanded
 expanded_items types cell many =
     ap (λ b. (if b then expanded_cell types cell else cell).items) many
     ∙ ap (λ (one : Group-F Item Group). one.items)
-    (out-roll-Group (record {
-      name = cell.name;
-      arguments = cell.arguments;
-      items = flat_map (expanded_item types (cell_vectors types cell)) cell.items;
-      at = cell.at;
-    }))
+    (out-roll-Group (made_of cell (flat_map (expanded_item types (cell_vectors types cell)) cell.items)))
 
 pub plain_items : (types : List BusType) (cell : Group) → has_many cell ≡ false → (expanded types cell).items ≡ cell.items
 unfolding expanded

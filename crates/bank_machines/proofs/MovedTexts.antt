@@ -4,10 +4,11 @@ use Rattle.std.proofs.Common.{◌∙◌, codes}
 use Rattle.std.specs.Prelude.{bytes_eq}
 use Rattle.std.specs.Option.{option_map}
 use Rattle.std.specs.List.{cons_option, AllByRecursion}
+use Rattle.std.proofs.lemmas.Iterator.Adapters.{option_map_id}
 use Rattle.std.proofs.lemmas.Slice.Eq.{bytes_eq-Decides}
 use Rattle.liberty_groups.specs.declared.tree.Value.{Value}
 use Rattle.liberty_groups.specs.declared.tree.Item.{Item, out-Item}
-use Rattle.liberty_groups.specs.declared.tree.Item.TheOpen.{Item-F}
+use Rattle.liberty_groups.specs.declared.tree.Item.TheOpen.{Item-F, Group-F}
 use Rattle.liberty_groups.specs.declared.tree.Item.TheOpen as layer
 use Rattle.liberty_groups.specs.declared.tree.Item.TheVariants as made
 use Rattle.liberty_groups.specs.declared.tree.Item.TheViews.{outs-Simple, outs-Complex, outs-Inner}
@@ -28,6 +29,10 @@ use Rattle.cell_attributes.proofs.TextNames.{IsSound}
 use Rattle.bank_machines.specs.BankTexts.{CellNames, function_if}
 use Rattle.bank_machines.proofs.TextLemmas.{Spells, read_same, IsRead, judged_reads}
 
+-- a group with these statements, which is like another one in all else
+abbrev pub made_of : Group → List Item → Group-F Item Group
+made_of group items = record { name = group.name; arguments = group.arguments; items = items; at = group.at }
+
 -- an attribute whose text is rewritten
 abbrev pub moved : List Vector → Option ℕ → Attribute → Attribute
 moved vectors position attribute = record { text = text_for vectors position attribute.text; at = attribute.at }
@@ -42,53 +47,43 @@ module _ (vectors : List Vector) (position : Option ℕ) where
   text_of_values (value ∷ []) = refl
   text_of_values (value ∷ other ∷ more) = no_text position
 
+  -- what becomes of an attribute, where its text is rewritten and where it is not
+  abbrev changed : Bool → Attribute → Attribute
+  changed true attribute = moved vectors position attribute
+  changed false attribute = attribute
+
+  abbrev named_as : Bool → List Value → ℕ → Option Attribute
+  named_as same value at = if same then Some (record { text = text_of value; at = at }) else None
+
+  changed_text : (is_text : Bool) (value : List Value) (at : ℕ)
+      → named_as true (values_if vectors position is_text value) at ≡ option_map (changed is_text) (named_as true value at)
+  changed_text true value at = ap (λ t. Some (record { text = t; at = at })) (text_of_values value)
+  changed_text false value at = refl
+
   module _ (names : List (List ℕ)) (name : List ℕ) where
-    abbrev chosen : Bool → List Value → ℕ → Option Attribute
-    chosen same value at = if same then Some (record { text = text_of value; at = at }) else None
-
-    moved_simple :
-        is_one_of names name ≡ true → (one : Item-F Item Group)
-        → simple_named name (out-Item (statement_as vectors position names one)) ≡ option_map (moved vectors position)
+    changed_simple :
+        (is_text : Bool) → is_one_of names name ≡ is_text → (one : Item-F Item Group)
+        → simple_named name (out-Item (statement_as vectors position names one)) ≡ option_map (changed is_text)
         (simple_named name one)
-    moved_simple h (layer.Simple n value at) =
+    changed_simple is_text h (layer.Simple n value at) =
         ap (simple_named name) (outs-Simple n (values_if vectors position (is_one_of names n) value) at)
         ∙ by (bytes_eq n name) refl
       where
         by : (same : Bool) → bytes_eq n name ≡ same
-            → chosen (bytes_eq n name) (values_if vectors position (is_one_of names n) value) at ≡ option_map
-            (moved vectors position) (chosen (bytes_eq n name) value at)
+            → named_as (bytes_eq n name) (values_if vectors position (is_one_of names n) value) at ≡ option_map
+            (changed is_text) (named_as (bytes_eq n name) value at)
         by true e =
             let named : n ≡ name = (bytes_eq-Decides n name).0 e in
-            let text : is_one_of names n ≡ true = ap (is_one_of names) named ∙ h in
-            ap (λ is_text. chosen (bytes_eq n name) (values_if vectors position is_text value) at) text
-            ∙ (ap (λ same. chosen same (values_at vectors position value) at) e
-            ∙ (ap (λ t. Some (record { text = t; at = at })) (text_of_values value)
-            ∙ sym (ap (λ same. option_map (moved vectors position) (chosen same value at)) e)))
+            let text : is_one_of names n ≡ is_text = ap (is_one_of names) named ∙ h in
+            ap (λ text. named_as (bytes_eq n name) (values_if vectors position text value) at) text
+            ∙ (ap (λ same. named_as same (values_if vectors position is_text value) at) e
+            ∙ (changed_text is_text value at
+            ∙ sym (ap (λ same. option_map (changed is_text) (named_as same value at)) e)))
         by false e =
-            ap (λ same. chosen same (values_if vectors position (is_one_of names n) value) at) e
-            ∙ sym (ap (λ same. option_map (moved vectors position) (chosen same value at)) e)
-    moved_simple h (layer.Complex n arguments at) = ap (simple_named name) (outs-Complex n arguments at)
-    moved_simple h (layer.Inner group) = ap (simple_named name) (outs-Inner group)
-
-    kept_simple :
-        is_one_of names name ≡ false → (one : Item-F Item Group)
-        → simple_named name (out-Item (statement_as vectors position names one)) ≡ simple_named name one
-    kept_simple h (layer.Simple n value at) =
-        ap (simple_named name) (outs-Simple n (values_if vectors position (is_one_of names n) value) at)
-        ∙ by (bytes_eq n name) refl
-      where
-        by : (same : Bool) → bytes_eq n name ≡ same
-            → chosen (bytes_eq n name) (values_if vectors position (is_one_of names n) value) at ≡ chosen
-            (bytes_eq n name) value at
-        by true e =
-            let named : n ≡ name = (bytes_eq-Decides n name).0 e in
-            let text : is_one_of names n ≡ false = ap (is_one_of names) named ∙ h in
-            ap (λ is_text. chosen (bytes_eq n name) (values_if vectors position is_text value) at) text
-        by false e =
-            ap (λ same. chosen same (values_if vectors position (is_one_of names n) value) at) e
-            ∙ sym (ap (λ same. chosen same value at) e)
-    kept_simple h (layer.Complex n arguments at) = ap (simple_named name) (outs-Complex n arguments at)
-    kept_simple h (layer.Inner group) = ap (simple_named name) (outs-Inner group)
+            ap (λ same. named_as same (values_if vectors position (is_one_of names n) value) at) e
+            ∙ sym (ap (λ same. option_map (changed is_text) (named_as same value at)) e)
+    changed_simple is_text h (layer.Complex n arguments at) = ap (simple_named name) (outs-Complex n arguments at)
+    changed_simple is_text h (layer.Inner group) = ap (simple_named name) (outs-Inner group)
 
   -- a statement of a pin
   pin_simple : (name : List ℕ) (item : Item)
@@ -125,19 +120,18 @@ attributes_by name f g each (item ∷ items) =
     ∙ (ap (cons_option (option_map g (simple_named name (out-Item item)))) (attributes_by name f g each items)
     ∙ moved_cons g (simple_named name (out-Item item)) (attributes_named name items))
 
-attributes_same :
-    (name : List ℕ) (f : Item → Item)
-    → ((item : Item) → simple_named name (out-Item (f item)) ≡ simple_named name (out-Item item))
-    → (items : List Item) → attributes_named name (map f items) ≡ attributes_named name items
-attributes_same name f each [] = refl
-attributes_same name f each (item ∷ items) =
-    ap (λ o. cons_option o (attributes_named name (map f items))) (each item)
-    ∙ ap (cons_option (simple_named name (out-Item item))) (attributes_same name f each items)
-
 last_moved : (g : Attribute → Attribute) (earlier : Option Attribute) (xs : List Attribute)
     → last_or (option_map g earlier) (map g xs) ≡ option_map g (last_or earlier xs)
 last_moved g earlier [] = refl
 last_moved g earlier (x ∷ xs) = last_moved g (Some x) xs
+
+last_by :
+    (name : List ℕ) (f : Item → Item) (g : Attribute → Attribute)
+    → ((item : Item) → simple_named name (out-Item (f item)) ≡ option_map g (simple_named name (out-Item item)))
+    → (items : List Item)
+    → last_or None (attributes_named name (map f items)) ≡ option_map g (last_or None (attributes_named name items))
+last_by name f g each items =
+    ap (last_or None) (attributes_by name f g each items) ∙ last_moved g None (attributes_named name items)
 
 -- the attribute of a name that counts, where it is one of a text and where it is none
 pub text_moved :
@@ -146,10 +140,8 @@ pub text_moved :
     → last_or None (attributes_named name (map (text_at vectors position names) items)) ≡ option_map (moved vectors position)
     (last_or None (attributes_named name items))
 text_moved vectors position names name items h =
-    ap (last_or None)
-    (attributes_by name (text_at vectors position names) (moved vectors position)
-    (λ item. moved_simple vectors position names name h (out-Item item)) items)
-    ∙ last_moved (moved vectors position) None (attributes_named name items)
+    last_by name (text_at vectors position names) (moved vectors position)
+    (λ item. changed_simple vectors position names name true h (out-Item item)) items
 
 pub other_kept :
     (vectors : List Vector) (position : Option ℕ) (names : List (List ℕ)) (name : List ℕ) (items : List Item)
@@ -157,26 +149,25 @@ pub other_kept :
     → last_or None (attributes_named name (map (text_at vectors position names) items)) ≡ last_or None
     (attributes_named name items)
 other_kept vectors position names name items h =
-    ap (last_or None) (attributes_same name (text_at vectors position names)
-    (λ item. kept_simple vectors position names name h (out-Item item)) items)
+    last_by name (text_at vectors position names) (λ a. a)
+    (λ item. changed_simple vectors position names name false h (out-Item item)) items
+    ∙ option_map_id (last_or None (attributes_named name items))
 
 pub pin_text_moved :
     (vectors : List Vector) (position : Option ℕ) (name : List ℕ) (items : List Item) → is_one_of pin_texts name ≡ true
     → last_or None (attributes_named name (map (pin_item vectors position) items)) ≡ option_map (moved vectors position)
     (last_or None (attributes_named name items))
 pin_text_moved vectors position name items h =
-    ap (last_or None)
-    (attributes_by name (pin_item vectors position) (moved vectors position)
-    (λ item. pin_simple vectors position name item ∙ moved_simple vectors position pin_texts name h (out-Item item)) items)
-    ∙ last_moved (moved vectors position) None (attributes_named name items)
+    last_by name (pin_item vectors position) (moved vectors position)
+    (λ item. pin_simple vectors position name item ∙ changed_simple vectors position pin_texts name true h (out-Item item)) items
 
 pub pin_other_kept :
     (vectors : List Vector) (position : Option ℕ) (name : List ℕ) (items : List Item) → is_one_of pin_texts name ≡ false
     → last_or None (attributes_named name (map (pin_item vectors position) items)) ≡ last_or None (attributes_named name items)
 pin_other_kept vectors position name items h =
-    ap (last_or None)
-    (attributes_same name (pin_item vectors position)
-    (λ item. pin_simple vectors position name item ∙ kept_simple vectors position pin_texts name h (out-Item item)) items)
+    last_by name (pin_item vectors position) (λ a. a)
+    (λ item. pin_simple vectors position name item ∙ changed_simple vectors position pin_texts name false h (out-Item item)) items
+    ∙ option_map_id (last_or None (attributes_named name items))
 
 -- the function of a rewritten text that reads is that of the text at the position
 abbrev pub cell_names : List Vector → Vocabulary → List ℕ → CellNames

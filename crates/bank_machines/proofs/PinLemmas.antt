@@ -37,17 +37,12 @@ use Rattle.bank_cells.specs.Expanded.{is_one_of, pin_item}
 use Rattle.bank_machines.specs.BankTexts.{CellNames, number_in_cell, function_if}
 use Rattle.bank_machines.specs.BankOutputs.{WrittenPin, driven_by, function_by, output_by, output_of, outputs_among}
 use Rattle.bank_machines.proofs.TextLemmas.{Spells, judged_apart}
-use Rattle.bank_machines.proofs.MovedTexts.{moved, pin_text_moved, pin_other_kept, cell_names, text_is}
+use Rattle.bank_machines.proofs.MovedTexts.{made_of, moved, pin_text_moved, pin_other_kept, cell_names, text_is}
 
 -- the group of a pin in the expanded cell
 abbrev pub owner_of : List Vector → WrittenPin → Group
 owner_of vectors pin =
-    roll-Group (record {
-      name = pin.group.name;
-      arguments = pin.group.arguments;
-      items = map (pin_item vectors pin.position) pin.group.items;
-      at = pin.group.at;
-    })
+    roll-Group (made_of pin.group (map (pin_item vectors pin.position) pin.group.items))
 
 -- the texts of a pin have no fault at its position
 abbrev pub unfaulted_at : List Vector → Group → Option ℕ → Type 0
@@ -125,13 +120,7 @@ module _ (vectors : List Vector) (v : Vocabulary) (numbers : List ℕ) (spell : 
     owner_items : owner.items ≡ map (pin_item vectors position) group.items
     owner_items =
         ap (λ (one : Group-F Item Group). one.items)
-        (out-roll-Group (record {
-          name = group.name;
-          arguments = group.arguments;
-          items =
-              map (pin_item vectors position) group.items;
-          at = group.at;
-        }))
+        (out-roll-Group (made_of group (map (pin_item vectors position) group.items)))
 
     pub text_attribute : (name : List ℕ) → is_one_of pin_texts name ≡ true
         → attribute_of owner name ≡ option_map (moved vectors position) (attribute_of group name)

@@ -25,14 +25,16 @@ use Rattle.bus_texts.specs.declared.vectors.Vector.{Vector}
 use Rattle.bus_texts.specs.Vectors.{Bank, is_called, is_bank, bank_of, pin_vectors, positions}
 use Rattle.bank_cells.specs.Members.{member_items}
 use Rattle.bank_cells.specs.Faults.{pin_texts, text_faults, timing_faults_in}
-use Rattle.bank_cells.specs.Refusals.{is_pins, is_many_as, is_many_item, along, state_texts, member_faults, vector_faults}
+use Rattle.bank_cells.specs.Refusals.{is_pins, is_many_as, is_many_item, along, member_faults, vector_faults}
 use Rattle.bank_cells.specs.Refusals.{width_faults_of, width_faults_as, width_faults_in}
-use Rattle.bank_cells.specs.Expanded.{text_at, text_value, pin_item, member_pin, member_pins, vector_pins, state_name}
+use Rattle.bank_cells.specs.Expanded.{text_value, pin_item, member_pin, member_pins, vector_pins}
 use Rattle.bank_cells.specs.Expanded.{variables_at, bank_state, bank_item, bank_items, single_pin, single_group, expanded_group}
 use Rattle.bank_cells.specs.Expanded.{expanded_as, expanded_item}
 use Rattle.bank_machines.specs.BankOutputs.{WrittenPin, member_group, pin_of_member, pins_of_vector, scalar_pin, pins_of_group}
 use Rattle.bank_machines.specs.BankOutputs.{pins_as, pins_made}
-use Rattle.bank_machines.proofs.StateLemmas.{is_name}
+use Rattle.bank_machines.proofs.Lists.{all_join}
+use Rattle.bank_machines.proofs.MovedTexts.{made_of}
+use Rattle.bank_machines.proofs.StateLemmas.{bank_shape, is_name}
 use Rattle.bank_machines.proofs.PinLemmas.{owner_of, Placed, ReadsText}
 
 -- the groups of the pins among statements
@@ -150,13 +152,7 @@ bank_owns : (vectors : List Vector) (group : Group) (bank : Bank) (ps : List ℕ
 bank_owns vectors group bank [] = refl
 bank_owns vectors group bank (p ∷ ps) =
     let single : Group = bank_state vectors group bank p in
-    let e =
-    out-roll-Group (record {
-      name = state_name group;
-      arguments = variables_at bank p;
-      items = map (text_at vectors (Some p) (state_texts group)) group.items;
-      at = group.at;
-    }) in
+    let e = out-roll-Group (bank_shape vectors group bank p) in
     let apart : is_pin single ≡ false =
     ap (λ (one : Group-F Item Group). pin_word one.name one.arguments) e
     ∙ state_is_no_pin (is_called (codes "ff_bank") group) (variables_at bank p) in
@@ -198,13 +194,7 @@ module _ (types : List BusType) (vectors : List Vector) where
       ≡ map (owner_of vectors) (if is_pin group then map (scalar_pin group) group.arguments else [])
   by_plain group true e =
       let single : Group = single_pin vectors group in
-      let is = out-roll-Group (record {
-        name = group.name;
-        arguments = group.arguments;
-        items =
-            map (pin_item vectors None) group.items;
-        at = group.at;
-      }) in
+      let is = out-roll-Group (made_of group (map (pin_item vectors None) group.items)) in
       inner_cons single []
       ∙ (append-nil (owned single)
       ∙ scalar_owned (owner_of vectors) group single refl (ap (λ (one : Group-F Item Group). one.name) is)
@@ -253,11 +243,6 @@ module _ (types : List BusType) (vectors : List Vector) where
       ∙ sym (map-append (owner_of vectors) (pins_made types item) (flat_map (pins_made types) items))))
 
   -- no text of them has a fault
-  all_join : {X : Type 0} (P : X → Type 0) (xs ys : List X) → AllByRecursion P xs → AllByRecursion P ys
-      → AllByRecursion P (xs ++ ys)
-  all_join P [] ys a b = b
-  all_join P (x ∷ xs) ys a b = (a.0, all_join P xs ys a.1 b)
-
   placed_along :
       (group : Group) (vector : Vector) (at : ℕ) (members : List (List ℕ))
       → along (member_faults vectors group vector) at members ≡ []
@@ -388,5 +373,5 @@ all_read v [] a b = tt
 all_read v (group ∷ groups) a b =
     let pa = nil_parts (malformed_at (pin_text v group)) (flat_map malformed_at (map (pin_text v) groups)) a in
     let pb = nil_parts (unknown_at (pin_text v group)) (flat_map unknown_at (map (pin_text v) groups)) b in
-    all_join [] [] (ReadsText v) (owners_in group) (flat_map owners_in groups) (reads_all v group group.arguments (pa.0, pb.0))
+    all_join (ReadsText v) (owners_in group) (flat_map owners_in groups) (reads_all v group group.arguments (pa.0, pb.0))
     (all_read v groups pa.1 pb.1)

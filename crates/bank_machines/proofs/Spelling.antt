@@ -1,5 +1,5 @@
 -- The members of the buses, bundles and banks of a cell have the names of their bits.
-use Rattle.std.proofs.Common.{◌≡◌, ℕ, suc, ◌+◌, Bool, true, false, ◌==◌, List, [], ◌∷◌, ◌++◌, map, Option, None, Some}
+use Rattle.std.proofs.Common.{◌≡◌, ℕ, suc, ◌+◌, Bool, true, false, ◌==◌, List, [], ◌∷◌, map, Option, None, Some}
 use Rattle.std.proofs.Common.{if◌then◌else◌, refl, sym, ap, ◌∙◌, arith, slice_get, eqb-true}
 use Rattle.std.specs.Prelude.{flat_map, option_and_then, codes}
 use Rattle.std.specs.List.{AllByRecursion}
@@ -17,12 +17,8 @@ use Rattle.bus_texts.specs.Vectors.{is_called, is_bank, member_name, bits_in, bi
 use Rattle.bus_texts.specs.Vectors.{bundle_vector, bundle_named, bundles_in, Bank, bank_of, positions, variables_as}
 use Rattle.bus_texts.specs.Vectors.{item_pin_vectors, item_variables, pin_vectors_in, variables_at, all_pin_vectors}
 use Rattle.bus_texts.specs.Vectors.{all_variables, cell_vectors}
+use Rattle.bank_machines.proofs.Lists.{all_join}
 use Rattle.bank_machines.proofs.TextLemmas.{Spells}
-
-all_join : {X : Type 0} (P : X → Type 0) (xs ys : List X) → AllByRecursion P xs → AllByRecursion P ys
-    → AllByRecursion P (xs ++ ys)
-all_join P [] ys a b = b
-all_join P (x ∷ xs) ys a b = (a.0, all_join P xs ys a.1 b)
 
 all_flat : {X Y : Type 0} (P : Y → Type 0) (f : X → List Y) (xs : List X) → ((x : X) → AllByRecursion P (f x))
     → AllByRecursion P (flat_map f xs)

@@ -7,6 +7,7 @@ use Rattle.std.specs.List.{AllByRecursion}
 use Rattle.std.proofs.lemmas.Bool.{or_cases}
 use Rattle.std.proofs.lemmas.Slice.Eq.{bytes_eq-Decides}
 use Rattle.liberty_groups.specs.declared.tree.Item.{Item}
+use Rattle.liberty_groups.specs.declared.tree.Item.TheOpen.{Group-F}
 use Rattle.liberty_groups.specs.declared.tree.Group.{Group}
 use Rattle.liberty_groups.specs.Attributes.{attributes_named, last_or, attribute_of}
 use Rattle.bool_functions.specs.declared.tree.Node.{Node}
@@ -41,6 +42,14 @@ use Rattle.bank_machines.proofs.MovedTexts.{moved, text_moved, other_kept, cell_
 use Rattle.bank_machines.proofs.Supports.{Fits, group_is}
 
 -- the expanded group of a bank at a position
+abbrev pub bank_shape : List Vector → Group → Bank → ℕ → Group-F Item Group
+bank_shape vectors group bank at = record {
+  name = state_name group;
+  arguments = variables_at bank at;
+  items = map (text_at vectors (Some at) (state_texts group)) group.items;
+  at = group.at;
+}
+
 pub record IsStateOf (vectors : List Vector) (bank : Bank) (group : Group) (at : ℕ) (single : Group) : Type 0 where
   pub named : single.name ≡ state_name group
   pub two : single.arguments ≡ variables_at bank at

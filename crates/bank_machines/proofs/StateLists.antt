@@ -27,24 +27,19 @@ use Rattle.bus_texts.specs.declared.bus_types.BusType.{BusType}
 use Rattle.bus_texts.specs.declared.vectors.Vector.{Vector}
 use Rattle.bus_texts.specs.Vectors.{Bank, is_called, is_bank, bank_of, pin_vectors, positions}
 use Rattle.bank_cells.specs.Members.{member_items}
-use Rattle.bank_cells.specs.Refusals.{is_pins, is_many_item, is_many_as, along, state_texts, state_faults, bank_faults}
+use Rattle.bank_cells.specs.Refusals.{is_pins, is_many_item, is_many_as, along, state_faults, bank_faults}
 use Rattle.bank_cells.specs.Refusals.{width_faults_of, width_faults_as, width_faults_in}
-use Rattle.bank_cells.specs.Expanded.{text_at, text_value, pin_item, member_pin, member_pins, vector_pins, state_name}
-use Rattle.bank_cells.specs.Expanded.{variables_at, bank_state, bank_item, bank_items, single_pin, single_group, expanded_group}
+use Rattle.bank_cells.specs.Expanded.{text_value, pin_item, member_pin, member_pins, vector_pins}
+use Rattle.bank_cells.specs.Expanded.{bank_state, bank_item, bank_items, single_pin, single_group, expanded_group}
 use Rattle.bank_cells.specs.Expanded.{expanded_as, expanded_item}
 use Rattle.bank_machines.specs.BankTexts.{CellNames}
 use Rattle.bank_machines.specs.BankStates.{state_at, states_along, states_of_group, states_as, states_made}
 use Rattle.bank_machines.specs.BankMachine.{joined}
+use Rattle.bank_machines.proofs.Lists.{all_split}
 use Rattle.bank_machines.proofs.TextLemmas.{Spells}
-use Rattle.bank_machines.proofs.MovedTexts.{cell_names}
+use Rattle.bank_machines.proofs.MovedTexts.{made_of, cell_names}
 use Rattle.bank_machines.proofs.Supports.{Fits}
-use Rattle.bank_machines.proofs.StateLemmas.{IsStateOf, is_name, state_is}
-
--- all of a list that was put together
-pub all_split : {X : Type 0} (P : X → Type 0) (xs ys : List X) → AllByRecursion P (xs ++ ys) → AllByRecursion P xs
-    × AllByRecursion P ys
-all_split P [] ys h = (tt, h)
-all_split P (x ∷ xs) ys h = let parts = all_split P xs ys h.1 in ((h.0, parts.0), parts.1)
+use Rattle.bank_machines.proofs.StateLemmas.{bank_shape, IsStateOf, is_name, state_is}
 
 -- the state groups among statements
 abbrev pub single_states : List Item → List Group
@@ -123,13 +118,7 @@ no_states vectors group (vector ∷ many) =
 bank_state_is : (vectors : List Vector) (group : Group) (bank : Bank) (at : ℕ)
     → IsStateOf vectors bank group at (bank_state vectors group bank at)
 bank_state_is vectors group bank at =
-    let e =
-    out-roll-Group (record {
-      name = state_name group;
-      arguments = variables_at bank at;
-      items = map (text_at vectors (Some at) (state_texts group)) group.items;
-      at = group.at;
-    }) in
+    let e = out-roll-Group (bank_shape vectors group bank at) in
     record {
       named = ap (λ (one : Group-F Item Group). one.name) e;
       two = ap (λ (one : Group-F Item Group). one.arguments) e;
@@ -207,13 +196,7 @@ module _ (types : List BusType) (vectors : List Vector) (v : Vocabulary) (number
       let single : Group = single_pin vectors group in
       let name : single.name ≡ group.name =
       ap (λ (one : Group-F Item Group). one.name)
-      (out-roll-Group (record {
-        name = group.name;
-        arguments = group.arguments;
-        items =
-            map (pin_item vectors None) group.items;
-        at = group.at;
-      })) in
+      (out-roll-Group (made_of group (map (pin_item vectors None) group.items))) in
       let apart : is_state group ≡ false = pin_apart group e in
       let single_apart : is_state single ≡ false = ap state_word name ∙ apart in
       ap (λ b. if b then groups_read group else []) apart

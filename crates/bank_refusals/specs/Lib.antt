@@ -5,3 +5,4 @@ pub mod Refusals
 pub mod Fixed
 pub mod Alike
 pub mod Statements
+pub mod InnerPins

@@ -6,5 +6,5 @@ use Rattle.bank_refusals.specs.Fixed.{varies}
 
 -- What is held is of one group.
 pub record AreOfOneGroup (statements : PinStatements) : Type 0 where
-  pub pins : map (λ pin. pin.now) statements.pins.items ≡ inner_pins statements.group.now.items
+  pub pins : statements.pins ≡ inner_pins statements.group.now.items
   pub varying : map (λ item. item.now) statements.varying.items ≡ filter (varies statements.vectors.now) statements.group.now.items

@@ -1,11 +1,11 @@
 //! The pins that a bus or bundle makes, as they stand.
-ghost use Rattle.std.specs.Prelude.{◌≡◌, ◌++◌, IfOk, OnOk, map, flat_map};
+ghost use Rattle.std.specs.Prelude.{◌≡◌, ◌++◌, IfOk, OnOk, map};
 ghost use Rattle.std.specs.List.{list_any};
 ghost use Rattle.bank_refusals.specs.Members as spec;
 
 use crate::ranges::names_bit;
 use bus_texts::{Vector, is_called};
-use liberty_groups::{Group, Item, Value, inner_group};
+use liberty_groups::{Item, Value};
 use std::alloc::{AllocError, Global};
 
 /// A member of a bus or bundle: its position, and its name.
@@ -63,61 +63,11 @@ pub fn all_items<'a>(alloc: Global, items: &'a [Item]) -> Result<Vec<&'a Item>, 
 }
 
 /// Adds references to statements.
-fn add_all<'a>(found: &mut Vec<&'a Item>, items: &'a [Item]) -> Result<(), AllocError>
+pub(crate) fn add_all<'a>(found: &mut Vec<&'a Item>, items: &'a [Item]) -> Result<(), AllocError>
     ensures { OnOk result (map (λ item. item.now) found.new.items ≡ map (λ item. item.now) found.old.items ++ items.now) }
 {
     for item in items {
         found.push(item)?;
     }
     Ok(())
-}
-
-/// The inner pins of a bus or bundle with these statements.
-pub fn inner_pins<'a>(alloc: Global, items: &'a [Item]) -> Result<Vec<&'a Group>, AllocError>
-    ensures { IfOk result (λ pins. map (λ pin. pin.now) pins.items ≡ spec.inner_pins items.now) }
-{
-    let mut found = Vec::new(alloc);
-    for item in items {
-        if let Some(pin) = inner_group(item, b"pin") {
-            found.push(pin)?;
-        }
-    }
-    Ok(found)
-}
-
-/// Adds the statements of an inner pin that names a member.
-fn add_inner<'a>(
-    found: &mut Vec<&'a Item>,
-    member: Member<'_>,
-    pin: &'a Group,
-) -> Result<(), AllocError>
-    ensures { OnOk result
-        (map (λ item. item.now) found.new.items
-        ≡ map (λ item. item.now) found.old.items
-        ++ spec.inner_pin_items member.entry.vector.now member.entry.at member.entry.name.now pin.now) }
-{
-    if is_called(pin, b"pin") && any_names(member, pin.arguments.as_slice()) {
-        add_all(found, pin.items.as_slice())
-    } else {
-        Ok(())
-    }
-}
-
-/// The statements of those of these inner pins that name a member.
-pub fn own_items<'a>(
-    alloc: Global,
-    pins: &[&'a Group],
-    member: Member<'_>,
-) -> Result<Vec<&'a Item>, AllocError>
-    ensures { IfOk result
-        (λ items.
-        map (λ item. item.now) items.items
-        ≡ flat_map (spec.inner_pin_items member.entry.vector.now member.entry.at member.entry.name.now)
-        (map (λ pin. pin.now) pins.now)) }
-{
-    let mut found = Vec::new(alloc);
-    for pin in pins {
-        add_inner(&mut found, member, pin)?;
-    }
-    Ok(found)
 }

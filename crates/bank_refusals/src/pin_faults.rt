@@ -5,7 +5,8 @@ ghost use Rattle.bank_refusals.specs.Refusals as spec;
 
 use crate::alike::are_alike;
 use crate::faults::{Place, add_texts};
-use crate::members::{Member, inner_pins, own_items};
+use crate::members::Member;
+use crate::pins_by_name::{InnerPins, indexed_pins, named_items};
 use crate::related::add_all_timing_faults;
 use crate::shared::{joined, varying_items};
 use crate::text_names::pin_texts;
@@ -34,7 +35,7 @@ struct PinStatements<'a> {
     vectors: &'a Vectors,
     group: &'a Group,
     /// Its inner pins.
-    pins: Vec<&'a Group>,
+    pins: InnerPins<'a>,
     /// Those of its statements that each member has and that may be at fault.
     varying: Vec<&'a Item>,
 }
@@ -53,7 +54,7 @@ impl<'a> PinStatements<'a> {
         ensures all { IfOk result AreOfOneGroup }
     {
         let items = group.items.as_slice();
-        let pins = inner_pins(alloc, items)?;
+        let pins = indexed_pins(alloc, items)?;
         let varying = varying_items(alloc, vectors, items)?;
         Ok(PinStatements {
             vectors,
@@ -79,7 +80,7 @@ impl<'a> PinStatements<'a> {
     {
         let vectors = self.vectors;
         let position = Some(member.at);
-        let own = own_items(alloc, &self.pins, member)?;
+        let own = named_items(alloc, &self.pins, member)?;
         let items = joined(alloc, &self.varying, &own)?;
         add_pin_faults(alloc, found, Place { vectors, position }, &items)
     }

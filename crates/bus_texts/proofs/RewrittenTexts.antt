@@ -1,10 +1,10 @@
 -- The symbols of a text whose names are replaced.
-use Rattle.std.proofs.Common.{◌≡◌, ℕ, zero, suc, ◌+◌, ◌-◌, ◌<◌, ◌≤◌, Bool, true, false, ◌&&◌, ◌||◌, List, [], ◌∷◌, ◌++◌, length}
+use Rattle.std.proofs.Common.{◌≡◌, ℕ, zero, suc, ◌+◌, ◌-◌, ◌<◌, ◌≤◌, Bool, true, false, ◌&&◌, List, [], ◌∷◌, ◌++◌, length}
 use Rattle.std.proofs.Common.{take, drop, Option, None, Some, if◌then◌else◌, refl, sym, ap, subst, ◌∙◌, arith, append-nil}
 use Rattle.std.specs.Prelude.{flat_map, map, Contains}
 use Rattle.std.specs.List.{list_any, list_all, prefix_len}
 use Rattle.std.specs.Char.{is_ascii_digit}
-use Rattle.std.proofs.lemmas.Bool.{and_parts}
+use Rattle.std.proofs.lemmas.Bool.{and_parts, or_parts}
 use Rattle.std.proofs.lemmas.List.{length-drop, map-append}
 use Rattle.bool_functions.specs.declared.symbol.Symbol.{Symbol}
 use Rattle.bool_functions.specs.Token.{is_word_byte, begins_word, symbol_of, symbols}
@@ -160,10 +160,6 @@ module _ (names : List (List ℕ)) (vectors : List Vector) (at : ℕ) where
       in
       ap (λ ps. begins_word (flat_map (rewritten_part vectors at) ps)) (parts_step (b ∷ s) (omega arith))
       ∙ (ap (λ front. begins_word (front ++ rest)) kept ∙ (begins_taken plain.count b s rest some ∙ h))
-
-  or_parts : (a b : Bool) → (a || b) ≡ false → (a ≡ false) × (b ≡ false)
-  or_parts true b h = absurd cc
-  or_parts false b h = (refl, h)
 
   pub symbols_replaced :
       (n : ℕ) (text : List ℕ) → length text ≤ n → runs_together text ≡ false

@@ -1,1 +1,2 @@
+pub mod AllPlaceLemmas
 pub mod PlaceLemmas

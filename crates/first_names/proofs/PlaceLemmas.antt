@@ -14,7 +14,7 @@ use Rattle.first_names.specs.declared.places.FirstNames.{FirstNames}
 use Rattle.first_names.specs.Places.{place_by, places_with, AddsPlace, SetsPlace, FindsFirst}
 
 -- the first answer, and else the number of the last element where it passes
-abbrev or_last : Option ℕ → Bool → ℕ → Option ℕ
+abbrev pub or_last : {X : Type 0} → Option X → Bool → X → Option X
 or_last (Some n) b last = Some n
 or_last None b last = if b then Some last else None
 
@@ -43,25 +43,26 @@ position_last test xs x =
     ∙ ap (λ o. or_last o (test x) (length xs)) (sym (position_from-zero test xs))
 
 -- a place within a list, and the one behind it
-get_within : (xs : List ℕ) (x k : ℕ) (b : Bool) → k < length xs → slice_get (xs ++ x ∷ []) k ≡ or_last (slice_get xs k) b x
+get_within : {X : Type 0} (xs : List X) (x : X) (k : ℕ) (b : Bool) → k < length xs → slice_get (xs ++ x ∷ []) k ≡ or_last (slice_get xs k) b x
 get_within [] x k b h = absurd (omega (arith, h))
 get_within (y ∷ xs) x zero b h = refl
 get_within (y ∷ xs) x (suc k) b h = get_within xs x k b (omega (arith, h))
 
-get_behind : (xs : List ℕ) (x : ℕ) → slice_get (xs ++ x ∷ []) (length xs) ≡ Some x
+get_behind : {X : Type 0} (xs : List X) (x : X) → slice_get (xs ++ x ∷ []) (length xs) ≡ Some x
 get_behind [] x = refl
 get_behind (y ∷ xs) x = get_behind xs x
 
-is_there : (xs : List ℕ) (k : ℕ) → k < length xs → slice_get xs k ≡ None → {A : Type 0} → A
+is_there : {X : Type 0} (xs : List X) (k : ℕ) → k < length xs → slice_get xs k ≡ None → {A : Type 0} → A
 is_there [] k h e = absurd (omega (arith, h))
 is_there (y ∷ xs) zero h e = absurd cc
 is_there (y ∷ xs) (suc k) h e = is_there xs k (omega (arith, h)) e
 
 -- what stands for a name after a new one was added
-added_new : (names : List (List ℕ)) (places : List ℕ) (name x : List ℕ) (number : ℕ) → length places ≡ length names
+pub added_new :
+    {X : Type 0} (names : List (List ℕ)) (places : List X) (name x : List ℕ) (number : X) → length places ≡ length names
     → option_and_then (slice_get (places ++ number ∷ [])) (number_of (names ++ name ∷ []) x) ≡ or_last
     (option_and_then (slice_get places) (number_of names x)) (bytes_eq x name) number
-added_new names places name x number same =
+added_new {X} names places name x number same =
     ap (option_and_then (slice_get (places ++ number ∷ []))) (position_last (bytes_eq x) names name)
     ∙ by_number (number_of names x) refl (bytes_eq x name)
   where
@@ -124,12 +125,12 @@ first_more name_of old new xs i x h e f a =
     }
 
 -- another number at a place of a list
-get_set_same : (xs : List ℕ) (k x : ℕ) → k < length xs → slice_get (slice_set xs k x) k ≡ Some x
+get_set_same : {X : Type 0} (xs : List X) (k : ℕ) (x : X) → k < length xs → slice_get (slice_set xs k x) k ≡ Some x
 get_set_same [] k x h = absurd (omega (arith, h))
 get_set_same (y ∷ xs) zero x h = refl
 get_set_same (y ∷ xs) (suc k) x h = get_set_same xs k x (omega (arith, h))
 
-get_set_other : (xs : List ℕ) (k j x : ℕ) → (j ≡ k → ⊥) → slice_get (slice_set xs k x) j ≡ slice_get xs j
+get_set_other : {X : Type 0} (xs : List X) (k j : ℕ) (x : X) → (j ≡ k → ⊥) → slice_get (slice_set xs k x) j ≡ slice_get xs j
 get_set_other [] k j x n = refl
 get_set_other (y ∷ xs) zero zero x n = absurd (n refl)
 get_set_other (y ∷ xs) zero (suc j) x n = refl
@@ -152,11 +153,12 @@ one_number names name other k j e f unlike same =
     let wrong : false ≡ true = sym unlike ∙ (bytes_eq-Decides other name).1 equal in
     absurd cc
 
-set_at : (names : List (List ℕ)) (places name other : List ℕ) (k place : ℕ) → length places ≡ length names
+pub set_at :
+    {X : Type 0} (names : List (List ℕ)) (places : List X) (name other : List ℕ) (k : ℕ) (place : X) → length places ≡ length names
     → number_of names name ≡ Some k
     → option_and_then (slice_get (slice_set places k place)) (number_of names other)
     ≡ (if bytes_eq other name then Some place else option_and_then (slice_get places) (number_of names other))
-set_at names places name other k place same e = by (bytes_eq other name) refl
+set_at {X} names places name other k place same e = by (bytes_eq other name) refl
   where
     unlike : (o : Option ℕ) → number_of names other ≡ o → bytes_eq other name ≡ false
         → option_and_then (slice_get (slice_set places k place)) o ≡ option_and_then (slice_get places) o

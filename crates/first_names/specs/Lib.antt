@@ -1,1 +1,2 @@
+pub mod AllPlaces
 pub mod Places

@@ -1,5 +1,5 @@
 //! The models of a cell's three-state drivers.
-ghost use Rattle.std.specs.Prelude.{◌≡◌, ◌<◌, length, IfOk};
+ghost use Rattle.std.specs.Prelude.{◌≡◌, ◌<◌, length, IfOk, Ok};
 ghost use Rattle.driver_models.specs.Models.{IsSound};
 ghost use Rattle.three_state_cells.specs.DrivenCells.{driven_data_of};
 ghost use Rattle.three_state_cells.specs.Drivers.{own_pins};
@@ -12,6 +12,7 @@ use specify_blocks::{driver_name, module_name, verilog_ports};
 use sqlite_items::Items;
 use std::alloc::{AllocError, Global};
 use three_state_cells::DrivenCell;
+use udp_tables::VPort;
 use vhdl_tokens::numbered_name;
 use vital_models::vital_ports;
 
@@ -23,6 +24,28 @@ pub fn own_pins(cell: &DrivenCell) -> &[Pin]
     let pins = cell.core.pins.as_slice();
     let own = pins.len() - cell.driver.drives.len();
     &pins[..own]
+}
+
+/// The model of a cell's drivers with these names, its own and its core's, and these ports. `AllocError` comes only where memory
+/// is wanting.
+fn model_of(
+    alloc: Global,
+    names: Result<(Items<u8>, Items<u8>), AllocError>,
+    ports: Result<Items<VPort>, AllocError>,
+    cell: &DrivenCell,
+) -> Result<DriverModel, AllocError>
+    ensures names { IfOk result (λ model. names ≡ Ok (model.name, model.core)) }
+    ensures ports { IfOk result (λ model. ports ≡ Ok model.ports) }
+    ensures driver { IfOk result (λ model. model.driver ≡ cell.now.driver) }
+{
+    let parts = both_made(ports, cell.driver.copied(alloc));
+    let ((name, core), (ports, driver)) = both_made(names, parts)?;
+    Ok(DriverModel {
+        name,
+        core,
+        ports,
+        driver,
+    })
 }
 
 /// The Verilog model of the three-state drivers of a cell that has some: a module whose core is the module of the cell's core.
@@ -38,17 +61,8 @@ pub fn verilog_driver(alloc: Global, cell: &DrivenCell) -> Result<DriverModel, A
         driver_name(alloc, core.number, cell.name.as_slice()),
         module_name(alloc, core.number, core.name.as_slice()),
     );
-    let parts = both_made(
-        verilog_ports(alloc, own_pins(cell)),
-        cell.driver.copied(alloc),
-    );
-    let ((name, core), (ports, driver)) = both_made(names, parts)?;
-    Ok(DriverModel {
-        name,
-        core,
-        ports,
-        driver,
-    })
+    let ports = verilog_ports(alloc, own_pins(cell));
+    model_of(alloc, names, ports, cell)
 }
 
 /// The VHDL model, with this name, of the three-state drivers of a cell that has some: an entity whose core is the entity of the
@@ -67,15 +81,6 @@ pub fn vital_driver(
         Ok(Items::from_slice(alloc, name)?),
         numbered_name(alloc, b"cell", cell.core.number),
     );
-    let parts = both_made(
-        vital_ports(alloc, own_pins(cell), name),
-        cell.driver.copied(alloc),
-    );
-    let ((name, core), (ports, driver)) = both_made(names, parts)?;
-    Ok(DriverModel {
-        name,
-        core,
-        ports,
-        driver,
-    })
+    let ports = vital_ports(alloc, own_pins(cell), name);
+    model_of(alloc, names, ports, cell)
 }

@@ -69,7 +69,7 @@ gone_is_no_direction (layer.Simple name value at) h =
 gone_is_no_direction (layer.Complex name arguments at) h = refl
 gone_is_no_direction (layer.Inner group) h = refl
 
-abbrev core_as : Group → Group-F Item Group
+abbrev pub core_as : Group → Group-F Item Group
 core_as pin = record {
   name = pin.name;
   arguments = pin.arguments;
@@ -124,7 +124,7 @@ same_among (one ∷ items) =
 
 -- The outputs that are added.
 
-abbrev enable_as : ℕ → Attribute → Group-F Item Group
+abbrev pub enable_as : ℕ → Attribute → Group-F Item Group
 enable_as number floats = record {
   name = codes "pin";
   arguments = one_value (codes "-e" ++ decimal (number + 1));
@@ -191,17 +191,22 @@ enabled_all number pin (group ∷ groups) =
         ∙ ap (λ (pins : List Pin). enable_output number ∷ pins) more)
     by false e same more = rw e same
 
-pub core_pins_are : CorePinsAre
+abbrev pub core_of_cell : Group → Group-F Item Group
+core_of_cell cell = record {
+  name = cell.name;
+  arguments = cell.arguments;
+  items = map core_statement cell.items ++ enable_pins 0 (three_state_outputs cell);
+  at = cell.at;
+}
+
+pub core_statements : (cell : Group)
+    → (core_group cell).items ≡ map core_statement cell.items ++ enable_pins 0 (three_state_outputs cell)
 unfolding core_group
+core_statements cell = ap (λ (one : Group-F Item Group). one.items) (out-roll-Group (core_of_cell cell))
+
+pub core_pins_are : CorePinsAre
 core_pins_are cell =
-    ap (λ (one : Group-F Item Group). pins_among one.items)
-    (out-roll-Group (record {
-      name = cell.name;
-      arguments = cell.arguments;
-      items = map core_statement cell.items
-          ++ enable_pins 0 (three_state_outputs cell);
-      at = cell.at;
-    }))
+    ap pins_among (core_statements cell)
     ∙ (among_append (map core_statement cell.items) (enable_pins 0 (three_state_outputs cell))
     ∙ (ap (λ (pins : List Pin). pins ++ pins_among (enable_pins 0 (three_state_outputs cell))) (same_among cell.items)
     ∙ ap (λ (pins : List Pin). pins_of cell ++ pins) (enabled_all 0 0 (owners_of cell))))

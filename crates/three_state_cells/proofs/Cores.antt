@@ -15,35 +15,25 @@ use Rattle.liberty_groups.specs.declared.tree.Group.{Group, roll-Group}
 use Rattle.cell_attributes.specs.Groups.{is_called, is_pin, inner_of, inner_groups}
 use Rattle.core_groups.specs.Outputs.{is_three_state, three_state_outputs}
 use Rattle.core_groups.specs.CoreGroups.{stays_in_core, core_pin, core_statement_as, core_statement, enable_pins, core_group}
+use Rattle.three_state_cells.specs.Trimmed.{in_core}
+use Rattle.three_state_cells.proofs.CorePins.{core_as, core_of_cell, core_statements}
 use Rattle.three_state_cells.proofs.Single.{single, same_floating}
 use Rattle.three_state_cells.proofs.Lists.{apart, apart_by, apart_in, apart_append, some_name}
 
--- a group of the cell as it stands in the core
-abbrev pub in_core : Group → Group
-in_core group = if is_three_state group then core_pin group else group
-
-abbrev core_shape : Group → Group-F Item Group
-core_shape pin = record {
-  name = pin.name;
-  arguments = pin.arguments;
-  items = filter (λ item. stays_in_core (out-Item item)) pin.items;
-  at = pin.at;
-}
-
-called_by : (b : Bool) (group : Group)
+pub called_by : (b : Bool) (group : Group)
     → is_called (codes "pin") (if b then core_pin group else group) ≡ is_called (codes "pin") group
-called_by true group = ap (λ (one : Group-F Item Group). bytes_eq one.name (codes "pin")) (out-roll-Group (core_shape group))
+called_by true group = ap (λ (one : Group-F Item Group). bytes_eq one.name (codes "pin")) (out-roll-Group (core_as group))
 called_by false group = refl
 
-names_by : (b : Bool) (group : Group) → (if b then core_pin group else group).arguments ≡ group.arguments
-names_by true group = ap (λ (one : Group-F Item Group). one.arguments) (out-roll-Group (core_shape group))
+pub names_by : (b : Bool) (group : Group) → (if b then core_pin group else group).arguments ≡ group.arguments
+names_by true group = ap (λ (one : Group-F Item Group). one.arguments) (out-roll-Group (core_as group))
 names_by false group = refl
 
 -- One of several names stands in the core as they all do.
 abbrev shape_of : Group → Value → Group-F Item Group
 shape_of group value = record { name = codes "pin"; arguments = value ∷ []; items = group.items; at = group.at }
 
-abbrev kept : Group-F Item Group → Group
+abbrev pub kept : Group-F Item Group → Group
 kept one =
     roll-Group (record {
       name = one.name;
@@ -58,7 +48,7 @@ named value one = roll-Group (record { name = codes "pin"; arguments = value ∷
 single_by : (b : Bool) (group : Group) (value : Value)
     → (if b then core_pin (single group value) else single group value) ≡ single (if b then core_pin group else group) value
 single_by true group value =
-    ap kept (out-roll-Group (shape_of group value)) ∙ sym (ap (named value) (out-roll-Group (core_shape group)))
+    ap kept (out-roll-Group (shape_of group value)) ∙ sym (ap (named value) (out-roll-Group (core_as group)))
 single_by false group value = refl
 
 single_in_core : (group : Group) (value : Value) → is_pin group ≡ true
@@ -119,7 +109,7 @@ cons_in_core : (o : Option Group) (groups : List Group)
 cons_in_core None groups = refl
 cons_in_core (Some group) groups = refl
 
-inner_in_core : (items : List Item) → inner_groups (map core_statement items) ≡ map in_core (inner_groups items)
+pub inner_in_core : (items : List Item) → inner_groups (map core_statement items) ≡ map in_core (inner_groups items)
 inner_in_core [] = refl
 inner_in_core (one ∷ items) =
     (λ i. cons_option (statement_inner one (out-Item one) refl i) (inner_in_core items i))
@@ -127,27 +117,18 @@ inner_in_core (one ∷ items) =
 
 -- The core of a cell.
 module _ (cell : Group) where
-  abbrev core_of_cell : Group-F Item Group
-  core_of_cell = record {
-    name = cell.name;
-    arguments = cell.arguments;
-    items = map core_statement cell.items ++ enable_pins 0 (three_state_outputs cell);
-    at = cell.at;
-  }
-
   pub core_arguments : (core_group cell).arguments ≡ cell.arguments
   unfolding core_group
-  core_arguments = ap (λ (one : Group-F Item Group). one.arguments) (out-roll-Group core_of_cell)
+  core_arguments = ap (λ (one : Group-F Item Group). one.arguments) (out-roll-Group (core_of_cell cell))
 
   pub core_at : (core_group cell).at ≡ cell.at
   unfolding core_group
-  core_at = ap (λ (one : Group-F Item Group). one.at) (out-roll-Group core_of_cell)
+  core_at = ap (λ (one : Group-F Item Group). one.at) (out-roll-Group (core_of_cell cell))
 
   pub core_apart : apart_in (core_group cell).items
       ≡ map in_core (flat_map apart (inner_groups cell.items)) ++ apart_in (enable_pins 0 (three_state_outputs cell))
-  unfolding core_group
   core_apart =
-      ap (λ (one : Group-F Item Group). apart_in one.items) (out-roll-Group core_of_cell)
+      ap apart_in (core_statements cell)
       ∙ (apart_append (map core_statement cell.items) (enable_pins 0 (three_state_outputs cell))
       ∙ ap (λ groups. groups ++ apart_in (enable_pins 0 (three_state_outputs cell)))
       (ap (flat_map apart) (inner_in_core cell.items) ∙ all_apart_as_core (inner_groups cell.items)))

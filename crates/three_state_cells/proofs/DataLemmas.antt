@@ -1,7 +1,6 @@
 -- What is read of a cell, as data.
-use Rattle.std.proofs.Common.{◌≡◌, ℕ, List, [], ◌∷◌, ◌==◌, ◌∙◌, length, true, false, map, refl, sym, ap, subst, arith, Result, Ok}
+use Rattle.std.proofs.Common.{◌≡◌, ℕ, List, [], ◌∷◌, ◌∙◌, map, refl, sym, ap, subst, Result, Ok}
 use Rattle.std.proofs.Common.{Err, IsErrAnd, IfErr}
-use Rattle.std.proofs.lemmas.Bool.{eqb-true}
 use Rattle.std.specs.Prelude.{Option}
 use Rattle.liberty_text.specs.declared.time.Unit.{Unit}
 use Rattle.liberty_groups.specs.declared.tree.Group.{Group}

@@ -24,7 +24,8 @@ use Rattle.three_state_cells.proofs.Single.{timings_in, same_items, same_attribu
 use Rattle.three_state_cells.proofs.Lists.{apart_in, of_pins}
 use Rattle.three_state_cells.proofs.Cells.{Floating, alone, whole, output_by, floats_apart}
 use Rattle.three_state_cells.proofs.GatheredRefused.{both, same_pins, same_subject, refused_alike, data_alike}
-use Rattle.three_state_cells.proofs.Cores.{in_core, core_arguments, core_at, core_apart}
+use Rattle.three_state_cells.specs.Trimmed.{in_core}
+use Rattle.three_state_cells.proofs.Cores.{core_arguments, core_at, core_apart}
 use Rattle.three_state_cells.proofs.Delays.{refusal_apart}
 
 -- Whatever is made of three-state outputs is the same of each alone.

@@ -11,6 +11,7 @@ use Rattle.cell_machine.specs.declared.groups.StateGroup.{StateGroup}
 use Rattle.cell_machine.specs.declared.outputs.OutputPin.{OutputPin}
 use Rattle.cell_machine.specs.CellRules.{is_name}
 use Rattle.cell_machine.specs.Delay.{least, lesser}
+use Rattle.cell_machine.proofs.LeastLemmas.{least_append}
 use Rattle.timing_arcs.specs.declared.subject.Subject.{Subject}
 use Rattle.timing_arcs.specs.Timing.{malformed_at as malformed_timing, unknown_names_at as unknown_timing}
 use Rattle.timing_arcs.specs.Timing.{numbers_at as number_timing, check_at_of}
@@ -43,7 +44,7 @@ use Rattle.three_state_cells.specs.DrivenCells.{DrivenData, plain_of, data_by}
 use Rattle.three_state_cells.proofs.Single.{single, its_pin, its_entry, same_text, same_directions, same_three_states, same_left_out}
 use Rattle.three_state_cells.proofs.Single.{same_no_function, same_wide_output, same_malformed, same_unknown, same_own, same_wide}
 use Rattle.three_state_cells.proofs.Single.{same_numbers, same_check_at, same_arc_at}
-use Rattle.three_state_cells.proofs.Lists.{apart, of_pins, by_name, least_join, least_same, states_apart, banks_apart}
+use Rattle.three_state_cells.proofs.Lists.{apart, of_pins, by_name, least_same, states_apart, banks_apart}
 use Rattle.three_state_cells.proofs.Lists.{declared_apart}
 use Rattle.three_state_cells.proofs.Known.{Known, known, readings_by, words_by}
 use Rattle.three_state_cells.proofs.Cells.{places_apart, answers_apart, left_out_apart, outputs_apart, offsets_apart, at_apart}
@@ -63,7 +64,7 @@ next r o p later after e f = ap (λ o. refused_or r o later) e ∙ ap (refused_o
 
 join_same : (xs ys zs ws : List ℕ) → least xs ≡ least zs → least ys ≡ least ws → least (xs ++ ys) ≡ least (zs ++ ws)
 join_same xs ys zs ws e f =
-    least_join xs ys ∙ (ap (λ o. lesser o (least ys)) e ∙ (ap (lesser (least zs)) f ∙ sym (least_join zs ws)))
+    least_append xs ys ∙ (ap (λ o. lesser o (least ys)) e ∙ (ap (lesser (least zs)) f ∙ sym (least_append zs ws)))
 
 module _
     (one other : Group) (arguments : one.arguments ≡ other.arguments) (place : one.at ≡ other.at)

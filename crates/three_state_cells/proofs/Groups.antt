@@ -17,7 +17,7 @@ use Rattle.cell_attributes.specs.Scans.{bank_in}
 use Rattle.cell_attributes.specs.Declarations.{declared_in}
 use Rattle.three_state_cells.proofs.Lists.{of_pins}
 use Rattle.three_state_cells.specs.PinAttributes.{untimed}
-use Rattle.three_state_cells.specs.Trimmed.{has_one, all_behind, is_trimmed, trimmed_pin, pins_made, pins_in_item}
+use Rattle.three_state_cells.specs.Trimmed.{has_one, is_trimmed, trimmed_pin, pins_made, pins_in_item}
 use Rattle.three_state_cells.specs.Trimmed.{trimmed_item, trimmed_items}
 use Rattle.three_state_cells.proofs.Untimed.{same_is_pin, same_is_state, same_bank, same_declared}
 
@@ -53,8 +53,8 @@ inner_trimmed pin (item ∷ items) =
 -- A trimmed group is a pin group.
 pub trimmed_is_pin : (pin : ℕ) (group : Group) → is_trimmed pin group ≡ true → is_pin group ≡ true
 trimmed_is_pin pin group e =
-    (and_parts (is_pin group) (has_one group.arguments && all_behind group.at group)
-    (and_parts (nat_le 64 pin) (is_pin group && (has_one group.arguments && all_behind group.at group)) e).1).0
+    (and_parts (is_pin group) (has_one group.arguments)
+    (and_parts (nat_le 64 pin) (is_pin group && has_one group.arguments) e).1).0
 
 -- What is the same of a pin group without its timing groups is the same of one that may be trimmed.
 pub same_of : {A : Type 0} (f : Group → A) → ((group : Group) → is_pin group ≡ true → f (untimed group) ≡ f group)

@@ -17,7 +17,12 @@ pub mod Limits
 pub mod Reasons
 pub mod Known
 pub mod Refused
+pub mod CoreOwners
+pub mod UntimedCores
+pub mod TrimmedCores
 pub mod Sinks
+pub mod CoreLimits
+pub mod PlainCores
 pub mod ReadLemmas
 pub mod Single
 pub mod Lists

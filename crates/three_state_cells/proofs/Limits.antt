@@ -1,6 +1,6 @@
 -- The offsets of checks and arcs of pins behind the limit are no less than that of the first of these pins, so that they don't
 -- decide where a limit is passed.
-use Rattle.std.proofs.Common.{◌≡◌, ℕ, ◌+◌, ◌≤◌, min, suc, zero, Bool, true, false, ◌&&◌, List, [], ◌∷◌, ◌++◌, length, map}
+use Rattle.std.proofs.Common.{◌≡◌, ℕ, ◌+◌, ◌≤◌, min, suc, zero, Bool, true, false, not, ◌||◌, List, [], ◌∷◌, ◌++◌, length, map}
 use Rattle.std.proofs.Common.{if◌then◌else◌, refl, sym, ap, ◌∙◌, arith, codes, Option, Some, None}
 use Rattle.std.specs.Prelude.{flat_map, nat_le, bytes_eq}
 use Rattle.std.specs.Option.{option_map_or}
@@ -27,10 +27,10 @@ use Rattle.timing_arcs.specs.Timing as timing
 use Rattle.cell_attributes.specs.Limits.{first_past}
 use Rattle.cell_reader.specs.PinTimings.{subject_at, places_from, arc_at_of}
 use Rattle.three_state_cells.specs.PinAttributes.{untimed}
-use Rattle.three_state_cells.specs.Trimmed.{place_in, is_behind, all_behind, has_one, is_trimmed, trimmed_pin, stands_behind}
+use Rattle.three_state_cells.specs.Trimmed.{place_in, is_behind, all_behind, is_trimmed, trimmed_pin, stands_behind}
+use Rattle.three_state_cells.specs.Trimmed.{keeps_order, all_keep_order}
 use Rattle.three_state_cells.proofs.Untimed.{same_at}
 use Rattle.three_state_cells.proofs.Owners.{trimmed_owners}
-use Rattle.cell_attributes.specs.Groups.{is_pin}
 
 -- Offsets that are no less than this.
 abbrev pub are_above : ℕ → List ℕ → Bool
@@ -138,7 +138,7 @@ module _ (m : ℕ) where
   check_above s k first second None h = refl
   check_above s k first second (Some a) h = same_above a.at (timing.attribute_check s k first second a) h
 
-  both_above : (xs ys : List ℕ) → are_above m xs ≡ true → are_above m ys ≡ true → are_above m (xs ++ ys) ≡ true
+  pub both_above : (xs ys : List ℕ) → are_above m xs ≡ true → are_above m ys ≡ true → are_above m (xs ++ ys) ≡ true
   both_above xs ys h k = list_all-append (nat_le m) xs ys ∙ and_from (are_above m xs) (are_above m ys) h k
 
   -- What statements of a pin make stands no less far.
@@ -208,29 +208,39 @@ module _ (m : ℕ) where
       and_from (is_behind m item) (list_all (is_behind m) items) (le-leb m (place_in (out-Item item)) (omega arith))
       (further at items h parts.1)
 
-  whole : (pin : ℕ) (owner : Group) → stands_behind m (trimmed_pin pin owner) ≡ true → stands_behind m owner ≡ true
-  whole pin owner h = by (is_trimmed pin owner) refl h
+  whole : (pin : ℕ) (owner : Group) → keeps_order pin owner ≡ true → stands_behind m (trimmed_pin pin owner) ≡ true
+      → stands_behind m owner ≡ true
+  whole pin owner o h = by (is_trimmed pin owner) o h
     where
-      by : (b : Bool) → is_trimmed pin owner ≡ b → stands_behind m (if b then untimed owner else owner) ≡ true
+      by : (b : Bool) → (not b || all_behind owner.at owner) ≡ true → stands_behind m (if b then untimed owner else owner) ≡ true
           → stands_behind m owner ≡ true
-      by true e h =
+      by true behind h =
           let place : nat_le m owner.at ≡ true = sym (ap (nat_le m) (same_at owner))
           ∙ (and_parts (nat_le m (untimed owner).at) (all_behind m (untimed owner)) h).0 in
-          let behind : all_behind owner.at owner ≡ true = (and_parts (has_one owner.arguments) (all_behind owner.at owner)
-          (and_parts (is_pin owner) (has_one owner.arguments && all_behind owner.at owner)
-          (and_parts (nat_le 64 pin) (is_pin owner && (has_one owner.arguments && all_behind owner.at owner)) e).1).1).1 in
           and_from (nat_le m owner.at) (all_behind m owner) place
           (further owner.at owner.items (leb-true m owner.at place) behind)
-      by false e h = h
+      by false o h = h
 
-  pub all_whole : (pin : ℕ) (owners : List Group) → list_all (stands_behind m) (trimmed_owners pin owners) ≡ true
-      → list_all (stands_behind m) owners ≡ true
-  all_whole pin [] h = refl
-  all_whole pin (owner ∷ owners) h =
+  pub all_whole : (pin : ℕ) (owners : List Group) → all_keep_order pin owners ≡ true
+      → list_all (stands_behind m) (trimmed_owners pin owners) ≡ true → list_all (stands_behind m) owners ≡ true
+  all_whole pin [] o h = refl
+  all_whole pin (owner ∷ owners) o h =
       let parts = and_parts (stands_behind m (trimmed_pin pin owner))
       (list_all (stands_behind m) (trimmed_owners (pin + 1) owners)) h in
-      and_from (stands_behind m owner) (list_all (stands_behind m) owners) (whole pin owner parts.0)
-      (all_whole (pin + 1) owners parts.1)
+      let ordered = and_parts (keeps_order pin owner) (all_keep_order (pin + 1) owners) o in
+      and_from (stands_behind m owner) (list_all (stands_behind m) owners) (whole pin owner ordered.0 parts.0)
+      (all_whole (pin + 1) owners ordered.1 parts.1)
+
+-- The checks and the arcs of pins stand no less far.
+pub record AreBehind (m : ℕ) (s : Subject) (owners : List Group) : Type 0 where
+  pub checks : (pin : ℕ) → are_above m (places_from timing.check_at_of s pin owners) ≡ true
+  pub arcs : (pin : ℕ) → are_above m (places_from arc_at_of s pin owners) ≡ true
+
+pub stand_behind : (m : ℕ) (s : Subject) (owners : List Group) → list_all (stands_behind m) owners ≡ true → AreBehind m s owners
+stand_behind m s owners h = record {
+  checks = λ pin. places_above m timing.check_at_of (checks_above m) s pin owners h;
+  arcs = λ pin. places_above m arc_at_of (arcs_above m) s pin owners h;
+}
 
 -- The offset that passes a limit of so many.
 pub past_all : (xs : List ℕ) (x : ℕ) (ys : List ℕ) → first_past (length xs) (xs ++ x ∷ ys) ≡ x ∷ []

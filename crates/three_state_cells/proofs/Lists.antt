@@ -1,7 +1,7 @@
 -- Groups whose pin groups are taken apart, so that each has one name, and what is read of all of them.
-use Rattle.std.proofs.Common.{◌≡◌, ℕ, Bool, true, false, not, ◌&&◌, ◌||◌, ◌==◌, List, [], ◌∷◌, ◌++◌, length, map, filter, Option}
-use Rattle.std.proofs.Common.{Some, None, if◌then◌else◌, refl, sym, ap, ◌∙◌, codes, append-nil, arith}
-use Rattle.std.specs.Prelude.{flat_map, bytes_eq, min}
+use Rattle.std.proofs.Common.{◌≡◌, ℕ, Bool, true, false, not, ◌&&◌, ◌||◌, ◌==◌, List, [], ◌∷◌, ◌++◌, length, map, filter}
+use Rattle.std.proofs.Common.{if◌then◌else◌, refl, sym, ap, ◌∙◌, codes, append-nil, arith}
+use Rattle.std.specs.Prelude.{flat_map, bytes_eq}
 use Rattle.std.proofs.lemmas.Bool.{ne_eqb}
 use Rattle.std.proofs.lemmas.Grind.{flat_map-append}
 use Rattle.std.proofs.lemmas.Slice.Eq.{bytes_eq-Decides}
@@ -10,11 +10,12 @@ use Rattle.liberty_groups.specs.declared.tree.Value.{Value}
 use Rattle.liberty_groups.specs.declared.tree.Item.{Item, out-Item}
 use Rattle.liberty_groups.specs.declared.tree.Group.{Group}
 use Rattle.cell_machine.specs.Delay.{least, lesser}
-use Rattle.cell_machine.proofs.LeastLemmas.{lesser_assoc}
+use Rattle.cell_machine.proofs.LeastLemmas.{least_append}
 use Rattle.cell_attributes.specs.Groups.{is_called, is_pin, is_state, inner_of, inner_groups}
 use Rattle.cell_attributes.specs.States.{states_in}
 use Rattle.cell_attributes.specs.Scans.{bank_in}
 use Rattle.cell_attributes.specs.Declarations.{Declared, declared_pin, declared_in, declared_state}
+use Rattle.three_state_cells.proofs.Untimed.{again as lesser_same}
 use Rattle.three_state_cells.proofs.Single.{single, is_one_pin, is_no_state, no_bank_in, its_declared}
 
 -- A pin group becomes one for each of its names.
@@ -125,24 +126,13 @@ by_name f h k one all groups =
     ∙ sym (one_of h group))) groups
 
 -- The least offset is the same, however often it is told.
-pub least_join : (xs ys : List ℕ) → least (xs ++ ys) ≡ lesser (least xs) (least ys)
-least_join [] ys = refl
-least_join (x ∷ xs) ys = ap (lesser (Some x)) (least_join xs ys) ∙ sym (lesser_assoc (Some x) (least xs) (least ys))
-
-lesser_same : (o : Option ℕ) → lesser o o ≡ o
-lesser_same None = refl
-lesser_same (Some x) = ap Some (same x)
-  where
-    same : (x : ℕ) → min x x ≡ x
-    same x = omega arith
-
 again :
     (x : Group → List ℕ) (group : Group) → ((value : Value) → x (single group value) ≡ x group)
     → (value : Value) (values : List Value)
     → least (flat_map x (map (single group) (value ∷ values))) ≡ least (x group)
 again x group same value [] = ap (λ l. least (l ++ [])) (same value) ∙ ap least (append-nil (x group))
 again x group same value (other ∷ values) =
-    least_join (x (single group value)) (flat_map x (map (single group) (other ∷ values)))
+    least_append (x (single group value)) (flat_map x (map (single group) (other ∷ values)))
     ∙ (ap (λ l. lesser (least l) (least (flat_map x (map (single group) (other ∷ values))))) (same value)
     ∙ (ap (lesser (least (x group))) (again x group same other values) ∙ lesser_same (least (x group))))
 
@@ -163,7 +153,7 @@ least_same x same groups =
     (λ group. ap least (several_of x group) ∙ (by group (is_called (codes "pin") group) ∙ sym (ap least (one_of x group)))) groups
   where
     joined : (xs ys : List Group) → least (of_pins x (xs ++ ys)) ≡ lesser (least (of_pins x xs)) (least (of_pins x ys))
-    joined xs ys = ap least (of_pins_join x xs ys) ∙ least_join (of_pins x xs) (of_pins x ys)
+    joined xs ys = ap least (of_pins_join x xs ys) ∙ least_append (of_pins x xs) (of_pins x ys)
 
     by : (group : Group) (b : Bool)
         → least (if b && not (length group.arguments == 0) then flat_map x (map (single group) group.arguments) else [])

@@ -9,7 +9,7 @@ use Rattle.cell_attributes.specs.Groups.{is_pin}
 use Rattle.cell_attributes.specs.Pins.{owner_as, owners_in}
 use Rattle.three_state_cells.proofs.Lists.{of_pins}
 use Rattle.three_state_cells.specs.PinAttributes.{untimed}
-use Rattle.three_state_cells.specs.Trimmed.{has_one, all_behind, is_trimmed, trimmed_pin, pins_made}
+use Rattle.three_state_cells.specs.Trimmed.{has_one, is_trimmed, trimmed_pin, pins_made}
 use Rattle.three_state_cells.proofs.Untimed.{same_arguments}
 use Rattle.three_state_cells.proofs.Groups.{trimmed_groups, no_more, same_pin}
 
@@ -21,15 +21,17 @@ pub next_pins : {A : Type 0} (pin : ℕ) (x : A) (xs : List A) → (pin + 1) + l
 next_pins pin x xs = omega arith
 
 -- A group of several pins is not trimmed.
-pub no_last : (a b c : Bool) → (a && (b && (false && c))) ≡ false
-no_last true true c = refl
-no_last true false c = refl
-no_last false b c = refl
+pub no_last : (a b : Bool) → (a && (b && false)) ≡ false
+no_last true true = refl
+no_last true false = refl
+no_last false b = refl
+
+pub several_stay : (group : Group) → has_one group.arguments ≡ false → (pin : ℕ) → is_trimmed pin group ≡ false
+several_stay group e pin =
+    ap (λ b. nat_le 64 pin && (is_pin group && b)) e ∙ no_last (nat_le 64 pin) (is_pin group)
 
 several : (group : Group) → has_one group.arguments ≡ false → (pin : ℕ) → trimmed_pin pin group ≡ group
-several group e pin =
-    ap (λ b. if nat_le 64 pin && (is_pin group && (b && all_behind group.at group)) then untimed group else group) e
-    ∙ ap (λ b. if b then untimed group else group) (no_last (nat_le 64 pin) (is_pin group) (all_behind group.at group))
+several group e pin = ap (λ b. if b then untimed group else group) (several_stay group e pin)
 
 copies : (group : Group) → ((pin : ℕ) → trimmed_pin pin group ≡ group) → (values : List Value) (pin : ℕ) (owners : List Group)
     → trimmed_owners pin (map (owner_as group) values ++ owners)
@@ -84,8 +86,7 @@ owners_trimmed pin (group ∷ groups) =
 -- The first 64 pins stay, and those behind them are trimmed by themselves.
 early_stays : (pin : ℕ) (owner : Group) → pin < 64 → trimmed_pin pin owner ≡ owner
 early_stays pin owner h =
-    ap (λ b. if b && (is_pin owner && (has_one owner.arguments && all_behind owner.at owner)) then untimed owner else owner)
-    (lt-leb 64 pin h)
+    ap (λ b. if b && (is_pin owner && has_one owner.arguments) then untimed owner else owner) (lt-leb 64 pin h)
 
 pub front_stays : (front back : List Group) (pin : ℕ) → pin + length front ≤ 64
     → trimmed_owners pin (front ++ back) ≡ front ++ trimmed_owners (pin + length front) back

@@ -27,7 +27,7 @@ use Rattle.cell_reader.proofs.Refused.{least_none}
 use Rattle.three_state_cells.specs.Refusals.{first_of_two}
 use Rattle.three_state_cells.specs.PinAttributes.{untimed}
 use Rattle.three_state_cells.specs.Trimmed.{is_trimmed, is_timing, is_timed, loses, trimmed_pin, timing_told, wrong_pin, wrong_with}
-use Rattle.three_state_cells.proofs.Untimed.{attribute_numbers, no_malformed, no_unknown, no_own, kept_numbers}
+use Rattle.three_state_cells.proofs.Untimed.{again, attribute_numbers, no_malformed, no_unknown, no_own, kept_numbers}
 use Rattle.three_state_cells.proofs.JoinedReasons.{IsAbove, above_or, joined}
 use Rattle.three_state_cells.proofs.Owners.{trimmed_owners}
 
@@ -39,13 +39,6 @@ commuted None None = refl
 commuted None (Some y) = refl
 commuted (Some x) None = refl
 commuted (Some x) (Some y) = ap Some (min_commutes x y)
-
-min_again : (x : ℕ) → min x x ≡ x
-min_again x = omega arith
-
-pub again : (a : Option ℕ) → lesser a a ≡ a
-again None = refl
-again (Some x) = ap Some (min_again x)
 
 exchanged : (a b c d : Option ℕ) → lesser (lesser a b) (lesser c d) ≡ lesser (lesser a c) (lesser b d)
 exchanged a b c d =
@@ -66,7 +59,7 @@ pub record IsPart (f : Subject → Group → List ℕ) : Type 0 where
   pub part : (s : Subject) (group : Group) → lesser (least (f s (untimed group))) (least (f s group)) ≡ least (f s group)
   pub same : (s : Subject) (group : Group) → is_timed group ≡ false → least (f s (untimed group)) ≡ least (f s group)
 
-untimed_groups : (items : List Item) → list_any (λ item. is_timing (out-Item item)) items ≡ false
+pub untimed_groups : (items : List Item) → list_any (λ item. is_timing (out-Item item)) items ≡ false
     → groups_named (codes "timing") items ≡ []
 untimed_groups [] e = refl
 untimed_groups (item ∷ items) e =

@@ -1,6 +1,6 @@
--- A trimmed group and what is wrong in the timing that it lost, as they are made of the statements of a cell.
-use Rattle.std.proofs.Common.{◌≡◌, ℕ, suc, ◌+◌, ◌<◌, ◌≤◌, ◌^◌, true, false, List, [], ◌∷◌, ◌++◌, length, refl, sym, ap, ◌∙◌, subst, arith}
-use Rattle.std.proofs.Common.{append-nil, if◌then◌else◌, Option, Some, None}
+-- A trimmed group and what is wrong in the timing that its core lost, as they are made of the statements of a cell.
+use Rattle.std.proofs.Common.{◌≡◌, ℕ, ◌<◌, ◌≤◌, ◌^◌, true, false, List, [], ◌∷◌, ◌++◌, length, map, filter, sym, ap, ◌∙◌, subst, arith}
+use Rattle.std.proofs.Common.{append-nil, if◌then◌else◌, Option, Some, None, refl}
 use Rattle.std.specs.Prelude.{flat_map}
 use Rattle.std.specs.List.{fold}
 use Rattle.std.proofs.lemmas.Bool.{lt-ltb}
@@ -16,24 +16,27 @@ use Rattle.bank_cells.specs.Refusals.{has_many}
 use Rattle.bank_cells.specs.Copies.{with_items}
 use Rattle.bank_cells.specs.Gathered.{gathered_item, gathered_cell, gathered}
 use Rattle.timing_arcs.specs.declared.subject.Subject.{Subject}
-use Rattle.cell_attributes.specs.Groups.{pin_groups}
-use Rattle.cell_attributes.specs.Pins.{owners_of}
+use Rattle.cell_attributes.specs.Groups.{is_pin, inner_groups, pin_groups}
+use Rattle.cell_attributes.specs.Pins.{pins_of, owners_of}
 use Rattle.cell_reader.specs.declared.refusal.Reason.TheVariants as reason
 use Rattle.cell_reader.specs.declared.refusal.Refusal.{Refusal}
 use Rattle.cell_reader.specs.ReasonWords.{number_of_reason}
-use Rattle.cell_reader.specs.CellTexts.{subject_of, IsEarlyUnmet}
-use Rattle.core_groups.specs.Outputs.{three_state_outputs, CanBeNumbered}
-use Rattle.three_state_cells.specs.Refusals.{first_of_two, refusal_by, driven_refusal}
-use Rattle.three_state_cells.proofs.Deciding.{refused_early}
-use Rattle.three_state_cells.specs.Trimmed.{trimmed_items, trimmed, is_in_order, owners_among, wrong_with, LosesNothing}
+use Rattle.cell_reader.specs.CellTexts.{subject_with, subject_of}
+use Rattle.cell_reader.specs.Refusals.{refusal_of}
+use Rattle.core_groups.specs.CoreGroups.{core_group}
+use Rattle.three_state_cells.specs.Refusals.{first_of_two, refusal_with, driver_refusal, driven_refusal}
+use Rattle.three_state_cells.specs.Trimmed.{trimmed_items, trimmed, owners_among, all_keep_order, wrong_with, in_core, lost_wrong}
+use Rattle.three_state_cells.specs.Trimmed.{HasNoneApart, IsTrimmedCore}
 use Rattle.three_state_cells.specs.Sinks.{nothing_held, after_all, nothing_trimmed, after_trimmed, after_wrong}
 use Rattle.three_state_cells.specs.declared.trimmed_items.AllItems.{AllItems}
 use Rattle.three_state_cells.specs.declared.trimmed_items.TrimmedItems.{TrimmedItems}
+use Rattle.three_state_cells.specs.declared.wrong_timings.WrongTimings.{WrongTimings}
+use Rattle.three_state_cells.proofs.Deciding.{early_refusal_decides}
 use Rattle.three_state_cells.proofs.JoinedReasons.{IsAbove, above_or}
-use Rattle.three_state_cells.proofs.Owners.{trimmed_owners}
 use Rattle.three_state_cells.proofs.Places.{by_kinds, wrong_by_kinds}
-use Rattle.three_state_cells.proofs.Refused.{owners, refused_as, never_accepted}
-use Rattle.three_state_cells.proofs.Sinks.{all_trimmed, all_whole, all_wrong, none_lost}
+use Rattle.three_state_cells.proofs.Refused.{pins}
+use Rattle.three_state_cells.proofs.PlainCores.{as_core}
+use Rattle.three_state_cells.proofs.Sinks.{all_trimmed, all_whole, all_wrong, all_ordered, all_quiet}
 
 -- The group of a cell with buses, bundles or banks is gathered.
 pub gathered_many : (types : List BusType) (cell : Group) → has_many cell ≡ true → gathered_cell types cell ≡ gathered types cell
@@ -84,55 +87,73 @@ module _ (types : List BusType) (cell : Group) where
       (ap (λ (one : TrimmedItems). one.items) e
       ∙ (all_trimmed statements ∙ all_whole statements (sym (ap (λ (one : TrimmedItems). one.is_whole) e) ∙ whole)))
 
-  pub lost_none : (held : TrimmedItems) → held ≡ fold after_trimmed nothing_trimmed statements → held.loses ≡ false
-      → LosesNothing (gathered_cell types cell)
-  lost_none held e none s =
-      ap (λ l. wrong_with s None 0 (owners_among l)) its_items
-      ∙ none_lost s statements (sym (ap (λ (one : TrimmedItems). one.loses) e) ∙ none)
+  pub kept_order : (held : TrimmedItems) → held ≡ fold after_trimmed nothing_trimmed statements → held.is_ordered ≡ true
+      → all_keep_order 0 (owners_of (gathered_cell types cell)) ≡ true
+  kept_order held e order =
+      ap (λ l. all_keep_order 0 (owners_among l)) its_items
+      ∙ all_ordered statements (sym (ap (λ (one : TrimmedItems). one.is_ordered) e) ∙ order)
 
-  -- The pins of the gathered group are as many as those of the trimmed one.
-  same_count : (pin : ℕ) (groups : List Group) → length (trimmed_owners pin groups) ≡ length groups
-  same_count pin [] = refl
-  same_count pin (group ∷ groups) = ap suc (same_count (pin + 1) groups)
+  pub none_apart : (held : TrimmedItems) → held ≡ fold after_trimmed nothing_trimmed statements → held.has_apart ≡ false
+      → HasNoneApart (gathered_cell types cell)
+  none_apart held e none =
+      let quiet = λ (s : Subject). all_quiet s statements (sym (ap (λ (one : TrimmedItems). one.has_apart) e) ∙ none) in
+      record {
+        lost = λ s. ap (λ l. wrong_with s None 0 (map in_core (owners_among l))) its_items ∙ (quiet s).0;
+        delays = λ s. ap (λ l. refusal_with s None 0 (filter is_pin (inner_groups l))) its_items ∙ (quiet s).1;
+      }
 
-  few_owners : (group : Group) → group ≡ trimmed (gathered_cell types cell) → CanBeNumbered (pin_groups group)
-      → length (owners_among statements) < 2 ^ 64
-  few_owners group is few =
-      let count : length (owners_of group) ≡ length (owners_among statements) =
-      ap (λ (one : Group). length (owners_of one)) is
-      ∙ (ap (λ l. length l) (owners (gathered_cell types cell))
-      ∙ (same_count 0 (owners_of (gathered_cell types cell)) ∙ ap (λ l. length (owners_among l)) its_items)) in
-      subst (λ n. n < 2 ^ 64) count few
+  -- what is wrong in the timing that its core lost, and in the delays of its three-state outputs
+  module _ (unit : Option Unit) (core : Group) (is : IsTrimmedCore (gathered_cell types cell) core) where
+    abbrev subject : Subject
+    subject = subject_of unit core
 
-  pub wrong_made : (unit : Option Unit) (group : Group) (subject : Subject) (found : Option Refusal)
-      → group ≡ trimmed (gathered_cell types cell) → CanBeNumbered (pin_groups group) → subject ≡ subject_of unit group
-      → found ≡ (fold after_wrong (record { subject = subject; found = None }) statements).found
-      → found ≡ wrong_with (subject_of unit group) None 0 (owners_of (gathered_cell types cell))
-  wrong_made unit group subject found is few same e =
-      e
-      ∙ (all_wrong subject statements (ap (λ (s : Subject). s.place) same) (few_owners group is few)
-      ∙ (λ i. wrong_with (same i) None 0 (owners_among (sym its_items i))))
+    few_owners : length (owners_among statements) < 2 ^ 64
+    few_owners = subst (λ l. length (owners_among l) < 2 ^ 64) its_items is.few
 
-  -- what refuses the gathered group
-  pub refused_by : (unit : Option Unit) (earlier : List (List ℕ)) (group : Group) (told refusal : Refusal)
-      → group ≡ trimmed (gathered_cell types cell) → three_state_outputs group ≡ [] → is_in_order group ≡ true
-      → driven_refusal unit earlier group ≡ Some told
-      → Some refusal ≡ first_of_two (Some told)
-      (wrong_with (subject_of unit group) None 0 (owners_of (gathered_cell types cell)))
-      → driven_refusal unit earlier (gathered_cell types cell) ≡ Some refusal
-  refused_by unit earlier group told refusal is none order e decided =
-      refused_as (gathered_cell types cell) unit earlier (sym (ap three_state_outputs is) ∙ none)
-      (sym (ap is_in_order is) ∙ order)
-      ∙ ((λ i. first_of_two (driven_refusal unit earlier (sym is i))
-      (wrong_with (subject_of unit (sym is i)) None 0 (owners_of (gathered_cell types cell))))
-      ∙ (ap (λ o. first_of_two o (wrong_with (subject_of unit group) None 0 (owners_of (gathered_cell types cell)))) e
-      ∙ sym decided))
+    wrong_parts : (s : Subject) (wrong : WrongTimings) → s ≡ subject
+        → wrong ≡ fold after_wrong (record { subject = s; found = None; delays = None }) statements
+        → (wrong.found ≡ lost_wrong subject (gathered_cell types cell))
+        × (wrong.delays ≡ driver_refusal subject (pin_groups (gathered_cell types cell)))
+    wrong_parts s wrong same e =
+        let told = all_wrong s statements (ap (λ (one : Subject). one.place) same) few_owners in (
+          ap (λ (one : WrongTimings). one.found) e
+              ∙ (told.0 ∙ (λ i. wrong_with (same i) None 0 (map in_core (owners_among (sym its_items i))))),
+          ap (λ (one : WrongTimings). one.delays) e
+              ∙ (told.1 ∙ (λ i. refusal_with (same i) None 0 (filter is_pin (inner_groups (sym its_items i))))),
+        )
 
-  pub no_cell : (unit : Option Unit) (earlier : List (List ℕ)) (group : Group) → group ≡ trimmed (gathered_cell types cell)
-      → three_state_outputs group ≡ [] → is_in_order group ≡ true → driven_refusal unit earlier group ≡ None → ⊥
-  no_cell unit earlier group is none order e =
-      never_accepted (gathered_cell types cell) unit earlier (sym (ap three_state_outputs is) ∙ none)
-      (sym (ap is_in_order is) ∙ order) (sym (ap (driven_refusal unit earlier) is) ∙ e)
+    pub wrong_made : (s : Subject) (wrong : WrongTimings) (told : Refusal) (first last : Refusal) → s ≡ subject
+        → wrong ≡ fold after_wrong (record { subject = s; found = None; delays = None }) statements
+        → Some first ≡ first_of_two (Some told) wrong.found → Some last ≡ first_of_two (Some first) wrong.delays
+        → Some last
+        ≡ first_of_two (first_of_two (Some told) (lost_wrong subject (gathered_cell types cell)))
+        (driver_refusal subject (pin_groups (gathered_cell types cell)))
+    wrong_made s wrong told first last same e one two =
+        let parts = wrong_parts s wrong same e in
+        two ∙ (λ i. first_of_two ((one ∙ ap (first_of_two (Some told)) parts.0) i) (parts.1 i))
+
+    -- what refuses the gathered group
+    same_subject : subject_of unit (core_group (gathered_cell types cell)) ≡ subject
+    same_subject =
+        ap (subject_with unit) (sym (pins (core_group (gathered_cell types cell))) ∙ ap pins_of (sym is.trims))
+
+    pub refused_by : (earlier : List (List ℕ)) (told refusal : Refusal) → refusal_of subject earlier core ≡ Some told
+        → Some refusal
+        ≡ first_of_two (first_of_two (Some told) (lost_wrong subject (gathered_cell types cell)))
+        (driver_refusal subject (pin_groups (gathered_cell types cell)))
+        → driven_refusal unit earlier (gathered_cell types cell) ≡ Some refusal
+    refused_by earlier told refusal e decided =
+        let whole : Group = gathered_cell types cell in
+        as_core unit earlier whole
+        ∙ ((λ i. first_of_two (refusal_of (same_subject i) earlier (core_group whole))
+        (driver_refusal (same_subject i) (pin_groups whole)))
+        ∙ (ap (λ o. first_of_two o (driver_refusal subject (pin_groups whole)))
+        (is.decides subject earlier ∙ ap (λ o. first_of_two o (lost_wrong subject whole)) e)
+        ∙ sym decided))
+
+pub told_alone : (s : Subject) (cell : Group) (told : Refusal) → HasNoneApart cell
+    → Some told ≡ first_of_two (first_of_two (Some told) (lost_wrong s cell)) (driver_refusal s (pin_groups cell))
+told_alone s cell told h = sym (λ i. first_of_two (first_of_two (Some told) (h.lost s i)) (h.delays s i))
 
 -- A reason before those of texts decides.
 first_stays : (told : Refusal) (later : Option Refusal) → number_of_reason told.reason ≤ 6 → IsAbove 6 later
@@ -146,15 +167,11 @@ kinds_above m u o n =
     (above_or 7 reason.UnknownName u _ (omega arith)
     (above_or 8 reason.OwnCondition o _ (omega arith) (above_or 11 reason.Number n None (omega arith) tt)))
 
-pub early_stays : (s : Subject) (groups : List Group) (told : Refusal) → number_of_reason told.reason ≤ 6
-    → Some told ≡ first_of_two (Some told) (wrong_with s None 0 groups)
-early_stays s groups told h =
-    sym (first_stays told (wrong_with s None 0 groups) h
-    (subst (IsAbove 6) (sym (wrong_by_kinds s None None None None 0 groups)) (kinds_above _ _ _ _)))
-
-pub early_unmet : (unit : Option Unit) (earlier : List (List ℕ)) (group : Group) (told : Refusal)
-    → three_state_outputs group ≡ [] → driven_refusal unit earlier group ≡ Some told → 6 < number_of_reason told.reason
-    → IsEarlyUnmet group
-unfolding driven_refusal
-early_unmet unit earlier group told none e h =
-    refused_early (subject_of unit group) earlier group told (sym (ap (refusal_by unit earlier group) none) ∙ e) h
+pub early_stays : (s : Subject) (cell : Group) (told : Refusal) → number_of_reason told.reason ≤ 6
+    → Some told ≡ first_of_two (first_of_two (Some told) (lost_wrong s cell)) (driver_refusal s (pin_groups cell))
+early_stays s cell told h =
+    sym
+    (ap (λ o. first_of_two o (driver_refusal s (pin_groups cell)))
+    (first_stays told (lost_wrong s cell) h
+    (subst (IsAbove 6) (sym (wrong_by_kinds s None None None None 0 (map in_core (owners_of cell)))) (kinds_above _ _ _ _)))
+    ∙ early_refusal_decides s (pin_groups cell) told (omega (arith, h)))

@@ -1,11 +1,9 @@
 -- A cell with more pins than the limit is refused as it is trimmed, or for what is wrong in the timing of the trimmed pins.
-use Rattle.std.proofs.Common.{◌≡◌, ℕ, ◌+◌, ◌-◌, ◌<◌, suc, zero, Bool, true, false, List, [], ◌∷◌, ◌++◌, length, map, filter, drop, refl, sym, ap}
-use Rattle.std.proofs.Common.{◌∙◌, arith, if◌then◌else◌, Option, Some, None}
-use Rattle.std.specs.Prelude.{flat_map, is_some, take}
-use Rattle.std.specs.List.{list_all}
-use Rattle.std.proofs.lemmas.List.{take-append-drop, map-append, append_assoc, length-drop, length-map, length-take-le}
+use Rattle.std.proofs.Common.{◌≡◌, ℕ, ◌+◌, true, List, [], ◌∷◌, ◌++◌, length, map, filter, refl, sym, ap, ◌∙◌, arith}
+use Rattle.std.proofs.Common.{if◌then◌else◌, Option, Some, None}
+use Rattle.std.specs.Prelude.{flat_map, is_some}
+use Rattle.std.proofs.lemmas.List.{map-append, append_assoc, length-map}
 use Rattle.std.proofs.lemmas.List.Folds.{flat_map-map}
-use Rattle.liberty_text.specs.declared.time.Unit.{Unit}
 use Rattle.liberty_groups.specs.declared.tree.Item.{Item}
 use Rattle.liberty_groups.specs.declared.tree.Item.TheOpen.{Group-F}
 use Rattle.liberty_groups.specs.declared.tree.Item.TheViews.{out-roll-Group}
@@ -35,25 +33,23 @@ use Rattle.cell_attributes.specs.Limits.{first_past, place_of_group, state_at}
 use Rattle.cell_reader.specs.declared.refusal.Reason.TheVariants as reason
 use Rattle.cell_reader.specs.declared.refusal.Refusal.{Refusal}
 use Rattle.cell_reader.specs.PinTimings.{subject_at, arc_at_of, places_from}
-use Rattle.cell_reader.specs.CellTexts.{subject_with, subject_of}
 use Rattle.cell_reader.specs.Written.{coupled_of, own_conditions_of, no_support_of}
 use Rattle.cell_reader.specs.Refusals.{refused_or, timing_places, wrong_texts, malformed, unknown_names, coupled}
 use Rattle.cell_reader.specs.Refusals.{own_conditions, numbers, limits, udp_inputs, reasons_of, refusal_of}
-use Rattle.core_groups.specs.Outputs.{is_three_state, outputs_from, three_state_outputs}
-use Rattle.three_state_cells.specs.Refusals.{first_of_two, refusal_by, driven_refusal}
+use Rattle.three_state_cells.specs.Refusals.{first_of_two}
 use Rattle.cell_reader.proofs.Refused.{least_none, all_unmet}
 use Rattle.cell_reader.proofs.PartCounts.{within_limits}
 use Rattle.three_state_cells.proofs.Lists.{of_pins}
-use Rattle.three_state_cells.specs.Trimmed.{stands_behind, are_behind, is_in_order, trimmed_pin, trimmed_items, trimmed, wrong_with}
-use Rattle.three_state_cells.proofs.Untimed.{same_at, same_directions, same_three_states, same_left_out, same_no_function, same_text}
-use Rattle.three_state_cells.proofs.Untimed.{same_pins, same_entries, same_floating}
+use Rattle.three_state_cells.specs.Trimmed.{trimmed_pin, trimmed_items, trimmed, wrong_with}
+use Rattle.three_state_cells.proofs.Untimed.{again, same_at, same_directions, same_three_states, same_left_out, same_no_function, same_text}
+use Rattle.three_state_cells.proofs.Untimed.{same_pins, same_entries}
 use Rattle.three_state_cells.proofs.Groups.{trimmed_groups, no_more, inner_trimmed, same_of, same_pins_told, same_least_told}
 use Rattle.three_state_cells.proofs.Groups.{same_states, same_banks}
 use Rattle.three_state_cells.proofs.Groups.{same_declared_names}
 use Rattle.three_state_cells.proofs.Owners.{trimmed_owners, next_pins, owners_trimmed, front_stays}
-use Rattle.three_state_cells.proofs.Places.{commuted, again, dropped, IsPart, malformed_part, unknown_part, own_part, numbers_part, places_least}
+use Rattle.three_state_cells.proofs.Places.{commuted, dropped, IsPart, malformed_part, unknown_part, own_part, numbers_part, places_least}
 use Rattle.three_state_cells.proofs.Places.{by_kinds, wrong_by_kinds}
-use Rattle.three_state_cells.proofs.Limits.{past, MakesAbove, checks_above, arcs_above, places_above, all_whole, past_all}
+use Rattle.three_state_cells.proofs.Limits.{are_above, past, AreBehind, past_all}
 use Rattle.three_state_cells.proofs.Reasons.{all_joined}
 use Rattle.three_state_cells.proofs.Known.{known, readings_by, words_by}
 use Rattle.three_state_cells.specs.PinAttributes.{untimed}
@@ -68,9 +64,6 @@ least_parts xs ys zs a b e =
 
 zero_more : (n : ℕ) → 0 + n ≡ n
 zero_more n = omega arith
-
-same_length : {A B : Type 0} (f : A → B) (xs : List A) → length (map f xs) ≡ length xs
-same_length f xs = length-map xs f
 
 swapped : (a b c : Option ℕ) → lesser a (lesser b c) ≡ lesser b (lesser a c)
 swapped a b c = sym (lesser_assoc a b c) ∙ (ap (λ o. lesser o c) (commuted a b) ∙ lesser_assoc b a c)
@@ -89,42 +82,7 @@ in_pairs at s c a p =
     ∙ (lesser_assoc (lesser (Some at) c) (Some at) rest
     ∙ ap (lesser (lesser (Some at) c)) (sym (lesser_assoc (Some at) a (lesser s p))))))
 
-drop_trimmed : (n pin : ℕ) (owners : List Group)
-    → drop n (trimmed_owners pin owners) ≡ trimmed_owners (pin + n) (drop n owners)
-drop_trimmed zero pin owners = ap (λ p. trimmed_owners p owners) (sym (no_more pin))
-drop_trimmed (suc n) pin [] = refl
-drop_trimmed (suc n) pin (owner ∷ owners) =
-    drop_trimmed n (pin + 1) owners ∙ ap (λ p. trimmed_owners p (drop n owners)) (next n pin)
-  where
-    next : (n pin : ℕ) → (pin + 1) + n ≡ pin + suc n
-    next n pin = omega arith
-
-front_length : (owners : List Group) (first : Group) (back : List Group) → drop 64 owners ≡ first ∷ back
-    → length (take 64 owners) ≡ 64
-front_length owners first back e =
-    let behind : length (first ∷ back) ≡ length owners - 64 = sym (ap length e) ∙ length-drop 64 owners in
-    let some : 0 < length (first ∷ back) = omega arith in
-    length-take-le 64 owners (omega arith)
-
-none_floats : (pin : ℕ) (owners : List Group) → outputs_from pin (trimmed_owners pin owners) ≡ [] → outputs_from pin owners ≡ []
-unfolding is_three_state
-none_floats pin [] h = refl
-none_floats pin (owner ∷ owners) h =
-    by (is_three_state owner)
-    (sym (ap (λ b. (if b then record { pin = pin; group = trimmed_pin pin owner } ∷ [] else [])
-    ++ outputs_from (pin + 1) (trimmed_owners (pin + 1) owners))
-    (same_of is_three_state (λ group is. same_floating group) pin owner)) ∙ h)
-    (none_floats (pin + 1) owners)
-  where
-    by : (b : Bool)
-        → (if b then record { pin = pin; group = trimmed_pin pin owner } ∷ [] else [])
-        ++ outputs_from (pin + 1) (trimmed_owners (pin + 1) owners) ≡ []
-        → (outputs_from (pin + 1) (trimmed_owners (pin + 1) owners) ≡ [] → outputs_from (pin + 1) owners ≡ [])
-        → (if b then record { pin = pin; group = owner } ∷ [] else []) ++ outputs_from (pin + 1) owners ≡ []
-    by true e rest = absurd cc
-    by false e rest = rest e
-
-places_join : (f : Subject → Group → List ℕ) (s : Subject) (front back : List Group) (pin : ℕ)
+pub places_join : (f : Subject → Group → List ℕ) (s : Subject) (front back : List Group) (pin : ℕ)
     → places_from f s pin (front ++ back) ≡ places_from f s pin front ++ places_from f s (pin + length front) back
 places_join f s [] back pin = ap (λ p. places_from f s p back) (sym (no_more pin))
 places_join f s (owner ∷ front) back pin =
@@ -135,7 +93,7 @@ places_join f s (owner ∷ front) back pin =
     (places_from f s (pin + length (owner ∷ front)) back))
 
 module _ (cell : Group) where
-  abbrev shape : Group-F Item Group
+  abbrev pub shape : Group-F Item Group
   shape = record { name = cell.name; arguments = cell.arguments; items = trimmed_items 0 cell.items; at = cell.at }
 
   arguments : (trimmed cell).arguments ≡ cell.arguments
@@ -223,7 +181,7 @@ module _ (cell : Group) where
 
   -- where a limit is passed
   module _ (front : List Group) (first : Group) (back : List Group) (split : owners_of cell ≡ front ++ first ∷ back)
-      (count : length front ≡ 64) (behind : list_all (stands_behind first.at) (first ∷ back) ≡ true) (s : Subject) where
+      (count : length front ≡ 64) (s : Subject) where
     abbrev back_trimmed : List Group
     back_trimmed = trimmed_owners 64 (first ∷ back)
 
@@ -239,7 +197,7 @@ module _ (cell : Group) where
         ap (λ l. first_past 64 (map place_of_group l)) split
         ∙ (ap (first_past 64) (map-append place_of_group front (first ∷ back))
         ∙ (ap (λ n. first_past n (map place_of_group front ++ first.at ∷ map place_of_group back))
-        (sym (same_length place_of_group front ∙ count))
+        (sym (length-map front place_of_group ∙ count))
         ∙ past_all (map place_of_group front) first.at (map place_of_group back)))
 
     trimmed_place : (trimmed_pin 64 first).at ≡ first.at
@@ -251,24 +209,26 @@ module _ (cell : Group) where
         ∙ (ap (first_past 64) (map-append place_of_group front back_trimmed)
         ∙ (ap (λ n. first_past n (map place_of_group front
         ++ (trimmed_pin 64 first).at ∷ map place_of_group (trimmed_owners 65 back)))
-        (sym (same_length place_of_group front ∙ count))
+        (sym (length-map front place_of_group ∙ count))
         ∙ (past_all (map place_of_group front) (trimmed_pin 64 first).at (map place_of_group (trimmed_owners 65 back))
         ∙ ap (λ at. at ∷ []) trimmed_place)))
 
     -- the checks or arcs of pins behind the limit don't decide
-    module _ (trimmed_behind : list_all (stands_behind first.at) (trimmed_owners 64 (first ∷ back)) ≡ true) where
-      past_same : (n : ℕ) (f : Subject → Group → List ℕ) → MakesAbove first.at f
+    module _ (behind : AreBehind first.at s (first ∷ back)) (trimmed_behind : AreBehind first.at s back_trimmed) where
+      past_same : (n : ℕ) (f : Subject → Group → List ℕ)
+          → ((pin : ℕ) → are_above first.at (places_from f s pin (first ∷ back)) ≡ true)
+          → ((pin : ℕ) → are_above first.at (places_from f s pin back_trimmed) ≡ true)
           → lesser (Some first.at) (least (first_past n (timing_places f s cell)))
           ≡ lesser (Some first.at) (least (first_past n (timing_places f s (trimmed cell))))
-      past_same n f makes =
+      past_same n f whole small =
           let early : List ℕ = places_from f s 0 front in
           let decides : Option ℕ → Option ℕ = lesser (Some first.at) in
           ap (λ l. decides (least (first_past n (places_from f s 0 l)))) split
           ∙ (ap (λ l. decides (least (first_past n l))) (places_join f s front (first ∷ back) 0)
           ∙ (past first.at n early (places_from f s (0 + length front) (first ∷ back))
-          (places_above first.at f makes s (0 + length front) (first ∷ back) behind)
+          (whole (0 + length front))
           ∙ (sym (past first.at n early (places_from f s (0 + length front) back_trimmed)
-          (places_above first.at f makes s (0 + length front) back_trimmed trimmed_behind))
+          (small (0 + length front)))
           ∙ (sym (ap (λ l. decides (least (first_past n l))) (places_join f s front back_trimmed 0))
           ∙ sym (ap (λ l. decides (least (first_past n (places_from f s 0 l)))) split_trimmed)))))
 
@@ -299,8 +259,8 @@ module _ (cell : Group) where
           let arcs_left : List ℕ = first_past 1024 (timing_places arc_at_of s (trimmed cell)) in
           ap (λ l. least (bad_names cell ++ (l ++ (states_past ++ (checks ++ (arcs ++ supports)))))) first_place
           ∙ (by_parts (bad_names cell) first.at states_past checks arcs supports
-          ∙ ((λ i. lesser (least (bad_names cell)) (lesser (past_same 256 check_at_of (checks_above first.at) i)
-          (lesser (past_same 1024 arc_at_of (arcs_above first.at) i) (lesser (least states_past) (least supports)))))
+          ∙ ((λ i. lesser (least (bad_names cell)) (lesser (past_same 256 check_at_of behind.checks trimmed_behind.checks i)
+          (lesser (past_same 1024 arc_at_of behind.arcs trimmed_behind.arcs i) (lesser (least states_past) (least supports)))))
           ∙ (sym (by_parts (bad_names cell) first.at states_past checks_left arcs_left supports)
           ∙ (sym (ap (λ l. least (bad_names cell ++ (l ++ (states_past ++ (checks_left ++ (arcs_left ++ supports))))))
           first_place_trimmed)
@@ -373,80 +333,17 @@ module _ (cell : Group) where
           (refused_or reason.Limit (sym e i) wide_small)))))))))))))
           (sym wrong i)))
 
-      refused : (earlier : List (List ℕ))
+      pub refused : (earlier : List (List ℕ))
           → refusal_of s earlier cell
           ≡ first_of_two (refusal_of s earlier (trimmed cell)) (wrong_with s None 0 (owners_of cell))
       refused =
           let found = passed (least (limits s (trimmed cell))) refl in refused_at found.0 found.1
 
       -- a trimmed cell is no cell
-      unaccepted : (earlier : List (List ℕ)) → refusal_of s earlier (trimmed cell) ≡ None → ⊥
+      pub unaccepted : (earlier : List (List ℕ)) → refusal_of s earlier (trimmed cell) ≡ None → ⊥
       unaccepted earlier h =
           let unmet = all_unmet (reasons_of s earlier (trimmed cell)) h in
           let none : first.at ∷ [] ≡ [] =
           sym first_place_trimmed
           ∙ (within_limits s (trimmed cell) unmet.1.1.1.1.1.1.1.1.1.1.1.1.0).of_pins in
           absurd cc
-
-  -- A cell in order has a first pin behind the limit.
-  record Refuses (s : Subject) (earlier : List (List ℕ)) : Type 0 where
-    pub same : refusal_of s earlier cell
-        ≡ first_of_two (refusal_of s earlier (trimmed cell)) (wrong_with s None 0 (owners_of cell))
-    pub never : refusal_of s earlier (trimmed cell) ≡ None → ⊥
-
-  in_order : is_in_order (trimmed cell) ≡ true → (s : Subject) (earlier : List (List ℕ)) → Refuses s earlier
-  in_order h s earlier =
-      by (drop 64 (owners_of cell)) refl
-      (sym (ap are_behind (ap (drop 64) owners ∙ drop_trimmed 64 0 (owners_of cell))) ∙ h)
-    where
-      with_first : (first : Group) (back : List Group) → drop 64 (owners_of cell) ≡ first ∷ back
-          → list_all (stands_behind first.at) (trimmed_owners 64 (first ∷ back)) ≡ true → Refuses s earlier
-      with_first first back e behind =
-          let front : List Group = take 64 (owners_of cell) in
-          let split : owners_of cell ≡ front ++ first ∷ back =
-          sym (take-append-drop 64 (owners_of cell)) ∙ ap (λ l. front ++ l) e in
-          let count : length front ≡ 64 = front_length (owners_of cell) first back e in
-          let whole : list_all (stands_behind first.at) (first ∷ back) ≡ true = all_whole first.at 64 (first ∷ back) behind in
-          record {
-            same = refused front first back split count whole s behind earlier;
-            never = unaccepted front first back split count whole s behind earlier;
-          }
-
-      by : (back : List Group) → drop 64 (owners_of cell) ≡ back → are_behind (trimmed_owners 64 (drop 64 (owners_of cell))) ≡ true
-          → Refuses s earlier
-      by [] e k =
-          let no : false ≡ true = sym (ap (λ l. are_behind (trimmed_owners 64 l)) e) ∙ k in absurd cc
-      by (first ∷ back) e k =
-          with_first first back e
-          (sym (ap (λ at. list_all (stands_behind at) (trimmed_owners 64 (first ∷ back)))
-          (same_of (λ (group : Group). group.at) (λ group is. same_at group) 64 first))
-          ∙ (sym (ap (λ l. are_behind (trimmed_owners 64 l)) e) ∙ k))
-
-  -- with no three-state outputs
-  same_subject : (unit : Option Unit) → subject_of unit (trimmed cell) ≡ subject_of unit cell
-  same_subject unit = ap (subject_with unit) pins
-
-  never_floats : three_state_outputs (trimmed cell) ≡ [] → three_state_outputs cell ≡ []
-  never_floats h = none_floats 0 (owners_of cell) (sym (ap (outputs_from 0) owners) ∙ h)
-
-  pub refused_as : (unit : Option Unit) (earlier : List (List ℕ)) → three_state_outputs (trimmed cell) ≡ []
-      → is_in_order (trimmed cell) ≡ true
-      → driven_refusal unit earlier cell
-      ≡ first_of_two (driven_refusal unit earlier (trimmed cell))
-      (wrong_with (subject_of unit (trimmed cell)) None 0 (owners_of cell))
-  unfolding driven_refusal
-  refused_as unit earlier none h =
-      ap (refusal_by unit earlier cell) (never_floats none)
-      ∙ ((in_order h (subject_of unit cell) earlier).same
-      ∙ (λ i. first_of_two (refusal_of (sym (same_subject unit) i) earlier (trimmed cell))
-      (wrong_with (sym (same_subject unit) i) None 0 (owners_of cell)))
-      ∙ sym (ap (λ outputs. first_of_two (refusal_by unit earlier (trimmed cell) outputs)
-      (wrong_with (subject_of unit (trimmed cell)) None 0 (owners_of cell))) none))
-
-  pub never_accepted : (unit : Option Unit) (earlier : List (List ℕ)) → three_state_outputs (trimmed cell) ≡ []
-      → is_in_order (trimmed cell) ≡ true
-      → driven_refusal unit earlier (trimmed cell) ≡ None → ⊥
-  unfolding driven_refusal
-  never_accepted unit earlier none h e =
-      (in_order h (subject_of unit (trimmed cell)) earlier).never
-      (sym (ap (refusal_by unit earlier (trimmed cell)) none) ∙ e)

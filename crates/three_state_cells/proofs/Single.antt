@@ -97,7 +97,7 @@ answer_in s items =
     (timing.unless_at fault.OwnCondition (least (flat_map (timing.own_in s) (timings_in items)))
     (timing.unless_at fault.Number (least (numbers_in s items)) (Ok (timing_in s items)))))
 
-abbrev wrong_in : Subject → List Item → Option Refusal
+abbrev pub wrong_in : Subject → List Item → Option Refusal
 wrong_in s items =
     first_refusal
     (met reason.UnknownName (flat_map (timing.unknown_in s) (timings_in items)) ∷ met reason.Number (numbers_in s items) ∷ [])
@@ -110,7 +110,7 @@ driver_shape group = record {
   at = group.at;
 }
 
-driver_items : (group : Group) → (driver_pin group).items ≡ map driver_item (timings_in group.items)
+pub driver_items : (group : Group) → (driver_pin group).items ≡ map driver_item (timings_in group.items)
 unfolding driver_pin
 driver_items group = ap (λ (one : Group-F Item Group). one.items) (out-roll-Group (driver_shape group))
 

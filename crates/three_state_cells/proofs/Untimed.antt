@@ -1,6 +1,6 @@
 -- What is read of a pin group without its timing groups and what is not read of it: all but its timing is the same.
 use Rattle.std.proofs.Common.{◌≡◌, ℕ, Bool, true, false, not, ◌&&◌, ◌||◌, ◌==◌, List, [], ◌∷◌, ◌++◌, length, map}
-use Rattle.std.proofs.Common.{Option, Some, None, if◌then◌else◌, refl, sym, ap, ◌∙◌, codes}
+use Rattle.std.proofs.Common.{Option, Some, None, if◌then◌else◌, refl, sym, ap, ◌∙◌, codes, min, arith}
 use Rattle.std.specs.Prelude.{flat_map, bytes_eq, is_some, is_none, unwrap_or, option_map, option_to_list}
 use Rattle.std.specs.Option.{option_map_or}
 use Rattle.std.specs.List.{cons_option}
@@ -16,7 +16,7 @@ use Rattle.cell_machine.specs.declared.pins.Direction.{Direction}
 use Rattle.cell_machine.specs.declared.pins.Direction.TheVariants as direction
 use Rattle.cell_machine.specs.CellRules.{is_input_pin}
 use Rattle.cell_machine.specs.Delay.{lesser, least}
-use Rattle.cell_machine.proofs.LeastLemmas.{least_append}
+use Rattle.cell_machine.proofs.LeastLemmas.{lesser_none, lesser_assoc, least_append}
 use Rattle.timing_arcs.specs.declared.subject.Subject.{Subject}
 use Rattle.timing_arcs.specs.Timing as timing
 use Rattle.cell_attributes.specs.declared.vocabulary.Class.{Class}
@@ -78,12 +78,12 @@ no_groups name told (other ∷ names) =
     ∙ (λ i. no_group name other (told other) i ++ no_groups name told names i)
 
 -- one of them
-one_counted : (o : Option Attribute) → last_or None ((option_to_list o ++ []) ++ []) ≡ o
+one_counted : (o : Option Attribute) → last_or None (((option_to_list o ++ []) ++ []) ++ []) ≡ o
 one_counted None = refl
 one_counted (Some a) = refl
 
 one_refusing : (o : Option ℕ)
-    → least (map (λ (a : Attribute). a.at) (option_to_list (option_map without_text o) ++ [])) ≡ o
+    → least (map (λ (a : Attribute). a.at) ((option_to_list (option_map without_text o) ++ []) ++ [])) ≡ o
 one_refusing None = refl
 one_refusing (Some at) = refl
 
@@ -91,23 +91,52 @@ some_last : (a : Attribute) (others : List Attribute) → is_some (last_or (Some
 some_last a [] = refl
 some_last a (b ∷ others) = some_last b others
 
-some_least : (at : ℕ) (o : Option ℕ) → is_some (lesser (Some at) o) ≡ true
-some_least at None = refl
-some_least at (Some other) = refl
+-- Of all statements of a name those are left that count: the one at the least offset, and the last one.
+abbrev places : List Attribute → List ℕ
+places all = map (λ (a : Attribute). a.at) all
 
-some_told : (o : Option ℕ) → is_some (last_or None (option_to_list (option_map without_text o) ++ [])) ≡ is_some o
-some_told None = refl
-some_told (Some at) = refl
+abbrev first_and_last : Option ℕ → Option Attribute → List Attribute
+first_and_last at last = (option_to_list (option_map without_text at) ++ []) ++ option_to_list last
 
-some_refusing : (all : List Attribute)
-    → is_some (last_or None (option_to_list (option_map without_text (least (map (λ (a : Attribute). a.at) all))) ++ []))
-    ≡ is_some (last_or None all)
-some_refusing [] = refl
-some_refusing (a ∷ others) =
-    some_told (least (map (λ (a : Attribute). a.at) (a ∷ others)))
-    ∙ (some_least a.at (least (map (λ (a : Attribute). a.at) others)) ∙ sym (some_last a others))
+last_told : (at : Option ℕ) (last : Option Attribute) → is_some last ≡ true → last_or None (first_and_last at last) ≡ last
+last_told at None h = absurd cc
+last_told None (Some a) h = refl
+last_told (Some at) (Some a) h = refl
 
-abbrev shape : Group → Group-F Item Group
+same_last : (all : List Attribute) → last_or None (first_and_last (least (places all)) (last_or None all)) ≡ last_or None all
+same_last [] = refl
+same_last (a ∷ others) = last_told (least (places (a ∷ others))) (last_or (Some a) others) (some_last a others)
+
+least_told : (at : Option ℕ) (last : Option Attribute)
+    → least (places (first_and_last at last)) ≡ lesser at (option_map (λ (a : Attribute). a.at) last)
+least_told None None = refl
+least_told None (Some a) = refl
+least_told (Some at) None = refl
+least_told (Some at) (Some a) = refl
+
+min_again : (x : ℕ) → min x x ≡ x
+min_again x = omega arith
+
+pub again : (a : Option ℕ) → lesser a a ≡ a
+again None = refl
+again (Some x) = ap Some (min_again x)
+
+last_among : (one : Option Attribute) (all : List Attribute)
+    → lesser (lesser (option_map (λ (a : Attribute). a.at) one) (least (places all)))
+    (option_map (λ (a : Attribute). a.at) (last_or one all))
+    ≡ lesser (option_map (λ (a : Attribute). a.at) one) (least (places all))
+last_among one [] =
+    let at : Option ℕ = option_map (λ (a : Attribute). a.at) one in
+    ap (λ o. lesser o at) (lesser_none at) ∙ (again at ∙ sym (lesser_none at))
+last_among one (a ∷ all) =
+    let at : Option ℕ = option_map (λ (a : Attribute). a.at) one in
+    lesser_assoc at (least (places (a ∷ all))) (option_map (λ (a : Attribute). a.at) (last_or (Some a) all))
+    ∙ ap (lesser at) (last_among (Some a) all)
+
+same_least : (all : List Attribute) → least (places (first_and_last (least (places all)) (last_or None all))) ≡ least (places all)
+same_least all = least_told (least (places all)) (last_or None all) ∙ last_among None all
+
+abbrev pub shape : Group → Group-F Item Group
 shape group = record { name = group.name; arguments = group.arguments; items = read_attributes group; at = group.at }
 
 -- The limits of the widths of pulses and of the period, which stand in attributes.
@@ -129,13 +158,24 @@ module _ (group : Group) where
   kept_items : (untimed group).items ≡ read_attributes group
   kept_items = ap (λ (one : Group-F Item Group). one.items) (out-roll-Group (shape group))
 
-  named : (name : List ℕ) → attributes_named name (untimed group).items
-      ≡ among name (attribute_of group) counted_names ++ among name (refusing_of group) refusing_names
+  abbrev floats : Option Attribute
+  floats = attribute_of group (codes "three_state")
+
+  abbrev all_named : List ℕ → List Attribute
+  all_named name =
+      (among name (attribute_of group) counted_names ++ among name (refusing_of group) refusing_names)
+      ++ (if bytes_eq (codes "three_state") name then option_to_list floats else [])
+
+  named : (name : List ℕ) → attributes_named name (untimed group).items ≡ all_named name
   named name =
       ap (attributes_named name) kept_items
-      ∙ (filter_map-append (λ item. simple_named name (out-Item item)) (flat_map (counted group) counted_names)
+      ∙ (filter_map-append (λ item. simple_named name (out-Item item))
+      (flat_map (counted group) counted_names ++ flat_map (refusing group) refusing_names)
+      (counted group (codes "three_state"))
+      ∙ (λ i. (filter_map-append (λ item. simple_named name (out-Item item)) (flat_map (counted group) counted_names)
       (flat_map (refusing group) refusing_names)
-      ∙ (λ i. of_statements name (attribute_of group) counted_names i ++ of_statements name (refusing_of group) refusing_names i))
+      ∙ (λ j. of_statements name (attribute_of group) counted_names j ++ of_statements name (refusing_of group) refusing_names j)) i
+      ++ of_statement name (codes "three_state") floats i))
 
   same_direction_told : attribute_of (untimed group) (codes "direction") ≡ attribute_of group (codes "direction")
   same_direction_told = ap (last_or None) (named (codes "direction")) ∙ one_counted (attribute_of group (codes "direction"))
@@ -163,10 +203,9 @@ module _ (group : Group) where
   same_period : attribute_of (untimed group) (codes "min_period") ≡ attribute_of group (codes "min_period")
   same_period = ap (last_or None) (named (codes "min_period")) ∙ one_counted (attribute_of group (codes "min_period"))
 
-  is_floating : is_some (attribute_of (untimed group) (codes "three_state")) ≡ is_some (attribute_of group (codes "three_state"))
-  is_floating =
-      ap (λ l. is_some (last_or None l)) (named (codes "three_state"))
-      ∙ some_refusing (attributes_named (codes "three_state") group.items)
+  pub same_floats : attribute_of (untimed group) (codes "three_state") ≡ floats
+  same_floats =
+      ap (last_or None) (named (codes "three_state")) ∙ same_last (attributes_named (codes "three_state") group.items)
 
   pub same_is_pin : is_pin (untimed group) ≡ is_pin group
   same_is_pin = λ i. bytes_eq (same_name i) (codes "pin") && not (length (same_arguments i) == 0)
@@ -194,15 +233,15 @@ module _ (group : Group) where
 
   -- the least offset of those that refuse
   same_place : (name : List ℕ)
-      → among name (attribute_of group) counted_names ++ among name (refusing_of group) refusing_names
-      ≡ option_to_list (refusing_of group name) ++ []
+      → all_named name ≡ (option_to_list (refusing_of group name) ++ []) ++ []
       → least (offsets_of name (untimed group)) ≡ least (offsets_of name group)
   same_place name e =
       ap (λ l. least (map (λ (a : Attribute). a.at) l)) (named name ∙ e) ∙ one_refusing (least (offsets_of name group))
 
   pub same_three_states : least (three_state_in (untimed group)) ≡ least (three_state_in group)
   unfolding three_state_in
-  same_three_states = same_place (codes "three_state") refl
+  same_three_states =
+      ap (λ l. least (places l)) (named (codes "three_state")) ∙ same_least (attributes_named (codes "three_state") group.items)
 
   pub same_left_out : least (left_out_in (untimed group)) ≡ least (left_out_in group)
   unfolding left_out_in
@@ -291,16 +330,20 @@ module _ (group : Group) where
   pub same_floating : is_three_state (untimed group) ≡ is_three_state group
   unfolding is_three_state
   same_floating =
-      λ i. same_is_pin i && (is_output_group (same_direction i) && is_floating i)
+      λ i. same_is_pin i && (is_output_group (same_direction i) && is_some (same_floats i))
 
   -- nothing of its timing groups is left
   pub no_timings : timing.timing_groups (untimed group) ≡ []
   no_timings =
       ap (groups_named (codes "timing")) kept_items
-      ∙ (filter_map-append (λ item. group_named (codes "timing") (out-Item item)) (flat_map (counted group) counted_names)
+      ∙ (filter_map-append (λ item. group_named (codes "timing") (out-Item item))
+      (flat_map (counted group) counted_names ++ flat_map (refusing group) refusing_names)
+      (counted group (codes "three_state"))
+      ∙ (λ i. (filter_map-append (λ item. group_named (codes "timing") (out-Item item)) (flat_map (counted group) counted_names)
       (flat_map (refusing group) refusing_names)
-      ∙ (λ i. no_groups (codes "timing") (attribute_of group) counted_names i
-      ++ no_groups (codes "timing") (refusing_of group) refusing_names i))
+      ∙ (λ j. no_groups (codes "timing") (attribute_of group) counted_names j
+      ++ no_groups (codes "timing") (refusing_of group) refusing_names j)) i
+      ++ no_group (codes "timing") (codes "three_state") floats i))
 
   pub no_malformed : (s : Subject) → timing.malformed_at s (untimed group) ≡ []
   no_malformed s = ap (flat_map (timing.malformed_in s)) no_timings

@@ -19,7 +19,7 @@ counted_names =
     ∷ codes "min_period"
     ∷ []
 
--- Those of which each one refuses a pin that may not have it, so that the least offset counts, and no text.
+-- Those of which each one refuses a pin that may not have it, so that the least offset counts.
 abbrev pub refusing_names : List (List ℕ)
 refusing_names = codes "three_state" ∷ codes "clocked_on_also" ∷ codes "enable_also" ∷ codes "input_map" ∷ []
 
@@ -43,8 +43,10 @@ refusing_of group name = option_map without_text (least (offsets_of name group))
 abbrev pub refusing : Group → List ℕ → List Item
 refusing group name = statement_of name (refusing_of group name)
 
+-- Of `three_state` the last one says besides when the pin floats.
 abbrev pub read_attributes : Group → List Item
-read_attributes group = flat_map (counted group) counted_names ++ flat_map (refusing group) refusing_names
+read_attributes group =
+    (flat_map (counted group) counted_names ++ flat_map (refusing group) refusing_names) ++ counted group (codes "three_state")
 
 abbrev pub untimed : Group → Group
 untimed group =

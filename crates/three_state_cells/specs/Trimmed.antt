@@ -1,8 +1,8 @@
 -- A cell with more pins than the limit, of which pins behind the limit lose their timing groups and what is not read of them, and
 -- what is wrong in the timing. (This project's rule: such a cell is refused, by its number of pins or by a reason with a lesser
 -- number.)
-use Rattle.std.specs.Prelude.{◌≡◌, ℕ, ◌+◌, Bool, true, false, ◌&&◌, nat_le, List, [], ◌∷◌, length, filter, flat_map, drop, codes}
-use Rattle.std.specs.Prelude.{Option, Some, None, Ok, Err, if◌then◌else◌}
+use Rattle.std.specs.Prelude.{◌≡◌, ℕ, ◌+◌, Bool, true, false, not, ◌&&◌, ◌||◌, nat_le, List, [], ◌∷◌, length, map, filter, flat_map}
+use Rattle.std.specs.Prelude.{drop, codes, Option, Some, None, Ok, Err, if◌then◌else◌}
 use Rattle.std.specs.List.{list_any, list_all}
 use Rattle.liberty_groups.specs.declared.tree.Value.{Value}
 use Rattle.liberty_groups.specs.declared.tree.Item.{Item, out-Item}
@@ -13,13 +13,16 @@ use Rattle.liberty_groups.specs.declared.tree.Group.{Group, roll-Group}
 use Rattle.timing_arcs.specs.declared.subject.Subject.{Subject}
 use Rattle.timing_arcs.specs.declared.fault.TimingFault.TheVariants as fault
 use Rattle.timing_arcs.specs.Timing.{reading_answer}
-use Rattle.cell_attributes.specs.Groups.{is_called, is_pin, inner_groups}
+use Rattle.cell_attributes.specs.Groups.{is_called, is_pin, inner_groups, pin_groups}
 use Rattle.cell_attributes.specs.Pins.{owners_in, owners_of}
 use Rattle.cell_reader.specs.declared.refusal.Reason.{Reason}
 use Rattle.cell_reader.specs.declared.refusal.Reason.TheVariants as reason
 use Rattle.cell_reader.specs.declared.refusal.Refusal.{Refusal}
 use Rattle.cell_reader.specs.PinTimings.{Answer, subject_at}
-use Rattle.three_state_cells.specs.Refusals.{first_of_two}
+use Rattle.cell_reader.specs.Refusals.{refusal_of}
+use Rattle.core_groups.specs.Outputs.{is_three_state, CanBeNumbered}
+use Rattle.core_groups.specs.CoreGroups.{core_pin, core_group}
+use Rattle.three_state_cells.specs.Refusals.{first_of_two, driver_refusal}
 use Rattle.three_state_cells.specs.PinAttributes.{untimed}
 
 -- The offset of a statement.
@@ -35,14 +38,14 @@ is_behind at item = nat_le at (place_in (out-Item item))
 abbrev pub all_behind : ℕ → Group → Bool
 all_behind at group = list_all (is_behind at) group.items
 
--- A pin group is trimmed where it makes one pin, which stands behind the limit, and none of its statements stands before it.
+-- A pin group is trimmed where it makes one pin, which stands behind the limit.
 abbrev pub has_one : List Value → Bool
 has_one (value ∷ []) = true
 has_one [] = false
 has_one (value ∷ other ∷ more) = false
 
 abbrev pub is_trimmed : ℕ → Group → Bool
-is_trimmed pin group = nat_le 64 pin && (is_pin group && (has_one group.arguments && all_behind group.at group))
+is_trimmed pin group = nat_le 64 pin && (is_pin group && has_one group.arguments)
 
 abbrev pub trimmed_pin : ℕ → Group → Group
 trimmed_pin pin group = if is_trimmed pin group then untimed group else group
@@ -64,10 +67,28 @@ is_timed group = list_any (λ item. is_timing (out-Item item)) group.items
 abbrev pub loses : ℕ → Group → Bool
 loses pin group = is_trimmed pin group && is_timed group
 
-abbrev pub loses_in : ℕ → Item-F Item Group → Bool
-loses_in pin (layer.Simple name value at) = false
-loses_in pin (layer.Complex name arguments at) = false
-loses_in pin (layer.Inner group) = loses pin group
+-- It has timing that is read apart from the trimmed core: what it loses, or the delays of three-state outputs.
+abbrev pub has_apart : ℕ → Group → Bool
+has_apart pin group = loses pin group || (is_three_state group && is_timed group)
+
+abbrev pub has_apart_in : ℕ → Item-F Item Group → Bool
+has_apart_in pin (layer.Simple name value at) = false
+has_apart_in pin (layer.Complex name arguments at) = false
+has_apart_in pin (layer.Inner group) = has_apart pin group
+
+-- It keeps the order where none of its statements stands before it.
+abbrev pub keeps_order : ℕ → Group → Bool
+keeps_order pin group = not (is_trimmed pin group) || all_behind group.at group
+
+abbrev pub keeps_order_in : ℕ → Item-F Item Group → Bool
+keeps_order_in pin (layer.Simple name value at) = true
+keeps_order_in pin (layer.Complex name arguments at) = true
+keeps_order_in pin (layer.Inner group) = keeps_order pin group
+
+-- Those do that make the pins from this number on.
+abbrev pub all_keep_order : ℕ → List Group → Bool
+all_keep_order pin [] = true
+all_keep_order pin (owner ∷ owners) = keeps_order pin owner && all_keep_order (pin + 1) owners
 
 -- How many pins a group of a cell makes.
 abbrev pub pins_made : Group → ℕ
@@ -134,9 +155,24 @@ wrong_with cell found pin (owner ∷ owners) =
 abbrev pub owners_among : List Item → List Group
 owners_among items = flat_map owners_in (filter is_pin (inner_groups items))
 
-abbrev pub wrong_timing : Subject → List Item → Option Refusal
-wrong_timing cell items = wrong_with cell None 0 (owners_among items)
+-- a group of a cell as it stands in the core
+abbrev pub in_core : Group → Group
+in_core group = if is_three_state group then core_pin group else group
 
--- nothing is wrong in what the pins of a cell lost
-abbrev pub LosesNothing : Group → Type 0
-LosesNothing cell = (subject : Subject) → wrong_with subject None 0 (owners_of cell) ≡ None
+-- what decides of all that is wrong in the timing that the pins of the core of a cell lose
+abbrev pub lost_wrong : Subject → Group → Option Refusal
+lost_wrong core cell = wrong_with core None 0 (map in_core (owners_of cell))
+
+-- Nothing is wrong in the timing of a cell that is read apart from its trimmed core.
+pub record HasNoneApart (cell : Group) : Type 0 where
+  pub lost : (core : Subject) → lost_wrong core cell ≡ None
+  pub delays : (core : Subject) → driver_refusal core (pin_groups cell) ≡ None
+
+-- The core of a cell is refused as this is, which is the same core, trimmed, or for what is wrong in the timing that it lost. The
+-- trimmed core is always refused: it has more pins than a cell may have.
+pub record IsTrimmedCore (cell core : Group) : Type 0 where
+  pub trims : core ≡ trimmed (core_group cell)
+  pub few : CanBeNumbered (pin_groups cell)
+  pub decides : (s : Subject) (earlier : List (List ℕ))
+      → refusal_of s earlier (core_group cell) ≡ first_of_two (refusal_of s earlier core) (lost_wrong s cell)
+  pub never : (s : Subject) (earlier : List (List ℕ)) → refusal_of s earlier core ≡ None → ⊥

@@ -78,7 +78,7 @@ fn wrong_delays(
 }
 
 /// What is wrong in the delays of the outputs of a group, if it makes three-state outputs.
-fn wrong_group(
+pub(crate) fn wrong_outputs(
     alloc: Global,
     subject: &Subject,
     group: &Group,
@@ -105,7 +105,7 @@ pub(crate) fn driver_refusal(
     let mut found = None;
     move_to(core, 0);
     for group in groups {
-        found = first_of_two(found, wrong_group(alloc, core, group)?);
+        found = first_of_two(found, wrong_outputs(alloc, core, group)?);
         let next = core.place + group.arguments.len();
         move_to(core, next);
     }

@@ -1,17 +1,21 @@
 //! The cell that a group with buses, bundles or banks describes.
-ghost use Rattle.std.specs.Prelude.{◌≡◌, true, false, [], None, Some, IfOk, IfErr, map, flat_map};
+ghost use Rattle.std.specs.Prelude.{◌≡◌, true, false, None, Some, IfOk, IfErr, IfSome, flat_map, drop};
 ghost use Rattle.std.specs.List.{fold};
 ghost use Rattle.bus_texts.specs.Vectors.{cell_vectors as cell_vectors_of};
 ghost use Rattle.bank_cells.specs.Refusals.{has_many};
 ghost use Rattle.bank_cells.specs.Expanded.{expanded};
 ghost use Rattle.bank_cells.specs.Gathered.{gathered_cell, gathered_item};
 ghost use Rattle.cell_attributes.specs.Groups.{pin_groups};
-ghost use Rattle.cell_attributes.specs.Pins.{owners_of as owners_of_cell};
+ghost use Rattle.cell_attributes.specs.Pins.{owners_in, owners_of as owners_of_cell};
 ghost use Rattle.cell_reader.specs.CellTexts.{subject_of as subject_of_cell, Tells};
-ghost use Rattle.core_groups.specs.Outputs.{CanBeNumbered, three_state_outputs};
+ghost use Rattle.cell_reader.specs.Refusals.{refusal_of};
+ghost use Rattle.core_groups.specs.Outputs.{CanBeNumbered, groups_shown};
 ghost use Rattle.three_state_cells.specs.DrivenCells.{driven_data, driven_data_of};
-ghost use Rattle.three_state_cells.specs.Refusals.{driven_refusal, first_of_two as first_of_two_of};
-ghost use Rattle.three_state_cells.specs.Trimmed.{is_in_order, trimmed, wrong_with, LosesNothing};
+ghost use Rattle.three_state_cells.specs.CoreReadings.{Reads};
+ghost use Rattle.three_state_cells.specs.Refusals.{driven_refusal, driver_refusal as driver_refusal_of};
+ghost use Rattle.three_state_cells.specs.Refusals.{first_of_two as first_of_two_of, IsRefusedCore};
+ghost use Rattle.three_state_cells.specs.Trimmed.{are_behind as are_behind_of, trimmed, all_keep_order, lost_wrong};
+ghost use Rattle.three_state_cells.specs.Trimmed.{HasNoneApart, IsTrimmedCore};
 ghost use Rattle.three_state_cells.specs.Sinks.{after_trimmed, nothing_trimmed};
 
 use crate::driven_cell::DrivenCell;
@@ -24,8 +28,8 @@ use bank_cells::{gather, with_items};
 use bool_functions::Names;
 use bus_texts::BusTypes;
 use cell_attributes::pins::owners_of;
-use cell_reader::{CellFault, Reason, Refusal};
-use core_groups::CellPins;
+use cell_reader::{CellFault, Reason, Refusal, read_cell};
+use core_groups::{CellPins, core_group};
 use liberty_groups::Group;
 use liberty_text::Unit;
 use std::alloc::{AllocError, Global};
@@ -58,36 +62,40 @@ struct TrimmedGroup {
     group: Group,
     /// Nothing is left out.
     is_whole: bool,
-    /// Some timing is left out.
-    loses: bool,
+    /// Its pins that lost timing stand before their statements.
+    is_ordered: bool,
+    /// Some timing is read apart from the trimmed core.
+    has_apart: bool,
 }
 
 /// That of a cell.
 fn trimmed_group(alloc: Global, types: &BusTypes, cell: &Group) -> Result<TrimmedGroup, AllocError>
     ensures group { IfOk result (λ made. made.group ≡ trimmed (gathered_cell types.now cell.now)) }
     ensures whole { IfOk result (λ made. made.is_whole ≡ true → made.group ≡ gathered_cell types.now cell.now) }
-    ensures lost { IfOk result (λ made. made.loses ≡ false → LosesNothing (gathered_cell types.now cell.now)) }
+    ensures ordered { IfOk result
+        (λ made. made.is_ordered ≡ true → all_keep_order 0 (owners_of_cell (gathered_cell types.now cell.now)) ≡ true) }
+    ensures apart { IfOk result (λ made. made.has_apart ≡ false → HasNoneApart (gathered_cell types.now cell.now)) }
 {
     let held = trimmed_items(alloc, types, cell)?;
     let is_whole = held.is_whole;
-    let loses = held.loses;
+    let is_ordered = held.is_ordered;
+    let has_apart = held.has_apart;
     let group = with_items(alloc, cell, held.items)?;
     Ok(TrimmedGroup {
         group,
         is_whole,
-        loses,
+        is_ordered,
+        has_apart,
     })
 }
 
-/// Whether no output of a cell floats, and its pins behind the limit stand in order.
-fn is_decided(alloc: Global, group: &Group) -> Result<bool, AllocError>
-    ensures floats { IfOk result (λ decided. decided ≡ true → three_state_outputs group.now ≡ []) }
-    ensures order { IfOk result (λ decided. decided ≡ true → is_in_order group.now ≡ true) }
-    ensures few { IfOk result (λ decided. decided ≡ true → CanBeNumbered (pin_groups group.now)) }
+/// Whether the pins of a cell behind the limit, which these groups make, stand in order.
+fn is_in_order(alloc: Global, pins: &CellPins<'_>) -> Result<bool, AllocError>
+    requires { CanBeNumbered (groups_shown pins.now) }
+    ensures { IfOk result (λ ordered. ordered ≡ are_behind_of (drop 64 (flat_map owners_in (groups_shown pins.now)))) }
 {
-    let pins = CellPins::of_cell(alloc, group)?;
     let owners = owners_of(alloc, &pins.groups)?;
-    Ok(pins.never_float() && are_behind(&owners))
+    Ok(are_behind(&owners))
 }
 
 /// What is read of a cell with buses, bundles or banks.
@@ -102,121 +110,153 @@ struct Source<'a> {
     earlier: &'a Names,
 }
 
-/// What decides of a refusal of a trimmed group and of all that is wrong in the timing that it lost.
+/// What decides of a refusal of the trimmed core of a cell, of all that is wrong in the timing that the core lost, and of all
+/// that is wrong in the delays of the three-state outputs.
 fn with_lost_timing(
     alloc: Global,
     source: Source<'_>,
-    made: &TrimmedGroup,
+    core: &Group,
+    has_apart: bool,
     refusal: Refusal,
 ) -> Result<Refusal, AllocError>
-    requires group { made.now.group ≡ trimmed (gathered_cell source.types.now source.cell.now) }
-    requires lost { made.now.loses ≡ false → LosesNothing (gathered_cell source.types.now source.cell.now) }
-    requires few { CanBeNumbered (pin_groups made.now.group) }
-    requires floats { three_state_outputs made.now.group ≡ [] }
-    requires told { driven_refusal source.unit source.earlier.now made.now.group ≡ Some refusal }
+    requires apart { has_apart ≡ false → HasNoneApart (gathered_cell source.types.now source.cell.now) }
+    requires core { IsTrimmedCore (gathered_cell source.types.now source.cell.now) core.now }
+    requires told { IsRefusedCore source.unit core.now refusal }
     ensures { IfOk result
         (λ told. Some told
-        ≡ first_of_two_of (Some refusal)
-        (wrong_with (subject_of_cell source.entry.unit made.now.group) None 0
-        (owners_of_cell (gathered_cell source.entry.types.now source.entry.cell.now)))) }
+        ≡ first_of_two_of
+        (first_of_two_of (Some refusal)
+        (lost_wrong (subject_of_cell source.entry.unit core.now) (gathered_cell source.entry.types.now source.entry.cell.now)))
+        (driver_refusal_of (subject_of_cell source.entry.unit core.now)
+        (pin_groups (gathered_cell source.entry.types.now source.entry.cell.now)))) }
 {
-    if !made.loses {
+    if !has_apart {
         return Ok(refusal);
     }
     if refusal.reason.number() < Reason::Malformed.number() {
         return Ok(refusal);
     }
     let mut wrong = WrongTimings {
-        subject: subject_of(alloc, &made.group, source.unit)?,
+        subject: subject_of(alloc, core, source.unit)?,
         found: None,
+        delays: None,
     };
     gather(alloc, source.cell, source.types, &mut wrong)?;
-    Ok(first_with(refusal, wrong.found))
+    let lost = first_with(refusal, wrong.found);
+    Ok(first_with(lost, wrong.delays))
 }
 
-/// The fault of a cell whose trimmed group has this one.
+/// The fault of a cell whose trimmed core has this one.
 fn fault_with_lost_timing(
     alloc: Global,
     source: Source<'_>,
-    made: &TrimmedGroup,
+    core: &Group,
+    has_apart: bool,
     fault: CellFault,
 ) -> CellFault
-    requires group { made.now.group ≡ trimmed (gathered_cell source.types.now source.cell.now) }
-    requires lost { made.now.loses ≡ false → LosesNothing (gathered_cell source.types.now source.cell.now) }
-    requires few { CanBeNumbered (pin_groups made.now.group) }
-    requires floats { three_state_outputs made.now.group ≡ [] }
-    requires order { is_in_order made.now.group ≡ true }
-    requires told { Tells (driven_refusal source.unit source.earlier.now made.now.group) fault }
+    requires apart { has_apart ≡ false → HasNoneApart (gathered_cell source.types.now source.cell.now) }
+    requires core { IsTrimmedCore (gathered_cell source.types.now source.cell.now) core.now }
+    requires told { Tells (refusal_of (subject_of_cell source.unit core.now) source.earlier.now core.now) fault }
     ensures { Tells (driven_refusal source.entry.unit source.entry.earlier.now
         (gathered_cell source.entry.types.now source.entry.cell.now)) result }
 {
     let CellFault::Refused(refusal) = fault else {
         return CellFault::Memory;
     };
-    match with_lost_timing(alloc, source, made, refusal) {
+    match with_lost_timing(alloc, source, core, has_apart, refusal) {
         Ok(refusal) => CellFault::Refused(refusal),
         Err(AllocError) => CellFault::Memory,
     }
 }
 
-/// The cell with this number, whose gathered group has more pins than a cell may have and is trimmed to this.
+/// The cell with this number, which has more pins than a cell may have, and whose trimmed core is this.
 fn read_trimmed(
+    alloc: Global,
+    source: Source<'_>,
+    core: &Group,
+    has_apart: bool,
+    number: usize,
+) -> Result<DrivenCell, CellFault>
+    requires core { IsTrimmedCore (gathered_cell source.types.now source.cell.now) core.now }
+    requires apart { has_apart ≡ false → HasNoneApart (gathered_cell source.types.now source.cell.now) }
+    ensures { Reads source.entry.unit source.entry.earlier.now number
+        (gathered_cell source.entry.types.now source.entry.cell.now) result }
+{
+    match read_cell(alloc, core, number, source.unit, source.earlier) {
+        // It has too many pins.
+        Ok(_) => unreachable!(),
+        Err(fault) => Err(fault_with_lost_timing(alloc, source, core, has_apart, fault)),
+    }
+}
+
+/// The trimmed core of a cell whose gathered group is trimmed to this, where its pins behind the limit stand in order.
+fn trimmed_core(
+    alloc: Global,
+    source: Source<'_>,
+    made: &TrimmedGroup,
+) -> Result<Option<Group>, AllocError>
+    requires group { made.now.group ≡ trimmed (gathered_cell source.types.now source.cell.now) }
+    requires ordered { made.now.is_ordered ≡ true
+        → all_keep_order 0 (owners_of_cell (gathered_cell source.types.now source.cell.now)) ≡ true }
+    ensures { IfOk result
+        (λ core. IfSome core (IsTrimmedCore (gathered_cell source.entry.types.now source.entry.cell.now))) }
+{
+    let pins = CellPins::of_cell(alloc, &made.group)?;
+    if !made.is_ordered || !is_in_order(alloc, &pins)? {
+        return Ok(None);
+    }
+    let core = core_group(alloc, &made.group, &pins.outputs)?;
+    Ok(Some(core))
+}
+
+/// The cell with this number whose gathered group is read with the timing of all pins.
+fn read_whole(alloc: Global, source: Source<'_>, number: usize) -> Result<DrivenCell, CellFault>
+    ensures { Reads source.entry.unit source.entry.earlier.now number
+        (gathered_cell source.entry.types.now source.entry.cell.now) result }
+{
+    let group = whole_group(alloc, source.types, source.cell)?;
+    read_driven(alloc, &group, number, source.unit, source.earlier)
+}
+
+/// The cell with this number whose gathered group is trimmed to this.
+fn read_made(
     alloc: Global,
     source: Source<'_>,
     made: &TrimmedGroup,
     number: usize,
 ) -> Result<DrivenCell, CellFault>
     requires group { made.now.group ≡ trimmed (gathered_cell source.types.now source.cell.now) }
-    requires lost { made.now.loses ≡ false → LosesNothing (gathered_cell source.types.now source.cell.now) }
-    requires few { CanBeNumbered (pin_groups made.now.group) }
-    requires floats { three_state_outputs made.now.group ≡ [] }
-    requires order { is_in_order made.now.group ≡ true }
-    ensures cell { IfOk result (λ driven. driven_data_of driven
-        ≡ driven_data source.entry.unit number (gathered_cell source.entry.types.now source.entry.cell.now)) }
-    ensures accepted { IfOk result (λ _. driven_refusal source.entry.unit source.entry.earlier.now
-        (gathered_cell source.entry.types.now source.entry.cell.now) ≡ None) }
-    ensures refused { IfErr result (Tells (driven_refusal source.entry.unit source.entry.earlier.now
-        (gathered_cell source.entry.types.now source.entry.cell.now))) }
+    requires whole { made.now.is_whole ≡ true → made.now.group ≡ gathered_cell source.types.now source.cell.now }
+    requires ordered { made.now.is_ordered ≡ true
+        → all_keep_order 0 (owners_of_cell (gathered_cell source.types.now source.cell.now)) ≡ true }
+    requires apart { made.now.has_apart ≡ false → HasNoneApart (gathered_cell source.types.now source.cell.now) }
+    ensures { Reads source.entry.unit source.entry.earlier.now number
+        (gathered_cell source.entry.types.now source.entry.cell.now) result }
 {
-    match read_driven(alloc, &made.group, number, source.unit, source.earlier) {
-        // It has too many pins.
-        Ok(_) => unreachable!(),
-        Err(fault) => Err(fault_with_lost_timing(alloc, source, made, fault)),
+    if made.is_whole {
+        return read_driven(alloc, &made.group, number, source.unit, source.earlier);
+    }
+    match trimmed_core(alloc, source, made)? {
+        Some(core) => read_trimmed(alloc, source, &core, made.has_apart, number),
+        None => read_whole(alloc, source, number),
     }
 }
 
 /// The cell with this number that a group with buses, bundles or banks describes, as its gathered group.
 fn read_gathered(alloc: Global, source: Source<'_>, number: usize) -> Result<DrivenCell, CellFault>
-    ensures cell { IfOk result (λ driven. driven_data_of driven
-        ≡ driven_data source.entry.unit number (gathered_cell source.entry.types.now source.entry.cell.now)) }
-    ensures accepted { IfOk result (λ _. driven_refusal source.entry.unit source.entry.earlier.now
-        (gathered_cell source.entry.types.now source.entry.cell.now) ≡ None) }
-    ensures refused { IfErr result (Tells (driven_refusal source.entry.unit source.entry.earlier.now
-        (gathered_cell source.entry.types.now source.entry.cell.now))) }
+    ensures { Reads source.entry.unit source.entry.earlier.now number
+        (gathered_cell source.entry.types.now source.entry.cell.now) result }
 {
-    let Source {
-        types,
-        cell,
-        unit,
-        earlier,
-    } = source;
-    let made = trimmed_group(alloc, types, cell)?;
-    if made.is_whole {
-        return read_driven(alloc, &made.group, number, unit, earlier);
-    }
-    if is_decided(alloc, &made.group)? {
-        return read_trimmed(alloc, source, &made, number);
-    }
-    let group = whole_group(alloc, types, cell)?;
-    read_driven(alloc, &group, number, unit, earlier)
+    let made = trimmed_group(alloc, source.types, source.cell)?;
+    read_made(alloc, source, &made, number)
 }
 
 /// The cell with this number in its library that a group with buses, bundles or banks describes, expanded to single bits with the
 /// types of buses that stand before it, where `unit` is the library's time unit, if it is a known one, and `earlier` are the names of
 /// the cells before it. The group is one that nothing refuses to expand.
 ///
-/// Of a pin group behind the limit of pins that makes one pin, the timing is held only while it is read, where no output of the cell
-/// floats and its statements stand in the order of their offsets. `Memory` comes only where memory is wanting.
+/// Of a pin group behind the limit of pins that makes one pin, the timing is held only while it is read, where its statements
+/// stand in the order of their offsets. `Memory` comes only where memory is wanting.
 pub fn read_expanded(
     alloc: Global,
     types: &BusTypes,

@@ -120,6 +120,8 @@ fn read_attributes(alloc: Global, group: &Group) -> Result<Items<Item>, AllocErr
     let mut items = Items::new(alloc);
     add_counted(alloc, &mut items, group, &counted)?;
     add_refusing(alloc, &mut items, group, &refusing)?;
+    let floats = last_attribute(group, b"three_state");
+    add_statement(alloc, &mut items, b"three_state", floats)?;
     Ok(items)
 }
 

@@ -13,7 +13,7 @@ ghost use Rattle.three_state_cells.specs.Timing.{in_pin_order as in_pin_order_of
 ghost use Rattle.three_state_cells.specs.Refusals.{first_of_two, driver_refusal as driver_refusal_of, floating_refusal};
 ghost use Rattle.three_state_cells.specs.Refusals.{driven_refusal, IsRefusedCore};
 ghost use Rattle.three_state_cells.specs.DrivenCells.{driven_data, driven_data_of, core_name, plain_of, floating_of};
-ghost use Rattle.three_state_cells.specs.CoreReadings.{AreDrivers, IsFloating, IsCoreOfPins};
+ghost use Rattle.three_state_cells.specs.CoreReadings.{AreDrivers, IsFloating, IsCoreOfPins, IsReadCore};
 
 use crate::driven_cell::DrivenCell;
 use crate::driver_refusals::{driver_refusal, first_with};
@@ -75,55 +75,53 @@ fn renamed(cell: Cell, name: Items<u8>) -> Cell
     }
 }
 
-/// What drives the three-state outputs of a cell with this core.
-fn core_drivers(
-    alloc: Global,
-    core: &Group,
+/// The core of a cell.
+#[derive(Clone, Copy)]
+struct Core<'a> {
+    group: &'a Group,
+    /// The pin groups and the three-state outputs of the cell.
+    pins: &'a CellPins<'a>,
+    /// The time unit of its library, if it is a known one.
     unit: Option<Unit>,
-    pins: &CellPins<'_>,
-) -> Result<Drivers, AllocError>
-    requires early { IsEarlyUnmet core.now }
-    requires is_core { IsCoreOfPins core.now pins.now }
-    ensures { IfOk result (λ drivers. AreDrivers unit core.now (outputs_shown pins.now) drivers) }
+}
+
+/// What drives the three-state outputs of a cell with this core.
+fn core_drivers(alloc: Global, core: Core<'_>) -> Result<Drivers, AllocError>
+    requires early { IsEarlyUnmet core.group.now }
+    requires is_core { IsCoreOfPins core.group.now core.pins.now }
+    ensures { IfOk result
+        (λ drivers. AreDrivers core.entry.unit core.entry.group.now (outputs_shown core.entry.pins.now) drivers) }
 {
-    let mut subject = subject_of(alloc, core, unit)?;
-    drivers_of(alloc, &mut subject, &pins.outputs)
+    let mut subject = subject_of(alloc, core.group, core.unit)?;
+    drivers_of(alloc, &mut subject, &core.pins.outputs)
 }
 
 /// What decides of all that is wrong in the delays of the three-state outputs of a cell with this core.
-fn delay_refusal(
-    alloc: Global,
-    core: &Group,
-    unit: Option<Unit>,
-    pins: &CellPins<'_>,
-) -> Result<Option<Refusal>, AllocError>
-    requires early { IsEarlyUnmet core.now }
-    requires is_core { IsCoreOfPins core.now pins.now }
-    ensures { IfOk result (λ refusal. refusal ≡ driver_refusal_of (subject_of_cell unit core.now) (groups_shown pins.now)) }
+fn delay_refusal(alloc: Global, core: Core<'_>) -> Result<Option<Refusal>, AllocError>
+    requires early { IsEarlyUnmet core.group.now }
+    requires is_core { IsCoreOfPins core.group.now core.pins.now }
+    ensures { IfOk result
+        (λ refusal. refusal
+        ≡ driver_refusal_of (subject_of_cell core.entry.unit core.entry.group.now) (groups_shown core.entry.pins.now)) }
 {
-    let mut subject = subject_of(alloc, core, unit)?;
-    driver_refusal(alloc, &mut subject, &pins.groups)
+    let mut subject = subject_of(alloc, core.group, core.unit)?;
+    driver_refusal(alloc, &mut subject, &core.pins.groups)
 }
 
 /// What decides of a refusal of the core and of what is wrong in the delays of the three-state outputs. The delays are not looked
 /// at where a reason with a lesser number is met.
-fn decided(
-    alloc: Global,
-    core: &Group,
-    unit: Option<Unit>,
-    pins: &CellPins<'_>,
-    refusal: Refusal,
-) -> Result<Refusal, AllocError>
-    requires told { IsRefusedCore unit core.now refusal }
-    requires is_core { IsCoreOfPins core.now pins.now }
+fn decided(alloc: Global, core: Core<'_>, refusal: Refusal) -> Result<Refusal, AllocError>
+    requires told { IsRefusedCore core.unit core.group.now refusal }
+    requires is_core { IsCoreOfPins core.group.now core.pins.now }
     ensures { IfOk result
         (λ refused. Some refused
-        ≡ first_of_two (Some refusal) (driver_refusal_of (subject_of_cell unit core.now) (groups_shown pins.now))) }
+        ≡ first_of_two (Some refusal)
+        (driver_refusal_of (subject_of_cell core.entry.unit core.entry.group.now) (groups_shown core.entry.pins.now))) }
 {
     if refusal.reason.number() < Reason::UnknownName.number() {
         return Ok(refusal);
     }
-    let of_delays = delay_refusal(alloc, core, unit, pins)?;
+    let of_delays = delay_refusal(alloc, core)?;
     Ok(first_with(refusal, of_delays))
 }
 
@@ -195,19 +193,16 @@ fn floating_cell(
 /// The cell with this number and this core, which was read so, where nothing is wrong in the delays of its three-state outputs.
 fn with_drivers(
     alloc: Global,
-    core: &Group,
-    unit: Option<Unit>,
-    pins: &CellPins<'_>,
+    core: Core<'_>,
     number: usize,
     read: ReadCell,
 ) -> Result<DrivenCell, AllocError>
-    requires early { IsEarlyUnmet core.now }
-    requires is_core { IsCoreOfPins core.now pins.now }
-    requires cell { IsCellOf (subject_of_cell unit core.now) number core.now read.cell }
-    requires left_out { read.left_out ≡ left_out_of_cell (subject_of_cell unit core.now) core.now }
-    ensures { IfOk result (λ driven. driven_data_of driven ≡ floating_of unit number core.now (outputs_shown pins.now)) }
+    requires { IsReadCore core.unit core.group.now core.pins.now number read }
+    ensures { IfOk result
+        (λ driven. driven_data_of driven
+        ≡ floating_of core.entry.unit number core.entry.group.now (outputs_shown core.entry.pins.now)) }
 {
-    let drivers = core_drivers(alloc, core, unit, pins);
+    let drivers = core_drivers(alloc, core);
     let (read, drivers) = held_with(read, drivers)?;
     floating_cell(alloc, read, drivers, number)
 }
@@ -215,67 +210,63 @@ fn with_drivers(
 /// The same, or what is wrong in these delays.
 fn unless_wrong(
     alloc: Global,
-    core: &Group,
-    unit: Option<Unit>,
-    pins: &CellPins<'_>,
+    core: Core<'_>,
     number: usize,
     read: ReadCell,
 ) -> Result<DrivenCell, CellFault>
-    requires early { IsEarlyUnmet core.now }
-    requires is_core { IsCoreOfPins core.now pins.now }
-    requires cell { IsCellOf (subject_of_cell unit core.now) number core.now read.cell }
-    requires left_out { read.left_out ≡ left_out_of_cell (subject_of_cell unit core.now) core.now }
-    ensures cell { IfOk result (λ driven. driven_data_of driven ≡ floating_of unit number core.now (outputs_shown pins.now)) }
-    ensures accepted { IfOk result (λ _. driver_refusal_of (subject_of_cell unit core.now) (groups_shown pins.now) ≡ None) }
-    ensures refused { IfErr result (Tells (driver_refusal_of (subject_of_cell unit core.now) (groups_shown pins.now))) }
+    requires { IsReadCore core.unit core.group.now core.pins.now number read }
+    ensures cell { IfOk result
+        (λ driven. driven_data_of driven
+        ≡ floating_of core.entry.unit number core.entry.group.now (outputs_shown core.entry.pins.now)) }
+    ensures accepted { IfOk result
+        (λ _. driver_refusal_of (subject_of_cell core.entry.unit core.entry.group.now) (groups_shown core.entry.pins.now)
+        ≡ None) }
+    ensures refused { IfErr result
+        (Tells (driver_refusal_of (subject_of_cell core.entry.unit core.entry.group.now) (groups_shown core.entry.pins.now))) }
 {
-    match kept_unless(read, delay_refusal(alloc, core, unit, pins))? {
-        Ok(read) => Ok(with_drivers(alloc, core, unit, pins, number, read)?),
+    match kept_unless(read, delay_refusal(alloc, core))? {
+        Ok(read) => Ok(with_drivers(alloc, core, number, read)?),
         Err(refusal) => Err(CellFault::Refused(refusal)),
     }
 }
 
 /// Why a cell is refused whose core is refused so.
 #[tactic(auto, unfolding(crate::specs::Refusals::floating_refusal))]
-fn core_fault(
-    alloc: Global,
-    core: &Group,
-    unit: Option<Unit>,
-    pins: &CellPins<'_>,
-    earlier: &Names,
-    fault: CellFault,
-) -> CellFault
-    requires told { Tells (refusal_of (subject_of_cell unit core.now) earlier.now core.now) fault }
-    requires is_core { IsCoreOfPins core.now pins.now }
-    ensures { Tells (floating_refusal unit earlier.now core.now (groups_shown pins.now)) result }
+fn core_fault(alloc: Global, core: Core<'_>, earlier: &Names, fault: CellFault) -> CellFault
+    requires told { Tells (refusal_of (subject_of_cell core.unit core.group.now) earlier.now core.group.now) fault }
+    requires is_core { IsCoreOfPins core.group.now core.pins.now }
+    ensures { Tells
+        (floating_refusal core.entry.unit earlier.now core.entry.group.now (groups_shown core.entry.pins.now)) result }
 {
     let CellFault::Refused(refusal) = fault else {
         return CellFault::Memory;
     };
-    match decided(alloc, core, unit, pins, refusal) {
+    match decided(alloc, core, refusal) {
         Ok(refusal) => CellFault::Refused(refusal),
         Err(AllocError) => CellFault::Memory,
     }
 }
 
-/// The cell with this number whose core this group describes, where these are its pin groups and its three-state outputs.
+/// The cell with this number that has this core.
 #[tactic(auto, unfolding(crate::specs::Refusals::floating_refusal))]
 fn read_core(
     alloc: Global,
-    core: &Group,
-    pins: &CellPins<'_>,
+    core: Core<'_>,
     number: usize,
-    unit: Option<Unit>,
     earlier: &Names,
 ) -> Result<DrivenCell, CellFault>
-    requires { IsCoreOfPins core.now pins.now }
-    ensures cell { IfOk result (λ driven. driven_data_of driven ≡ floating_of unit number core.now (outputs_shown pins.now)) }
-    ensures accepted { IfOk result (λ _. floating_refusal unit earlier.now core.now (groups_shown pins.now) ≡ None) }
-    ensures refused { IfErr result (Tells (floating_refusal unit earlier.now core.now (groups_shown pins.now))) }
+    requires { IsCoreOfPins core.group.now core.pins.now }
+    ensures cell { IfOk result
+        (λ driven. driven_data_of driven
+        ≡ floating_of core.entry.unit number core.entry.group.now (outputs_shown core.entry.pins.now)) }
+    ensures accepted { IfOk result
+        (λ _. floating_refusal core.entry.unit earlier.now core.entry.group.now (groups_shown core.entry.pins.now) ≡ None) }
+    ensures refused { IfErr result
+        (Tells (floating_refusal core.entry.unit earlier.now core.entry.group.now (groups_shown core.entry.pins.now))) }
 {
-    match read_cell(alloc, core, number, unit, earlier) {
-        Ok(read) => unless_wrong(alloc, core, unit, pins, number, read),
-        Err(fault) => Err(core_fault(alloc, core, unit, pins, earlier, fault)),
+    match read_cell(alloc, core.group, number, core.unit, earlier) {
+        Ok(read) => unless_wrong(alloc, core, number, read),
+        Err(fault) => Err(core_fault(alloc, core, earlier, fault)),
     }
 }
 
@@ -295,8 +286,13 @@ fn read_floating(
     ensures accepted { IfOk result (λ _. driven_refusal unit earlier.now cell.now ≡ None) }
     ensures refused { IfErr result (Tells (driven_refusal unit earlier.now cell.now)) }
 {
-    let core = core_group(alloc, cell, &pins.outputs)?;
-    read_core(alloc, &core, pins, number, unit, earlier)
+    let group = core_group(alloc, cell, &pins.outputs)?;
+    let core = Core {
+        group: &group,
+        pins,
+        unit,
+    };
+    read_core(alloc, core, number, earlier)
 }
 
 /// What is made of a cell without three-state outputs: its name, once more, and a driver of nothing.
@@ -337,7 +333,7 @@ fn plain_cell(alloc: Global, read: ReadCell) -> Result<DrivenCell, AllocError>
 }
 
 /// The cell with this number that a group without three-state outputs describes.
-fn read_plain(
+fn read_undriven(
     alloc: Global,
     cell: &Group,
     number: usize,
@@ -374,7 +370,7 @@ pub fn read_driven(
 {
     let pins = CellPins::of_cell(alloc, cell)?;
     if pins.never_float() {
-        read_plain(alloc, cell, number, unit, earlier)
+        read_undriven(alloc, cell, number, unit, earlier)
     } else {
         read_floating(alloc, cell, &pins, number, unit, earlier)
     }

@@ -1,5 +1,5 @@
 //! The statements of a cell, as they come and trimmed.
-use crate::trimming::{is_trimmed_item, loses_in, pins_in_item, trimmed_item};
+use crate::trimming::{has_apart_in, is_trimmed_item, keeps_order_in, pins_in_item, trimmed_item};
 use bank_cells::ItemSink;
 use cell_attributes::limits::MOST_PINS;
 use liberty_groups::Item;
@@ -45,8 +45,10 @@ pub(crate) struct TrimmedItems {
     pub(crate) pins: usize,
     /// None of them lost anything.
     pub(crate) is_whole: bool,
-    /// Some of them lost timing groups.
-    pub(crate) loses: bool,
+    /// No statement of a pin group that is trimmed stands before it.
+    pub(crate) is_ordered: bool,
+    /// Some timing is read apart from the trimmed core.
+    pub(crate) has_apart: bool,
 }
 
 impl TrimmedItems {
@@ -61,7 +63,8 @@ impl TrimmedItems {
             items: Items::new(alloc),
             pins: 0,
             is_whole: true,
-            loses: false,
+            is_ordered: true,
+            has_apart: false,
         }
     }
 }
@@ -74,12 +77,14 @@ impl ItemSink for TrimmedItems {
     fn take(&mut self, alloc: Global, item: Item) -> Result<(), AllocError> {
         let made = pins_in_item(&item);
         let is_whole = self.is_whole && !is_trimmed_item(self.pins, &item);
-        let loses = self.loses || loses_in(self.pins, &item);
+        let is_ordered = self.is_ordered && keeps_order_in(self.pins, &item);
+        let has_apart = self.has_apart || has_apart_in(self.pins, &item);
         let kept = trimmed_item(alloc, self.pins, item)?;
         self.items.push(kept)?;
         self.pins = self.pins.saturating_add(made).min(MOST_PINS);
         self.is_whole = is_whole;
-        self.loses = loses;
+        self.is_ordered = is_ordered;
+        self.has_apart = has_apart;
         Ok(())
     }
 }

@@ -7,6 +7,7 @@ ghost use Rattle.three_state_cells.specs.Trimmed as spec;
 use crate::pin_attributes::untimed;
 use cell_attributes::groups::{is_called, is_pin};
 use cell_attributes::limits::MOST_PINS;
+use core_groups::is_three_state;
 use liberty_groups::{Group, Item, Value};
 use std::alloc::{AllocError, Global};
 
@@ -43,14 +44,11 @@ fn has_one(arguments: &[Value]) -> bool
 }
 
 /// Whether a group loses its timing groups and what is not read of it, where so many pins stand before it: it makes one pin behind
-/// the limit, and none of its statements stands before it.
+/// the limit.
 fn is_trimmed(pin: usize, group: &Group) -> bool
     ensures { result ≡ spec.is_trimmed pin group.now }
 {
-    MOST_PINS <= pin
-        && is_pin(group)
-        && has_one(group.arguments.as_slice())
-        && all_behind(group.at, group)
+    MOST_PINS <= pin && is_pin(group) && has_one(group.arguments.as_slice())
 }
 
 /// Whether a statement of a cell is such a group.
@@ -92,13 +90,38 @@ pub(crate) fn loses(pin: usize, group: &Group) -> bool
     is_trimmed(pin, group) && is_timed(group)
 }
 
-/// Whether a statement of a cell is such a group.
-pub(crate) fn loses_in(pin: usize, item: &Item) -> bool
-    ensures { result ≡ spec.loses_in pin (out-Item item.now) }
+/// Whether a group has timing that is read apart from the trimmed core, where so many pins stand before it: what it loses, or the
+/// delays of three-state outputs.
+fn has_apart(pin: usize, group: &Group) -> bool
+    ensures { result ≡ spec.has_apart pin group.now }
+{
+    loses(pin, group) || (is_three_state(group) && is_timed(group))
+}
+
+/// The same of a statement of a cell.
+pub(crate) fn has_apart_in(pin: usize, item: &Item) -> bool
+    ensures { result ≡ spec.has_apart_in pin (out-Item item.now) }
 {
     match item {
         Item::Simple { .. } | Item::Complex { .. } => false,
-        Item::Inner(group) => loses(pin, group),
+        Item::Inner(group) => has_apart(pin, group),
+    }
+}
+
+/// Whether none of the statements of a group that is trimmed stands before it, where so many pins do.
+fn keeps_order(pin: usize, group: &Group) -> bool
+    ensures { result ≡ spec.keeps_order pin group.now }
+{
+    !is_trimmed(pin, group) || all_behind(group.at, group)
+}
+
+/// The same of a statement of a cell.
+pub(crate) fn keeps_order_in(pin: usize, item: &Item) -> bool
+    ensures { result ≡ spec.keeps_order_in pin (out-Item item.now) }
+{
+    match item {
+        Item::Simple { .. } | Item::Complex { .. } => true,
+        Item::Inner(group) => keeps_order(pin, group),
     }
 }
 

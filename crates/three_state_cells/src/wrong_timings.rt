@@ -1,13 +1,15 @@
-//! What is wrong in the timing of the trimmed pins of a cell, one pin after another.
+//! What is wrong in the timing that the pins of a core lost, and in the delays of its three-state outputs, one pin after another.
 ghost use Rattle.std.specs.Prelude.{◌≡◌, IfOk};
 ghost use Rattle.liberty_groups.specs.declared.tree.Item.{out-Item};
 ghost use Rattle.three_state_cells.specs.Trimmed.{timing_told as timing_told_of};
 ghost use Rattle.three_state_cells.specs.Sinks.{wrong_group as wrong_group_of, wrong_item as wrong_item_of};
+ghost use Rattle.three_state_cells.specs.Sinks.{wrong_delays as wrong_delays_of};
 
-use crate::driver_refusals::first_of_two;
+use crate::driver_refusals::{first_of_two, wrong_outputs};
 use crate::trimming::{loses, pins_in_item};
 use bank_cells::ItemSink;
 use cell_reader::{Reason, Refusal};
+use core_groups::is_three_state;
 use liberty_groups::{Group, Item};
 use std::alloc::{AllocError, Global};
 use timing_arcs::{PinTiming, Room, Subject, TimingFault, read_timing};
@@ -26,7 +28,7 @@ fn timing_told(answer: &Result<PinTiming, TimingFault>) -> Option<Refusal>
     Some(Refusal { reason, at })
 }
 
-/// What is wrong in the timing that the pin of a group lost, where the subject is that pin.
+/// What is wrong in the timing that the pin of a group lost in the core, where the subject is that pin.
 fn wrong_group(
     alloc: Global,
     subject: &Subject,
@@ -34,7 +36,7 @@ fn wrong_group(
 ) -> Result<Option<Refusal>, AllocError>
     ensures { IfOk result (λ wrong. wrong ≡ wrong_group_of subject.now group.now) }
 {
-    if !loses(subject.place, group) {
+    if is_three_state(group) || !loses(subject.place, group) {
         return Ok(None);
     }
     let room = Room {
@@ -56,12 +58,53 @@ fn wrong_item(alloc: Global, subject: &Subject, item: &Item) -> Result<Option<Re
     }
 }
 
+/// What is wrong in the delays of the outputs that a statement of a cell makes, if they are three-state outputs.
+fn wrong_delays(
+    alloc: Global,
+    subject: &Subject,
+    item: &Item,
+) -> Result<Option<Refusal>, AllocError>
+    ensures { IfOk result (λ wrong. wrong ≡ wrong_delays_of subject.now (out-Item item.now)) }
+{
+    match item {
+        Item::Simple { .. } | Item::Complex { .. } => Ok(None),
+        Item::Inner(group) => wrong_outputs(alloc, subject, group),
+    }
+}
+
 /// What decides of all that is wrong so far.
 #[derive(Drop)]
 pub(crate) struct WrongTimings {
-    /// The pins of the cell, of which the next one is looked at.
+    /// The pins of the core, of which the next one is looked at.
     pub(crate) subject: Subject,
+    /// In the timing that they lost.
     pub(crate) found: Option<Refusal>,
+    /// In the delays of three-state outputs.
+    pub(crate) delays: Option<Refusal>,
+}
+
+/// An answer, where this value is let go. It is a function of any type, so that what the value owns is let go at one place.
+fn let_go<T: Drop>(_value: T, answer: Result<(), AllocError>) -> Result<(), AllocError>
+    ensures { result ≡ answer }
+{
+    answer
+}
+
+impl WrongTimings {
+    ghost use Rattle.std.specs.Prelude.{◌≡◌, OnOk};
+    ghost use Rattle.three_state_cells.specs.Sinks.{after_wrong};
+
+    /// Adds what is wrong in the next statement.
+    fn add(&mut self, alloc: Global, item: &Item) -> Result<(), AllocError>
+        ensures { OnOk result (self.new ≡ after_wrong self.old item.now) }
+    {
+        let wrong = wrong_item(alloc, &self.subject, item)?;
+        let delays = wrong_delays(alloc, &self.subject, item)?;
+        self.found = first_of_two(self.found, wrong);
+        self.delays = first_of_two(self.delays, delays);
+        self.subject.place = self.subject.place.saturating_add(pins_in_item(item));
+        Ok(())
+    }
 }
 
 impl ItemSink for WrongTimings {
@@ -70,9 +113,7 @@ impl ItemSink for WrongTimings {
     ghost after = { after_wrong };
 
     fn take(&mut self, alloc: Global, item: Item) -> Result<(), AllocError> {
-        let wrong = wrong_item(alloc, &self.subject, &item)?;
-        self.found = first_of_two(self.found, wrong);
-        self.subject.place = self.subject.place.saturating_add(pins_in_item(&item));
-        Ok(())
+        let added = self.add(alloc, &item);
+        let_go(item, added)
     }
 }

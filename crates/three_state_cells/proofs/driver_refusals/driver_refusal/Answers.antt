@@ -27,7 +27,7 @@ loop-group-preserved c =
     record {
       so_far =
           refusal_turn c.args.core.now c.loop-group.core c.loop-group.found _ _ _ group rest _ turn c.loop-group.invariant.same
-          c.in_ok-wrong_group.ensures c.first_of_two-found.ensures place
+          c.in_ok-wrong_outputs.ensures c.first_of_two-found.ensures place
           ∙ c.loop-group.invariant.so_far;
       number = count_turn c.loop-group.core.place _ group rest _ turn place ∙ c.loop-group.invariant.number;
       same = same_turn c.args.core.now c.loop-group.core _ _ c.loop-group.invariant.same c.move_to-in-loop-group.ensures;

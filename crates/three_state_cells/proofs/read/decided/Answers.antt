@@ -7,9 +7,9 @@ use Rattle.three_state_cells.proofs.read.decided.Goals as goal
 pub returns-then-number : goal.returns-then-number
 returns-then-number c =
     let small : number_of_reason c.args.refusal.reason ≤ 7 = omega arith in
-    sym (early_refusal_decides (subject_of c.args.unit c.args.core.now) (map (λ group. group.now) c.args.pins.now.groups.items) c.args.refusal small)
+    sym (early_refusal_decides (subject_of c.args.core.unit c.args.core.group.now) (map (λ group. group.now) c.args.core.pins.now.groups.items) c.args.refusal small)
 
 pub delay_refusal-requires-clause-early : goal.delay_refusal-requires-clause-early
 delay_refusal-requires-clause-early c =
     let large : 6 < number_of_reason c.args.refusal.reason = omega arith in
-    refused_early (subject_of c.args.unit c.args.core.now) c.requires.told.0 c.args.core.now c.args.refusal c.requires.told.1 large
+    refused_early (subject_of c.args.core.unit c.args.core.group.now) c.requires.told.0 c.args.core.group.now c.args.refusal c.requires.told.1 large

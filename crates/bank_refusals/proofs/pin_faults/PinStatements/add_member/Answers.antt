@@ -13,10 +13,10 @@ returns c =
     let statements = c.args.self.now.group.now.items in
     where_went c.add_pin_faults.result
     (made_faults c.args.self.now.vectors.now at statements (flat_map (own_items vector at name) statements)
-    (map (λ item. item.now) c.deref-4.result.now) c.args.found.now.items c.add_pin_faults.new.found.items
-    (ap (map (λ item. item.now)) c.deref-4.ensures.value ∙ (c.in_ok-items.ensures
-    ∙ (λ i. (ap (map (λ item. item.now)) c.deref-2.ensures.value ∙ c.requires.varying) i
-    ++ (ap (map (λ item. item.now)) c.deref-3.ensures.value ∙ (c.in_ok-own.ensures
-    ∙ (ap (flat_map (inner_pin_items vector at name)) (ap (map (λ pin. pin.now)) c.deref.ensures.value ∙ c.requires.pins)
+    (map (λ item. item.now) c.deref-3.result.now) c.args.found.now.items c.add_pin_faults.new.found.items
+    (ap (map (λ item. item.now)) c.deref-3.ensures.value ∙ (c.in_ok-items.ensures
+    ∙ (λ i. (ap (map (λ item. item.now)) c.deref.ensures.value ∙ c.requires.varying) i
+    ++ (ap (map (λ item. item.now)) c.deref-2.ensures.value ∙ (c.in_ok-own.ensures
+    ∙ (ap (flat_map (inner_pin_items vector at name)) c.requires.pins
     ∙ own_are vector at name statements))) i))))
     c.add_pin_faults.ensures

@@ -2,7 +2,7 @@ use Rattle.std.proofs.Common.{◌∙◌, sym, subst}
 use Rattle.cell_reader.specs.CellTexts.{Tells}
 use Rattle.three_state_cells.specs.Refusals.{driven_refusal}
 use Rattle.three_state_cells.proofs.DataLemmas.{plain_as, plain_refusal, err_told}
-use Rattle.three_state_cells.proofs.read.read_plain.Goals as goal
+use Rattle.three_state_cells.proofs.read.read_undriven.Goals as goal
 
 pub returns-in_err-read-clause-refused : goal.returns-in_err-read-clause-refused
 returns-in_err-read-clause-refused c =

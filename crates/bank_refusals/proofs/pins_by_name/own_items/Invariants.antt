@@ -1,7 +1,7 @@
 use Rattle.std.proofs.Common.{◌≡◌, drop, ◌++◌, map}
 use Rattle.std.specs.Prelude.{flat_map}
 use Rattle.bank_refusals.specs.Members.{inner_pin_items}
-use Rattle.bank_refusals.proofs.members.own_items.Given as goal
+use Rattle.bank_refusals.proofs.pins_by_name.own_items.Given as goal
 
 abbrev pub invariant-loop-pin : goal.invariant-loop-pin
 invariant-loop-pin l =

@@ -1,6 +1,6 @@
 use Rattle.std.proofs.Common.{◌≡◌, drop, ◌++◌, map}
 use Rattle.bank_refusals.specs.Members.{inner_pins}
-use Rattle.bank_refusals.proofs.members.inner_pins.Given as goal
+use Rattle.bank_refusals.proofs.pins_by_name.inner_pins.Given as goal
 
 abbrev pub invariant-loop-item : goal.invariant-loop-item
 invariant-loop-item l =

@@ -1,9 +1,7 @@
 //! Models run beside their cell: a model is caught where its trace is unlike that of the cell.
 #![tactic(auto)]
 
-mod entities;
-mod modules;
+mod models;
 mod traces;
 
-pub use entities::is_entity_caught;
-pub use modules::is_module_caught;
+pub use models::{is_entity_caught, is_module_caught};

@@ -1,6 +1,6 @@
 -- The groups of a cell by their numbers: their names, their steps and their supports; and the conditions by theirs.
-use Rattle.std.proofs.Common.{◌≡◌, ℕ, zero, suc, ◌+◌, ◌*◌, ◌<◌, Bool, true, false, List, [], ◌∷◌, length, inl, inr, refl, sym, ap}
-use Rattle.std.proofs.Common.{◌∙◌, subst, arith, IsTrue, Some, option_map, slice_get, nat_lt, flat_map, if◌then◌else◌}
+use Rattle.std.proofs.Common.{◌≡◌, ℕ, zero, suc, ◌+◌, ◌*◌, ◌<◌, Bool, true, false, List, [], ◌∷◌, ◌++◌, length, inl, inr, refl, ap}
+use Rattle.std.proofs.Common.{◌∙◌, sym, subst, arith, IsTrue, Some, option_map, slice_get, nat_lt, flat_map, if◌then◌else◌}
 use Rattle.std.specs.List.{list_all}
 use Rattle.std.specs.Option.{option_map_or}
 use Rattle.std.proofs.lemmas.Bool.{and_parts, lt-ltb}
@@ -96,25 +96,26 @@ flat-among f y (z ∷ zs) x (inl e) k = append-among_left y (f z) (flat_map f zs
 flat-among f y (z ∷ zs) x (inr n) k = append-among_right y (f z) (flat_map f zs) (flat-among f y zs x n k)
 
 module _ (numbered : ConditionsAreNumbered) (d : CellData) where
+  -- the conditions that the checks use, and those that the arcs use
+  abbrev by_checks : List Node
+  by_checks = flat_map (λ (k : Check). condition_list k.condition) d.checks
+
+  abbrev by_arcs : List Node
+  by_arcs = flat_map (arc_conditions d.arcs) d.arcs
+
+  placed : (f : Node) → Among f (by_checks ++ by_arcs) → condition_place (conditions_of d) f < length (conditions_of d)
+  placed f h = numbered d f (among-contains f (used_conditions d) h)
+
   pub check-place :
       (k : Check) (f : Node) → Among k d.checks → Among f (condition_list k.condition)
       → condition_place (conditions_of d) f < length (conditions_of d)
   check-place k f m h =
-      numbered d f
-      (among-contains f (used_conditions d)
-      (append-among_left f (flat_map (λ (k : Check). condition_list k.condition) d.checks)
-      (flat_map (arc_conditions d.arcs) d.arcs)
-      (flat-among (λ (k : Check). condition_list k.condition) f d.checks k m h)))
+      placed f (append-among_left f by_checks by_arcs (flat-among (λ (k : Check). condition_list k.condition) f d.checks k m h))
 
   pub arc-place :
       (arc : Arc) (f : Node) → Among arc d.arcs → Among f (arc_conditions d.arcs arc)
       → condition_place (conditions_of d) f < length (conditions_of d)
-  arc-place arc f m h =
-      numbered d f
-      (among-contains f (used_conditions d)
-      (append-among_right f (flat_map (λ (k : Check). condition_list k.condition) d.checks)
-      (flat_map (arc_conditions d.arcs) d.arcs)
-      (flat-among (arc_conditions d.arcs) f d.arcs arc m h)))
+  arc-place arc f m h = placed f (append-among_right f by_checks by_arcs (flat-among (arc_conditions d.arcs) f d.arcs arc m h))
 
 -- an output as its models need it: it is an output pin, and its sources are input pins and states
 pub record IsOutputPin (d : CellData) (output : OutputPin) : Type 0 where

@@ -1,10 +1,10 @@
 -- The places of the instances that a change feeds, and that it steps those alone.
-use Rattle.std.proofs.Common.{◌≡◌, ℕ, zero, suc, ◌+◌, ◌<◌, ◌≤◌, Bool, true, false, ◌&&◌, ◌||◌, cond, List, [], ◌∷◌, ◌++◌, length}
+use Rattle.std.proofs.Common.{◌≡◌, ℕ, zero, suc, ◌+◌, ◌<◌, ◌≤◌, Bool, true, false, ◌&&◌, cond, List, [], ◌∷◌, length}
 use Rattle.std.proofs.Common.{get_or, set, take, drop, map, refl, ap, sym, ◌∙◌, Option, Some, None, slice_get, nat_eq, position}
-use Rattle.std.proofs.Common.{arith, if◌then◌else◌, inl, inr, ◌⊎◌}
+use Rattle.std.proofs.Common.{arith, if◌then◌else◌}
 use Rattle.std.specs.List.{list_any, position_from}
 use Rattle.std.specs.Option.{option_map_or}
-use Rattle.std.proofs.lemmas.Bool.{or_parts, and_parts, ne_eqb, eqb-true}
+use Rattle.std.proofs.lemmas.Bool.{or_parts, ne_eqb}
 use Rattle.std.proofs.lemmas.List.{set-get_or, drop_all}
 use Rattle.std.proofs.lemmas.List.Sums.{sum_by-cons}
 use Rattle.trit_cubes.specs.declared.trits.Trit.{Trit}
@@ -23,17 +23,44 @@ use Rattle.model_traces.specs.declared.turns.Turn.{Turn}
 use Rattle.model_traces.specs.PortNumbers.{is_input, input_count, input_number}
 use Rattle.model_traces.specs.Primitives.{is_turned, entry_value, next_at, primitive_next, next_state, next_states}
 use Rattle.model_traces.proofs.PlaceLemmas.{position-from}
-use Rattle.run_parts.proofs.PlaceLemmas.{places-more, places-within, stepped, stepped-from, none-any, none-placed, once-added}
-use Rattle.run_parts.proofs.PlaceLemmas.{stays}
-use Rattle.module_runs.specs.FedInstances.{nets_of, is_fed, fed_places}
+use Rattle.run_parts.specs.FedParts.{is_number, places_fed}
+use Rattle.run_parts.specs.Places.{places_from}
+use Rattle.run_parts.proofs.PlaceLemmas.{places-within, stepped, stepped-from, none-any, none-placed}
+use Rattle.module_runs.specs.declared.fed_instances.Feeder.TheVariants as feeder
+use Rattle.module_runs.specs.FedInstances.{nets_of, is_fed, fed_places, input_of, feeds, is_fed_by}
+use Rattle.module_runs.specs.KeptValues.{is_wire, state_places}
 
--- one instance more
-pub fed-more :
-    (ports : List VPort) (what : Turned) (instances : List Instance) (i : ℕ) (d : Instance)
-    → i < length instances
-    → fed_places ports what (take i instances) ++ cond (is_fed ports what (get_or instances i d)) (i ∷ []) []
-    ≡ fed_places ports what (take (i + 1) instances)
-fed-more ports what instances i d inside = places-more (is_fed ports what) instances i d inside
+-- the instances that are fed, by what each net is
+input-same : (ports : List VPort) (n : ℕ) (x : VNet) → is_number n (input_of ports x) ≡ is_turned ports (turned.Input n) x
+input-same ports n (net.Port p) =
+    elim (is_input_port ports p) as (λ b.
+    is_number n (if b then Some (input_number ports p) else None) ≡ (b && nat_eq (input_number ports p) n)) [
+      | true ↦ refl
+      | false ↦ refl
+    ]
+input-same ports n (net.Wire w) = refl
+input-same ports n net.Notifier = refl
+
+pub inputs-feed : (ports : List VPort) (instances : List Instance) (n : ℕ)
+    → places_fed nets_of (input_of ports) instances n ≡ fed_places ports (turned.Input n) instances
+inputs-feed ports instances n = λ i. places_from (λ x. list_any (λ y. input-same ports n y i) (nets_of x)) 0 instances
+
+register-same : (ports : List VPort) (x : VNet) → feeds feeder.Register x ≡ is_turned ports turned.Notifier x
+register-same ports (net.Port p) = refl
+register-same ports (net.Wire w) = refl
+register-same ports net.Notifier = refl
+
+pub register-feeds : (ports : List VPort) (instances : List Instance)
+    → places_from (is_fed_by feeder.Register) 0 instances ≡ fed_places ports turned.Notifier instances
+register-feeds ports instances = λ i. places_from (λ x. list_any (λ y. register-same ports y i) (nets_of x)) 0 instances
+
+states-same : (x : VNet) → feeds feeder.States x ≡ is_wire x
+states-same (net.Port p) = refl
+states-same (net.Wire w) = refl
+states-same net.Notifier = refl
+
+pub states-feed : (instances : List Instance) → places_from (is_fed_by feeder.States) 0 instances ≡ state_places instances
+states-feed instances = λ i. places_from (λ x. list_any (λ y. states-same y i) (nets_of x)) 0 instances
 
 none-found : {X : Type 0} (t : X → Bool) (xs : List X) (k : ℕ) → list_any t xs ≡ false → position_from t k xs ≡ None
 none-found t [] k e = refl
@@ -103,42 +130,6 @@ pub unfed :
 unfed ports i instances past =
     none-placed (is_fed ports (turned.Input i)) 0 instances
     (λ x. none-any (is_turned ports (turned.Input i)) (nets_of x) (not-turned ports i past))
-
-pub port-added :
-    (ports : List VPort) (earlier : List VNet) (port input place n : ℕ) (list : List ℕ)
-    → input ≡ input_number ports port → is_input_port ports port ≡ true
-    → list_any (is_turned ports (turned.Input input)) earlier ≡ false
-    → (list ++ cond (list_any (is_turned ports (turned.Input n)) earlier) (place ∷ []) [])
-    ++ cond (nat_eq input n) (place ∷ []) []
-    ≡ list ++ cond (list_any (is_turned ports (turned.Input n)) earlier || is_turned ports (turned.Input n) (net.Port port))
-    (place ∷ []) []
-port-added ports earlier port input place n list same is new =
-    let b : Bool = list_any (is_turned ports (turned.Input n)) earlier in
-    once-added list place b (nat_eq input n)
-    (λ e. ap (λ k. list_any (is_turned ports (turned.Input k)) earlier) (sym (eqb-true input n e)) ∙ new)
-    ∙ (λ i. list ++ cond (b || (sym is i && nat_eq (same i) n)) (place ∷ []) [])
-
-pub port-kept :
-    (ports : List VPort) (earlier : List VNet) (port place n : ℕ) (list : List ℕ)
-    → (is_input_port ports port ≡ false) ⊎ (list_any (is_turned ports (turned.Input (input_number ports port))) earlier ≡ true)
-    → list ++ cond (list_any (is_turned ports (turned.Input n)) earlier) (place ∷ []) []
-    ≡ list ++ cond (list_any (is_turned ports (turned.Input n)) earlier || is_turned ports (turned.Input n) (net.Port port))
-    (place ∷ []) []
-port-kept ports earlier port place n list either =
-    ap (λ c. list ++ cond c (place ∷ []) [])
-    (stays (list_any (is_turned ports (turned.Input n)) earlier) (is_turned ports (turned.Input n) (net.Port port)) whole)
-  where
-    by :
-        (is_input_port ports port ≡ false) ⊎ (list_any (is_turned ports (turned.Input (input_number ports port))) earlier ≡ true)
-        → is_input_port ports port ≡ true → input_number ports port ≡ n
-        → list_any (is_turned ports (turned.Input n)) earlier ≡ true
-    by (inl out) inside same = let no : ◌≡◌ {A = Bool} false true = sym out ∙ inside in absurd cc
-    by (inr found) inside same = ap (λ k. list_any (is_turned ports (turned.Input k)) earlier) (sym same) ∙ found
-
-    whole : is_turned ports (turned.Input n) (net.Port port) ≡ true → list_any (is_turned ports (turned.Input n)) earlier ≡ true
-    whole e =
-        let parts = and_parts (is_input_port ports port) (nat_eq (input_number ports port) n) e in
-        by either parts.0 (eqb-true (input_number ports port) n parts.1)
 
 -- The steps in a loop over the places.
 pub place-inside :

@@ -1,6 +1,6 @@
 -- The kept values of the instances, found anew where a change feeds them.
 use Rattle.std.proofs.Common.{◌≡◌, ℕ, true, false, ◌&&◌, List, [], ◌∷◌}
-use Rattle.std.proofs.Common.{length, set, map, refl, ap, sym, ◌∙◌, slice_get}
+use Rattle.std.proofs.Common.{length, set, map, refl, ap, sym, subst, ◌∙◌, slice_get}
 use Rattle.std.proofs.Common.{nat_eq, if◌then◌else◌, IsTrue}
 use Rattle.std.specs.List.{list_any, list_all}
 use Rattle.std.specs.Option.{option_map_or}
@@ -88,11 +88,14 @@ unread-states m inputs before states (instance.Primitive number output nets) f =
 
 -- After a change of an input, and after one of the states.
 pub input-found :
-    (m : VModule) (room : ℕ) (inputs states kept now : List Trit) (pin : ℕ) (to : Trit) (places : List ℕ)
+    (m : VModule) (room : ℕ) (inputs states kept now read-inputs read-states : List Trit) (pin : ℕ) (to : Trit) (places : List ℕ)
     → IsTrue (is_wired room m) → places ≡ fed_places m.ports (turned.Input pin) m.instances → kept ≡ kept_values m inputs states
-    → FindsAnew (kept_value m (set inputs pin to) states) m.instances places kept now
+    → read-inputs ≡ set inputs pin to → read-states ≡ states
+    → FindsAnew (kept_value m read-inputs read-states) m.instances places kept now
     → now ≡ kept_values m (set inputs pin to) states
-input-found m room inputs states kept now pin to places wired are was finds =
+input-found m room inputs states kept now read-inputs read-states pin to places wired are was new same found =
+    let finds = subst (λ (v : List Trit). FindsAnew (kept_value m (set inputs pin to) v) m.instances places kept now) same
+    (subst (λ (v : List Trit). FindsAnew (kept_value m v read-states) m.instances places kept now) new found) in
     finds (kept_value m inputs states) (is_fed m.ports (turned.Input pin)) are was
     (λ i x is f. unread-input m inputs states pin to x (wired-reads room m i x wired is) f)
 

@@ -1,5 +1,5 @@
 //! How a change of an input takes the run of a module on. `room` has place for the values of the nets that feed one instance.
-ghost use Rattle.std.specs.Prelude.{◌≡◌, ◌<◌, false, List, [], ◌∷◌, length, IsTrue, IfOk};
+ghost use Rattle.std.specs.Prelude.{◌≡◌, ◌<◌, false, List, [], ◌∷◌, length, slice_set, IsTrue, IfOk};
 ghost use Rattle.trit_cubes.specs.declared.trits.Trit.{Trit};
 ghost use Rattle.module_runs.specs.Wiring.{is_wired};
 ghost use Rattle.module_runs.specs.Gates.{gate_zeros};
@@ -87,31 +87,8 @@ fn turn_states(
     )
 }
 
-/// What states feed is found anew. Before, what is kept was so for the same inputs. It answers whether a gate
-/// changed between 0 and not 0.
-fn find_fed_by_states(
-    run: &ModuleRun,
-    kept: &mut Items<Trit>,
-    tables: &ModuleTables,
-    room: &mut Items<Trit>,
-) -> bool
-    requires wired { IsTrue (is_wired (length room.old) tables.now.model.now) }
-    requires one_each { length kept.old ≡ length tables.now.model.now.instances }
-    ensures current { (before : List Trit) → kept.old ≡ kept_values tables.now.model.now run.now.inputs before
-        → kept.new ≡ kept_values tables.now.model.now run.now.inputs run.now.states }
-    ensures still { result ≡ false → gate_zeros tables.now.index.now.gates.places kept.new
-        ≡ gate_zeros tables.now.index.now.gates.places kept.old }
-    ensures len { length room.new ≡ length room.old }
-{
-    let values = ModuleStates {
-        tables: *tables,
-        inputs: run.inputs.as_slice(),
-        states: run.states.as_slice(),
-    };
-    find_anew(&values, tables.fed_by_states(), kept, room)
-}
-
-/// The same where some state changed.
+/// What states feed is found anew where some state changed. Before, what is kept was so for the same inputs. It answers whether a
+/// gate changed between 0 and not 0.
 fn find_fed_where_changed(
     changed: bool,
     run: &ModuleRun,
@@ -128,11 +105,48 @@ fn find_fed_where_changed(
         ≡ gate_zeros tables.now.index.now.gates.places kept.old }
     ensures len { length room.new ≡ length room.old }
 {
-    if changed {
-        find_fed_by_states(run, kept, tables, room)
-    } else {
-        false
+    if !changed {
+        return false;
     }
+    let values = ModuleStates {
+        tables: *tables,
+        inputs: run.inputs.as_slice(),
+        states: run.states.as_slice(),
+    };
+    find_anew(&values, tables.fed_by_states(), kept, room)
+}
+
+/// The input takes its value, and what it feeds is found anew. It answers whether a gate changed between 0 and not 0.
+fn set_input(
+    run: &mut ModuleRun,
+    kept: &mut Items<Trit>,
+    tables: &ModuleTables,
+    change: Change,
+    room: &mut Items<Trit>,
+) -> bool
+    requires wired { IsTrue (is_wired (length room.old) tables.now.model.now) }
+    requires current { kept.old ≡ kept_values tables.now.model.now run.old.inputs run.old.states }
+    requires inside { change.pin < length run.old.inputs }
+    ensures changed { run.new ≡ record {
+      inputs = slice_set run.old.inputs change.pin change.to;
+      states = run.old.states;
+      notifier =
+          run.old.notifier;
+      stamps = run.old.stamps;
+    } }
+    ensures current { kept.new ≡ kept_values tables.now.model.now run.new.inputs run.new.states }
+    ensures still { result ≡ false → gate_zeros tables.now.index.now.gates.places kept.new
+        ≡ gate_zeros tables.now.index.now.gates.places kept.old }
+    ensures len { length room.new ≡ length room.old }
+{
+    run.inputs.set(change.pin, change.to);
+    let values = ModuleStates {
+        tables: *tables,
+        inputs: run.inputs.as_slice(),
+        states: run.states.as_slice(),
+    };
+    let places = tables.fed_by(Turned::Input(change.pin));
+    find_anew(&values, places, kept, room)
 }
 
 /// The input takes its value, what it feeds is found anew, and the primitives with a state that it feeds take their next states.
@@ -157,26 +171,24 @@ fn change_input(
         ≡ gate_zeros tables.now.index.now.gates.places kept.old }
     ensures len { length room.new ≡ length room.old }
 {
-    run.inputs.set(change.pin, change.to);
-    let what = Turned::Input(change.pin);
-    let values = ModuleStates {
-        tables: *tables,
-        inputs: run.inputs.as_slice(),
-        states: run.states.as_slice(),
+    let by_input = set_input(run, kept, tables, change, room);
+    let turn = Turn {
+        what: Turned::Input(change.pin),
+        from,
     };
-    let by_input = find_anew(&values, tables.fed_by(what), kept, room);
-    let changed = turn_states(run, tables, Turn { what, from }, room);
+    let changed = turn_states(run, tables, turn, room);
     let by_states = find_fed_where_changed(changed, run, kept, tables, room);
     either(by_input, by_states)
 }
 
-/// The register of the checks changes once.
-fn toggle_notifier(run: &mut ModuleRun, tables: &ModuleTables, room: &mut Items<Trit>)
+/// The register of the checks changes once. It answers whether some state changed.
+fn toggle_notifier(run: &mut ModuleRun, tables: &ModuleTables, room: &mut Items<Trit>) -> bool
     requires wired { IsTrue (is_wired (length room.old) tables.now.model.now) }
     requires one_each { HasEach tables.now.model.now run.old }
     ensures stepped { run.new ≡ notified tables.now.model.now run.old }
     ensures one_each { HasEach tables.now.model.now run.new }
     ensures inputs { run.new.inputs ≡ run.old.inputs }
+    ensures still { result ≡ false → run.new.states ≡ run.old.states }
     ensures len { length room.new ≡ length room.old }
 {
     let turn = Turn {
@@ -184,7 +196,7 @@ fn toggle_notifier(run: &mut ModuleRun, tables: &ModuleTables, room: &mut Items<
         from: run.notifier,
     };
     run.notifier = toggled(run.notifier);
-    turn_states(run, tables, turn, room);
+    turn_states(run, tables, turn, room)
 }
 
 /// The register changes where a check reported, and what states feed is found anew. It answers whether a gate changed
@@ -210,8 +222,8 @@ fn toggle_where_reported(
     if !reported {
         return false;
     }
-    toggle_notifier(run, tables, room);
-    find_fed_by_states(run, kept, tables, room)
+    let changed = toggle_notifier(run, tables, room);
+    find_fed_where_changed(changed, run, kept, tables, room)
 }
 
 /// The register changes once for each report. It answers whether a gate changed between 0 and not 0.

@@ -1,16 +1,15 @@
 //! What the instances of a module drive, found by their tables of the values of its inputs and the states of its instances.
 //! `room` has place for the values of the nets that feed one instance.
-ghost use Rattle.std.specs.Prelude.{◌≡◌, ◌≤◌, ◌<◌, length, map, take, false, IsTrue, slice_index_or};
+ghost use Rattle.std.specs.Prelude.{◌≡◌, ◌≤◌, ◌<◌, length, map, false, IsTrue, slice_index_or};
 ghost use Rattle.trit_cubes.specs.declared.trits.Trit.TheVariants.{Unknown};
 ghost use Rattle.trit_cubes.specs.Filling.{trit_of};
-ghost use Rattle.udp_tables.specs.Primitive.{IsCombinational};
 ghost use Rattle.module_runs.specs.Wiring.{is_table, is_joined, is_wired};
-ghost use Rattle.model_traces.specs.NetValues.{kept_state, source_value, table_value, primitive_value, instance_value};
+ghost use Rattle.model_traces.specs.NetValues.{kept_state, source_value, primitive_value, instance_value};
 
 use crate::module_states::ModuleStates;
 use crate::tables::Table;
 use cell_machine::numbered_value;
-use row_masks::{ColumnValues, ValueChange, masked_level};
+use row_masks::{ColumnValues, ValueChange, masked_level, write_news};
 use run_parts::input_value;
 use specify_blocks::{Instance, VNet};
 use sqlite_items::{Items, at};
@@ -35,18 +34,6 @@ fn source_value(values: &ModuleStates, net: VNet) -> Trit
         VNet::Port(port) => input_value(&values.tables.ports(), values.inputs, port),
         VNet::Wire(wire) => kept_state(values.states, values.tables.driver(VNet::Wire(wire))),
         VNet::Notifier => Trit::Unknown,
-    }
-}
-
-/// Writes the values of the nets that feed a primitive without a state to the front of the room.
-fn feed(values: &ModuleStates, nets: &[VNet], room: &mut Items<Trit>)
-    requires { length nets.now ≤ length room.old }
-    ensures front { take (length nets.now) room.new ≡ map
-        (source_value values.now.tables.model.now values.now.inputs.now values.now.states.now) nets.now }
-    ensures len { length room.new ≡ length room.old }
-{
-    for i in 0..nets.len() {
-        room.set(i, source_value(values, nets[i]));
     }
 }
 
@@ -76,22 +63,6 @@ impl<'a> ColumnValues for StateNets<'a> {
     }
 }
 
-/// What a primitive without a state gives for the nets that feed it.
-fn table_value(values: &ModuleStates, nets: &[VNet], table: &Table, room: &mut Items<Trit>) -> Trit
-    requires table { IsCombinational table.now.udp.now }
-    requires entries { length nets.now ≡ length table.now.udp.now.inputs }
-    requires room { length nets.now ≤ length room.old }
-    ensures value { result ≡ table_value values.now.tables.model.now values.now.inputs.now values.now.states.now nets.now
-        table.now.udp.now }
-    ensures len { length room.new ≡ length room.old }
-{
-    if let Some(masks) = at(table.masks, 0) {
-        return masked_level(table.udp, masks, &StateNets { values, nets });
-    }
-    feed(values, nets, room);
-    keyed_level(table.udp, table.keys, &room.as_slice()[..nets.len()])
-}
-
 /// What a primitive drives whose instance has this state.
 fn primitive_value(
     values: &ModuleStates,
@@ -108,10 +79,14 @@ fn primitive_value(
     ensures len { length room.new ≡ length room.old }
 {
     if table.udp.sequential {
-        state
-    } else {
-        table_value(values, nets, table, room)
+        return state;
     }
+    let columns = StateNets { values, nets };
+    if let Some(masks) = at(table.masks, 0) {
+        return masked_level(table.udp, masks, &columns);
+    }
+    write_news(&columns, nets.len(), room);
+    keyed_level(table.udp, table.keys, &room.as_slice()[..nets.len()])
 }
 
 /// What an instance with this state drives.

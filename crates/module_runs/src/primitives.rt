@@ -1,6 +1,6 @@
 //! The next states of a module's primitives at a change of an input or of the register of the checks. `room` has place for the
 //! values of the nets that feed one instance.
-ghost use Rattle.std.specs.Prelude.{◌≡◌, ◌≤◌, ◌<◌, length, map, take, slice_set, position, false, IsTrue};
+ghost use Rattle.std.specs.Prelude.{◌≡◌, ◌≤◌, ◌<◌, length, map, slice_set, position, false, IsTrue};
 ghost use Rattle.model_traces.specs.declared.turns.Turned.TheVariants as turned;
 ghost use Rattle.udp_tables.specs.Sequential.{udp_next};
 ghost use Rattle.module_runs.specs.NetChanges.{entry_values};
@@ -11,22 +11,12 @@ use crate::module_tables::ModuleTables;
 use crate::tables::Table;
 use crate::wiring::instance_at;
 use model_traces::{Turn, Turned};
-use row_masks::{ColumnValues, ValueChange, masked_next};
+use row_masks::{ColumnValues, ValueChange, masked_next, write_news};
 use run_parts::{Ports, input_number, input_value};
 use specify_blocks::{Instance, VNet};
 use sqlite_items::{Items, at};
 use trit_cubes::Trit;
 use udp_tables::{is_input_port, keyed_next};
-
-/// Whether this net is what changes.
-pub(crate) fn is_turned(ports: &Ports, what: Turned, net: VNet) -> bool
-    ensures { result ≡ is_turned ports.now.list.now what net }
-{
-    match what {
-        Turned::Input(input) => is_input(ports, input, net),
-        Turned::Notifier => is_register(ports, net),
-    }
-}
 
 /// Whether this net is the register of the checks.
 fn is_register(ports: &Ports, net: VNet) -> bool
@@ -68,17 +58,6 @@ fn entry_value(ports: &Ports, inputs: &[Trit], notifier: Trit, net: VNet) -> Tri
         VNet::Port(port) => input_value(ports, inputs, port),
         VNet::Wire(_) => Trit::Unknown,
         VNet::Notifier => notifier,
-    }
-}
-
-/// Writes the values of the nets that feed a primitive with a state to the front of the room.
-fn feed(ports: &Ports, inputs: &[Trit], notifier: Trit, nets: &[VNet], room: &mut Items<Trit>)
-    requires { length nets.now ≤ length room.old }
-    ensures front { take (length nets.now) room.new ≡ map (entry_value ports.now.list.now inputs.now notifier) nets.now }
-    ensures len { length room.new ≡ length room.old }
-{
-    for i in 0..nets.len() {
-        room.set(i, entry_value(ports, inputs, notifier, nets[i]));
     }
 }
 
@@ -126,14 +105,13 @@ fn table_next(table: &Table, state: Trit, changes: &NetChanges, room: &mut Items
     if let Some(masks) = at(table.masks, 0) {
         return masked_next(table.udp, masks, state, changes);
     }
-    let nets = changes.nets;
-    feed(&changes.ports, changes.inputs, changes.notifier, nets, room);
-    let values = &room.as_slice()[..nets.len()];
+    let count = changes.nets.len();
+    write_news(changes, count, room);
     keyed_next(
         table.udp,
         table.keys,
         state,
-        values,
+        &room.as_slice()[..count],
         changes.place,
         changes.from,
     )

@@ -1,5 +1,5 @@
--- The columns of a table, as they are written.
-use Rattle.std.proofs.Common.{◌≡◌, ℕ, ◌+◌, ◌≤◌, Bool, true, false, List, [], ◌∷◌, ◌++◌, length, map, set, take, refl, ap, sym, ◌∙◌, arith}
+-- How many columns the table of a state has.
+use Rattle.std.proofs.Common.{◌≡◌, ℕ, ◌+◌, Bool, true, false, List, length, map, arith}
 use Rattle.std.proofs.Common.{if◌then◌else◌}
 use Rattle.std.proofs.lemmas.List.{length-map}
 use Rattle.trit_cubes.specs.declared.trits.Trit.{Trit}
@@ -9,26 +9,6 @@ use Rattle.vital_models.specs.Rows.{violated}
 use Rattle.vital_models.specs.Sound.{columns_of}
 use Rattle.model_traces.specs.PortNumbers.{input_value}
 use Rattle.model_traces.specs.ProcessRun.{columns}
-
-first-set : (old : List Trit) (x : Trit) → 1 ≤ length old → take 1 (set old 0 x) ≡ x ∷ []
-first-set [] x h = absurd (omega arith)
-first-set (y ∷ ys) x h = refl
-
--- a table with a column of the violation
-pub violated-front :
-    (state : VState) (ports : List VPort) (violation : Trit) (inputs old room : List Trit)
-    → state.violation ≡ true → columns_of state ≤ length old
-    → take (1 + length state.inputs) room ≡ take 1 (set old 0 violation) ++ map (input_value ports inputs) state.inputs
-    → take (columns_of state) room ≡ columns ports violation inputs state
-violated-front state ports violation inputs old room e many front =
-    let count : columns_of state ≡ length state.inputs + 1 =
-    ap (λ b. if b then length state.inputs + 1 else length state.inputs) e in
-    let all : columns_of state ≡ 1 + length state.inputs = omega (arith, count) in
-    let some : 1 ≤ length old = omega (arith, count, many) in
-    ap (λ n. take n room) all
-    ∙ front
-    ∙ ap (λ xs. xs ++ map (input_value ports inputs) state.inputs) (first-set old violation some)
-    ∙ ap (λ b. violated b violation (map (input_value ports inputs) state.inputs)) (sym e)
 
 -- a table has its columns
 length-violated : (b : Bool) (v : Trit) (xs : List Trit) (n : ℕ) → length xs ≡ n

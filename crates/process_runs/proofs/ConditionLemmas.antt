@@ -1,9 +1,9 @@
--- The conditions that an input feeds, and that the others keep their values at a change of it.
-use Rattle.std.proofs.Common.{◌≡◌, ℕ, zero, suc, true, false, ◌||◌, cond, List, [], ◌∷◌, ◌++◌, length, set, map, refl, ap}
-use Rattle.std.proofs.Common.{sym, ◌∙◌, nat_eq, slice_get}
+-- The conditions that an input does not feed keep their values at a change of it.
+use Rattle.std.proofs.Common.{◌≡◌, ℕ, zero, suc, false, List, [], ◌∷◌, length, set, map, refl, ap}
+use Rattle.std.proofs.Common.{sym, ◌∙◌, slice_get}
 use Rattle.std.specs.Option.{option_map_or}
 use Rattle.cell_machine.specs.Inputs.{numbered_value}
-use Rattle.std.proofs.lemmas.Bool.{or_parts, eqb-true, eqb-false}
+use Rattle.std.proofs.lemmas.Bool.{or_parts, eqb-false}
 use Rattle.std.proofs.lemmas.List.{length-map, get_or-set_other}
 use Rattle.trit_cubes.specs.declared.trits.Trit.{Trit}
 use Rattle.trit_cubes.specs.declared.trits.Trit.TheVariants.{Unknown}
@@ -14,7 +14,6 @@ use Rattle.vital_models.specs.LookUps.{lookup_truth}
 use Rattle.model_traces.specs.PortNumbers.{input_number, input_value}
 use Rattle.model_traces.specs.ProcessValues.{truth_value}
 use Rattle.run_parts.specs.Places.{FindsAnew}
-use Rattle.run_parts.proofs.PlaceLemmas.{once-added, stays}
 use Rattle.process_runs.specs.KeptConditions.{condition_values, is_read, is_among, is_fed, fed_places}
 
 -- the value of the condition with a number
@@ -24,27 +23,6 @@ pub value-at :
 value-at f [] i = refl
 value-at f (truth ∷ conditions) zero = refl
 value-at f (truth ∷ conditions) (suc i) = value-at f conditions i
-
--- a place is added for one port more, or stands there for an earlier one
-pub port-added :
-    (ports : List VPort) (earlier : List ℕ) (port input place n : ℕ) (list : List ℕ)
-    → input ≡ input_number ports port → is_among ports earlier input ≡ false
-    → (list ++ cond (is_among ports earlier n) (place ∷ []) []) ++ cond (nat_eq input n) (place ∷ []) []
-    ≡ list ++ cond (is_among ports earlier n || is_read ports n port) (place ∷ []) []
-port-added ports earlier port input place n list same new =
-    once-added list place (is_among ports earlier n) (nat_eq input n)
-    (λ e. ap (is_among ports earlier) (sym (eqb-true input n e)) ∙ new)
-    ∙ (λ i. list ++ cond (is_among ports earlier n || nat_eq (same i) n) (place ∷ []) [])
-
-pub port-kept :
-    (ports : List VPort) (earlier : List ℕ) (port place n : ℕ) (list : List ℕ)
-    → is_among ports earlier (input_number ports port) ≡ true
-    → list ++ cond (is_among ports earlier n) (place ∷ []) [] ≡ list
-    ++ cond (is_among ports earlier n || is_read ports n port) (place ∷ []) []
-port-kept ports earlier port place n list found =
-    ap (λ c. list ++ cond c (place ∷ []) [])
-    (stays (is_among ports earlier n) (is_read ports n port)
-    (λ e. ap (is_among ports earlier) (sym (eqb-true (input_number ports port) n e)) ∙ found))
 
 -- each condition has a value
 pub one-kept : (e : VEntity) (inputs values : List Trit) → values ≡ condition_values e inputs

@@ -1,5 +1,5 @@
 pub mod EntityLemmas
-pub mod TableWordLemmas
+pub mod TableRowLemmas
 pub mod ColumnLemmas
 pub mod ConditionLemmas
 pub mod NumberedPathLemmas

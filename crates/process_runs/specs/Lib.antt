@@ -4,6 +4,6 @@ pub mod EntitySized
 pub mod EntitySteps
 pub mod EntityIndexed
 pub mod EntityRooms
-pub mod TableWords
+pub mod TableRows
 pub mod NumberedPaths
 pub mod KeptConditions

@@ -1,8 +1,8 @@
 //! What a simulator knows of its entity before any change.
-use crate::entity_words::{EntityMasks, EntityWords};
-use crate::fed_conditions::fed_conditions;
+use crate::entity_rows::EntityRows;
+use crate::fed_conditions::Conditions;
 use cell_machine::entry;
-use run_parts::{DelayPlaces, Ports, input_count, input_numbers};
+use run_parts::{DelayPlaces, Ports, fed_by_inputs, input_count, input_numbers};
 use sqlite_items::Items;
 use std::alloc::{AllocError, Global};
 use vital_models::VEntity;
@@ -10,10 +10,8 @@ use vital_models::VEntity;
 /// What a simulator knows of its entity before any change, so that a change looks for nothing along the entity.
 #[derive(Drop)]
 pub struct EntityIndex {
-    /// The words of the rows of its tables.
-    pub words: EntityWords,
-    /// The masks of the rows of its tables.
-    pub masks: EntityMasks,
+    /// What is known of the rows of its tables.
+    pub rows: EntityRows,
     /// For each port how many inputs stand before it.
     pub numbers: Items<usize>,
     /// For each input the places of the conditions that it feeds.
@@ -30,18 +28,16 @@ impl EntityIndex {
     pub(crate) fn of(alloc: Global, model: &VEntity) -> Result<EntityIndex, AllocError>
         ensures { IfOk result (λ index. IsEntityIndex model.now index) }
     {
-        let words = EntityWords::of(alloc, model)?;
-        let masks = EntityMasks::of(alloc, model)?;
+        let rows = EntityRows::of(alloc, model)?;
         let numbers = input_numbers(alloc, model.ports.as_slice())?;
         let ports = Ports {
             list: model.ports.as_slice(),
             numbers: numbers.as_slice(),
         };
-        let fed = fed_conditions(alloc, &ports, model.conditions.as_slice())?;
+        let fed = fed_by_inputs::<Conditions>(alloc, &ports, model.conditions.as_slice())?;
         let places = delay_places(alloc, model)?;
         Ok(EntityIndex {
-            words,
-            masks,
+            rows,
             numbers,
             fed,
             places,

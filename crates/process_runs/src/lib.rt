@@ -4,10 +4,10 @@
 
 mod conditions;
 mod entity_index;
+mod entity_rows;
 mod entity_start;
 mod entity_tables;
 mod entity_values;
-mod entity_words;
 mod fed_conditions;
 mod kept_conditions;
 mod process_delays;
@@ -16,6 +16,7 @@ mod process_run;
 mod process_shown;
 mod process_states;
 mod process_values;
+mod table_rows;
 mod vital_sim;
 
 pub use entity_start::EntityStart;

@@ -3,7 +3,7 @@ ghost use Rattle.std.specs.Prelude.{◌≡◌, ◌≤◌, All};
 ghost use Rattle.vital_models.specs.Sound.{columns_of};
 ghost use Rattle.process_runs.specs.EntityRooms.{source_count, HasRoom};
 
-use crate::entity_words::Tabled;
+use crate::entity_rows::Tabled;
 use vital_models::{OutValue, VEntity, VState};
 
 /// How many input columns the table of a state has.

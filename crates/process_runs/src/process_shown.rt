@@ -1,22 +1,19 @@
 //! What the outputs of an entity show after a change of an input.
 ghost use Rattle.std.specs.Prelude.{◌≡◌, ◌≤◌, Some, length, map, slice_get, IfOk};
 ghost use Rattle.cell_machine.specs.Each.{each};
-ghost use Rattle.udp_tables.specs.Tables.{AreKept as AreWords};
 ghost use Rattle.vital_models.specs.Sound.{IsOutput, IsSound};
-ghost use Rattle.vital_models.specs.RowWords.{truth_words};
-ghost use Rattle.row_masks.specs.Masks.{AreMasks};
-ghost use Rattle.row_masks.specs.LookUps.{truth_passes};
 ghost use Rattle.run_parts.specs.KeptDelays.{AreKept};
 ghost use Rattle.process_runs.specs.EntityRooms.{source_count, HasRoom};
 ghost use Rattle.process_runs.specs.EntitySteps.{output_first, output_step};
 ghost use Rattle.process_runs.specs.KeptConditions.{condition_values};
 ghost use Rattle.process_runs.specs.NumberedPaths.{numbered_paths};
-ghost use Rattle.process_runs.specs.TableWords.{value_rows};
+ghost use Rattle.process_runs.specs.TableRows.{rows_of_value};
 
-use crate::entity_tables::{EntityTables, KnownRows};
+use crate::entity_tables::EntityTables;
 use crate::entity_values::EntityValues;
 use crate::process_delays::least_delay;
 use crate::process_values::output_value;
+use crate::table_rows::TableRows;
 use cell_machine::entry;
 use run_parts::{KeptDelays, OutputChange, ShownPort};
 use sqlite_items::Items;
@@ -30,7 +27,7 @@ fn output_step(
     input: usize,
     number: usize,
     output: &VOutput,
-    known: KnownRows,
+    known: &TableRows,
     was: ShownPort,
     delays: &mut KeptDelays,
     room: &mut Items<Trit>,
@@ -38,8 +35,7 @@ fn output_step(
     requires sound { IsSound values.now.tables.model.now }
     requires output { IsOutput values.now.tables.model.now output.now }
     requires is { slice_get values.now.tables.model.now.outputs number ≡ Some output.now }
-    requires words { AreWords truth_words known.words.now (value_rows output.now.value) }
-    requires masks { AreMasks truth_passes (source_count output.now.value) (value_rows output.now.value) known.masks.now }
+    requires known { known.now ≡ rows_of_value output.now.value }
     requires kept { AreKept (numbered_paths values.now.tables.model.now values.now.inputs.now) delays.old }
     requires room { HasRoom (length room.old) values.now.tables.model.now }
     requires columns { source_count output.now.value ≤ length room.old }

@@ -1,46 +1,23 @@
 //! The next states of an entity.
-ghost use Rattle.std.specs.Prelude.{◌≡◌, ◌≤◌, ◌<◌, Some, length, map, slice_get, take};
+ghost use Rattle.std.specs.Prelude.{◌≡◌, ◌≤◌, ◌<◌, Some, length, map, slice_get};
 ghost use Rattle.cell_machine.specs.Each.{each};
-ghost use Rattle.udp_tables.specs.Tables.{AreKept};
-ghost use Rattle.vital_models.specs.Sound.{IsState, IsStateTable, columns_of};
+ghost use Rattle.vital_models.specs.Sound.{IsStateTable, columns_of};
 ghost use Rattle.vital_models.specs.LookUps.{lookup_state};
-ghost use Rattle.vital_models.specs.RowWords.{state_words};
-ghost use Rattle.row_masks.specs.Masks.{AreMasks};
-ghost use Rattle.row_masks.specs.LookUps.{state_passes};
 ghost use Rattle.process_runs.specs.EntityRooms.{IsSound, HasRoom};
 ghost use Rattle.process_runs.specs.EntitySteps.{next_by};
+ghost use Rattle.process_runs.specs.TableRows.{rows_of_state};
 ghost use Rattle.model_traces.specs.ProcessRun.{columns};
 ghost use Rattle.model_traces.specs.PortNumbers.{input_value};
 
-use crate::entity_tables::{EntityTables, KnownRows};
+use crate::entity_tables::EntityTables;
 use crate::process_rooms::columns_of;
-use crate::process_values::feed;
+use crate::table_rows::TableRows;
 use cell_machine::entry;
-use row_masks::{ColumnValues, ValueChange, masked_state};
+use row_masks::{ColumnValues, ValueChange, masked_state, write_news};
 use run_parts::{Ports, input_value};
 use sqlite_items::{Items, at};
 use trit_cubes::Trit;
 use vital_models::{VState, keyed_state};
-
-/// Writes the columns of a state's table to the front of the room.
-fn feed_columns(
-    ports: &Ports,
-    violation: Trit,
-    inputs: &[Trit],
-    state: &VState,
-    room: &mut Items<Trit>,
-)
-    requires { columns_of state.now ≤ length room.old }
-    ensures front { take (columns_of state.now) room.new ≡ columns ports.now.list.now violation inputs.now state.now }
-    ensures len { length room.new ≡ length room.old }
-{
-    if state.violation {
-        room.set(0, violation);
-        feed(ports, inputs, state.inputs.as_slice(), 1, room);
-    } else {
-        feed(ports, inputs, state.inputs.as_slice(), 0, room);
-    }
-}
 
 /// The values of the columns of a state's table at two events, one after the other.
 #[derive(Clone, Copy)]
@@ -74,6 +51,23 @@ impl<'a> StateColumns<'a> {
             new: input_value(&self.ports, self.inputs, port),
         }
     }
+
+    /// The values at the first event alone.
+    fn at_first(&self) -> StateColumns
+        ensures olds { columns result.ports.list.now result.was result.before.now result.state.now
+            ≡ columns self.now.ports.list.now self.now.was self.now.before.now self.now.state.now }
+        ensures news { columns result.ports.list.now result.violation result.inputs.now result.state.now
+            ≡ columns self.now.ports.list.now self.now.was self.now.before.now self.now.state.now }
+    {
+        StateColumns {
+            ports: self.ports,
+            was: self.was,
+            before: self.before,
+            violation: self.was,
+            inputs: self.before,
+            state: self.state,
+        }
+    }
 }
 
 impl<'a> ColumnValues for StateColumns<'a> {
@@ -100,14 +94,13 @@ impl<'a> ColumnValues for StateColumns<'a> {
 /// The next state by a table, of whose rows this is known.
 fn table_next(
     seen: &StateColumns,
-    known: KnownRows,
+    known: &TableRows,
     state: Trit,
     earlier: &mut Items<Trit>,
     room: &mut Items<Trit>,
 ) -> Trit
     requires rows { IsStateTable (columns_of seen.now.state.now) seen.now.state.now.table }
-    requires words { AreKept state_words known.words.now seen.now.state.now.table.rows }
-    requires masks { AreMasks state_passes (columns_of seen.now.state.now) seen.now.state.now.table.rows known.masks.now }
+    requires known { known.now ≡ rows_of_state seen.now.state.now }
     requires earlier { columns_of seen.now.state.now ≤ length earlier.old }
     requires room { columns_of seen.now.state.now ≤ length room.old }
     ensures next { result ≡ lookup_state seen.now.state.now.table.rows
@@ -117,62 +110,28 @@ fn table_next(
     ensures room { length room.new ≡ length room.old }
 {
     let table = &seen.state.table;
-    if let Some(masks) = at(known.masks, 0) {
+    if let Some(masks) = at(known.masks.as_slice(), 0) {
         return masked_state(table, masks, state, seen);
     }
-    let ports = &seen.ports;
     let count = columns_of(seen.state);
-    feed_columns(ports, seen.was, seen.before, seen.state, earlier);
-    feed_columns(ports, seen.violation, seen.inputs, seen.state, room);
+    write_news(&seen.at_first(), count, earlier);
+    write_news(seen, count, room);
     keyed_state(
         table,
-        known.words,
+        known.words.as_slice(),
         &earlier.as_slice()[..count],
         &room.as_slice()[..count],
         state,
     )
 }
 
-/// The next state by a table, of whose rows this is known.
-fn next_state(
-    tables: &EntityTables,
-    was: Trit,
-    before: &[Trit],
-    violation: Trit,
-    inputs: &[Trit],
-    table: &VState,
-    known: KnownRows,
-    state: Trit,
-    earlier: &mut Items<Trit>,
-    room: &mut Items<Trit>,
-) -> Trit
-    requires table { IsState tables.now.model.now table.now }
-    requires words { AreKept state_words known.words.now table.now.table.rows }
-    requires masks { AreMasks state_passes (columns_of table.now) table.now.table.rows known.masks.now }
-    requires earlier { columns_of table.now ≤ length earlier.old }
-    requires room { columns_of table.now ≤ length room.old }
-    ensures next { result ≡ next_by tables.now.model.now was before.now violation inputs.now table.now state }
-    ensures earlier { length earlier.new ≡ length earlier.old }
-    ensures room { length room.new ≡ length room.old }
-{
-    let columns = StateColumns {
-        ports: tables.ports(),
-        was,
-        before,
-        violation,
-        inputs,
-        state: table,
-    };
-    table_next(&columns, known, state, earlier, room)
-}
-
 /// Takes all states over an event.
-pub(crate) fn step_entity(
-    tables: &EntityTables,
+pub(crate) fn step_entity<'x>(
+    tables: &'x EntityTables<'x>,
     was: Trit,
-    before: &[Trit],
+    before: &'x [Trit],
     violation: Trit,
-    inputs: &[Trit],
+    inputs: &'x [Trit],
     states: &mut Items<Trit>,
     earlier: &mut Items<Trit>,
     room: &mut Items<Trit>,
@@ -188,12 +147,16 @@ pub(crate) fn step_entity(
     ensures room { length room.new ≡ length room.old }
 {
     for i in 0..states.len() {
-        let table = entry(&tables.model.states, i);
-        let known = tables.state_rows(i);
+        let seen = StateColumns {
+            ports: tables.ports(),
+            was,
+            before,
+            violation,
+            inputs,
+            state: entry(&tables.model.states, i),
+        };
         let state = states.as_slice()[i];
-        let next = next_state(
-            tables, was, before, violation, inputs, table, known, state, earlier, room,
-        );
+        let next = table_next(&seen, tables.state_rows(i), state, earlier, room);
         states.set(i, next);
     }
 }

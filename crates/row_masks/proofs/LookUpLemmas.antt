@@ -39,9 +39,9 @@ columns-counted : {R : Type 0} (passes : R → RowTest → Bool) (rows : List R)
 columns-counted passes rows i zero = refl
 columns-counted passes rows i (suc n) = ap suc (columns-counted passes rows (i + 1) n)
 
-pub columns-are : {R : Type 0} (passes : R → RowTest → Bool) (rows : List R) (n count : ℕ) (masks : RowMasks)
+pub columns-are : {R : Type 0} (passes : R → RowTest → Bool) (rows : List R) {n count : ℕ} {masks : RowMasks}
     → masks ≡ row_masks passes n rows → count ≡ n → length masks.columns ≡ count
-columns-are passes rows n count masks masks-is counted =
+columns-are passes rows {n = n} masks-is counted =
     ap (λ (m : RowMasks). length m.columns) masks-is ∙ columns-counted passes rows 0 n ∙ sym counted
 
 -- the next state of a primitive
@@ -121,6 +121,12 @@ masks-found passes n rows masks found =
           absurd cc
     ]
 
+-- the masks of a table
+pub masks-are : {R : Type 0} (passes : R → RowTest → Bool) (n : ℕ) (rows : List R) (masks : List RowMasks)
+    → masks ≡ table_masks passes n rows → AreMasks passes n rows masks
+masks-are passes n rows masks are =
+    record { found = λ m there. masks-found passes n rows m (ap (λ ms. slice_get ms 0) (sym are) ∙ there) }
+
 -- the masks of one table among those of many
 pub masks-kept : {T R : Type 0} (passes : R → RowTest → Bool) (columns : T → ℕ) (rows : T → List R) (parts : List T) (i : ℕ) (part : T)
     (masks : List RowMasks) → masks ≡ unwrap_or (slice_get (map (λ p. table_masks passes (columns p) (rows p)) parts) i) []
@@ -129,4 +135,4 @@ masks-kept {T = T} passes columns rows parts i part masks are is =
     let own : T → List RowMasks = λ p. table_masks passes (columns p) (rows p) in
     let all : masks ≡ own part
     = are ∙ ap (λ o. unwrap_or o []) (slice_get-map own parts i ∙ ap (option_map own) is) in
-    record { found = λ m there. masks-found passes (columns part) (rows part) m (ap (λ ms. slice_get ms 0) (sym all) ∙ there) }
+    masks-are passes (columns part) (rows part) masks all

@@ -25,9 +25,9 @@ pub row_mask-fits : {R : Type 0} (f : R → Bool) (rows : List R) (n : ℕ) → 
 row_mask-fits f rows n few = let most : 2 ^ length rows ≤ 2 ^ n = pow_mono few in omega (arith, row_mask-below f rows)
 
 -- there is room for one row more
-pub mask-room : {R : Type 0} (f : R → Bool) (rows : List R) (left m : ℕ) → 0 < left → length rows ≤ 64 → left ≤ length rows
+pub mask-room : {R : Type 0} (f : R → Bool) (rows : List R) {left m : ℕ} → 0 < left → length rows ≤ 64 → left ≤ length rows
     → m ≡ row_mask f (drop left rows) → m < 2 ^ 63
-mask-room f rows left m some few within m-is =
+mask-room f rows {left = left} some few within m-is =
     subst (λ v. v < 2 ^ 63) (sym m-is) (row_mask-fits f (drop left rows) 63 (omega (arith, length-drop left rows)))
 
 -- the mask of the rows that pass two tests

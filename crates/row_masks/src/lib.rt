@@ -11,7 +11,7 @@ mod rows;
 mod value_masks;
 mod vital;
 
-pub use column_values::{ColumnValues, ValueChange};
+pub use column_values::{ColumnValues, ValueChange, write_news};
 pub use primitives::{masked_level, masked_next};
 pub use row_tests::{MaskedRow, RowTest};
 pub use rows::{RowMasks, masks_at, masks_of};

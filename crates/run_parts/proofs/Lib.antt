@@ -5,3 +5,4 @@ pub mod NumberedListLemmas
 pub mod PlaceLemmas
 pub mod StampLemmas
 pub mod KeptDelayLemmas
+pub mod FedPartLemmas

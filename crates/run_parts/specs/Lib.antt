@@ -6,3 +6,4 @@ pub mod KeptDelays
 pub mod LeastPath
 pub mod NumberedLists
 pub mod Places
+pub mod FedParts

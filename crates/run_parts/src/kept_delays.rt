@@ -67,19 +67,11 @@ impl KeptDelays {
         ensures { (paths : ℕ → ℕ → List Path) → AreKept paths self.old
             → delay ≡ least_delay change.from change.to (paths output change.input) → AreKept paths self.new }
     {
-        let Some(turn) = self.turn else {
-            return;
-        };
-        let found = KeptDelay {
-            input: change.input,
-            output,
-            turn,
-            delay,
-        };
+        let input = change.input;
         if is_rise(change.from, change.to) {
-            put(&mut self.rises, place, found);
+            keep_in(&mut self.rises, self.turn, place, output, input, delay);
         } else {
-            put(&mut self.falls, place, found);
+            keep_in(&mut self.falls, self.turn, place, output, input, delay);
         }
     }
 
@@ -148,4 +140,28 @@ fn known_in(
         Some(found) => delay_of(found, turn, output, input),
         None => None,
     }
+}
+
+/// Keeps a delay of this output and this input at this place, where the turn can still be counted.
+fn keep_in(
+    all: &mut Items<KeptDelay>,
+    turn: Option<u64>,
+    place: usize,
+    output: usize,
+    input: usize,
+    delay: u64,
+)
+    ensures { (a b : TritOf) (paths : ℕ → ℕ → List Path) → AreFound a b paths turn all.old
+        → delay ≡ least_delay a b (paths output input) → AreFound a b paths turn all.new }
+{
+    let Some(turn) = turn else {
+        return;
+    };
+    let found = KeptDelay {
+        input,
+        output,
+        turn,
+        delay,
+    };
+    put(all, place, found);
 }

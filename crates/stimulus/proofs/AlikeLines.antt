@@ -1,13 +1,14 @@
 -- Lines that show the same are printed the same, but for their tags.
-use Rattle.std.proofs.Common.{◌≡◌, ℕ, ◌+◌, Bool, true, false, ◌&&◌, List, [], ◌∷◌, ◌++◌, codes, Option, refl}
+use Rattle.std.proofs.Common.{◌≡◌, ℕ, ◌+◌, Bool, true, false, ◌&&◌, List, [], ◌∷◌, ◌++◌, ◌∙◌, codes, Option, refl}
 use Rattle.std.proofs.lemmas.Bool.{and_parts}
 use Rattle.cell_machine.specs.declared.changes.Change.{Change}
 use Rattle.stimulus.specs.declared.ports.Ports.{Ports}
 use Rattle.stimulus.specs.DriveLines.{DriveLine}
-use Rattle.stimulus.specs.TraceLine.{head_text, outputs_text, report_text, reports_text, drive_line_text}
+use Rattle.stimulus.specs.TraceLine.{head_text, outputs_text, report_text, reports_text, shown_text, drive_line_text}
 use Rattle.stimulus.specs.Differences.{same_values, same_delays, same_fact, same_reports, same_line}
-use Rattle.stimulus.specs.Comparison.{Lines, lines_text, all_show, are_alike}
+use Rattle.stimulus.specs.Comparison.{Lines, lines_text, all_show, tagged_thrice, are_alike}
 use Rattle.stimulus.proofs.Compared.{values-are, delays-are, same_fact-is}
+use Rattle.stimulus.proofs.TraceTexts.{three_tagged}
 
 -- a check that is not there is printed as one that does not report: not at all
 reports_print : (n : ℕ) (xs ys : List Bool) → same_reports xs ys ≡ true → reports_text n xs ≡ reports_text n ys
@@ -37,7 +38,7 @@ line_prints tag change inputs outputs one other e =
     λ i. (tag ∷ []) ++ (head_text inputs change ++ (outputs_text outputs (values i) (delays i) ++ (reports i ++ codes "\n")))
 
 -- three lines that are alike are printed as the first of them
-pub alike_print : (change : Option Change) (ports : Ports) (lines : Lines) → are_alike lines ≡ true
+alike_print : (change : Option Change) (ports : Ports) (lines : Lines) → are_alike lines ≡ true
     → lines_text change ports (all_show lines.liberty) ≡ lines_text change ports lines
 unfolding lines_text
 alike_print change ports lines e =
@@ -45,3 +46,10 @@ alike_print change ports lines e =
     let verilog = line_prints 86 change ports.inputs ports.outputs lines.liberty lines.verilog p.0 in
     let vital = line_prints 72 change ports.inputs ports.outputs lines.liberty lines.vital p.1 in
     λ i. drive_line_text 76 change ports.inputs ports.outputs lines.liberty ++ (verilog i ++ vital i)
+
+-- the lines of three that are alike, whose common rest was made in two parts
+pub alike_tagged : (change : Option Change) (ports : Ports) (lines : Lines) (front made pieces : List ℕ)
+    → front ≡ made → made ++ pieces ≡ shown_text change ports.inputs ports.outputs lines.liberty → are_alike lines ≡ true
+    → tagged_thrice (front ++ pieces) ≡ lines_text change ports lines
+alike_tagged change ports lines front made pieces same is alike =
+    three_tagged change ports lines.liberty front made pieces same is ∙ alike_print change ports lines alike

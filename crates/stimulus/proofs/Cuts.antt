@@ -2,7 +2,9 @@
 use Rattle.std.proofs.Common.{◌≡◌, ℕ, suc, ◌+◌, ◌≤◌, Bool, true, false, not, cond, nat_lt, List, [], ◌∷◌, length, take, drop}
 use Rattle.std.proofs.Common.{filter, get_or, Some, None, position, refl, sym, ap, subst, ◌∙◌, arith, drop-cons}
 use Rattle.std.proofs.Math.ListN.{drop_of_length-le}
-use Rattle.std.proofs.lemmas.List.Splits.{slice_split_first, slice_split-cons_yes}
+use Rattle.std.proofs.lemmas.List.Elements.{All-from_get_or}
+use Rattle.std.proofs.lemmas.List.Splits.{slice_split_first, slice_split_none, slice_split-cons_yes}
+use Rattle.std.proofs.lemmas.List.Sums.{fails_before_first}
 use Rattle.std.proofs.lemmas.List.Quantifiers.{position-Some}
 use Rattle.std.specs.List.{slice_split, onto_first, position_or_len}
 use Rattle.std.proofs.lemmas.Bool.{ltb-true, not-true as not_true}
@@ -33,16 +35,6 @@ parted {X} p (x ∷ xs) =
           ∙ sym (rw (take_on x xs (position_or_len p xs), drop_on x xs (position_or_len p xs)) refl)
     ]
 
--- where no byte is of the kind, the text is the one part
-unsplit : {X : Type 0} (p : X → Bool) (xs : List X) → length xs ≤ position_or_len p xs → slice_split p xs ≡ xs ∷ []
-unsplit p [] h = refl
-unsplit p (x ∷ xs) h =
-    elim (p x) as (λ b. length (x ∷ xs) ≤ cond (not b) (1 + position_or_len p xs) 0
-    → cond b ([] ∷ slice_split p xs) (onto_first x (slice_split p xs)) ≡ (x ∷ xs) ∷ []) [
-      | true ↦ λ g. absurd (omega (arith, g))
-      | false ↦ λ g. ap (onto_first x) (unsplit p xs (omega (arith, g)))
-    ] h
-
 chosen_some : (b : Bool) (n i : ℕ) → cond b (Some n) None ≡ Some i → (b ≡ true) × (n ≡ i)
 chosen_some true n i e = (refl, cc)
 chosen_some false n i e = absurd cc
@@ -62,7 +54,8 @@ split_nowhere : (p : ℕ → Bool) (xs : List ℕ) → position p xs ≡ None �
 split_nowhere p xs e =
     let f : nat_lt (position_or_len p xs) (length xs) ≡ false = chosen_none _ _ e in
     let le : length xs ≤ position_or_len p xs = grind (arith, nat_tests, f) in
-    unsplit p xs le
+    slice_split_none p xs
+    (All-from_get_or (λ b. p b ≡ false) xs 0 (λ k below. fails_before_first p xs k 0 (omega (arith, below, le))))
 
 -- a line that ends with a line feed, ahead of the others
 pub ended_on : (line text : List ℕ)

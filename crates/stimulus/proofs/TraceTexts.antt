@@ -55,18 +55,9 @@ put_together text change inputs outputs line t1 t2 t3 t4 e1 e2 e3 e4 =
     ∙ append_assoc ((text ++ a) ++ b) c (10 ∷ []) ∙ append_assoc (text ++ a) b (c ++ 10 ∷ [])
     ∙ append_assoc text a (b ++ (c ++ 10 ∷ []))
 
--- a line behind a text, of its tag and what stands behind it
-pub tagged : (text : List ℕ) (tag : ℕ) (change : Option Change) (inputs outputs : List (List ℕ)) (line : DriveLine)
-    (shown new : List ℕ)
-    → shown ≡ shown_text change inputs outputs line → new ≡ text ++ tag ∷ shown
-    → new ≡ text ++ drive_line_text tag change inputs outputs line
-unfolding drive_line_text
-tagged text tag change inputs outputs line shown new is e = e ∙ ap (λ t. text ++ tag ∷ t) is
-
--- what stands behind a tag behind a text
-pub behind_tag : (text : List ℕ) (tag : ℕ) (front whole rest : List ℕ)
-    → front ≡ text ++ tag ∷ [] → whole ≡ front ++ rest → whole ≡ text ++ tag ∷ rest
-behind_tag text tag front whole rest e f = f ∙ ap (λ t. t ++ rest) e ∙ append_assoc text (tag ∷ []) rest
+-- what was put behind nothing
+pub behind_nothing : (text pieces shown whole : List ℕ) → text ≡ [] → pieces ≡ [] → whole ≡ (text ++ pieces) ++ shown → whole ≡ shown
+behind_nothing text pieces shown whole e f g = g ∙ (λ i. (e i ++ f i) ++ shown)
 
 -- a line whose rest was made in two parts
 pub tagged_parts : (tag : ℕ) (change : Option Change) (inputs outputs : List (List ℕ)) (line : DriveLine)
@@ -86,10 +77,6 @@ three_tagged change ports line front made pieces same is =
     let with_tag : (tag : ℕ) → tag ∷ (front ++ pieces) ≡ drive_line_text tag change ports.inputs ports.outputs line =
     λ tag. tagged_parts tag change ports.inputs ports.outputs line front made pieces same is in
     λ i. with_tag 76 i ++ (with_tag 86 i ++ with_tag 72 i)
-
--- a text that was empty is what was put behind it
-pub alone : (old line new : List ℕ) → old ≡ [] → new ≡ old ++ line → new ≡ line
-alone old line new empty e = e ∙ ap (λ t. t ++ line) empty
 
 -- a piece behind those that wait
 pub gathered_next : (text pieces more piece : List ℕ) → more ≡ pieces ++ piece → text ++ more ≡ (text ++ pieces) ++ piece

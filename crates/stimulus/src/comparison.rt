@@ -1,12 +1,12 @@
 //! A section of three simulators: the lines of each, printed side by side, and the first change at which two of them differ.
-ghost use Rattle.std.specs.Prelude.{◌≡◌, ◌<◌, [], ◌∷◌, ◌++◌, List, length, IfSome, IfOk, OnOk};
+ghost use Rattle.std.specs.Prelude.{◌≡◌, ◌<◌, [], ◌∷◌, ◌++◌, List, length, IfSome, IfOk};
 ghost use Rattle.std.specs.Option.{option_copied};
 ghost use Rattle.cell_machine.specs.declared.changes.Change.{Change as ChangeOf};
 ghost use Rattle.cell_machine.specs.History.{IsProperFrom, ComesAfter};
 ghost use Rattle.text_io.specs.declared.slots.OutSlot.TheVariants.{Report};
 ghost use Rattle.text_io.specs.Desk.{WritesText, HasCause, StopsWithCause};
 ghost use Rattle.text_io.specs.Line.{PutsText};
-ghost use Rattle.stimulus.specs.Comparison.{three_lines, all_show, HavePorts, are_alike, lines_text, compared_text, first_of};
+ghost use Rattle.stimulus.specs.Comparison.{three_lines, HavePorts, are_alike, lines_text, compared_text, first_of};
 ghost use Rattle.stimulus.specs.Comparison.{first_unlike, tagged_thrice, verdict_text, NoneUnlikeIsEqual};
 ghost use Rattle.stimulus.specs.Writes.{WritesTrace, PutsTrace};
 
@@ -113,7 +113,8 @@ fn unlike(alike: bool, first: Option<usize>, number: usize) -> Option<usize>
     }
 }
 
-/// Puts the lines that the three show behind the bytes that wait, and answers whether they are alike.
+/// Puts the lines that the three show behind the bytes that wait, and answers whether they are alike. Where they are, one is made
+/// for all, since only their tags differ, and else each by itself.
 fn put_lines<D: Desk, L: TraceSim, V: TraceSim, H: TraceSim>(
     desk: &mut D,
     waiting: &mut Waiting,
@@ -134,68 +135,17 @@ fn put_lines<D: Desk, L: TraceSim, V: TraceSim, H: TraceSim>(
     ensures cause { StopsWithCause (D.faults desk.old) (D.faults desk.new) result }
 {
     let alike = three.are_alike();
-    put_three(desk, waiting, text, alike, change, ports, three)?;
-    Ok(alike)
-}
-
-/// Puts the lines that the three show, which are alike where this is said. Where they are, one is made for all, since only their
-/// tags differ, and else each by itself.
-#[inline(always)]
-fn put_three<D: Desk, L: TraceSim, V: TraceSim, H: TraceSim>(
-    desk: &mut D,
-    waiting: &mut Waiting,
-    text: &mut Vec<u8>,
-    alike: bool,
-    change: Option<&Change>,
-    ports: &Ports,
-    three: &ThreeSimulators<L, V, H>,
-) -> Result<(), Stop>
-    requires ports { HavePorts ports.now (L.machine three.now.liberty) (V.machine three.now.verilog) (H.machine three.now.vital) }
-    requires pin { IfSome change (λ change. change.now.pin < length ports.now.inputs) }
-    requires alike { (h : List ChangeOf) → L.stands three.now.liberty h → V.stands three.now.verilog h
-        → H.stands three.now.vital h → alike ≡ are_alike
-        (three_lines (L.machine three.now.liberty) (V.machine three.now.verilog) (H.machine three.now.vital) h) }
-    ensures text { (h : List ChangeOf) → L.stands three.now.liberty h → V.stands three.now.verilog h → H.stands three.now.vital h
-        → PutsTrace (D.state desk.old) (D.state desk.new) waiting.old
-        (lines_text (option_copied change.entry) ports.now
-        (three_lines (L.machine three.now.liberty) (V.machine three.now.verilog) (H.machine three.now.vital) h)) waiting.new result }
-    ensures cause { StopsWithCause (D.faults desk.old) (D.faults desk.new) result }
-{
     if alike {
-        return put_common_line(desk, waiting, text, change, ports, &three.liberty);
+        let mut pieces = Few::new(0);
+        text.clear();
+        push_shown(text, &mut pieces, change, ports, &three.liberty)?;
+        put_tags(desk, waiting, text.as_slice(), &pieces)?;
+        return Ok(alike);
     }
-    put_own_lines(desk, waiting, text, change, ports, three)
-}
-
-/// Puts the lines of three that show what this one shows: one is made, and put under each tag.
-#[inline(always)]
-fn put_common_line<D: Desk, S: TraceSim>(
-    desk: &mut D,
-    waiting: &mut Waiting,
-    text: &mut Vec<u8>,
-    change: Option<&Change>,
-    ports: &Ports,
-    sim: &S,
-) -> Result<(), Stop>
-    requires inputs { length ports.now.inputs ≡ (S.machine sim.now).inputs }
-    requires outputs { length ports.now.outputs ≡ (S.machine sim.now).outputs }
-    requires pin { IfSome change (λ change. change.now.pin < (S.machine sim.now).inputs) }
-    ensures text { (h : List ChangeOf) → S.stands sim.now h → PutsTrace (D.state desk.old) (D.state desk.new) waiting.old
-        (lines_text (option_copied change.entry) ports.now (all_show ((S.machine sim.now).line h))) waiting.new result }
-    ensures cause { StopsWithCause (D.faults desk.old) (D.faults desk.new) result }
-{
-    let mut pieces = Few::new(0);
-    text.clear();
-    push_shown(
-        text,
-        &mut pieces,
-        change,
-        &ports.inputs,
-        &ports.outputs,
-        sim,
-    )?;
-    put_tags(desk, waiting, text.as_slice(), &pieces)?;
-    Ok(())
+    put_line(desk, waiting, text, b'L', change, ports, &three.liberty)?;
+    put_line(desk, waiting, text, b'V', change, ports, &three.verilog)?;
+    put_line(desk, waiting, text, b'H', change, ports, &three.vital)?;
+    Ok(alike)
 }
 
 /// Puts a line under each tag, of which the rest is a text, mostly empty, and pieces behind it.
@@ -213,28 +163,6 @@ fn put_tags<D: Desk>(
     put_tagged(desk, waiting, b'L', text, pieces)?;
     put_tagged(desk, waiting, b'V', text, pieces)?;
     put_tagged(desk, waiting, b'H', text, pieces)
-}
-
-/// Puts the lines that the three show, each made by itself.
-fn put_own_lines<D: Desk, L: TraceSim, V: TraceSim, H: TraceSim>(
-    desk: &mut D,
-    waiting: &mut Waiting,
-    text: &mut Vec<u8>,
-    change: Option<&Change>,
-    ports: &Ports,
-    three: &ThreeSimulators<L, V, H>,
-) -> Result<(), Stop>
-    requires ports { HavePorts ports.now (L.machine three.now.liberty) (V.machine three.now.verilog) (H.machine three.now.vital) }
-    requires pin { IfSome change (λ change. change.now.pin < length ports.now.inputs) }
-    ensures text { (h : List ChangeOf) → L.stands three.now.liberty h → V.stands three.now.verilog h → H.stands three.now.vital h
-        → PutsTrace (D.state desk.old) (D.state desk.new) waiting.old
-        (lines_text (option_copied change.entry) ports.now
-        (three_lines (L.machine three.now.liberty) (V.machine three.now.verilog) (H.machine three.now.vital) h)) waiting.new result }
-    ensures cause { StopsWithCause (D.faults desk.old) (D.faults desk.new) result }
-{
-    put_line(desk, waiting, text, b'L', change, ports, &three.liberty)?;
-    put_line(desk, waiting, text, b'V', change, ports, &three.verilog)?;
-    put_line(desk, waiting, text, b'H', change, ports, &three.vital)
 }
 
 /// Appends to the report the line with which a section of three simulators ends: `equal`, or the number of the first change at

@@ -41,5 +41,4 @@ pub use ports::{PortCatalog, Ports, Standing};
 pub use read::read_stimulus;
 pub use section::write_section;
 pub use sections::Section;
-pub use trace::trace_line;
 pub use trace_sim::TraceSim;

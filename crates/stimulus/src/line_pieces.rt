@@ -12,7 +12,7 @@ const MOST_WAITING: usize = 128;
 pub(crate) type Pieces = Few<u8, MOST_WAITING>;
 
 /// Appends the pieces that wait to a text.
-pub(crate) fn append_pieces(text: &mut Vec<u8>, pieces: &mut Pieces) -> Result<(), AllocError>
+fn append_pieces(text: &mut Vec<u8>, pieces: &mut Pieces) -> Result<(), AllocError>
     ensures { OnOk result ((text.new.items ≡ text.old.items ++ pieces.old) × (pieces.new ≡ [])) }
 {
     text.extend_from_slice(pieces.as_slice())?;

@@ -6,7 +6,7 @@ ghost use Rattle.stimulus.specs.NextLine.{IsWordAhead, IsTimeAhead, IsByteAhead,
 use crate::catalog::{Catalog, PinFound};
 use crate::context::Context;
 use crate::line_meanings::{MAX_CHANGES, is_later, value_of};
-use crate::times::{MAX_DIGITS, is_digit};
+use crate::times::{MAX_DIGITS, is_digit, with_digit};
 use cell_machine::Change;
 
 /// Where the first byte that is not above the space stands.
@@ -40,7 +40,7 @@ fn time_ahead(text: &[u8]) -> Option<(u64, &[u8])>
             }
             return Some((time, &text[end + 1..]));
         }
-        time = 10 * time + u64::from(byte - b'0');
+        time = with_digit(time, byte);
     }
     None
 }

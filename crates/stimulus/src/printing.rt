@@ -1,5 +1,5 @@
 //! The lines of a trace, printed one after another as the simulator takes the changes.
-ghost use Rattle.std.specs.Prelude.{◌≡◌, ◌<◌, [], List, length, IfSome};
+ghost use Rattle.std.specs.Prelude.{◌≡◌, ◌<◌, List, length, IfSome};
 ghost use Rattle.std.specs.Option.{option_copied};
 ghost use Rattle.cell_machine.specs.declared.changes.Change.{Change as ChangeOf};
 ghost use Rattle.stimulus.specs.DriveLines.{lines_along};
@@ -66,14 +66,7 @@ pub(crate) fn put_line<D: Desk, S: TraceSim>(
 {
     let mut pieces = Few::new(0);
     text.clear();
-    push_shown(
-        text,
-        &mut pieces,
-        change,
-        &ports.inputs,
-        &ports.outputs,
-        sim,
-    )?;
+    push_shown(text, &mut pieces, change, ports, sim)?;
     put_tagged(desk, waiting, tag, text.as_slice(), &pieces)?;
     Ok(())
 }

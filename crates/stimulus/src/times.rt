@@ -1,5 +1,5 @@
 //! Times.
-ghost use Rattle.std.specs.Prelude.{◌≡◌};
+ghost use Rattle.std.specs.Prelude.{◌≡◌, ◌<◌, ◌+◌, ◌-◌, ◌*◌, ◌^◌, true};
 ghost use Rattle.stimulus.specs.Times.{is_digit as is_digit_of, time_of as time_of_word};
 
 /// The most digits that a time may have.
@@ -10,6 +10,15 @@ pub(crate) fn is_digit(byte: u8) -> bool
     ensures { result ≡ is_digit_of byte }
 {
     byte.is_ascii_digit()
+}
+
+/// The number that a digit makes behind the digits of a number.
+pub(crate) fn with_digit(number: u64, digit: u8) -> u64
+    requires digit { is_digit_of digit ≡ true }
+    requires small { number < 10 ^ 15 }
+    ensures { result ≡ 10 * number + (digit - 48) }
+{
+    10 * number + u64::from(digit - b'0')
 }
 
 /// The time, in picoseconds, that a word of 1 to 15 digits stands for.
@@ -24,7 +33,7 @@ pub(crate) fn time_of(word: &[u8]) -> Option<u64>
         if !is_digit(*digit) {
             return None;
         }
-        time = 10 * time + u64::from(*digit - b'0');
+        time = with_digit(time, *digit);
     }
     Some(time)
 }

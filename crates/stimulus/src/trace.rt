@@ -1,84 +1,41 @@
 //! The lines of a trace, printed.
-ghost use Rattle.std.specs.Prelude.{◌≡◌, ◌+◌, ◌<◌, ◌≤◌, ◌^◌, ◌++◌, List, [], ◌∷◌, length, codes, IfOk, IfSome, OnOk};
+ghost use Rattle.std.specs.Prelude.{◌≡◌, ◌+◌, ◌<◌, ◌++◌, List, [], ◌∷◌, length, codes, IfSome, OnOk};
 ghost use Rattle.std.specs.Option.{option_copied};
 ghost use Rattle.cell_machine.specs.declared.changes.Change.{Change as ChangeOf};
 ghost use Rattle.stimulus.specs.TraceLine.{value_text, head_text, change_text, output_text, outputs_text, delay_text};
-ghost use Rattle.stimulus.specs.TraceLine.{report_text, reports_text, shown_text, drive_line_text};
+ghost use Rattle.stimulus.specs.TraceLine.{report_text, reports_text, shown_text};
 
 use crate::drives::Drive;
-use crate::line_pieces::{Pieces, append_pieces, gather, gather_byte};
+use crate::line_pieces::{Pieces, gather, gather_byte};
+use crate::ports::Ports;
 use crate::trace_sim::TraceSim;
 use bool_functions::Names;
-use cell_machine::{Change, Few};
+use cell_machine::Change;
 use itoa::Buffer;
-use std::alloc::{AllocError, Global};
+use std::alloc::AllocError;
 
-/// The line of a trace that a simulator shows after its last change, with the line feed at its end: the tag; `start` or
+/// What stands behind the tag of the line that a simulator shows after its last change, with the line feed at its end: `start` or
 /// the change's time in picoseconds, input and value; what each output shows, `z` where it floats, with its delay in
 /// picoseconds where it changed at this change; and the checks that reported, numbered from 1.
 ///
 /// It needs as many names as the simulator has inputs and outputs, and a change of one of its inputs.
-pub fn trace_line<S: TraceSim>(
-    alloc: Global,
-    tag: u8,
-    change: Option<&Change>,
-    inputs: &Names,
-    outputs: &Names,
-    sim: &S,
-) -> Result<Vec<u8>, AllocError>
-    requires inputs { length inputs.now ≡ (S.machine sim.now).inputs }
-    requires outputs { length outputs.now ≡ (S.machine sim.now).outputs }
-    requires pin { IfSome change (λ change. change.now.pin < (S.machine sim.now).inputs) }
-    ensures { IfOk result (λ text. (h : List ChangeOf) → S.stands sim.now h
-        → text.items ≡ drive_line_text tag (option_copied change.entry) inputs.now outputs.now ((S.machine sim.now).line h)) }
-{
-    let mut text = Vec::new(alloc);
-    append_trace_line(&mut text, tag, change, inputs, outputs, sim)?;
-    Ok(text)
-}
-
-/// Appends the line that `trace_line` answers to a text. Without memory a part of the line may be appended.
-fn append_trace_line<S: TraceSim>(
-    text: &mut Vec<u8>,
-    tag: u8,
-    change: Option<&Change>,
-    inputs: &Names,
-    outputs: &Names,
-    sim: &S,
-) -> Result<(), AllocError>
-    requires inputs { length inputs.now ≡ (S.machine sim.now).inputs }
-    requires outputs { length outputs.now ≡ (S.machine sim.now).outputs }
-    requires pin { IfSome change (λ change. change.now.pin < (S.machine sim.now).inputs) }
-    ensures { OnOk result ((h : List ChangeOf) → S.stands sim.now h
-        → text.new.items ≡ text.old.items ++ drive_line_text tag (option_copied change.entry) inputs.now outputs.now
-        ((S.machine sim.now).line h)) }
-{
-    let mut pieces = Few::new(0);
-    gather_byte(text, &mut pieces, tag)?;
-    push_shown(text, &mut pieces, change, inputs, outputs, sim)?;
-    append_pieces(text, &mut pieces)?;
-    Ok(())
-}
-
-/// What stands behind the tag of the line.
 #[inline(always)]
 pub(crate) fn push_shown<S: TraceSim>(
     text: &mut Vec<u8>,
     pieces: &mut Pieces,
     change: Option<&Change>,
-    inputs: &Names,
-    outputs: &Names,
+    ports: &Ports,
     sim: &S,
 ) -> Result<(), AllocError>
-    requires inputs { length inputs.now ≡ (S.machine sim.now).inputs }
-    requires outputs { length outputs.now ≡ (S.machine sim.now).outputs }
+    requires inputs { length ports.now.inputs ≡ (S.machine sim.now).inputs }
+    requires outputs { length ports.now.outputs ≡ (S.machine sim.now).outputs }
     requires pin { IfSome change (λ change. change.now.pin < (S.machine sim.now).inputs) }
     ensures { OnOk result ((h : List ChangeOf) → S.stands sim.now h
         → text.new.items ++ pieces.new ≡ (text.old.items ++ pieces.old)
-        ++ shown_text (option_copied change.entry) inputs.now outputs.now ((S.machine sim.now).line h)) }
+        ++ shown_text (option_copied change.entry) ports.now.inputs ports.now.outputs ((S.machine sim.now).line h)) }
 {
-    push_head(text, pieces, change, inputs)?;
-    push_outputs(text, pieces, outputs, sim)?;
+    push_head(text, pieces, change, &ports.inputs)?;
+    push_outputs(text, pieces, &ports.outputs, sim)?;
     push_reports(text, pieces, sim)?;
     gather_byte(text, pieces, b'\n')?;
     Ok(())

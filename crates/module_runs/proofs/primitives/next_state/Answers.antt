@@ -1,6 +1,5 @@
 use Rattle.std.proofs.Common.{sym, ap, ◌∙◌, length}
 use Rattle.std.specs.Option.{option_map_or}
-use Rattle.udp_tables.specs.declared.table.Udp.{Udp}
 use Rattle.model_traces.specs.Primitives.{primitive_next, next_state}
 use Rattle.module_runs.proofs.WiringLemmas.{wired-table}
 use Rattle.module_runs.proofs.primitives.next_state.Goals as goal

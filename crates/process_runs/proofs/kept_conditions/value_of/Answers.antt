@@ -7,8 +7,5 @@ truth_value-requires-clause-rows c =
     let m = c.args.tables.now.model.now in
     (all-at (IsTruth m) m.conditions c.args.i c.args.truth.now c.requires.sound.conditions c.requires.is).rows
 
-pub truth_value-requires-clause-words : goal.truth_value-requires-clause-words
-truth_value-requires-clause-words c = c.condition_rows.ensures.words c.args.truth.now c.requires.is
-
-pub truth_value-requires-clause-masks : goal.truth_value-requires-clause-masks
-truth_value-requires-clause-masks c = c.condition_rows.ensures.masks c.args.truth.now c.requires.is
+pub truth_value-requires-clause-known : goal.truth_value-requires-clause-known
+truth_value-requires-clause-known c = c.condition_rows.ensures c.args.truth.now c.requires.is

@@ -27,11 +27,8 @@ returns-clause-stepped c =
     (omega arith))
     ∙ c.loop-i.invariant.whole
 
-pub output_step-now-requires-clause-words : goal.output_step-now-requires-clause-words
-output_step-now-requires-clause-words c = c.output_rows-known.ensures.words c.entry-output.result.now c.entry-output.ensures.is
-
-pub output_step-now-requires-clause-masks : goal.output_step-now-requires-clause-masks
-output_step-now-requires-clause-masks c = c.output_rows-known.ensures.masks c.entry-output.result.now c.entry-output.ensures.is
+pub output_step-now-requires-clause-known : goal.output_step-now-requires-clause-known
+output_step-now-requires-clause-known c = c.output_rows-known.ensures c.entry-output.result.now c.entry-output.ensures.is
 
 pub output_step-now-requires-clause-output : goal.output_step-now-requires-clause-output
 output_step-now-requires-clause-output c =

@@ -20,11 +20,8 @@ loop-i-preserved c =
       room = c.output_value-value.ensures.len ∙ c.loop-i.invariant.room;
     }
 
-pub output_value-value-requires-clause-words : goal.output_value-value-requires-clause-words
-output_value-value-requires-clause-words c = c.output_rows-known.ensures.words c.entry-output.result.now c.entry-output.ensures.is
-
-pub output_value-value-requires-clause-masks : goal.output_value-value-requires-clause-masks
-output_value-value-requires-clause-masks c = c.output_rows-known.ensures.masks c.entry-output.result.now c.entry-output.ensures.is
+pub output_value-value-requires-clause-known : goal.output_value-value-requires-clause-known
+output_value-value-requires-clause-known c = c.output_rows-known.ensures c.entry-output.result.now c.entry-output.ensures.is
 
 pub output_value-value-requires-clause-value : goal.output_value-value-requires-clause-value
 output_value-value-requires-clause-value c =

@@ -14,11 +14,11 @@ loop-i-preserved c =
     let many : c.loop-i.i < length c.loop-i.states = omega arith in
     record {
       whole =
-          each-kept f m.states c.loop-i.states c.loop-i.i Zero c.entry-table.ensures.is many
-          (rw c.as_slice.ensures at c.next_state-next.ensures.next) c.set.ensures c.loop-i.invariant.whole;
-      len = ap length c.set.ensures ∙ length-set c.loop-i.states c.loop-i.i c.next_state-next.result ∙ c.loop-i.invariant.len;
-      earlier = c.next_state-next.ensures.earlier ∙ c.loop-i.invariant.earlier;
-      room = c.next_state-next.ensures.room ∙ c.loop-i.invariant.room;
+          each-kept f m.states c.loop-i.states c.loop-i.i Zero c.entry.ensures.is many
+          (rw (c.as_slice.ensures, c.ports.ensures) at c.table_next-next.ensures.next) c.set.ensures c.loop-i.invariant.whole;
+      len = ap length c.set.ensures ∙ length-set c.loop-i.states c.loop-i.i c.table_next-next.result ∙ c.loop-i.invariant.len;
+      earlier = c.table_next-next.ensures.earlier ∙ c.loop-i.invariant.earlier;
+      room = c.table_next-next.ensures.room ∙ c.loop-i.invariant.room;
     }
 
 pub returns-clause-stepped : goal.returns-clause-stepped
@@ -27,13 +27,10 @@ returns-clause-stepped c =
     sym (each-done (next_by m c.args.was c.args.before.now c.args.violation c.args.inputs.now) m.states c.loop-i.states c.loop-i.i (omega arith))
     ∙ c.loop-i.invariant.whole
 
-pub next_state-next-requires-clause-words : goal.next_state-next-requires-clause-words
-next_state-next-requires-clause-words c = c.state_rows-known.ensures.words c.entry-table.result.now c.entry-table.ensures.is
+pub table_next-next-requires-clause-known : goal.table_next-next-requires-clause-known
+table_next-next-requires-clause-known c = c.state_rows.ensures c.entry.result.now c.entry.ensures.is
 
-pub next_state-next-requires-clause-masks : goal.next_state-next-requires-clause-masks
-next_state-next-requires-clause-masks c = c.state_rows-known.ensures.masks c.entry-table.result.now c.entry-table.ensures.is
-
-pub next_state-next-requires-clause-table : goal.next_state-next-requires-clause-table
-next_state-next-requires-clause-table c =
+pub table_next-next-requires-clause-rows : goal.table_next-next-requires-clause-rows
+table_next-next-requires-clause-rows c =
     let m = c.args.tables.now.model.now in
-    all-at (IsState m) m.states c.loop-i.i c.entry-table.result.now c.requires.sound.states c.entry-table.ensures.is
+    (all-at (IsState m) m.states c.loop-i.i c.entry.result.now c.requires.sound.states c.entry.ensures.is).rows

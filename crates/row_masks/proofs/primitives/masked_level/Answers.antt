@@ -8,14 +8,10 @@ use Rattle.row_masks.proofs.primitives.masked_level.Goals as goal
 
 pub first_match-requires-clause-olds : goal.first_match-requires-clause-olds
 first_match-requires-clause-olds g c =
-    let udp = c.args.udp.now in
-    columns-are udp_passes udp.rows (length udp.inputs) _ c.args.masks.now c.requires.masks
-    (ap length c.requires.still ∙ c.requires.news)
+    columns-are udp_passes c.args.udp.now.rows c.requires.masks (ap length c.requires.still ∙ c.requires.news)
 
 pub first_match-requires-clause-news : goal.first_match-requires-clause-news
-first_match-requires-clause-news g c =
-    let udp = c.args.udp.now in
-    columns-are udp_passes udp.rows (length udp.inputs) _ c.args.masks.now c.requires.masks c.requires.news
+first_match-requires-clause-news g c = columns-are udp_passes c.args.udp.now.rows c.requires.masks c.requires.news
 
 pub returns : goal.returns
 returns g c =

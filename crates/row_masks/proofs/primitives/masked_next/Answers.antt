@@ -7,14 +7,10 @@ use Rattle.row_masks.proofs.LookUpLemmas.{columns-are, next-decided}
 use Rattle.row_masks.proofs.primitives.masked_next.Goals as goal
 
 pub decisive-requires-clause-olds : goal.decisive-requires-clause-olds
-decisive-requires-clause-olds g c =
-    let udp = c.args.udp.now in
-    columns-are udp_passes udp.rows (length udp.inputs) _ c.args.masks.now c.requires.masks c.requires.olds
+decisive-requires-clause-olds g c = columns-are udp_passes c.args.udp.now.rows c.requires.masks c.requires.olds
 
 pub decisive-requires-clause-news : goal.decisive-requires-clause-news
-decisive-requires-clause-news g c =
-    let udp = c.args.udp.now in
-    columns-are udp_passes udp.rows (length udp.inputs) _ c.args.masks.now c.requires.masks c.requires.news
+decisive-requires-clause-news g c = columns-are udp_passes c.args.udp.now.rows c.requires.masks c.requires.news
 
 pub returns : goal.returns
 returns g c =

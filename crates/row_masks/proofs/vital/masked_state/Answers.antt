@@ -7,11 +7,10 @@ use Rattle.row_masks.proofs.LookUpLemmas.{columns-are, state-decided}
 use Rattle.row_masks.proofs.vital.masked_state.Goals as goal
 
 pub first_match-requires-clause-olds : goal.first_match-requires-clause-olds
-first_match-requires-clause-olds g c =
-    columns-are state_passes c.args.table.now.rows _ _ c.args.masks.now c.requires.masks c.requires.olds
+first_match-requires-clause-olds g c = columns-are state_passes c.args.table.now.rows c.requires.masks c.requires.olds
 
 pub first_match-requires-clause-news : goal.first_match-requires-clause-news
-first_match-requires-clause-news g c = columns-are state_passes c.args.table.now.rows _ _ c.args.masks.now c.requires.masks refl
+first_match-requires-clause-news g c = columns-are state_passes c.args.table.now.rows c.requires.masks refl
 
 pub returns : goal.returns
 returns g c =

@@ -7,11 +7,10 @@ use Rattle.row_masks.proofs.LookUpLemmas.{columns-are, truth-decided}
 use Rattle.row_masks.proofs.vital.masked_truth.Goals as goal
 
 pub first_match-requires-clause-olds : goal.first_match-requires-clause-olds
-first_match-requires-clause-olds g c =
-    columns-are truth_passes c.args.table.now.rows _ _ c.args.masks.now c.requires.masks (ap length c.requires.still)
+first_match-requires-clause-olds g c = columns-are truth_passes c.args.table.now.rows c.requires.masks (ap length c.requires.still)
 
 pub first_match-requires-clause-news : goal.first_match-requires-clause-news
-first_match-requires-clause-news g c = columns-are truth_passes c.args.table.now.rows _ _ c.args.masks.now c.requires.masks refl
+first_match-requires-clause-news g c = columns-are truth_passes c.args.table.now.rows c.requires.masks refl
 
 pub returns : goal.returns
 returns g c =

@@ -1,4 +1,4 @@
-use Rattle.std.proofs.Common.{◌≡◌, ◌+◌, ◌*◌, ◌<◌, ◌≤◌, ◌^◌, length, get_or, refl, sym, ap, arith}
+use Rattle.std.proofs.Common.{◌≡◌, ◌+◌, ◌<◌, ◌≤◌, ◌^◌, length, get_or, refl, sym, subst, arith}
 use Rattle.std.proofs.lemmas.Bool.Decides.{nat_tests}
 use Rattle.std.proofs.lemmas.List.{take_rest}
 use Rattle.std.proofs.lemmas.List.Elements.{All-nil}
@@ -9,13 +9,8 @@ use Rattle.stimulus.proofs.plain_changes.time_ahead.Goals as goal
 pub loop-end-init : goal.loop-end-init
 loop-end-init c = record { digits = All-nil IsDigit; whole = refl; below = omega arith }
 
-pub overflow_mul-time : goal.overflow_mul-time
-overflow_mul-time c =
-    let small : c.loop-end.time < 10 ^ 15 = below_all _ _ c.loop-end.invariant.below (omega arith) in omega (arith, small)
-
-pub overflow_add-time : goal.overflow_add-time
-overflow_add-time c =
-    let small : c.loop-end.time < 10 ^ 15 = below_all _ _ c.loop-end.invariant.below (omega arith) in omega (arith, small)
+pub with_digit-time-requires-clause-small : goal.with_digit-time-requires-clause-small
+with_digit-time-requires-clause-small c = below_all _ _ c.loop-end.invariant.below (omega arith)
 
 pub loop-end-preserved : goal.loop-end-preserved
 loop-end-preserved c =
@@ -26,8 +21,10 @@ loop-end-preserved c =
       digits = all_more text c.loop-end.end _ inside refl digit c.loop-end.invariant.digits;
       whole =
           time_more text c.loop-end.end _ c.loop-end.time _ inside refl digit c.loop-end.invariant.whole
-          (ap (λ number. 10 * c.loop-end.time + number) c.from.ensures);
-      below = below_more c.loop-end.time c.loop-end.end _ c.loop-end.invariant.below (grind (arith, nat_tests, digit, c.from.ensures));
+          c.with_digit-time.ensures;
+      below =
+          subst (λ t. t < 10 ^ (c.loop-end.end + 1)) (sym c.with_digit-time.ensures)
+          (below_more c.loop-end.time c.loop-end.end _ c.loop-end.invariant.below (grind (arith, nat_tests, digit)));
     }
 
 pub returns-then-not-is_digit : goal.returns-then-not-is_digit

@@ -1,0 +1,6 @@
+use Rattle.cell_machine.specs.CellData.{data_of}
+use Rattle.caught_models.proofs.Machines.{same-machine}
+use Rattle.caught_models.proofs.models.is_module_caught.Goals as goal
+
+pub returns : goal.returns
+returns c = same-machine c.is_caught.result (data_of c.args.cell.now) c.args.changes.now _ _ c.in_ok-verilog.ensures.machine c.is_caught.ensures

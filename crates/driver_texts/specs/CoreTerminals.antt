@@ -20,3 +20,8 @@ next_terminal_text value at = terminal_by value at.port.name at.number ++ codes 
 abbrev pub terminals_text : List ℕ → List ℕ → DriverModel → List ℕ
 terminals_text value enable m = flat_map (next_terminal_text value) (ports_of m)
     ++ listed_names_text enable (length m.driver.drives)
+
+-- the line of the instance of a core, whose name stands between these bytes
+abbrev pub core_line_text : List ℕ → List ℕ → List ℕ → List ℕ → DriverModel → List ℕ
+core_line_text before behind value enable m =
+    before ++ (m.core ++ (behind ++ (terminals_text value enable m ++ codes ");\n")))

@@ -1,6 +1,8 @@
 -- Sections that hold drivers, in any language: what they begin with, what stands behind that, and the driver of their bytes.
 use Rattle.std.specs.Prelude.{◌≡◌, ℕ, Bool, List, [], Result, Ok, Err}
 use Rattle.grammar_rules.specs.Rule.{Takes}
+use Rattle.grammar_rules.specs.Rule as r
+use Rattle.grammar_reader.specs.declared.refusal.Refusal.TheVariants.{Syntax}
 use Rattle.grammar_reader.specs.Words.{Grammar, ◌>>=◌}
 use Rattle.grammar_reader.specs.Texts.{Texts, text}
 use Rattle.lexer.specs.Tokens.{Lexis}
@@ -27,6 +29,10 @@ unfoldable pub section : SectionGrammar → List (List ℕ) → List Core → Gr
 section g names cores = do
   front ← g.front names
   g.rest cores front
+
+-- nothing is left of a section
+abbrev pub nothing_left : Grammar (Unit {0})
+nothing_left = r.Last (λ _. Syntax) tt
 
 -- nothing stands behind a section
 abbrev pub EndsTexts : SectionGrammar → Type 0

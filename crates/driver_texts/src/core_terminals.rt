@@ -1,5 +1,5 @@
-//! The terminals of a core.
-ghost use Rattle.driver_texts.specs.CoreTerminals.{terminal_by, next_terminal_text, terminals_text};
+//! The instance of a core.
+ghost use Rattle.driver_texts.specs.CoreTerminals.{terminal_by, next_terminal_text, terminals_text, core_line_text};
 
 use crate::numbered_names::ListedNames;
 use crate::numbered_ports::{EachPort, PortAt, PortText};
@@ -47,10 +47,10 @@ impl PortText for NextTerminals<'_> {
 /// The terminals of a driver's core: what stands for each port, then the enables, where wires to buffers' inputs and to their
 /// enables begin with these words.
 #[derive(Drop)]
-pub struct CoreTerminals<'a> {
-    pub value: &'a [u8],
-    pub enable: &'a [u8],
-    pub model: &'a DriverModel,
+struct CoreTerminals<'a> {
+    value: &'a [u8],
+    enable: &'a [u8],
+    model: &'a DriverModel,
 }
 
 impl Part for CoreTerminals<'_> {
@@ -68,5 +68,36 @@ impl Part for CoreTerminals<'_> {
             count: drives.len(),
         };
         parts!(ports, enables).put(line, desk, slot)
+    }
+}
+
+/// The line of the instance of a driver's core: what stands before the core's name, its name, what stands behind it, its
+/// terminals, and the end. Wires to buffers' inputs and to their enables begin with these words.
+#[derive(Drop)]
+pub struct CoreLine<'a> {
+    pub before: &'a [u8],
+    pub behind: &'a [u8],
+    pub value: &'a [u8],
+    pub enable: &'a [u8],
+    pub model: &'a DriverModel,
+}
+
+impl Part for CoreLine<'_> {
+    ghost text = { λ c. core_line_text c.before.now c.behind.now c.value.now c.enable.now c.model.now };
+
+    fn put<D: Desk>(&self, line: &mut Line, desk: &mut D, slot: OutSlot) -> Put {
+        let terminals = CoreTerminals {
+            value: self.value,
+            enable: self.enable,
+            model: self.model,
+        };
+        parts!(
+            Bytes(self.before),
+            Bytes(self.model.core.as_slice()),
+            Bytes(self.behind),
+            terminals,
+            Bytes(b");\n")
+        )
+        .put(line, desk, slot)
     }
 }

@@ -11,11 +11,11 @@ mod port_names;
 mod section_parts;
 mod sections;
 
-pub use core_terminals::CoreTerminals;
+pub use core_terminals::CoreLine;
 pub use counts::{input_count, output_count};
 pub use driven_outputs::driven_names;
 pub use numbered_names::{ListedNames, NumberedNames, WireNames};
 pub use numbered_ports::{EachPort, PortAt, PortText};
 pub use port_names::{input_name, output_name};
-pub use section_parts::{CoreCall, SectionFront, driver_of, fresh_name};
+pub use section_parts::{CoreCall, SectionFront, driver_of, fresh_name, nothing_left};
 pub use sections::{DriverSections, SectionRead, read_driver};

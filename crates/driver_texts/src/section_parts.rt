@@ -2,7 +2,7 @@
 ghost use Rattle.std.specs.Prelude.{◌≡◌};
 ghost use Rattle.grammar_reader.specs.Reading.{read, Reads};
 ghost use Rattle.grammar_reader.specs.Words.{new_name};
-ghost use Rattle.driver_texts.specs.Sections.{driver_of};
+ghost use Rattle.driver_texts.specs.Sections.{nothing_left, driver_of};
 
 use crate::counts::{input_count, output_count};
 use driven_traces::{DrivePath, Driver};
@@ -41,6 +41,16 @@ pub fn fresh_name<F: Language, D: DriverLanguage>(
     }
     let taken = names.has(cursor.bytes())?;
     cursor.fresh_name(alloc, taken)
+}
+
+/// The end of a section: nothing is left of it, or the next token is a fault of syntax.
+pub fn nothing_left<L: Language>(cursor: &mut Cursor<'_, L>) -> Read<()>
+    ensures { Reads (read nothing_left cursor.old) result cursor.new }
+{
+    if cursor.left() > 0 {
+        return Err(Stop::Refused(Refusal::Syntax));
+    }
+    Ok(())
 }
 
 /// The driver with this front, this core and these paths. It takes no memory.

@@ -14,4 +14,4 @@ mod scope;
 pub use driven_models::DrivenModels;
 pub use language::SectionLanguage;
 pub use laws::{drivers_may_stand, text_without_sections_reads_as_before};
-pub use read::read_driven;
+pub use read::read_driven_text;

@@ -108,7 +108,7 @@ fn driven_models<L: SectionLanguage>(alloc: Global, text: &[u8]) -> Answer<Drive
 /// in the text has, and its core is one of the models, with the ports of its core. The time is that of a few readings of the
 /// text.
 #[tactic(auto, using(crate::proofs::ToldFaults::is_fault))]
-pub fn read_driven<L: SectionLanguage>(
+pub fn read_driven_text<L: SectionLanguage>(
     alloc: Global,
     text: &[u8],
 ) -> Result<DrivenModels<L::Model>, ModelFault>

@@ -20,7 +20,7 @@ use Rattle.driver_models.specs.Terminals as terminals
 use Rattle.driver_models.specs.Cores.{Core, core_name}
 use Rattle.driver_models.specs.PathEnds.{input_number, drive_number}
 use Rattle.driver_texts.specs.NumberedPorts.{numbered_ports, driven_names}
-use Rattle.driver_texts.specs.Sections.{SectionGrammar, driver_of}
+use Rattle.driver_texts.specs.Sections.{nothing_left, SectionGrammar, driver_of}
 use Rattle.driver_texts.specs.declared.section_parts.CoreCall.{CoreCall}
 use Rattle.driver_texts.specs.declared.section_parts.SectionFront.{SectionFront}
 use Rattle.verilog_drivers.specs.DriverText.{data_word, enable_word}
@@ -151,7 +151,7 @@ unfoldable pub section_end : Grammar (Unit {0})
 section_end = do
   _ ← expect (codes "endmodule")
   _ ← expect (codes "`endcelldefine")
-  r.Last (λ _. Syntax) tt
+  nothing_left
 
 -- what stands behind the front of a section
 unfoldable pub section_rest : List Core → SectionFront → Grammar DriverModel

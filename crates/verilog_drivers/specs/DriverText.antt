@@ -6,7 +6,7 @@ use Rattle.std.specs.List.{flat_map}
 use Rattle.driven_traces.specs.declared.delays.DrivePath.{DrivePath}
 use Rattle.driver_models.specs.declared.model.DriverModel.{DriverModel}
 use Rattle.driver_models.specs.Terminals.{all_numbered}
-use Rattle.driver_texts.specs.CoreTerminals.{terminals_text}
+use Rattle.driver_texts.specs.CoreTerminals.{core_line_text}
 use Rattle.driver_texts.specs.NumberedPorts.{NumberedPort, ports_of}
 use Rattle.driver_texts.specs.PortNames.{inputs, name_at, driven_name}
 use Rattle.verilog_writer.specs.Model.{ports_text, input_port_text, output_port_text, wire_text}
@@ -21,8 +21,7 @@ enable_word = codes "lib_e"
 
 -- the line of the core (12.1.2)
 unfoldable pub core_text : DriverModel → List ℕ
-core_text m =
-    codes "  " ++ (m.core ++ (codes " lib_u (" ++ (terminals_text data_word enable_word m ++ codes ");\n")))
+core_text m = core_line_text (codes "  ") (codes " lib_u (") data_word enable_word m
 
 -- the buffer at a driven output: its output, its data and its enable (7.4)
 abbrev pub buffer_by : List ℕ → Option ℕ → List ℕ

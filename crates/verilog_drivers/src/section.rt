@@ -13,8 +13,9 @@ use driven_traces::DrivePath;
 use driver_models::{Cores, DriverModel, KnownNames};
 use driver_texts::{
     CoreCall, DriverSections, SectionFront, SectionRead, driven_names, driver_of, fresh_name,
+    nothing_left,
 };
-use grammar_reader::{Read, Refusal, Stop};
+use grammar_reader::Read;
 use lexer::Scan;
 use sqlite_items::Items;
 use std::alloc::{AllocError, Global};
@@ -75,10 +76,7 @@ fn section_end(cursor: &mut Cursor) -> Read<()>
 {
     cursor.expect(b"endmodule")?;
     cursor.expect(b"`endcelldefine")?;
-    if cursor.left() > 0 {
-        return Err(Stop::Refused(Refusal::Syntax));
-    }
-    Ok(())
+    nothing_left(cursor)
 }
 
 /// The rest of a section behind its front.

@@ -6,8 +6,8 @@ pub mod ReadInstances
 pub mod ReadBlocks
 pub mod ReadTokens
 pub mod ReadText
-mod VerilogExamples
 mod VerilogReadings
+mod VerilogExamples
 pub use Rattle.specify_blocks.proofs as specify_blocks
 pub mod Among
 pub mod Headers

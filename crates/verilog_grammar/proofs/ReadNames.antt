@@ -1,5 +1,5 @@
 -- The tokens and the names that are read.
-use Rattle.std.proofs.Common.{◌≡◌, ℕ, Bool, true, false, not, ◌||◌, ◌==◌, if◌then◌else◌, IsTrue, List, [], ◌∷◌, ◌++◌, Option}
+use Rattle.std.proofs.Common.{◌≡◌, ℕ, Bool, true, false, not, ◌||◌, ◌==◌, IsTrue, List, [], ◌∷◌, ◌++◌, Option}
 use Rattle.std.proofs.Common.{refl, subst, arith}
 use Rattle.std.specs.Prelude.{All}
 use Rattle.std.specs.Str.{bytes_eq}
@@ -11,14 +11,15 @@ use Rattle.std.proofs.lemmas.Map.Keys.{IsDistinct-push}
 use Rattle.verilog_tokens.specs.Kept.{is_identifier}
 use Rattle.verilog_tokens.specs.Words.{is_verilog_word}
 use Rattle.std.specs.Char.{is_ascii_alphabetic}
-use Rattle.grammar_rules.specs.Rule.{Verdict, Fits, Foul}
+use Rattle.grammar_rules.specs.Rule.{Verdict, Fits}
 use Rattle.grammar_rules.proofs.Promises.{Promises, token}
 use Rattle.verilog_tokens.specs.Tokens.{is_name}
 use Rattle.grammar_reader.specs.declared.refusal.Refusal.{Refusal}
-use Rattle.grammar_reader.specs.declared.refusal.Refusal.TheVariants.{Syntax, Undefined, Twice}
+use Rattle.grammar_reader.specs.declared.refusal.Refusal.TheVariants.{Syntax, Twice}
+use Rattle.grammar_reader.proofs.WordPromises as promised
 pub use Rattle.grammar_reader.proofs.WordPromises.{values, goes_on, behind, surely}
 pub use Rattle.grammar_reader.proofs.Passing.{fits_if, fits_unless, fits_where, some_if, fits_allowed, IsFound}
-use Rattle.grammar_reader.specs.Words.{allowed_by, fresh}
+use Rattle.grammar_reader.specs.Words.{fresh}
 use Rattle.udp_tables.specs.VerilogRules.{expect_where, any_name, is_among, new_name, known}
 use Rattle.verilog_grammar.specs.WellFormed.{IsName, AreApart}
 
@@ -76,11 +77,7 @@ any_names = token (λ x a p e.
     subst IsName (fits_same x a n.1) (a_name x p n.0))
 
 pub known_values : {A : Type 0} (find : List ℕ → Option A) → Promises IsSpelled (known find) (IsFound find)
-known_values find = token (λ x a p e.
-    let n = fits_if (is_name x) (allowed_by Undefined (find x)) Syntax a e in
-    (x, fits_allowed Undefined (find x) a n.1))
+known_values find = promised.known_values is_name find
 
 pub where_holds : (b : Bool) (k : Refusal) (text : List ℕ) → Promises IsSpelled (expect_where b k text) (λ _. b ≡ true)
-where_holds b k text = token (λ x a p e.
-    let n = fits_if (bytes_eq x text) (if b then Fits tt else Foul k tt) Syntax a e in
-    (fits_where b k tt a n.1).0)
+where_holds b k text = promised.where_holds bytes_eq b k text

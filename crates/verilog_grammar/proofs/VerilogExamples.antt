@@ -1,4 +1,4 @@
--- Verilog texts with faults, and what they are by computing.
+-- Verilog texts, with faults and without, and what they are by computing.
 use Rattle.std.proofs.Common.{◌≡◌, ℕ, List, [], ◌∷◌, ◌++◌, codes, refl}
 use Rattle.udp_tables.specs.declared.models.ModelFault.TheVariants.{Lexical, Syntax, Twice, TwoEdges, Undefined, Undriven}
 use Rattle.udp_tables.specs.declared.models.ModelFault.TheVariants.{Unequal, Width}
@@ -9,6 +9,7 @@ use Rattle.verilog_grammar.specs.VerilogModules as m
 use Rattle.verilog_grammar.specs.VerilogBlocks as block
 use Rattle.verilog_grammar.specs.VerilogText as text
 use Rattle.verilog_grammar.specs.VerilogText.{verilog_text}
+use Rattle.verilog_grammar.proofs.VerilogReadings.{Readings}
 
 -- what stands before the first primitive or module
 abbrev behind-prelude : List ℕ
@@ -51,8 +52,8 @@ in-block = in-module ++ codes "  inv (Y, A);\n  specify "
 abbrev keeper-block : List ℕ
 keeper-block = in-keeper ++ codes "  keep (s, C, D, n);\n  inv (Q, s);\n  specify "
 
--- The faults of texts, as they are by computing.
-faults : AreFaults verilog_text (
+-- The modules and the faults of texts, as they are by computing.
+examples : Readings × AreFaults verilog_text (
     -- The rows of a table: two changes, a wrong number of entries, and symbols that stand at no such place.
     behind rows-of-two-with-state (
     at "(01) (01) : ? : 1; endtable" TwoEdges 5
@@ -168,4 +169,4 @@ unfolding verilog_words is_verilog_word verilog_text text.file text.prelude text
     block.specify block.if_gate block.ifnone_gate block.path block.an_event block.an_edge_event block.condition_name
     block.check_end block.ordered_check block.turned_check block.width_check block.second_period block.period_check block.check
     block.block
-faults = refl
+examples = ((refl, refl, refl, refl, refl, refl), refl)

@@ -96,27 +96,8 @@ fn more_inputs<'a>(
     Ok(())
 }
 
-/// Puts the inputs of a header with this output, up to its end, into a list that has none.
-#[tactic(auto, unfolding(crate::specs::Headers::header_rest))]
-fn header_inputs<'a>(
-    cursor: &mut Cursor<'a>,
-    alloc: Global,
-    output: &[u8],
-    found: &mut HeaderInputs<'a>,
-) -> Read<()>
-    requires none { found.old.items ≡ [] }
-    requires named { found.old.names ≡ output.now ∷ [] }
-    ensures { ReadsAs (λ _. header_with output.now found.new.items) (read (header_rest output.now) cursor.old) result
-        cursor.new }
-{
-    next_input(cursor, alloc, output, found)?;
-    more_inputs(cursor, alloc, output, found)?;
-    let may = found.items.len() <= MOST_INPUTS;
-    cursor.expect_where(may, Refusal::Width, b")")?;
-    cursor.expect(b";")
-}
-
 /// The inputs of a header with this output, of which these are the names, and its end.
+#[tactic(auto, unfolding(crate::specs::Headers::header_rest))]
 fn header_rest<'a>(
     cursor: &mut Cursor<'a>,
     alloc: Global,
@@ -126,11 +107,13 @@ fn header_rest<'a>(
     requires { names ≡ output.now ∷ [] }
     ensures { ReadsAs (header_with output.now) (read (header_rest output.now) cursor.old) result cursor.new }
 {
-    let mut found = NamedItems {
-        items: Items::new(alloc),
-        names,
-    };
-    header_inputs(cursor, alloc, output, &mut found)?;
+    let items = Items::new(alloc);
+    let mut found = NamedItems { items, names };
+    next_input(cursor, alloc, output, &mut found)?;
+    more_inputs(cursor, alloc, output, &mut found)?;
+    let may = found.items.len() <= MOST_INPUTS;
+    cursor.expect_where(may, Refusal::Width, b")")?;
+    cursor.expect(b";")?;
     let NamedItems { items: inputs, .. } = found;
     Ok(inputs)
 }
@@ -264,27 +247,8 @@ fn begin_row(cursor: &mut Cursor<'_>, sequential: bool) -> Read<()>
     Ok(())
 }
 
-/// Puts the rows of a primitive's table, of which the first word is next, into a list that has none.
-#[tactic(auto, unfolding(udp_tables::specs::VerilogPrimitives::table))]
-fn table_rows(
-    cursor: &mut Cursor<'_>,
-    alloc: Global,
-    sequential: bool,
-    inputs: usize,
-    rows: &mut Vec<UdpRow>,
-) -> Read<()>
-    requires { rows.old.items ≡ [] }
-    ensures { ReadsAs (λ _. rows.new.items) (read (spec.table sequential inputs) cursor.old) result cursor.new }
-{
-    cursor.expect(b"table")?;
-    let token = cursor.bytes();
-    begin_row(cursor, sequential)?;
-    next_row(cursor, alloc, sequential, inputs, token, rows)?;
-    more_rows(cursor, alloc, sequential, inputs, rows)?;
-    cursor.expect(b"endtable")
-}
-
 /// The table of a primitive.
+#[tactic(auto, unfolding(udp_tables::specs::VerilogPrimitives::table))]
 fn table(
     cursor: &mut Cursor<'_>,
     alloc: Global,
@@ -294,7 +258,12 @@ fn table(
     ensures { Reads (read (spec.table sequential inputs) cursor.old) result cursor.new }
 {
     let mut rows = Vec::with_capacity(alloc, SOME_ROWS)?;
-    table_rows(cursor, alloc, sequential, inputs, &mut rows)?;
+    cursor.expect(b"table")?;
+    let token = cursor.bytes();
+    begin_row(cursor, sequential)?;
+    next_row(cursor, alloc, sequential, inputs, token, &mut rows)?;
+    more_rows(cursor, alloc, sequential, inputs, &mut rows)?;
+    cursor.expect(b"endtable")?;
     Ok(Items::from_vec(rows))
 }
 

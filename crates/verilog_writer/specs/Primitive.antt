@@ -1,6 +1,6 @@
 -- The text of a primitive, by the syntax of IEEE 1364-2005, 8.1. The layout is this project's: two spaces before a
 -- declaration, four before a row, one between symbols.
-use Rattle.std.specs.Prelude.{ℕ, Bool, List, ◌++◌, codes, if◌then◌else◌}
+use Rattle.std.specs.Prelude.{ℕ, Bool, List, [], ◌++◌, codes, if◌then◌else◌}
 use Rattle.std.specs.List.{flat_map}
 use Rattle.udp_tables.specs.declared.table.Entry.{Entry}
 use Rattle.udp_tables.specs.declared.table.UdpRow.{UdpRow}
@@ -22,8 +22,7 @@ header_text udp = opening_text udp ++ (flat_map port_text udp.inputs ++ codes ")
 -- the declaration of the output, and of its register where the primitive has a state
 unfoldable pub output_text : Udp → List ℕ
 output_text udp =
-    if udp.sequential then codes "  output " ++ (udp.output ++ (codes ";\n  reg " ++ (udp.output ++ codes ";\n")))
-    else codes "  output " ++ (udp.output ++ codes ";\n")
+    codes "  output " ++ (udp.output ++ ((if udp.sequential then codes ";\n  reg " ++ udp.output else []) ++ codes ";\n"))
 
 -- the declaration of an input
 unfoldable pub input_text : List ℕ → List ℕ

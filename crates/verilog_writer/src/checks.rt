@@ -1,8 +1,8 @@
 //! The lines of checks in a specify block.
 ghost use Rattle.std.specs.Prelude.{◌≡◌, ◌++◌, codes};
 ghost use Rattle.verilog_writer.specs.Nets.{port_at};
-ghost use Rattle.verilog_writer.specs.Timing.{edge_text, joint_text, condition_text, limit_text, conditional_text, ordered_text};
-ghost use Rattle.verilog_writer.specs.Timing.{turned_text, width_text, period_text, check_text};
+ghost use Rattle.verilog_writer.specs.Timing.{edge_text, joint_text, condition_text, limit_text, ordered_text, turned_text};
+ghost use Rattle.verilog_writer.specs.Timing.{period_text, check_text};
 
 use crate::nets::{notifier_in, port_at, wire_at};
 use cell_machine::{CheckKind, Edge, Event};
@@ -44,34 +44,21 @@ fn condition_text(model: &VModule, condition: Option<usize>) -> &[u8]
 /// A check of a module.
 type Call<'a> = (&'a VModule, &'a TimingCheck);
 
-/// The limit of a check and the end of its line, with these bytes between the limit and the register of the checks.
+/// A condition of a check, where there is one, the check's limit and the end of its line, with these bytes behind the limit.
 #[derive(Drop)]
-struct Limit<'a>(Call<'a>, &'a [u8]);
+struct Limit<'a>(Call<'a>, Option<usize>, &'a [u8]);
 
 impl Part for Limit<'_> {
-    ghost text = { λ m. limit_text m.1.now m.0.0.now m.0.1.now };
+    ghost text = { λ m. joint_text m.1 ++ (condition_text m.0.0.now m.1
+        ++ (codes ", " ++ limit_text m.2.now m.0.0.now m.0.1.now)) };
 
     fn put<D: Desk>(&self, line: &mut Line, desk: &mut D, slot: OutSlot) -> Put {
         let (model, check) = self.0;
+        let condition = Bytes(condition_text(model, self.1));
         let limit = Decimal(check.limit as u128);
         let notifier = Bytes(notifier_in(model));
-        parts!(limit, Bytes(self.1), notifier, Bytes(b");\n")).put(line, desk, slot)
-    }
-}
-
-/// The condition of a check, where there is one, its limit and the end of its line, with these bytes behind the limit.
-#[derive(Drop)]
-struct Conditional<'a>(Call<'a>, &'a [u8]);
-
-impl Part for Conditional<'_> {
-    ghost text = { λ m. conditional_text m.1.now m.0.0.now m.0.1.now };
-
-    fn put<D: Desk>(&self, line: &mut Line, desk: &mut D, slot: OutSlot) -> Put {
-        let (model, check) = self.0;
-        let joint = Bytes(joint_text(check.condition));
-        let condition = Bytes(condition_text(model, check.condition));
-        let limit = Limit(self.0, self.1);
-        parts!(joint, condition, Bytes(b", "), limit).put(line, desk, slot)
+        let end = parts!(limit, Bytes(self.2), notifier, Bytes(b");\n"));
+        parts!(Bytes(joint_text(self.1)), condition, Bytes(b", "), end).put(line, desk, slot)
     }
 }
 
@@ -98,7 +85,7 @@ impl Part for Ordered<'_> {
     #[tactic(auto, unfolding(crate::specs::Timing::ordered_text))]
     fn put<D: Desk>(&self, line: &mut Line, desk: &mut D, slot: OutSlot) -> Put {
         let (model, check) = self.1;
-        let second = Behind(model, check.second, Conditional(self.1, b", "));
+        let second = Behind(model, check.second, Limit(self.1, check.condition, b", "));
         let first = Behind(model, check.first, parts!(Bytes(b", "), second));
         parts!(Bytes(self.0), first).put(line, desk, slot)
     }
@@ -114,27 +101,11 @@ impl Part for Turned<'_> {
     #[tactic(auto, unfolding(crate::specs::Timing::turned_text))]
     fn put<D: Desk>(&self, line: &mut Line, desk: &mut D, slot: OutSlot) -> Put {
         let (model, check) = self.0;
-        let limit = parts!(Bytes(b", "), Limit(self.0, b", "));
         let joint = Bytes(joint_text(check.condition));
         let condition = Bytes(condition_text(model, check.condition));
-        let first = Behind(model, check.first, limit);
+        let first = Behind(model, check.first, Limit(self.0, None, b", "));
         let rest = parts!(joint, condition, Bytes(b", "), first);
         parts!(Bytes(b"    $removal("), Behind(model, check.second, rest)).put(line, desk, slot)
-    }
-}
-
-/// A check of which the first event alone is written.
-#[derive(Drop)]
-struct Width<'a>(Call<'a>);
-
-impl Part for Width<'_> {
-    ghost text = { λ m. width_text (codes "    $width(") m.0.0.now m.0.1.now };
-
-    #[tactic(auto, unfolding(crate::specs::Timing::width_text))]
-    fn put<D: Desk>(&self, line: &mut Line, desk: &mut D, slot: OutSlot) -> Put {
-        let (model, check) = self.0;
-        let event = Behind(model, check.first, Conditional(self.0, b", 0, "));
-        parts!(Bytes(b"    $width("), event).put(line, desk, slot)
     }
 }
 
@@ -151,12 +122,12 @@ impl Part for Period<'_> {
         let rises = parts!(
             Bytes(b"    $period(posedge "),
             Bytes(port),
-            Conditional(self.0, b", ")
+            Limit(self.0, check.condition, b", ")
         );
         let falls = parts!(
             Bytes(b"    $period(negedge "),
             Bytes(port),
-            Conditional(self.0, b", ")
+            Limit(self.0, check.condition, b", ")
         );
         parts!(rises, falls).put(line, desk, slot)
     }
@@ -177,7 +148,10 @@ impl ItemText<TimingCheck> for CheckLines<'_> {
             CheckKind::Hold => Ordered(b"    $hold(", call).put(line, desk, slot),
             CheckKind::Recovery => Ordered(b"    $recovery(", call).put(line, desk, slot),
             CheckKind::Removal => Turned(call).put(line, desk, slot),
-            CheckKind::Width => Width(call).put(line, desk, slot),
+            CheckKind::Width => {
+                let event = Behind(self.0, one.first, Limit(call, one.condition, b", 0, "));
+                parts!(Bytes(b"    $width("), event).put(line, desk, slot)
+            }
             CheckKind::Period => Period(call).put(line, desk, slot),
         }
     }

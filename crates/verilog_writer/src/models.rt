@@ -4,7 +4,7 @@ ghost use Rattle.text_io.specs.declared.slots.OutSlot.TheVariants.{VerilogText};
 ghost use Rattle.text_io.specs.declared.slots.Slot.TheVariants.{Output};
 ghost use Rattle.text_io.specs.Desk.{is_bound, HasCause, WritesText};
 ghost use Rattle.verilog_writer.specs.Timing.{has_block};
-ghost use Rattle.verilog_writer.specs.Model.{prelude_text, module_only_text, module_text};
+ghost use Rattle.verilog_writer.specs.Model.{prelude_text, module_text};
 
 use crate::checks::CheckLines;
 use crate::declarations::{PortLines, Ports, Register};
@@ -13,9 +13,7 @@ use crate::names::NameLines;
 use crate::paths::PathLines;
 use crate::primitive::Primitives;
 use specify_blocks::VModule;
-use text_io::{
-    Bytes, Desk, Each, Failed, Line, OutSlot, Part, Put, When, parts, write_part, write_whole,
-};
+use text_io::{Bytes, Desk, Each, Failed, OutSlot, When, parts, write_part, write_whole};
 
 /// Appends what a text of modules begins with to the Verilog text, which is bound: times are in picoseconds. After `Failed`,
 /// which comes only where a write failed, a prefix of it was appended. It takes no memory.
@@ -28,31 +26,6 @@ pub fn write_prelude<D: Desk>(desk: &mut D) -> Result<(), Failed>
     write_whole(desk, OutSlot::VerilogText, b"`timescale 1ps/1ps\n")
 }
 
-/// Appends the text of a model to the Verilog text, which is bound: its primitives, and then its module. After `Failed`, which
-/// comes only where a write failed, a prefix of it was appended. It takes no memory. A number in the model that names nothing
-/// is written as nothing; a sound model has none.
-pub fn write_model<D: Desk>(desk: &mut D, model: &VModule) -> Result<(), Failed>
-    requires { IsTrue (is_bound (D.state desk.old) (Output VerilogText)) }
-    ensures text { WritesText (D.state desk.old) (D.state desk.new) VerilogText (module_text model.now) result }
-    ensures cause { HasCause (D.faults desk.old) (D.faults desk.new) result }
-{
-    write_part(desk, OutSlot::VerilogText, &Model(model))
-}
-
-/// A model: its primitives, and then its module.
-#[derive(Drop)]
-struct Model<'a>(&'a VModule);
-
-impl Part for Model<'_> {
-    ghost text = { λ m. module_text m.0.now };
-
-    #[tactic(auto, unfolding(crate::specs::Model::module_text))]
-    fn put<D: Desk>(&self, line: &mut Line, desk: &mut D, slot: OutSlot) -> Put {
-        let primitives = Each(Primitives, self.0.udps.as_slice());
-        parts!(primitives, Module(self.0)).put(line, desk, slot)
-    }
-}
-
 /// Whether the module has a specify block.
 fn has_block(model: &VModule) -> bool
     ensures { result ≡ has_block model.now }
@@ -60,35 +33,39 @@ fn has_block(model: &VModule) -> bool
     model.paths.len() > 0 || model.checks.len() > 0
 }
 
-/// A module behind its primitives: the line of its header, its declarations, its instances, and its specify block, where there is
-/// one.
-#[derive(Drop)]
-struct Module<'a>(&'a VModule);
-
-impl Part for Module<'_> {
-    ghost text = { λ m. module_only_text m.0.now };
-
-    fn put<D: Desk>(&self, line: &mut Line, desk: &mut D, slot: OutSlot) -> Put {
-        let model = self.0;
-        let name = model.name.as_slice();
-        let ports = model.ports.as_slice();
-        let wires = model.wires.as_slice();
-        let opening = parts!(Bytes(b"module "), Bytes(name), Bytes(b" ("));
-        let header = parts!(opening, Ports(ports), Bytes(b");\n"));
-        let (inputs, outputs) = (Each(PortLines(true), ports), Each(PortLines(false), ports));
-        let inner = Each(NameLines(b"  wire "), wires);
-        let declarations = parts!(inputs, outputs, inner, Register(&model.notifier));
-        let instances = Each(InstanceLines(model), model.instances.as_slice());
-        let paths = Each(PathLines(model), model.paths.as_slice());
-        let checks = Each(CheckLines(model), model.checks.as_slice());
-        let lines = parts!(
-            Bytes(b"  specify\n"),
-            paths,
-            checks,
-            Bytes(b"  endspecify\n")
-        );
-        let block = When(has_block(model), lines);
-        let end = Bytes(b"endmodule\n");
-        parts!(header, declarations, instances, block, end).put(line, desk, slot)
-    }
+/// Appends the text of a model to the Verilog text, which is bound: its primitives, and then its module, which is the line of its
+/// header, its declarations, its instances, and its specify block, where there is one. After `Failed`, which comes only where a
+/// write failed, a prefix of it was appended. It takes no memory. A number in the model that names nothing is written as nothing;
+/// a sound model has none.
+pub fn write_model<D: Desk>(desk: &mut D, model: &VModule) -> Result<(), Failed>
+    requires { IsTrue (is_bound (D.state desk.old) (Output VerilogText)) }
+    ensures text { WritesText (D.state desk.old) (D.state desk.new) VerilogText (module_text model.now) result }
+    ensures cause { HasCause (D.faults desk.old) (D.faults desk.new) result }
+{
+    let name = Bytes(model.name.as_slice());
+    let opening = parts!(Bytes(b"module "), name, Bytes(b" ("));
+    let ports = model.ports.as_slice();
+    let header = parts!(opening, Ports(ports), Bytes(b");\n"));
+    let (inputs, outputs) = (Each(PortLines(true), ports), Each(PortLines(false), ports));
+    let inner = Each(NameLines(b"  wire "), model.wires.as_slice());
+    let declarations = parts!(inputs, outputs, inner, Register(&model.notifier));
+    let instances = Each(InstanceLines(model), model.instances.as_slice());
+    let paths = Each(PathLines(model), model.paths.as_slice());
+    let checks = Each(CheckLines(model), model.checks.as_slice());
+    let lines = parts!(
+        Bytes(b"  specify\n"),
+        paths,
+        checks,
+        Bytes(b"  endspecify\n")
+    );
+    let block = When(has_block(model), lines);
+    let module = parts!(
+        header,
+        declarations,
+        instances,
+        block,
+        Bytes(b"endmodule\n")
+    );
+    let primitives = Each(Primitives, model.udps.as_slice());
+    write_part(desk, OutSlot::VerilogText, &parts!(primitives, module))
 }

@@ -2,11 +2,13 @@
 ghost use Rattle.std.specs.Prelude.{IsTrue};
 ghost use Rattle.text_io.specs.declared.slots.Slot.TheVariants.{Output};
 ghost use Rattle.text_io.specs.Desk.{is_bound, HasCause, WritesText};
-ghost use Rattle.verilog_writer.specs.Primitive.{primitive_text, output_text};
+ghost use Rattle.verilog_writer.specs.Primitive.{primitive_text};
 
 use crate::names::{ListedNames, NameLines};
 use crate::table::Rows;
-use text_io::{Bytes, Desk, Each, Failed, ItemText, Line, OutSlot, Part, Put, parts, write_part};
+use text_io::{
+    Bytes, Desk, Each, Failed, ItemText, Line, OutSlot, Part, Put, When, parts, write_part,
+};
 use udp_tables::Udp;
 
 /// Appends the text of a primitive to a slot that is bound. After `Failed`, which comes only where a write failed, a
@@ -19,28 +21,6 @@ pub fn write_udp<D: Desk>(desk: &mut D, slot: OutSlot, udp: &Udp) -> Result<(), 
     write_part(desk, slot, &Primitive(udp))
 }
 
-/// The declaration of the output, and of its register where the primitive has a state.
-#[derive(Drop)]
-struct OutputPort<'a>(&'a Udp);
-
-impl Part for OutputPort<'_> {
-    ghost text = { λ m. output_text m.0.now };
-
-    #[tactic(auto, unfolding(crate::specs::Primitive::output_text))]
-    fn put<D: Desk>(&self, line: &mut Line, desk: &mut D, slot: OutSlot) -> Put {
-        let name = self.0.output.as_slice();
-        if self.0.sequential {
-            line.put_pieces(
-                desk,
-                slot,
-                &[b"  output ", name, b";\n  reg ", name, b";\n"],
-            )
-        } else {
-            line.put_pieces(desk, slot, &[b"  output ", name, b";\n"])
-        }
-    }
-}
-
 /// A primitive: the line of its header, its declarations, and its table.
 #[derive(Drop)]
 struct Primitive<'a>(&'a Udp);
@@ -50,15 +30,17 @@ impl Part for Primitive<'_> {
 
     fn put<D: Desk>(&self, line: &mut Line, desk: &mut D, slot: OutSlot) -> Put {
         let name = Bytes(self.0.name.as_slice());
-        let output = Bytes(self.0.output.as_slice());
+        let output = self.0.output.as_slice();
         let inputs = self.0.inputs.as_slice();
-        let opening = parts!(Bytes(b"primitive "), name, Bytes(b" ("), output);
+        let opening = parts!(Bytes(b"primitive "), name, Bytes(b" ("), Bytes(output));
         let header = parts!(opening, Each(ListedNames(b", "), inputs), Bytes(b");\n"));
-        let declared = Each(NameLines(b"  input "), inputs);
+        let register = When(self.0.sequential, (Bytes(b";\n  reg "), Bytes(output)));
+        let declared = parts!(Bytes(b"  output "), Bytes(output), register, Bytes(b";\n"));
+        let inputs = Each(NameLines(b"  input "), inputs);
         let rows = Each(Rows(self.0.sequential), self.0.rows.as_slice());
         let end = Bytes(b"  endtable\nendprimitive\n");
         let table = parts!(Bytes(b"  table\n"), rows, end);
-        parts!(header, OutputPort(self.0), declared, table).put(line, desk, slot)
+        parts!(header, declared, inputs, table).put(line, desk, slot)
     }
 }
 

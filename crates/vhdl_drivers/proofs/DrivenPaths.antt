@@ -11,9 +11,7 @@ use Rattle.text_io.specs.Line.{Gathers, PutsText}
 use Rattle.text_io.proofs.LineLaws.{Gathers-Gathers, puts_on, put_stops}
 use Rattle.driven_traces.specs.declared.delays.DrivePath.{DrivePath}
 use Rattle.vhdl_writer.specs.Joined.{numbered_texts}
-use Rattle.driver_models.specs.declared.model.DriverModel.{DriverModel}
-use Rattle.driver_texts.specs.PortNames.{outputs, name_at}
-use Rattle.vhdl_drivers.specs.DriverText.{paths_to, own_paths, path_call_text, direct_text, driven_line}
+use Rattle.vhdl_drivers.specs.DriverText.{paths_to}
 
 same : (a b : ℕ) → a ≡ b → nat_eq a b ≡ true
 same a b e = grind (arith, nat_tests, e)
@@ -35,25 +33,6 @@ pub has_paths : (number : ℕ) (paths : List DrivePath)
     → list_any (λ path. nat_eq path.drive number) paths ≡ nat_lt 0 (length (paths_to number paths))
 has_paths number [] = refl
 has_paths number (path ∷ paths) = one_more number path paths (has_paths number paths) (nat_eq path.drive number)
-
--- the line of a driven output with this name, which has paths or none
-pub line_with_paths : (m : DriverModel) (n place : ℕ) (name : List ℕ) → nat_lt 0 (length (own_paths m n)) ≡ true
-    → name ≡ name_at (outputs m.ports) place
-    → path_call_text m n name ≡ driven_line m n place
-unfolding driven_line
-line_with_paths m n place name e f =
-    ap (path_call_text m n) f
-    ∙ sym (ap (λ (b : Bool). if b then path_call_text m n (name_at (outputs m.ports) place)
-    else direct_text n (name_at (outputs m.ports) place)) e)
-
-pub line_without_paths : (m : DriverModel) (n place : ℕ) (name : List ℕ) → nat_lt 0 (length (own_paths m n)) ≡ false
-    → name ≡ name_at (outputs m.ports) place
-    → direct_text n name ≡ driven_line m n place
-unfolding driven_line
-line_without_paths m n place name e f =
-    ap (direct_text n) f
-    ∙ sym (ap (λ (b : Bool). if b then path_call_text m n (name_at (outputs m.ports) place)
-    else direct_text n (name_at (outputs m.ports) place)) e)
 
 -- Of the texts of the paths to an output some were put: those of the paths from here on are the others.
 pub record PutBefore (f : ℕ → DrivePath → List ℕ) (drive : ℕ) (all : List ℕ) (s t : DeskState) (slot : OutSlot) (l m : List ℕ)

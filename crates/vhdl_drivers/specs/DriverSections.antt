@@ -25,7 +25,7 @@ use Rattle.driver_models.specs.Terminals as terminals
 use Rattle.driver_models.specs.Cores.{Core, core_name}
 use Rattle.driver_models.specs.PathEnds.{input_number}
 use Rattle.driver_texts.specs.NumberedPorts.{numbered_ports, driven_names}
-use Rattle.driver_texts.specs.Sections.{SectionGrammar, driver_of}
+use Rattle.driver_texts.specs.Sections.{nothing_left, SectionGrammar, driver_of}
 use Rattle.driver_texts.specs.declared.section_parts.CoreCall.{CoreCall}
 use Rattle.driver_texts.specs.declared.section_parts.SectionFront.{SectionFront}
 use Rattle.vhdl_drivers.specs.DriverText.{data_word, enable_word}
@@ -287,7 +287,7 @@ unfoldable pub section_end : Grammar (Unit {0})
 section_end = do
   _ ← r.Token is_end Syntax
   _ ← expect_all (codes "process" ∷ codes ";" ∷ codes "end" ∷ codes "driven" ∷ codes ";" ∷ [])
-  r.Last (λ _. Syntax) tt
+  nothing_left
 
 -- what stands behind the core
 unfoldable pub section_process : SectionFront → CoreCall → Grammar DriverModel

@@ -9,8 +9,8 @@ use crate::driven_lines::Outputs;
 use crate::variables::driven_variables;
 use driven_traces::DrivePath;
 use driver_models::DriverModel;
-use driver_texts::{CoreCall, SectionFront, driven_names, driver_of};
-use grammar_reader::{Read, Refusal, Stop};
+use driver_texts::{CoreCall, SectionFront, driven_names, driver_of, nothing_left};
+use grammar_reader::{Read, Stop};
 use sqlite_items::Items;
 use std::alloc::Global;
 use udp_tables::VPort;
@@ -71,10 +71,7 @@ fn section_end(cursor: &mut Cursor) -> Read<()>
 {
     process_end(cursor)?;
     expect_all(cursor, &[b"process", b";", b"end", b"driven", b";"])?;
-    if cursor.left() > 0 {
-        return Err(Stop::Refused(Refusal::Syntax));
-    }
-    Ok(())
+    nothing_left(cursor)
 }
 
 /// The rest of a section behind its core.

@@ -29,7 +29,7 @@ use Rattle.vhdl_grammar.specs.declared.scope.Columns.{Columns}
 use Rattle.vhdl_grammar.specs.declared.scope.Assigned.{Assigned}
 use Rattle.vhdl_grammar.specs.declared.scope.Assigned.TheVariants as assigned
 use Rattle.vhdl_grammar.specs.declared.scope.Scope.{Scope}
-use Rattle.vhdl_grammar.specs.VhdlTables.{state_width}
+use Rattle.vhdl_grammar.specs.VhdlTables.{state_width, truth_width}
 use Rattle.vhdl_grammar.specs.VhdlDeclarations.{port_names, output_count}
 use Rattle.vhdl_grammar.specs.VhdlNames.{Uses}
 use Rattle.vhdl_grammar.specs.VhdlChecks.{Checks}
@@ -103,6 +103,15 @@ conditions_count [] uses h = refl
 conditions_count (table ∷ tables) [] h = absurd (omega arith)
 conditions_count (table ∷ tables) (inputs ∷ uses) h = let rest = conditions_count tables uses (omega arith) in omega (arith, rest)
 
+-- the rows of a truth table are as long as what its columns look up, of which there is something
+columns_fit : {C : Type 0} (table : TruthTable) (columns : List C) → HasTruthRows table
+    → length columns ≡ truth_width table.rows
+    → All (λ (row : TruthRow). length row.inputs ≡ length columns) table.rows × (1 ≤ length columns)
+columns_fit table columns rows count = (
+  subst (λ (n : ℕ). All (λ (row : TruthRow). length row.inputs ≡ n) table.rows) (sym count) rows.even,
+  subst (λ (n : ℕ). 1 ≤ n) (sym count) rows.wide,
+)
+
 -- Conditions.
 
 record IsGoodTruth (e : VEntity) (truth : VTruth) : Type 0 where
@@ -116,18 +125,14 @@ good_conditions scope e of [] uses rows h = All-nil (IsGoodTruth e)
 good_conditions scope e of (table ∷ tables) [] rows h = All-nil (IsGoodTruth e)
 good_conditions scope e of (table ∷ tables) (inputs ∷ uses) rows h =
     let first = All-head HasTruthRows table tables rows in
+    let fit = columns_fit table inputs first h.0.count in
     All-cons (IsGoodTruth e) (record { table = table; inputs = inputs }) (conditions_with tables uses)
     (record {
       sound = record {
-        rows = subst (λ (n : ℕ). All (λ (row : TruthRow). length row.inputs ≡ n) table.rows) (sym h.0.count) first.even;
+        rows = fit.0;
         fed = subst (λ (ports : List VPort). IsTrue (list_all (is_input_port ports) inputs)) (sym of.ports) h.0.all.fed;
       };
-      written = record {
-        rows = first.some;
-        columns = subst (λ (n : ℕ). 1 ≤ n) (sym h.0.count) first.wide;
-        apart =
-            h.0.all.apart;
-      };
+      written = record { rows = first.some; columns = fit.1; apart = h.0.all.apart };
     })
     (good_conditions scope e of tables uses (All-tail HasTruthRows table tables rows) h.1)
 
@@ -158,19 +163,11 @@ good_values scope e of tables (assigned.Constant one ∷ values) rows h =
 good_values scope e of [] (assigned.Lookup sources ∷ values) rows h = All-nil (IsGoodValue e)
 good_values scope e of (table ∷ tables) (assigned.Lookup sources ∷ values) rows h =
     let first = All-head HasTruthRows table tables rows in
+    let fit = columns_fit table sources first h.0.count in
     All-cons (IsGoodValue e) _ (values_with tables values)
     (record {
-      sound = (
-        subst (λ (n : ℕ). All (λ (row : TruthRow). length row.inputs ≡ n) table.rows) (sym h.0.count) first.even,
-        sym
-            (all_feed scope e of sources) ∙ h.0.all.fed,
-      );
-      written = record {
-        rows = first.some;
-        columns = subst (λ (n : ℕ). 1 ≤ n) (sym h.0.count) first.wide;
-        apart =
-            h.0.all.apart;
-      };
+      sound = (fit.0, sym (all_feed scope e of sources) ∙ h.0.all.fed);
+      written = record { rows = first.some; columns = fit.1; apart = h.0.all.apart };
     })
     (good_values scope e of tables values (All-tail HasTruthRows table tables rows) h.1)
 

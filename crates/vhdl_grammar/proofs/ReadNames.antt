@@ -9,11 +9,11 @@ use Rattle.std.specs.Option.{option_map_or}
 use Rattle.std.specs.List.{list_any}
 use Rattle.std.proofs.lemmas.Bool.{and_parts, eqb-true, true≢false}
 use Rattle.std.proofs.lemmas.Map.Keys.{IsDistinct-push}
-use Rattle.grammar_rules.specs.Rule.{Fits, Foul}
+use Rattle.grammar_rules.specs.Rule.{Fits}
 use Rattle.grammar_rules.proofs.Promises.{Promises, token, weaker}
 use Rattle.grammar_reader.specs.declared.refusal.Refusal.{Refusal}
-use Rattle.grammar_reader.specs.declared.refusal.Refusal.TheVariants.{Syntax, Undefined}
-use Rattle.grammar_reader.specs.Words.{allowed_by}
+use Rattle.grammar_reader.specs.declared.refusal.Refusal.TheVariants.{Syntax}
+use Rattle.grammar_reader.proofs.WordPromises as promised
 pub use Rattle.grammar_reader.proofs.WordPromises.{values, goes_on, behind, surely}
 pub use Rattle.grammar_reader.proofs.Passing.{fits_if, fits_unless, fits_where, some_if, fits_allowed, IsFound}
 use Rattle.vhdl_tokens.specs.Words.{is_vhdl_word}
@@ -63,14 +63,10 @@ push_apart names x h e new = IsDistinct-push same_equivalence names x h (sym (am
 -- What the words of the grammar promise.
 
 pub known_values : {A : Type 0} (find : List ℕ → Option A) → Promises IsSpelled (known find) (IsFound find)
-known_values find = token (λ x a p e.
-    let n = fits_if (is_name x) (allowed_by Undefined (find x)) Syntax a e in
-    (x, fits_allowed Undefined (find x) a n.1))
+known_values find = promised.known_values is_name find
 
 pub where_holds : (b : Bool) (k : Refusal) (text : List ℕ) → Promises IsSpelled (expect_where b k text) (λ _. b ≡ true)
-where_holds b k text = token (λ x a p e.
-    let n = fits_if (is_same x text) (if b then Fits tt else Foul k tt) Syntax a e in
-    (fits_where b k tt a n.1).0)
+where_holds b k text = promised.where_holds is_same b k text
 
 -- Numbers.
 

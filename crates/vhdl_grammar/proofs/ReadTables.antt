@@ -10,6 +10,7 @@ use Rattle.std.proofs.lemmas.Bool.Decides.{nat_tests}
 use Rattle.std.proofs.lemmas.List.Elements.{All-nil, All-push}
 use Rattle.std.proofs.lemmas.List.Sums.{sum_by-append, sum_by-cons, sum_by-take-le}
 use Rattle.grammar_rules.specs.Rule.{Fits, Foul}
+use Rattle.grammar_rules.specs.Rule as rule
 use Rattle.grammar_rules.proofs.Promises.{Promises, token, gives, in_turn, many, choice}
 use Rattle.trit_cubes.specs.declared.trits.Trit.{Trit}
 use Rattle.vital_tables.specs.declared.table.Trits.{Trits}
@@ -19,12 +20,12 @@ use Rattle.vital_tables.specs.declared.table.VSymbol.{VSymbol}
 use Rattle.vital_tables.specs.declared.table.VNext.{VNext}
 use Rattle.vital_tables.specs.declared.table.VStateRow.{VStateRow}
 use Rattle.vital_tables.specs.declared.table.VStateTable.{VStateTable}
-use Rattle.grammar_reader.specs.Words.{Grammar}
+use Rattle.grammar_reader.specs.Words.{Grammar, ◌>>=◌}
 use Rattle.grammar_reader.specs.declared.refusal.Refusal.TheVariants.{Syntax, TwoEdges, Width}
 use Rattle.vhdl_tokens.specs.Spelling.{is_same}
 use Rattle.vhdl_grammar.specs.declared.scope.Tables.{Tables}
 use Rattle.std.specs.Prelude.{codes}
-use Rattle.vhdl_grammar.specs.VhdlRules.{only_element, more_elements, several_elements, elements}
+use Rattle.vhdl_grammar.specs.VhdlRules.{expect, only_element, more_elements, several_elements, elements}
 use Rattle.vhdl_grammar.specs.VhdlTables.{symbol_of, is_edge, next_by, next_symbol, symbols, state_in, next_in, state_row_with}
 use Rattle.vhdl_grammar.specs.VhdlTables.{state_row_of, row_end, state_width, is_as_long_as_state_rows, state_row, state_table}
 use Rattle.vhdl_grammar.specs.VhdlTables.{value_of, truth_row_with, truth_row_of, truth_width, is_as_long_as_truth_rows}
@@ -180,6 +181,16 @@ row_ends test (Some r) x row e =
     let g = fits_where (test r) Width r row f.1 in
     (ap Some g.1, subst (λ r. test r ≡ true) g.1 g.0)
 
+-- a table in parentheses, of rows each of which goes on with those before it
+tables : {R T : Type 0} (row : List R → Grammar (List R)) (AreRows : List R → Type 0) (table : List R → T) (IsTable : T → Type 0)
+    → ((rows : List R) → (rows ≡ []) ⊎ AreRows rows → Promises IsSpelled (row rows) AreRows)
+    → ((rows : List R) → AreRows rows → IsTable (table rows))
+    → Promises IsSpelled
+    (expect (codes "(") >>= λ _. elements row [] >>= λ rows. expect (codes ")") >>= λ _. rule.Gives (table rows)) IsTable
+tables row AreRows table IsTable one is = behind (λ a. in_turn
+    (all_elements row (λ rows. (rows ≡ []) ⊎ AreRows rows) AreRows [] (inl refl) one (λ w r. inr r))
+    (λ rows h. behind (λ b. gives (is rows h))))
+
 one_state_row : (rows : List VStateRow) → MayBeStateRows rows → Promises IsSpelled (state_row rows) AreStateRows
 unfolding state_row
 one_state_row rows h =
@@ -195,9 +206,7 @@ HasStateRows table = AreStateRows table.rows
 
 state_tables : Promises IsSpelled state_table HasStateRows
 unfolding state_table
-state_tables = behind (λ a. in_turn
-    (all_elements state_row MayBeStateRows AreStateRows [] (inl refl) one_state_row (λ w r. inr r))
-    (λ rows h. behind (λ b. gives h)))
+state_tables = tables {T = VStateTable} state_row AreStateRows (λ rows. record { rows = rows }) HasStateRows one_state_row (λ rows h. h)
 
 -- Rows of a truth table.
 
@@ -259,9 +268,7 @@ HasTruthRows table = AreTruthRows table.rows
 
 truth_tables : Promises IsSpelled truth_table HasTruthRows
 unfolding truth_table
-truth_tables = behind (λ a. in_turn
-    (all_elements truth_row MayBeTruthRows AreTruthRows [] (inl refl) one_truth_row (λ w r. inr r))
-    (λ rows h. behind (λ b. gives h)))
+truth_tables = tables {T = TruthTable} truth_row AreTruthRows (λ rows. record { rows = rows }) HasTruthRows one_truth_row (λ rows h. h)
 
 -- Constants.
 

@@ -1,10 +1,9 @@
 -- VHDL texts, and what they are by computing.
-use Rattle.std.proofs.Common.{◌≡◌, ℕ, true, false, List, [], ◌∷◌, ◌++◌, None, Ok, codes, refl}
+use Rattle.std.proofs.Common.{◌≡◌, ℕ, true, false, List, [], ◌∷◌, ◌++◌, Ok, codes, refl}
 use Rattle.std.specs.Fmt.{digits}
 use Rattle.trit_cubes.specs.declared.trits.Trit.TheVariants as trit
 use Rattle.cell_machine.specs.declared.outputs.Source.TheVariants as source
-use Rattle.cell_machine.specs.declared.checks.CheckKind.TheVariants as check_kind
-use Rattle.cell_machine.specs.declared.checks.Edge.TheVariants as edge
+use Rattle.udp_tables.proofs.FlipFlop.{flip-flop-ports, flip-flop-checks}
 use Rattle.udp_tables.specs.declared.models.ModelFault.TheVariants.{Lexical, Syntax, Twice, TwoEdges, Undefined, Undriven}
 use Rattle.udp_tables.specs.declared.models.ModelFault.TheVariants.{Unequal, Width}
 use Rattle.udp_tables.proofs.FaultCases.{at, behind, AreFaults}
@@ -55,23 +54,12 @@ flip-flop : VEntity
 flip-flop =
     record {
       name = codes "DFFT";
-      ports = record { name = codes "CK"; input = true } ∷ record { name = codes "D"; input = true } ∷ record {
-        name =
-            codes "Q";
-        input = false;
-      } ∷ [];
+      ports = flip-flop-ports;
       states = record { table = record { rows = state_rows true 2 flip_flop }; violation = true; inputs = 0 ∷ 1 ∷ [] } ∷ [];
       conditions = [];
       outputs = record { port = 2; value = kept; paths = record { from = 0; rise = 100; fall = 120; gate = gate.Always } ∷ [] }
           ∷ [];
-      checks = record {
-        kind = check_kind.Setup;
-        first = record { pin = 1; edge = edge.Any };
-        second =
-            record { pin = 0; edge = edge.Rise };
-        limit = 50;
-        condition = None;
-      } ∷ [];
+      checks = flip-flop-checks;
     }
 
 -- the packages of an entity

@@ -61,13 +61,7 @@ symbol_of x = symbol_by x (level_of x)
 abbrev pub is_edge : VSymbol → Bool
 is_edge (symbol.Level level) = false
 is_edge symbol.Steady = false
-is_edge symbol.Rise = true
-is_edge symbol.Fall = true
-is_edge symbol.To1 = true
-is_edge symbol.To0 = true
-is_edge symbol.From0 = true
-is_edge symbol.From1 = true
-is_edge symbol.Change = true
+is_edge _ = true
 
 -- what a symbol of a row says behind these. A second edge breaks a strict rule.
 abbrev pub next_by : List VSymbol → Option VSymbol → Verdict VSymbol Refusal

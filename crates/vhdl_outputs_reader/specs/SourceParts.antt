@@ -1,20 +1,26 @@
 -- The inputs and the states among sources.
 use Rattle.std.specs.Prelude.{ℕ, Bool, nat_eq, List, [], ◌∷◌, ◌++◌}
-use Rattle.std.specs.List.{list_any}
+use Rattle.std.specs.List.{flat_map, list_any}
 use Rattle.cell_machine.specs.declared.outputs.Source.{Source}
 use Rattle.cell_machine.specs.declared.outputs.Source.TheVariants as source
 
+-- the number of a source that is an input
+abbrev pub pin_of : Source → List ℕ
+pin_of (source.Pin p) = p ∷ []
+pin_of (source.State g) = []
+
+-- the number of a source that is a state
+abbrev pub state_of : Source → List ℕ
+state_of (source.Pin p) = []
+state_of (source.State g) = g ∷ []
+
 -- the numbers of the inputs, in order
 abbrev pub pins_of : List Source → List ℕ
-pins_of [] = []
-pins_of (source.Pin p ∷ sources) = p ∷ pins_of sources
-pins_of (source.State g ∷ sources) = pins_of sources
+pins_of = flat_map pin_of
 
 -- the numbers of the states, in order
 abbrev pub states_of : List Source → List ℕ
-states_of [] = []
-states_of (source.Pin p ∷ sources) = states_of sources
-states_of (source.State g ∷ sources) = g ∷ states_of sources
+states_of = flat_map state_of
 
 -- the number of a source is among these of its kind
 unfoldable pub is_numbered : Source → List ℕ → List ℕ → Bool

@@ -1,4 +1,3 @@
-mod NoWord
 pub mod Stays
 pub mod Padding
 pub mod Longest
@@ -7,3 +6,4 @@ pub mod SecondBytes
 pub mod SameBytes
 mod TokenFirst
 pub mod LawfulTexts
+pub mod GroupWords

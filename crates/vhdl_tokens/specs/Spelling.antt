@@ -21,7 +21,11 @@ text_of (_ ∷ bs) = take (length bs - 1) bs
 abbrev pub is_quoted : List ℕ → List ℕ → Bool
 is_quoted token bytes = is_string token && str_eq_ignore_ascii_case (text_of token) bytes
 
+-- two texts are alike: equal, where they have to be exact, and else the same whatever the case of their letters
+abbrev pub are_alike : Bool → List ℕ → List ℕ → Bool
+are_alike exact text other = if exact then bytes_eq text other else str_eq_ignore_ascii_case text other
+
 -- Names and words are the same whatever the case of their letters (IEEE 1076-1993, 13.3.1 and 13.9). A character literal is the
 -- same as itself alone (13.5).
 abbrev pub is_same : List ℕ → List ℕ → Bool
-is_same token word = if is_character token then bytes_eq token word else str_eq_ignore_ascii_case token word
+is_same token word = are_alike (is_character token) token word

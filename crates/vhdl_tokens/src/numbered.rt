@@ -1,7 +1,6 @@
 //! Names that are a word followed by a number.
 ghost use Rattle.std.specs.Prelude.{◌≡◌, ◌&&◌, ◌++◌, decimal, IfOk};
-ghost use Rattle.std.specs.Str.{bytes_eq, str_eq_ignore_ascii_case};
-ghost use Rattle.vhdl_tokens.specs.Spelling.{is_character, is_same};
+ghost use Rattle.vhdl_tokens.specs.Spelling.{are_alike, is_character, is_same};
 
 use itoa::Buffer;
 use sqlite_items::Items;
@@ -29,18 +28,22 @@ fn is_character(token: &[u8]) -> bool
     }
 }
 
-/// Whether both parts of a token are these.
-fn are_parts(front: &[u8], behind: &[u8], word: &[u8], rest: &[u8]) -> bool
-    ensures { result ≡ (bytes_eq front.now word.now && bytes_eq behind.now rest.now) }
+/// Whether two texts are alike: where they have to be exact, they are equal, and else the same whatever the case of their letters.
+fn are_alike(exact: bool, text: &[u8], other: &[u8]) -> bool
+    ensures { result ≡ are_alike exact text.now other.now }
 {
-    front == word && behind == rest
+    if exact {
+        text == other
+    } else {
+        text.eq_ignore_ascii_case(other)
+    }
 }
 
-/// Whether both parts of a token are these, whatever the case of their letters.
-fn are_same_parts(front: &[u8], behind: &[u8], word: &[u8], rest: &[u8]) -> bool
-    ensures { result ≡ (str_eq_ignore_ascii_case front.now word.now && str_eq_ignore_ascii_case behind.now rest.now) }
+/// Whether both parts of a token are like these.
+fn are_parts(exact: bool, front: &[u8], behind: &[u8], word: &[u8], rest: &[u8]) -> bool
+    ensures { result ≡ (are_alike exact front.now word.now && are_alike exact behind.now rest.now) }
 {
-    front.eq_ignore_ascii_case(word) && behind.eq_ignore_ascii_case(rest)
+    are_alike(exact, front, word) && are_alike(exact, behind, rest)
 }
 
 /// Whether a token stands for a word followed by these bytes. It takes no memory.
@@ -52,10 +55,7 @@ fn is_joined(token: &[u8], word: &[u8], rest: &[u8]) -> bool
         return false;
     }
     let (front, behind) = token.split_at(word.len());
-    if is_character(token) {
-        return are_parts(front, behind, word, rest);
-    }
-    are_same_parts(front, behind, word, rest)
+    are_parts(is_character(token), front, behind, word, rest)
 }
 
 /// Whether a token stands for a word followed by a number. It takes no memory.

@@ -1,14 +1,7 @@
 //! Words that are no names in VHDL text, by their first letters.
 
-ghost use Rattle.std.specs.Prelude.{◌≡◌, ◌∷◌, List, ℕ};
-ghost use Rattle.std.specs.List.{list_any};
-ghost use Rattle.std.specs.Str.{str_eq_ignore_ascii_case};
-ghost use Rattle.vhdl_tokens.specs.Words.{is_reserved, is_used};
-
-use lexer::group_of;
-
 /// The reserved words of VHDL by their first letters: those with `a` first, then those with `b`, and so on.
-static RESERVED: [&[&[u8]]; 26] = [
+pub static RESERVED: [&[&[u8]]; 26] = [
     &[
         b"abs",
         b"access",
@@ -76,7 +69,7 @@ static RESERVED: [&[&[u8]]; 26] = [
 ];
 
 /// The other words that the text of an entity uses, in the same way.
-static USED: [&[&[u8]]; 26] = [
+pub static USED: [&[&[u8]]; 26] = [
     &[],
     &[b"boolean"],
     &[],
@@ -111,29 +104,3 @@ static USED: [&[&[u8]]; 26] = [
     &[],
     &[],
 ];
-
-/// Reserved words among which each stands that begins with this byte, whatever its case.
-#[tactic(auto, unfolding(crate::specs::Words::is_reserved, crate::specs::Words::vhdl_words))]
-pub fn reserved_from(first: u8) -> &'static [&'static [u8]]
-    ensures { (rest : List ℕ) → list_any (λ word. str_eq_ignore_ascii_case (first ∷ rest) word.now) result.now ≡ is_reserved
-        (first ∷ rest) }
-{
-    let letter = first.to_ascii_lowercase();
-    if !letter.is_ascii_lowercase() {
-        return &[];
-    }
-    group_of(&RESERVED, letter)
-}
-
-/// Other words that the text of an entity uses, among which each stands that begins with this byte, whatever its case.
-#[tactic(auto, unfolding(crate::specs::Words::is_used, crate::specs::Words::used_words))]
-pub fn used_from(first: u8) -> &'static [&'static [u8]]
-    ensures { (rest : List ℕ) → list_any (λ word. str_eq_ignore_ascii_case (first ∷ rest) word.now) result.now ≡ is_used
-        (first ∷ rest) }
-{
-    let letter = first.to_ascii_lowercase();
-    if !letter.is_ascii_lowercase() {
-        return &[];
-    }
-    group_of(&USED, letter)
-}

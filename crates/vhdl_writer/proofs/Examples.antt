@@ -12,19 +12,12 @@ use Rattle.vital_models.specs.declared.model.HGate.TheVariants as gate
 use Rattle.udp_tables.specs.declared.models.VPort.{VPort}
 use Rattle.udp_tables.specs.declared.timing_checks.TimingCheck.{TimingCheck}
 use Rattle.vital_models.specs.declared.model.VEntity.{VEntity}
-use Rattle.vhdl_writer.specs.Names.{input_text, inputs_text, next_input_text, violated_text, source_name, source_text}
-use Rattle.vhdl_writer.specs.Names.{sources_text, condition_text}
+use Rattle.vhdl_writer.specs.Names.{input_text, inputs_text, next_input_text, violated_text, condition_text}
 use Rattle.vhdl_writer.specs.Tables.{symbol_apart_text, level_apart_text, state_row_text, truth_row_text, truth_rows_text}
 use Rattle.vhdl_writer.specs.Tables.{state_rows_text, state_constant_text, condition_constant_text, is_looked_up}
 use Rattle.vhdl_writer.specs.Tables.{output_table_text, constants_text}
-use Rattle.vhdl_writer.specs.Declarations.{port_text, some_ports_text, header_text, signal_text, process_text}
-use Rattle.vhdl_writer.specs.Declarations.{check_variables_text, state_variables_text, glitch_data_text, output_variables_text}
-use Rattle.vhdl_writer.specs.Declarations.{variables_text}
 use Rattle.vhdl_writer.specs.Statements.{one_text, setup_hold_text, recovery_removal_text, period_pulse_text, check_text}
-use Rattle.vhdl_writer.specs.Statements.{report_text, reports_text, state_text}
-use Rattle.vhdl_writer.specs.Outputs.{lookup_text, value_line, not_zero_text, zero_text, all_zero_text, path_text, paths_text}
-use Rattle.vhdl_writer.specs.Outputs.{direct_text}
-use Rattle.vhdl_writer.specs.Entity.{statements_text, entity_text}
+use Rattle.vhdl_writer.specs.Outputs.{not_zero_text, zero_text, all_zero_text, path_text}
 
 abbrev port : List ℕ → Bool → VPort
 port name input = record { name = name; input = input }
@@ -67,12 +60,8 @@ checks-text :
     ≡ codes "    VitalPeriodPulseCheck (Violation => x_1, PeriodData => d_1, TestSignal => CK, PulseWidthHigh => 7 ps, CheckEnabled => true);\n")
     × (check_text control 1 (check check_kind.Period 7 1 edge.Any 1 edge.Any)
     ≡ codes "    VitalPeriodPulseCheck (Violation => x_1, PeriodData => d_1, TestSignal => CK, Period => 7 ps, CheckEnabled => true);\n")
-unfolding control check digits input_text inputs_text next_input_text violated_text source_name source_text sources_text
-    condition_text symbol_apart_text level_apart_text state_row_text truth_row_text truth_rows_text state_rows_text
-    state_constant_text condition_constant_text is_looked_up output_table_text constants_text port_text some_ports_text
-    header_text signal_text process_text check_variables_text state_variables_text glitch_data_text output_variables_text
-    variables_text one_text setup_hold_text recovery_removal_text period_pulse_text check_text report_text reports_text state_text
-    lookup_text value_line not_zero_text zero_text all_zero_text path_text paths_text direct_text statements_text entity_text
+unfolding control check digits input_text inputs_text condition_text one_text setup_hold_text recovery_removal_text
+    period_pulse_text check_text
 checks-text = (refl, refl, refl, refl, refl)
 
 -- Gates of paths, a list of two names, and a table of one row.
@@ -84,10 +73,7 @@ gates-text :
     × (violated_text control (0 ∷ 1 ∷ []) ≡ codes "(viol, RN, CK)")
     × (inputs_text control (0 ∷ 1 ∷ []) ≡ codes "(RN, CK)")
     × (constants_text control ≡ codes "  constant c_1 : VitalTruthTableType := (\n    0 => ('-', 'X'));\n")
-unfolding control digits input_text inputs_text next_input_text violated_text source_name source_text sources_text condition_text
-    symbol_apart_text level_apart_text state_row_text truth_row_text truth_rows_text state_rows_text state_constant_text
-    condition_constant_text is_looked_up output_table_text constants_text port_text some_ports_text header_text signal_text
-    process_text check_variables_text state_variables_text glitch_data_text output_variables_text variables_text one_text
-    setup_hold_text recovery_removal_text period_pulse_text check_text report_text reports_text state_text lookup_text value_line
-    not_zero_text zero_text all_zero_text path_text paths_text direct_text statements_text entity_text
+unfolding control digits input_text inputs_text next_input_text violated_text condition_text symbol_apart_text level_apart_text
+    state_row_text truth_row_text truth_rows_text state_rows_text state_constant_text condition_constant_text is_looked_up
+    output_table_text constants_text not_zero_text zero_text all_zero_text path_text
 gates-text = (refl, refl, refl, refl, refl)

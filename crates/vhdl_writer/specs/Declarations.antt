@@ -13,6 +13,7 @@ use Rattle.vital_models.specs.declared.model.VOutput.{VOutput}
 use Rattle.udp_tables.specs.declared.timing_checks.TimingCheck.{TimingCheck}
 use Rattle.vital_models.specs.declared.model.VEntity.{VEntity}
 use Rattle.vhdl_writer.specs.Joined.{numbered_texts, apart_text}
+use Rattle.vhdl_writer.specs.Assignments.{assigned_variables_text}
 
 -- the direction of a port
 abbrev pub direction_text : VPort → List ℕ
@@ -30,13 +31,18 @@ some_ports_text ports = codes "  port (" ++ (numbered_texts port_text 1 ports ++
 abbrev pub ports_text : List VPort → List ℕ
 ports_text ports = if nat_lt 0 (length ports) then some_ports_text ports else []
 
+-- the header of an entity with a name and this list of ports, behind the packages that it uses, and the line that begins its
+-- architecture
+abbrev pub entity_header_text : List ℕ → List ℕ → List ℕ → List ℕ → List ℕ
+entity_header_text packages name ports architecture =
+    packages ++ (name ++ (codes " is\n" ++ (ports ++ (codes "end " ++ (name ++ (architecture ++ (name ++ codes " is\n")))))))
+
 -- the packages that an entity uses, and its header
 unfoldable pub header_text : VEntity → List ℕ
 header_text e =
-    codes "library IEEE;\nuse IEEE.std_logic_1164.all;\nuse IEEE.VITAL_Timing.all;\nuse IEEE.VITAL_Primitives.all;\nentity "
-    ++ (e.name
-    ++ (codes " is\n"
-    ++ (ports_text e.ports ++ (codes "end " ++ (e.name ++ (codes ";\narchitecture vital of " ++ (e.name ++ codes " is\n")))))))
+    entity_header_text
+    (codes "library IEEE;\nuse IEEE.std_logic_1164.all;\nuse IEEE.VITAL_Timing.all;\nuse IEEE.VITAL_Primitives.all;\nentity ")
+    e.name (ports_text e.ports) (codes ";\narchitecture vital of ")
 
 abbrev pub is_input : VPort → Bool
 is_input port = port.input
@@ -92,17 +98,9 @@ state_variables_text n state =
     ++ (decimal n ++ (codes " : std_logic_vector (1 to "
     ++ (decimal (width_of state.table.rows) ++ codes ") := (others => 'X');\n")))))
 
--- the data of the delays of an output, where it has paths
-unfoldable pub glitch_data_text : ℕ → List ℕ
-glitch_data_text n = codes "    variable g_" ++ (decimal n ++ codes " : VitalGlitchDataType;\n")
-
-abbrev pub glitch_text : ℕ → VOutput → List ℕ
-glitch_text n output = if nat_lt 0 (length output.paths) then glitch_data_text n else []
-
--- the variables of an output: its value, and the data of its delays
-unfoldable pub output_variables_text : ℕ → VOutput → List ℕ
-output_variables_text n output = codes "    variable z_"
-    ++ (decimal n ++ (codes " : std_logic := 'X';\n" ++ glitch_text n output))
+-- the variables of an output
+abbrev pub output_variables_text : ℕ → VOutput → List ℕ
+output_variables_text n output = assigned_variables_text n (nat_lt 0 (length output.paths))
 
 -- the variables: of the checks, of the violation, of the states, of the outputs
 unfoldable pub variables_text : VEntity → List ℕ

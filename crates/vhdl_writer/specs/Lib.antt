@@ -1,4 +1,5 @@
 pub mod Joined
+pub mod Assignments
 pub mod Names
 pub mod Tables
 pub mod Declarations

@@ -63,8 +63,11 @@ source_text e n s = apart_text (codes ", ") n ++ source_name e s
 unfoldable pub sources_text : VEntity → List Source → List ℕ
 sources_text e sources = listed_text (source_text e) sources
 
+-- a look-up, which begins so up to the number of its table: that number, and the list of what it looks up
+abbrev pub look_up_text : List ℕ → ℕ → List ℕ → List ℕ
+look_up_text start number listed = start ++ (decimal number ++ (codes ", DataIn => " ++ (listed ++ codes ")")))
+
 -- the look-up of a condition (IEEE 1076.4-2000, VitalTruthTable)
 unfoldable pub condition_text : VEntity → ℕ → List ℕ
 condition_text e i =
-    codes "VitalTruthTable (TruthTable => c_"
-    ++ (decimal (i + 1) ++ (codes ", DataIn => " ++ (inputs_text e (inputs_at e i) ++ codes ")")))
+    look_up_text (codes "VitalTruthTable (TruthTable => c_") (i + 1) (inputs_text e (inputs_at e i))

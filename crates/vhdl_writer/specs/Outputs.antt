@@ -10,14 +10,14 @@ use Rattle.vital_models.specs.declared.model.HGate.TheVariants as gate
 use Rattle.vital_models.specs.declared.model.HPath.{HPath}
 use Rattle.vital_models.specs.declared.model.VEntity.{VEntity}
 use Rattle.vhdl_writer.specs.Joined.{numbered_texts, apart_text}
-use Rattle.vhdl_writer.specs.Names.{port_at, sources_text, condition_text}
+use Rattle.vhdl_writer.specs.Assignments.{assignment_text}
+use Rattle.vhdl_writer.specs.Names.{port_at, look_up_text, sources_text, condition_text}
 use Rattle.vhdl_writer.specs.Tables.{table_number}
 
 -- the look-up of the table of the output with this number
 unfoldable pub lookup_text : VEntity → ℕ → List Source → List ℕ
 lookup_text e n sources =
-    codes "VitalTruthTable (TruthTable => k_"
-    ++ (decimal (table_number e n) ++ (codes ", DataIn => " ++ (sources_text e sources ++ codes ")")))
+    look_up_text (codes "VitalTruthTable (TruthTable => k_") (table_number e n) (sources_text e sources)
 
 -- the value of the output with this number
 abbrev pub assigned_text : VEntity → ℕ → OutValue → List ℕ
@@ -57,23 +57,7 @@ path_text e n path =
     ++ (decimal path.rise ++ (codes " ps, "
     ++ (decimal path.fall ++ (codes " ps), " ++ (gate_text e path.gate ++ codes ")")))))))))
 
--- the call of the paths of the output with this number
-unfoldable pub paths_text : VEntity → ℕ → VOutput → List ℕ
-paths_text e n output =
-    codes "    VitalPathDelay01 (OutSignal => "
-    ++ (port_at e output.port
-    ++ (codes ", GlitchData => g_"
-    ++ (decimal n
-    ++ (codes ", OutSignalName => \""
-    ++ (port_at e output.port
-    ++ (codes "\", OutTemp => z_"
-    ++ (decimal n
-    ++ (codes ", Paths => (" ++ (numbered_texts (path_text e) 1 output.paths ++ codes "), Mode => VitalTransport);\n")))))))))
-
--- the assignment of the output with this number, where it has no paths
-unfoldable pub direct_text : VEntity → ℕ → VOutput → List ℕ
-direct_text e n output = codes "    " ++ (port_at e output.port ++ (codes " <= z_" ++ (decimal n ++ codes ";\n")))
-
 -- the line of the output with this number
 abbrev pub output_line : VEntity → ℕ → VOutput → List ℕ
-output_line e n output = if nat_lt 0 (length output.paths) then paths_text e n output else direct_text e n output
+output_line e n output =
+    assignment_text n (port_at e output.port) (nat_lt 0 (length output.paths)) (numbered_texts (path_text e) 1 output.paths)

@@ -50,25 +50,31 @@ abbrev pub low_word : CheckKind → List ℕ
 low_word check_kind.Hold = codes " ps, HoldLow => "
 low_word _ = codes " ps, SetupLow => "
 
+-- a call, of which the first two arguments end with the same number
+abbrev pub twice_numbered_text : List ℕ → List ℕ → ℕ → List ℕ → List ℕ
+twice_numbered_text start next n rest = start ++ (decimal n ++ (next ++ (decimal n ++ rest)))
+
+-- the limit of a check behind a word
+abbrev pub limited_text : List ℕ → TimingCheck → List ℕ → List ℕ
+limited_text word k rest = word ++ (decimal k.limit ++ rest)
+
 -- the call of a check that has a reference: what it begins with, and what stands behind the reference
 abbrev pub referring_text : List ℕ → VEntity → ℕ → TimingCheck → List ℕ → List ℕ
 referring_text start e n k rest =
-    start
-    ++ (decimal n
-    ++ (codes ", TimingData => d_"
-    ++ (decimal n
-    ++ (codes ", TestSignal => "
-    ++ (port_at e (test_at k k.kind).pin ++ (codes ", RefSignal => " ++ (port_at e (reference_at k k.kind).pin ++ rest)))))))
+    twice_numbered_text start (codes ", TimingData => d_") n
+    (codes ", TestSignal => "
+    ++ (port_at e (test_at k k.kind).pin ++ (codes ", RefSignal => " ++ (port_at e (reference_at k k.kind).pin ++ rest))))
+
+-- when such a check counts, and the edge of its reference
+abbrev pub referred_text : VEntity → TimingCheck → List ℕ
+referred_text e k = enabled_text e k.condition ++ transition_text (reference_at k k.kind).edge
 
 -- the call of VitalSetupHoldCheck for a check with this number
 unfoldable pub setup_hold_text : VEntity → ℕ → TimingCheck → List ℕ
 setup_hold_text e n k =
     referring_text (codes "    VitalSetupHoldCheck (Violation => x_") e n k
-    (high_word k.kind
-    ++ (decimal k.limit
-    ++ (low_word k.kind
-    ++ (decimal k.limit
-    ++ (codes " ps, CheckEnabled => " ++ (enabled_text e k.condition ++ transition_text (reference_at k k.kind).edge))))))
+    (limited_text (high_word k.kind) k
+    (limited_text (low_word k.kind) k (codes " ps, CheckEnabled => " ++ referred_text e k)))
 
 -- the word before the limit of recovery and of removal
 abbrev pub recovery_word : CheckKind → List ℕ
@@ -83,9 +89,7 @@ active_text g = by_edge (codes " ps, ActiveLow => true, CheckEnabled => ") (code
 unfoldable pub recovery_removal_text : VEntity → ℕ → TimingCheck → List ℕ
 recovery_removal_text e n k =
     referring_text (codes "    VitalRecoveryRemovalCheck (Violation => x_") e n k
-    (recovery_word k.kind
-    ++ (decimal k.limit
-    ++ (active_text (test_at k k.kind).edge ++ (enabled_text e k.condition ++ transition_text (reference_at k k.kind).edge))))
+    (limited_text (recovery_word k.kind) k (active_text (test_at k k.kind).edge ++ referred_text e k))
 
 -- the word before the least width of a pulse that begins with this edge
 abbrev pub width_word : Edge → List ℕ
@@ -99,14 +103,10 @@ pulse_word k _ = width_word k.first.edge
 -- the call of VitalPeriodPulseCheck for a check with this number
 unfoldable pub period_pulse_text : VEntity → ℕ → TimingCheck → List ℕ
 period_pulse_text e n k =
-    codes "    VitalPeriodPulseCheck (Violation => x_"
-    ++ (decimal n
-    ++ (codes ", PeriodData => d_"
-    ++ (decimal n
-    ++ (codes ", TestSignal => "
+    twice_numbered_text (codes "    VitalPeriodPulseCheck (Violation => x_") (codes ", PeriodData => d_") n
+    (codes ", TestSignal => "
     ++ (port_at e k.first.pin
-    ++ (pulse_word k k.kind ++ (decimal k.limit
-    ++ (codes " ps, CheckEnabled => " ++ (enabled_text e k.condition ++ codes ");\n")))))))))
+    ++ limited_text (pulse_word k k.kind) k (codes " ps, CheckEnabled => " ++ (enabled_text e k.condition ++ codes ");\n"))))
 
 -- the call for a check of this kind with this number
 abbrev pub kind_text : VEntity → ℕ → TimingCheck → CheckKind → List ℕ
@@ -134,8 +134,5 @@ violation_text checks = if nat_lt 0 (length checks) then reports_text checks els
 -- the call of the table of the state with this number
 unfoldable pub state_text : VEntity → ℕ → VState → List ℕ
 state_text e n state =
-    codes "    VitalStateTable (Result => s_"
-    ++ (decimal n
-    ++ (codes ", PreviousDataIn => p_"
-    ++ (decimal n
-    ++ (codes ", StateTable => k_" ++ (decimal n ++ (codes ", DataIn => " ++ (columns_text e state ++ codes ");\n")))))))
+    twice_numbered_text (codes "    VitalStateTable (Result => s_") (codes ", PreviousDataIn => p_") n
+    (codes ", StateTable => k_" ++ (decimal n ++ (codes ", DataIn => " ++ (columns_text e state ++ codes ");\n"))))

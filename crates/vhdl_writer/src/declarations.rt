@@ -1,7 +1,8 @@
-//! An entity with its ports, and the beginning of its process. (IEEE 1076-1993, 1.1, 1.2 and 9.2.)
+//! An entity with its ports, and the beginning and the end of its process. (IEEE 1076-1993, 1.1, 1.2 and 9.2.)
 ghost use Rattle.std.specs.Prelude.{◌≡◌};
 ghost use Rattle.vhdl_writer.specs.Declarations.{direction_text, port_text, some_ports_text, header_text, is_input, first_input};
-ghost use Rattle.vhdl_writer.specs.Declarations.{signal_start, signal_text, signals_end, process_text};
+ghost use Rattle.vhdl_writer.specs.Declarations.{entity_header_text, signal_start, signal_text, signals_end, process_text};
+ghost use Rattle.vhdl_writer.specs.Entity.{end_text};
 
 use crate::names::apart;
 use crate::parts::{At, Each, ItemText};
@@ -49,6 +50,43 @@ impl Part for PortList<'_> {
     }
 }
 
+/// The header of an entity, and the line that begins its architecture. (IEEE 1076-1993, 1.1 and 1.2.)
+#[derive(Drop)]
+pub struct EntityHeader<'a, P> {
+    /// The packages that the entity uses, and what stands before its name.
+    pub packages: &'a [u8],
+    /// The name of the entity.
+    pub name: &'a [u8],
+    /// The list of its ports.
+    pub ports: P,
+    /// The name of the architecture, between the end of the header and the name of the entity.
+    pub architecture: &'a [u8],
+}
+
+impl<P: Part> Part for EntityHeader<'_, P> {
+    ghost text = { λ h. entity_header_text h.packages.now h.name.now (P.text h.ports) h.architecture.now };
+
+    fn put<D: Desk>(&self, line: &mut Line, desk: &mut D, slot: OutSlot) -> Put {
+        let name = self.name;
+        let line_end = Bytes(b" is\n");
+        let body = parts!(
+            Bytes(b"end "),
+            Bytes(name),
+            Bytes(self.architecture),
+            Bytes(name),
+            line_end
+        );
+        parts!(
+            Bytes(self.packages),
+            Bytes(name),
+            Bytes(b" is\n"),
+            &self.ports,
+            body
+        )
+        .put(line, desk, slot)
+    }
+}
+
 /// The packages that an entity uses, and its header, with a list of ports where there are ports.
 #[derive(Drop)]
 pub(crate) struct Header<'a>(pub(crate) &'a VEntity);
@@ -56,23 +94,14 @@ pub(crate) struct Header<'a>(pub(crate) &'a VEntity);
 impl Part for Header<'_> {
     ghost text = { λ m. header_text m.0.now };
 
-    #[tactic(auto, unfolding(crate::specs::Declarations::header_text))]
     fn put<D: Desk>(&self, line: &mut Line, desk: &mut D, slot: OutSlot) -> Put {
-        let name = self.0.name.as_slice();
         let ports = self.0.ports.as_slice();
-        parts!(
-            Bytes(
-                b"library IEEE;\nuse IEEE.std_logic_1164.all;\nuse IEEE.VITAL_Timing.all;\nuse IEEE.VITAL_Primitives.all;\nentity "
-            ),
-            Bytes(name),
-            Bytes(b" is\n"),
-            When(ports.len() > 0, PortList(ports)),
-            Bytes(b"end "),
-            Bytes(name),
-            Bytes(b";\narchitecture vital of "),
-            Bytes(name),
-            Bytes(b" is\n")
-        )
+        EntityHeader {
+            packages: b"library IEEE;\nuse IEEE.std_logic_1164.all;\nuse IEEE.VITAL_Timing.all;\nuse IEEE.VITAL_Primitives.all;\nentity ",
+            name: self.0.name.as_slice(),
+            ports: When(ports.len() > 0, PortList(ports)),
+            architecture: b";\narchitecture vital of ",
+        }
         .put(line, desk, slot)
     }
 }
@@ -137,5 +166,16 @@ impl Part for Process<'_> {
         let signals = Each(Signals(first), items);
         let end = Bytes(signals_end(first));
         parts!(Bytes(b"begin\n  process"), signals, end).put(line, desk, slot)
+    }
+}
+
+/// The end of the process and of the architecture. A process that responds to no signal waits.
+pub(crate) fn end_text(entity: &VEntity) -> &'static [u8]
+    ensures { result.now ≡ end_text (first_input entity.now.ports) }
+{
+    if first_input(entity.ports.as_slice()).is_some() {
+        b"  end process;\nend vital;\n"
+    } else {
+        b"    wait;\n  end process;\nend vital;\n"
     }
 }

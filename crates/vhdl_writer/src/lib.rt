@@ -1,6 +1,7 @@
 //! The VHDL text of entities, by IEEE 1076-1993 and IEEE 1076.4-2000.
 #![tactic(auto)]
 
+mod assignments;
 mod checks;
 mod declarations;
 mod entity;
@@ -12,7 +13,8 @@ mod symbols;
 mod tables;
 mod variables;
 
-pub use declarations::PortList;
+pub use assignments::{AssignedVariables, Assignment};
+pub use declarations::{EntityHeader, PortList};
 pub use entity::write_entity;
 pub use names::apart;
 pub use parts::{At, Each, ItemText};

@@ -2,7 +2,7 @@
 ghost use Rattle.std.specs.Prelude.{◌≡◌};
 ghost use Rattle.vhdl_writer.specs.Joined.{apart_text};
 ghost use Rattle.vhdl_writer.specs.Names.{port_at, inputs_at, list_start, violated_start, listed_text, input_text};
-ghost use Rattle.vhdl_writer.specs.Names.{next_input_text, columns_text, source_text, condition_text};
+ghost use Rattle.vhdl_writer.specs.Names.{next_input_text, columns_text, source_text, look_up_text, condition_text};
 
 use crate::parts::{At, Each, InEntity, ItemText};
 use cell_machine::Source;
@@ -88,6 +88,30 @@ impl<M: ItemText<T>, T> Part for Listed<'_, M, T> {
     }
 }
 
+/// A look-up: what it begins with, up to the number of its table, that number, and what it looks up. (IEEE 1076.4-2000,
+/// VitalTruthTable.)
+#[derive(Drop)]
+pub(crate) struct LookUp<'a, M, T> {
+    pub(crate) start: &'static [u8],
+    pub(crate) number: u128,
+    pub(crate) listed: Listed<'a, M, T>,
+}
+
+impl<M: ItemText<T>, T> Part for LookUp<'_, M, T> {
+    ghost text = { λ l. look_up_text l.start.now l.number (listed_text (M.text l.listed.0.0) l.listed.0.1.now) };
+
+    fn put<D: Desk>(&self, line: &mut Line, desk: &mut D, slot: OutSlot) -> Put {
+        parts!(
+            Bytes(self.start),
+            Decimal(self.number),
+            Bytes(b", DataIn => "),
+            &self.listed,
+            Bytes(b")")
+        )
+        .put(line, desk, slot)
+    }
+}
+
 /// Inputs of an entity behind another name.
 #[derive(Drop)]
 struct NextInput<'a>(&'a VEntity);
@@ -129,14 +153,11 @@ impl Part for Condition<'_> {
 
     #[tactic(auto, unfolding(crate::specs::Names::condition_text, crate::specs::Names::inputs_text))]
     fn put<D: Desk>(&self, line: &mut Line, desk: &mut D, slot: OutSlot) -> Put {
-        let inputs = Each(InEntity(self.0), inputs_at(self.0, self.1));
-        parts!(
-            Bytes(b"VitalTruthTable (TruthTable => c_"),
-            Decimal(self.1 as u128 + 1),
-            Bytes(b", DataIn => "),
-            Listed(inputs),
-            Bytes(b")")
-        )
+        LookUp {
+            start: b"VitalTruthTable (TruthTable => c_",
+            number: self.1 as u128 + 1,
+            listed: Listed(Each(InEntity(self.0), inputs_at(self.0, self.1))),
+        }
         .put(line, desk, slot)
     }
 }

@@ -1,33 +1,12 @@
 //! The statements that assign outputs. (IEEE 1076.4-2000, VitalTruthTable and VitalPathDelay01; IEEE 1076-1993, 8.4 and 8.5.)
-ghost use Rattle.vhdl_writer.specs.Outputs.{lookup_text, assigned_text, value_line, zero_text, gate_text, path_text, paths_text};
-ghost use Rattle.vhdl_writer.specs.Outputs.{output_line};
+ghost use Rattle.vhdl_writer.specs.Outputs.{assigned_text, value_line, zero_text, gate_text, path_text, output_line};
 
-use crate::names::{Condition, Listed, apart, port_at};
+use crate::assignments::Assignment;
+use crate::names::{Condition, Listed, LookUp, apart, port_at};
 use crate::parts::{At, Each, InEntity, ItemText};
 use crate::tables::table_number;
-use cell_machine::Source;
 use text_io::{Bytes, Decimal, Desk, Line, OutSlot, Part, Put, parts};
 use vital_models::{HGate, HPath, OutValue, VEntity, VOutput};
-
-/// The look-up of the table of the output with this number.
-#[derive(Drop)]
-struct Lookup<'a>(&'a VEntity, usize, &'a [Source]);
-
-impl Part for Lookup<'_> {
-    ghost text = { λ m. lookup_text m.0.now m.1 m.2.now };
-
-    fn put<D: Desk>(&self, line: &mut Line, desk: &mut D, slot: OutSlot) -> Put {
-        let sources = Each(InEntity(self.0), self.2);
-        parts!(
-            Bytes(b"VitalTruthTable (TruthTable => k_"),
-            Decimal(table_number(self.0, self.1)),
-            Bytes(b", DataIn => "),
-            Listed(sources),
-            Bytes(b")")
-        )
-        .put(line, desk, slot)
-    }
-}
 
 /// The value of the output with this number.
 #[derive(Drop)]
@@ -40,9 +19,12 @@ impl Part for Value<'_> {
         match self.2 {
             OutValue::Constant(true) => line.put(desk, slot, b"'1'"),
             OutValue::Constant(false) => line.put(desk, slot, b"'0'"),
-            OutValue::Table { inputs, .. } => {
-                Lookup(self.0, self.1, inputs.as_slice()).put(line, desk, slot)
+            OutValue::Table { inputs, .. } => LookUp {
+                start: b"VitalTruthTable (TruthTable => k_",
+                number: table_number(self.0, self.1),
+                listed: Listed(Each(InEntity(self.0), inputs.as_slice())),
             }
+            .put(line, desk, slot),
         }
     }
 }
@@ -132,33 +114,6 @@ impl ItemText<HPath> for InEntity<'_> {
     }
 }
 
-/// The call of the paths of the output with this number.
-#[derive(Drop)]
-struct PathCall<'a>(&'a VEntity, usize, &'a VOutput);
-
-impl Part for PathCall<'_> {
-    ghost text = { λ m. paths_text m.0.now m.1 m.2.now };
-
-    fn put<D: Desk>(&self, line: &mut Line, desk: &mut D, slot: OutSlot) -> Put {
-        let port = port_at(self.0, self.2.port);
-        let paths = Each(InEntity(self.0), self.2.paths.as_slice());
-        parts!(
-            Bytes(b"    VitalPathDelay01 (OutSignal => "),
-            Bytes(port),
-            Bytes(b", GlitchData => g_"),
-            Decimal(self.1 as u128),
-            Bytes(b", OutSignalName => \""),
-            Bytes(port),
-            Bytes(b"\", OutTemp => z_"),
-            Decimal(self.1 as u128),
-            Bytes(b", Paths => ("),
-            paths,
-            Bytes(b"), Mode => VitalTransport);\n")
-        )
-        .put(line, desk, slot)
-    }
-}
-
 /// Lines of outputs.
 #[derive(Drop)]
 pub(crate) struct OutputLines<'a>(pub(crate) &'a VEntity);
@@ -166,21 +121,14 @@ pub(crate) struct OutputLines<'a>(pub(crate) &'a VEntity);
 impl ItemText<VOutput> for OutputLines<'_> {
     ghost text = { λ m n output. output_line m.0.now n output };
 
-    #[tactic(auto, unfolding(crate::specs::Outputs::direct_text))]
     fn put<D: Desk>(&self, at: &At<VOutput>, line: &mut Line, desk: &mut D, slot: OutSlot) -> Put {
-        if at.item.paths.as_slice().is_empty() {
-            let port = Bytes(port_at(self.0, at.item.port));
-            let number = Decimal(at.number as u128);
-            parts!(
-                Bytes(b"    "),
-                port,
-                Bytes(b" <= z_"),
-                number,
-                Bytes(b";\n")
-            )
-            .put(line, desk, slot)
-        } else {
-            PathCall(self.0, at.number, at.item).put(line, desk, slot)
+        let paths = at.item.paths.as_slice();
+        Assignment {
+            number: at.number,
+            name: port_at(self.0, at.item.port),
+            has_paths: paths.len() > 0,
+            paths: Each(InEntity(self.0), paths),
         }
+        .put(line, desk, slot)
     }
 }

@@ -3,9 +3,10 @@ ghost use Rattle.std.specs.Prelude.{◌≡◌};
 ghost use Rattle.vhdl_writer.specs.Declarations.{data_text, check_variables_text, violation_variable_text, width_of};
 ghost use Rattle.vhdl_writer.specs.Declarations.{state_variables_text, output_variables_text};
 
+use crate::assignments::AssignedVariables;
 use crate::parts::{At, CheckAt, ItemText};
 use cell_machine::CheckKind;
-use text_io::{Bytes, Decimal, Desk, Line, OutSlot, Part, Put, When, parts};
+use text_io::{Bytes, Decimal, Desk, Line, OutSlot, Part, Put, parts};
 use udp_tables::TimingCheck;
 use vital_models::{VOutput, VState, VStateRow};
 
@@ -84,18 +85,11 @@ impl ItemText<VState> for VariableLines {
 impl ItemText<VOutput> for VariableLines {
     ghost text = { λ _ n output. output_variables_text n output };
 
-    #[tactic(auto, unfolding(crate::specs::Declarations::output_variables_text, crate::specs::Declarations::glitch_data_text))]
     fn put<D: Desk>(&self, at: &At<VOutput>, line: &mut Line, desk: &mut D, slot: OutSlot) -> Put {
-        let number = at.number as u128;
-        let paths = at.item.paths.as_slice();
-        let data = Bytes(b" : VitalGlitchDataType;\n");
-        let glitch = parts!(Bytes(b"    variable g_"), Decimal(number), data);
-        parts!(
-            Bytes(b"    variable z_"),
-            Decimal(number),
-            Bytes(b" : std_logic := 'X';\n"),
-            When(paths.len() > 0, glitch)
-        )
+        AssignedVariables {
+            number: at.number,
+            has_paths: at.item.paths.len() > 0,
+        }
         .put(line, desk, slot)
     }
 }

@@ -1,29 +1,16 @@
 -- The laws of the rows of steps, by the number of the changed pin.
-use Rattle.std.proofs.Common.{◌≡◌, ◌≢◌, ℕ, suc, ◌<◌, Bool, true, List, [], ◌∷◌, length, get_or, set, sym, ◌∙◌, arith}
+use Rattle.std.proofs.Common.{◌≡◌, ℕ, suc, Bool, true, List, [], ◌∷◌, length, sym, ◌∙◌, arith}
 use Rattle.trit_cubes.specs.declared.trits.Trit.{Trit}
 use Rattle.trit_cubes.specs.declared.trits.Trit.TheVariants.{Zero, Unknown}
-use Rattle.cell_machine.specs.Machine.{Step, without, machine_step, forced}
+use Rattle.cell_machine.specs.Machine.{Step, forced}
 use Rattle.vital_tables.specs.udp_tables.Edges.{edge_rows, compact_edge_rows}
-use Rattle.vital_tables.proofs.udp_tables.ColumnLemmas.{length-without, before-change}
-use Rattle.vital_tables.proofs.udp_tables.CubeLemmas.{differ}
+use Rattle.cell_tables.proofs.ServingRows.{change-at}
 use Rattle.vital_tables.specs.declared.table.VStateRow.{VStateRow}
 use Rattle.vital_tables.specs.LookUps.{lookup_state}
-use Rattle.vital_tables.specs.Rows.{violated, step_rows, edge_row, keep_row}
+use Rattle.vital_tables.specs.Rows.{violated, step_rows, state_rows, compact_rows, edge_row, keep_row}
 use Rattle.vital_models.specs.RowLaws.{StateRowsAreMachine, CompactRowsAreMachine, FormsAgree}
-use Rattle.vital_models.proofs.StateRows.{Serves, step_rows-change, step_rows-keep, step_rows-force}
+use Rattle.vital_models.proofs.StateRows.{step_rows-change, step_rows-keep, step_rows-force}
 use Rattle.vital_models.proofs.EdgeRows.{edge_rows-serve, compact_rows-serve}
-
-pub change-at :
-    (checks : Bool) (n : ℕ) (step : Step) (changes : ℕ → List VStateRow) (p : ℕ) (old : Trit) (inputs : List Trit) (x s : Trit)
-    → Serves checks n step changes → length inputs ≡ n → p < n → old ≢ get_or inputs p Unknown
-    → lookup_state (step_rows checks n step changes) (violated checks x (set inputs p old)) (violated checks Zero inputs) s
-    ≡ machine_step step p old (get_or inputs p Unknown) (without p inputs) s
-change-at checks n step changes p old inputs x s serves long l apart =
-    let within : p < length inputs = omega arith in
-    before-change (λ before after. lookup_state (step_rows checks n step changes) (violated checks x before)
-    (violated checks Zero after) s) p old Unknown inputs within
-    ∙ step_rows-change checks n step changes p old (get_or inputs p Unknown) (without p inputs) x s serves l
-    (length-without p Unknown inputs within ∙ long) (differ old (get_or inputs p Unknown) apart)
 
 pub force-at :
     (n : ℕ) (step : Step) (changes : ℕ → List VStateRow) (before inputs : List Trit) (s : Trit)
@@ -36,8 +23,10 @@ pub state_rows_are_machine-lem : StateRowsAreMachine
 state_rows_are_machine-lem =
     record {
       steps = λ checks n step p old inputs x s long l apart.
-          change-at checks n step (edge_rows (edge_row checks) step n) p old inputs x s (edge_rows-serve checks n step) long l
-          apart;
+          change-at (λ before after. lookup_state (state_rows checks n step) (violated checks x before) (violated checks Zero after) s)
+          step n s
+          (λ q a b others. step_rows-change checks n step (edge_rows (edge_row checks) step n) q a b others x s
+          (edge_rows-serve checks n step)) p old inputs long l apart;
       keeps = λ checks n step inputs x s long. step_rows-keep checks n step (edge_rows (edge_row checks) step n) inputs x s long;
       forces = λ n step before inputs s f g. force-at n step (edge_rows (edge_row true) step n) before inputs s f g;
     }
@@ -50,7 +39,10 @@ pub compact_rows_are_machine-lem : CompactRowsAreMachine
 compact_rows_are_machine-lem =
     record {
       steps = λ checks n step p old inputs x s long l apart.
-          change-at checks n step (compact checks n step) p old inputs x s (compact_rows-serve checks n step) long l apart;
+          change-at (λ before after. lookup_state (compact_rows checks n step) (violated checks x before) (violated checks Zero after)
+          s) step n s
+          (λ q a b others. step_rows-change checks n step (compact checks n step) q a b others x s (compact_rows-serve checks n step))
+          p old inputs long l apart;
       keeps = λ checks n step inputs x s long. step_rows-keep checks n step (compact checks n step) inputs x s long;
       forces = λ n step before inputs s f g. force-at n step (compact true n step) before inputs s f g;
     }

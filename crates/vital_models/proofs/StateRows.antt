@@ -1,7 +1,6 @@
 -- Rows of a step whose changes serve give the machine's steps.
-use Rattle.std.proofs.Common.{◌≡◌, ◌≢◌, ℕ, zero, suc, ◌<◌, Bool, true, false, cond, ◌&&◌, List, [], ◌∷◌, ◌++◌, length, replicate}
-use Rattle.std.proofs.Common.{get_or, inl, inr, refl, sym, ◌∙◌, ap, arith}
-use Rattle.std.specs.List.{list_any}
+use Rattle.std.proofs.Common.{◌≡◌, ℕ, zero, suc, ◌<◌, Bool, true, false, cond, ◌&&◌, List, [], ◌∷◌, ◌++◌, length, replicate}
+use Rattle.std.proofs.Common.{inl, inr, refl, sym, ◌∙◌, ap, arith}
 use Rattle.trit_cubes.specs.declared.trits.Trit.{Trit}
 use Rattle.trit_cubes.specs.declared.trits.Trit.TheVariants.{Zero, One, Unknown}
 use Rattle.trit_cubes.specs.Filling.{same, covers}
@@ -14,7 +13,8 @@ use Rattle.vital_tables.proofs.udp_tables.FirstLemmas.{found-any, any-found, con
 use Rattle.vital_tables.proofs.udp_tables.ColumnLemmas.{length-insert}
 use Rattle.vital_tables.proofs.udp_tables.CubeLemmas.{known-or, among-below}
 use Rattle.cell_tables.proofs.ChangeColumns.{levels-cover}
-use Rattle.cell_tables.proofs.ForcedRows.{FitsForced, forced-given, forced-found, changed-own}
+use Rattle.cell_tables.proofs.ServingRows.{ServesChanges, served}
+use Rattle.cell_tables.proofs.ForcedRows.{FitsForced, forced-given, forced-found}
 use Rattle.vital_tables.specs.declared.table.VStateRow.{VStateRow}
 use Rattle.vital_tables.specs.Symbols.{next_of}
 use Rattle.vital_tables.specs.LookUps.{state_matches, row_next, lookup_state}
@@ -22,24 +22,8 @@ use Rattle.vital_tables.specs.Rows.{violated, next_to, steady_row, level_row, vi
 use Rattle.vital_models.proofs.SymbolLemmas.{symbols-fit, steady-matches, steady-moved, level_row-matches}
 
 -- what the rows of the changes of each pin have to do
-pub record Serves (checks : Bool) (n : ℕ) (step : Step) (changes : ℕ → List VStateRow) : Type 0 where
-  -- they match nothing where their pin keeps its value
-  pub still :
-      (p : ℕ) (row : VStateRow) (olds news : List Trit) (x y s : Trit)
-      → p < n → Among row (changes p) → length olds ≡ n → length news ≡ n → get_or olds p Unknown ≡ get_or news p Unknown
-      → state_matches (violated checks x olds) (violated checks y news) s row ≡ false
-  -- where one matches a change of its pin, it gives the machine's step
-  pub right :
-      (p : ℕ) (row : VStateRow) (a b : Trit) (others : List Trit) (x y s : Trit)
-      → p < n → Among row (changes p) → suc (length others) ≡ n → same a b ≡ false
-      → state_matches (violated checks x (insert p a others)) (violated checks y (insert p b others)) s row ≡ true
-      → row_next s row ≡ machine_step step p a b others s
-  -- where the machine's step is known, some match
-  pub found :
-      (p : ℕ) (a b : Trit) (others : List Trit) (x y s : Trit)
-      → p < n → suc (length others) ≡ n → same a b ≡ false → machine_step step p a b others s ≢ Unknown
-      → list_any (state_matches (violated checks x (insert p a others)) (violated checks y (insert p b others)) s)
-      (changes p) ≡ true
+abbrev pub Serves : Bool → ℕ → Step → (ℕ → List VStateRow) → Type 0
+Serves checks = ServesChanges VStateRow state_matches row_next (violated checks)
 
 pub next-value : (s v : Trit) → next_of s (next_to v) ≡ v
 next-value s Zero = refl
@@ -116,30 +100,26 @@ change-given :
     → state_matches (violated checks x (insert p a others)) (violated checks Zero (insert p b others)) s row ≡ true
     → row_next s row ≡ machine_step step p a b others s
 change-given checks n step changes p a b others x s serves l long apart row m h =
-    let olds : List Trit = insert p a others in
-    let news : List Trit = insert p b others in
-    let f : length olds ≡ n = length-insert p a others ∙ long in
-    let g : length news ≡ n = length-insert p b others ∙ long in
+    let f : length (insert p a others) ≡ n = length-insert p a others ∙ long in
+    let g : length (insert p b others) ≡ n = length-insert p b others ∙ long in
     elim m [
       | inl e ↦
           let clash : false ≡ true
           = sym (steady-missed checks n p a b others x Zero s long l apart)
-          ∙ ap (state_matches (violated checks x olds) (violated checks Zero news) s) e ∙ h in
+          ∙ ap (state_matches (violated checks x (insert p a others)) (violated checks Zero (insert p b others)) s) e ∙ h in
           absurd cc
       | inr rest ↦
           elim (among-append row (forced_rows (level_row checks) n step) (violation_rows checks n ++ each_below changes n) rest) [
             | inl k ↦
-                let r = forced-given step (levels-fit checks n olds news x Zero s f g) row k h in
+                let r = forced-given step (levels-fit checks n (insert p a others) (insert p b others) x Zero s f g) row k h in
                 r.3 ∙ sym (forced_is_step-lem step p a b others s r.0 r.2 r.1)
             | inr more ↦
                 elim (among-append row (violation_rows checks n) (each_below changes n) more) [
-                  | inl k ↦ let clash : false ≡ true = sym (violation-none checks n row olds news x s k) ∙ h in absurd cc
-                  | inr k ↦
-                      serves.right p row a b others x Zero s l
-                      (changed-own changes (state_matches (violated checks x olds) (violated checks Zero news) s) n p a b others l
-                      long
-                      (λ q other inside c same_value. serves.still q other olds news x Zero s inside c f g same_value) row k h)
-                      long apart h
+                  | inl k ↦
+                      let clash : false ≡ true
+                      = sym (violation-none checks n row (insert p a others) (insert p b others) x s k) ∙ h in
+                      absurd cc
+                  | inr k ↦ served serves p a b others x Zero s l long apart row k h
                 ]
           ]
     ]

@@ -1,21 +1,22 @@
 -- What the symbols of generated rows match.
-use Rattle.std.proofs.Common.{◌≡◌, ℕ, zero, suc, ◌<◌, ◌≤◌, Bool, true, false, not, ◌&&◌, List, [], ◌∷◌, ◌++◌, map, length}
+use Rattle.std.proofs.Common.{◌≡◌, ℕ, zero, suc, ◌<◌, ◌≤◌, Bool, true, false, not, ◌&&◌, List, [], ◌∷◌, map, length}
 use Rattle.std.proofs.Common.{replicate, get_or, refl, sym, ◌∙◌, ap, arith}
 use Rattle.trit_cubes.specs.declared.trits.Trit.{Trit}
 use Rattle.trit_cubes.specs.declared.trits.Trit.TheVariants.{Zero, One, Unknown}
 use Rattle.trit_cubes.specs.Filling.{same, covers}
-use Rattle.cell_machine.specs.Machine.{insert, last}
+use Rattle.cell_machine.specs.Machine.{insert}
 use Rattle.vital_tables.specs.udp_tables.Tables.{columns_match}
 use Rattle.vital_tables.specs.udp_tables.Edges.{moves}
 use Rattle.vital_tables.proofs.udp_tables.ColumnLemmas.{and-true, and-false, length-insert, at-insert}
 use Rattle.vital_tables.proofs.udp_tables.CubeLemmas.{admits, same-self}
-use Rattle.cell_tables.proofs.ChangeColumns.{FitsEntries, levels-cover, change-kept, change-covers}
+use Rattle.cell_tables.proofs.ChangeColumns.{FitsEntries, levels-cover}
+use Rattle.cell_tables.proofs.ServingRows.{FitsFrame}
 use Rattle.vital_tables.specs.declared.table.VSymbol.{VSymbol}
 use Rattle.vital_tables.specs.declared.table.VSymbol.TheVariants as symbol
 use Rattle.vital_tables.specs.declared.table.Trits.TheVariants as trits
 use Rattle.vital_tables.specs.Symbols.{trits_match, level_matches, symbol_matches}
 use Rattle.vital_tables.specs.LookUps.{state_matches}
-use Rattle.vital_tables.specs.Rows.{level_of, level_symbol, edge_symbol, violated, level_row, edge_columns}
+use Rattle.vital_tables.specs.Rows.{level_of, level_symbol, edge_symbol, violated, level_row}
 
 -- levels of a cube match what the cube covers
 pub level-admits : (w t : Trit) → trits_match (level_of w) t ≡ admits w t
@@ -120,6 +121,9 @@ free-violation :
 free-violation false es olds news x y = refl
 free-violation true es olds news x y = refl
 
+pub violations-fit : (checks : Bool) → FitsFrame VSymbol symbol_matches (violated checks (symbol.Level trits.Any)) (violated checks)
+violations-fit checks = record { free = λ es olds news x y f g. free-violation checks es olds news x y }
+
 -- a row of levels matches what its cube covers
 pub level_row-matches :
     (checks : Bool) (v : Trit) (c olds news : List Trit) (x y s : Trit)
@@ -130,32 +134,3 @@ level_row-matches checks v c olds news x y s e =
     (violated checks x olds) (violated checks y news))
     ∙ free-violation checks (map level_symbol c) olds news x y
     ∙ levels-cover symbols-fit c olds news e
-
--- the columns of a change
-pub columns-kept :
-    (checks : Bool) (p : ℕ) (c olds news : List Trit) (x y : Trit) (n : ℕ)
-    → p < n → length c ≡ suc (suc n) → length olds ≡ n → length news ≡ n
-    → get_or olds p Unknown ≡ get_or news p Unknown
-    → columns_match symbol_matches (violated checks (symbol.Level trits.Any) (edge_columns p c)) (violated checks x olds)
-    (violated checks y news) ≡ false
-columns-kept checks p [] olds news x y n l e f g h = absurd (omega arith)
-columns-kept checks p (old ∷ []) olds news x y n l e f g h = absurd (omega arith)
-columns-kept checks p (old ∷ new ∷ []) olds news x y n l e f g h = absurd (omega arith)
-columns-kept checks p (old ∷ new ∷ r ∷ rest) olds news x y n l e f g h =
-    free-violation checks (edge_columns p (old ∷ new ∷ r ∷ rest)) olds news x y
-    ∙ change-kept symbols-fit p old new r rest olds news (omega arith) (omega arith) (omega arith) h
-
-pub columns-cover :
-    (checks : Bool) (p : ℕ) (c : List Trit) (a b : Trit) (others : List Trit) (x y t : Trit)
-    → p ≤ length others → length c ≡ suc (suc (suc (length others))) → same a b ≡ false → moves c ≡ true
-    → covers c (a ∷ b ∷ others ++ t ∷ [])
-    ≡ (columns_match symbol_matches (violated checks (symbol.Level trits.Any) (edge_columns p c))
-    (violated checks x (insert p a others)) (violated checks y (insert p b others))
-    && admits (last Unknown c) t)
-columns-cover checks p [] a b others x y t l e apart m = absurd (omega arith)
-columns-cover checks p (old ∷ []) a b others x y t l e apart m = absurd (omega arith)
-columns-cover checks p (old ∷ new ∷ []) a b others x y t l e apart m = absurd (omega arith)
-columns-cover checks p (old ∷ new ∷ r ∷ rest) a b others x y t l e apart m =
-    sym (ap (λ q. q && admits (last Unknown (r ∷ rest)) t)
-    (free-violation checks (edge_columns p (old ∷ new ∷ r ∷ rest)) (insert p a others) (insert p b others) x y)
-    ∙ change-covers symbols-fit p old new r rest a b others t l (omega arith) apart m)

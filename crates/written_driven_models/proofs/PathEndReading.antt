@@ -1,6 +1,6 @@
 -- The ends of paths are found by their names.
 use Rattle.std.proofs.Common.{◌≡◌, ℕ, zero, suc, ◌+◌, ◌≤◌, Bool, true, false, not, nat_eq, cond, if◌then◌else◌, List, [], ◌∷◌}
-use Rattle.std.proofs.Common.{◌++◌, length, map, Some, slice_get, refl, ap, subst, ◌∙◌, arith}
+use Rattle.std.proofs.Common.{◌++◌, length, map, Option, Some, slice_get, refl, ap, subst, ◌∙◌, arith}
 use Rattle.std.specs.Prelude.{position}
 use Rattle.std.specs.List.{AllByRecursion, IsDistinct, filter, list_any, position_from}
 use Rattle.std.specs.Option.{option_and_then}
@@ -47,19 +47,22 @@ module _ {is_name : List ℕ → Bool} {is_same : List ℕ → List ℕ → Bool
   other_name : (first port : VPort) → is_name first.name ≡ true → IsOther first port → is_same port.name first.name ≡ false
   other_name first port n o = lang.turned port.name first.name o.0 n ∙ o.1
 
-  -- the input with a number is found by its name
-  input_found : (ports : List VPort) (n k : ℕ) (port : VPort) → AllByRecursion IsNamed ports → AreApart ports
-      → slice_get (inputs ports) k ≡ Some port →
-      input_from is_same n ports port.name ≡ Some (n + k)
+  -- the port with a number among those that pass a test is found by its name, by what counts these
+  found_from : (test : VPort → Bool) (from : ℕ → List VPort → List ℕ → Option ℕ)
+      → ((n : ℕ) (first : VPort) (ports : List VPort) (x : List ℕ) → from n (first ∷ ports) x
+      ≡ (if test first then (if is_same x first.name then Some n else from (n + 1) ports x) else from n ports x))
+      → (ports : List VPort) (n k : ℕ) (port : VPort) → AllByRecursion IsNamed ports → AreApart ports
+      → slice_get (filter test ports) k ≡ Some port → from n ports port.name ≡ Some (n + k)
   unfolding IsDistinct
-  input_found [] n k port named apart e = absurd cc
-  input_found (first ∷ ports) n k port named apart e =
-      by first.input k e (λ m i f. input_found ports m i port named.1 apart.1 f)
+  found_from test from step [] n k port named apart e = absurd cc
+  found_from test from step (first ∷ ports) n k port named apart e =
+      step n first ports port.name
+      ∙ by (test first) k e (λ m i f. found_from test from step ports m i port named.1 apart.1 f)
     where
-      by : (b : Bool) (k : ℕ) → slice_get (cond b (first ∷ inputs ports) (inputs ports)) k ≡ Some port →
-          ((m i : ℕ) → slice_get (inputs ports) i ≡ Some port → input_from is_same m ports port.name ≡ Some (m + i)) →
-          (if b then (if is_same port.name first.name then Some n else input_from is_same (n + 1) ports port.name)
-          else input_from is_same n ports port.name) ≡ Some (n + k)
+      by : (b : Bool) (k : ℕ) → slice_get (cond b (first ∷ filter test ports) (filter test ports)) k ≡ Some port →
+          ((m i : ℕ) → slice_get (filter test ports) i ≡ Some port → from m ports port.name ≡ Some (m + i)) →
+          (if b then (if is_same port.name first.name then Some n else from (n + 1) ports port.name)
+          else from n ports port.name) ≡ Some (n + k)
       by true zero e rest =
           let same : first ≡ port = cc in
           let here : is_same port.name first.name ≡ true = ap (λ (p : VPort). is_same port.name p.name) same
@@ -68,36 +71,22 @@ module _ {is_name : List ℕ → Bool} {is_same : List ℕ → List ℕ → Bool
           rw here (ap Some count)
       by true (suc i) e rest =
           let other = other_name first port named.0
-          (passing_at (IsOther first) (λ p. p.input) ports i port (others_of first ports named.1 apart.0) e) in
+          (passing_at (IsOther first) test ports i port (others_of first ports named.1 apart.0) e) in
           let count : n + 1 + i ≡ n + suc i = omega arith in
           rw other (rest (n + 1) i e ∙ ap Some count)
       by false i e rest = rest n i e
 
-  -- the output with a number is found by its name
+  input_found : (ports : List VPort) (n k : ℕ) (port : VPort) → AllByRecursion IsNamed ports → AreApart ports
+      → slice_get (inputs ports) k ≡ Some port → input_from is_same n ports port.name ≡ Some (n + k)
+  input_found = found_from (λ (port : VPort). port.input) (input_from is_same) (λ n first ports x. refl)
+
   output_found : (ports : List VPort) (n k : ℕ) (port : VPort) → AllByRecursion IsNamed ports → AreApart ports
-      → slice_get (outputs ports) k ≡ Some port →
-      output_from is_same n ports port.name ≡ Some (n + k)
-  unfolding IsDistinct
-  output_found [] n k port named apart e = absurd cc
-  output_found (first ∷ ports) n k port named apart e =
-      by first.input k e (λ m i f. output_found ports m i port named.1 apart.1 f)
+      → slice_get (outputs ports) k ≡ Some port → output_from is_same n ports port.name ≡ Some (n + k)
+  output_found = found_from (λ (port : VPort). not port.input) (output_from is_same) (λ n first ports x. by _ _ first.input)
     where
-      by : (b : Bool) (k : ℕ) → slice_get (cond (not b) (first ∷ outputs ports) (outputs ports)) k ≡ Some port →
-          ((m i : ℕ) → slice_get (outputs ports) i ≡ Some port → output_from is_same m ports port.name ≡ Some (m + i)) →
-          (if b then output_from is_same n ports port.name
-          else (if is_same port.name first.name then Some n else output_from is_same (n + 1) ports port.name)) ≡ Some (n + k)
-      by false zero e rest =
-          let same : first ≡ port = cc in
-          let here : is_same port.name first.name ≡ true = ap (λ (p : VPort). is_same port.name p.name) same
-          ∙ lang.itself port.name in
-          let count : n ≡ n + 0 = omega arith in
-          rw here (ap Some count)
-      by false (suc i) e rest =
-          let other = other_name first port named.0
-          (passing_at (IsOther first) (λ p. not p.input) ports i port (others_of first ports named.1 apart.0) e) in
-          let count : n + 1 + i ≡ n + suc i = omega arith in
-          rw other (rest (n + 1) i e ∙ ap Some count)
-      by true i e rest = rest n i e
+      by : {A : Type 0} (a b : A) (input : Bool) → (if input then a else b) ≡ (if not input then b else a)
+      by a b true = refl
+      by a b false = refl
 
   pub input_number_is : (ports : List VPort) (k : ℕ) (port : VPort) → AllByRecursion IsNamed ports → AreApart ports
       → slice_get (inputs ports) k ≡ Some port →

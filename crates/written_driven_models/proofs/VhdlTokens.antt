@@ -1,6 +1,6 @@
 -- The tokens of a written driver, up to the words that end its section.
-use Rattle.std.proofs.Common.{◌≡◌, ℕ, zero, suc, ◌+◌, ◌-◌, ◌<◌, ◌≤◌, ◌^◌, Bool, true, false, not, ◌&&◌, nat_eq, nat_lt}
-use Rattle.std.proofs.Common.{if◌then◌else◌, List, [], ◌∷◌, ◌++◌, length, Option, Some, refl, sym, ap, ◌∙◌, arith, subst, codes}
+use Rattle.std.proofs.Common.{◌≡◌, ℕ, zero, suc, ◌+◌, ◌-◌, ◌<◌, ◌≤◌, ◌^◌, Bool, true, false, not, ◌&&◌, nat_eq}
+use Rattle.std.proofs.Common.{List, [], ◌∷◌, ◌++◌, length, Option, Some, refl, sym, ap, ◌∙◌, arith, subst, codes}
 use Rattle.std.proofs.Common.{decimal, flat_map, append_assoc}
 use Rattle.std.specs.List.{AllByRecursion}
 use Rattle.std.specs.Char.{is_ascii_alphabetic}
@@ -14,7 +14,7 @@ use Rattle.written_entities.specs.vhdl_tokens.Spelling.{is_same}
 use Rattle.written_entities.specs.vhdl_grammar.VhdlDeclarations.{input_names}
 use Rattle.written_entities.specs.vhdl_grammar.WellFormed.{IsNumber, IsCount}
 use Rattle.written_entities.specs.vhdl_writer.Joined.{numbered_texts, apart_text}
-use Rattle.written_entities.specs.vhdl_writer.Declarations.{some_ports_text, glitch_data_text}
+use Rattle.written_entities.specs.vhdl_writer.Declarations.{some_ports_text}
 use Rattle.driven_traces.specs.declared.delays.DrivePath.{DrivePath}
 use Rattle.driven_traces.specs.Drivers.{IsPathOf}
 use Rattle.driver_models.specs.declared.model.DriverModel.{DriverModel}
@@ -26,9 +26,9 @@ use Rattle.driver_texts.specs.CoreTerminals.{terminal_by, terminals_text}
 use Rattle.driver_texts.specs.PortNames.{inputs, outputs, name_at}
 use Rattle.vhdl_drivers.specs.DriverText.{data_word, enable_word, driven_count, driver_header_text, signal_text}
 use Rattle.vhdl_drivers.specs.DriverText.{signals_text}
-use Rattle.vhdl_drivers.specs.DriverText.{core_text, process_text, own_paths, delays_text, driven_variables_text}
+use Rattle.vhdl_drivers.specs.DriverText.{core_text, process_text, own_paths, driven_variables_text}
 use Rattle.vhdl_drivers.specs.DriverText.{buffer_text}
-use Rattle.vhdl_drivers.specs.DriverText.{drive_path_text, path_call_text, direct_text, driven_line, statements_text}
+use Rattle.vhdl_drivers.specs.DriverText.{drive_path_text, driven_line, statements_text}
 use Rattle.vhdl_drivers.specs.WellFormed.{HasNumbers, IsWrittenDriver}
 use Rattle.written_modules.specs.driver_sections.Marks.{are_next}
 use Rattle.written_modules.specs.section_outlines.Marked.{ends_next}
@@ -38,18 +38,16 @@ use Rattle.written_modules.proofs.grammar_reader.Fronts.{Front, Anything, each}
 use Rattle.written_modules.proofs.grammar_reader.Passages.{passes_found, unless_barred}
 use Rattle.written_modules.proofs.grammar_reader.ItemPlaces.{at_place}
 use Rattle.written_modules.proofs.grammar_reader.Spelling.{literal, joins, behind, each_spelled}
-use Rattle.written_entities.proofs.Spelling.{vhdl, Spells, SpellsInside, inside, argument}
+use Rattle.written_entities.proofs.Spelling.{vhdl, Spells, SpellsInside, inside}
 use Rattle.written_entities.proofs.Names.{IsNamed, entity_named}
 use Rattle.written_entities.proofs.Words.{Ends, name, part, number, word_alone, word_token}
-use Rattle.written_entities.proofs.Tests.{some_items}
-use Rattle.written_entities.proofs.Parts.{part_behind, fact_at, place_below}
-use Rattle.written_entities.proofs.QuotedNames.{quoted, quoted_behind}
+use Rattle.written_entities.proofs.Parts.{part_behind, fact_at, place_below, counted_parts}
 use Rattle.written_entities.proofs.Counting.{counted, counted_anywhere, apart_front, apart_spelled}
-use Rattle.written_entities.proofs.Elements.{comma, call_end, line_end, indented}
-use Rattle.written_entities.proofs.HeaderReading.{package_front, ports_front, AreNamed, some_ports_spelled}
-use Rattle.written_entities.proofs.VariableTokens.{variable_word, output_type, glitch_front, glitch_spelled}
+use Rattle.written_entities.proofs.Elements.{comma, call_end, indented}
+use Rattle.written_entities.proofs.HeaderReading.{package_front, ports_front, is_word, AreNamed, some_ports_spelled}
+use Rattle.written_entities.proofs.VariableTokens.{assigned_front, assigned_spelled}
 use Rattle.written_entities.proofs.PathReading.{path_start, event_word, rise_end, index_is, index_fits}
-use Rattle.written_entities.proofs.OutputReading.{path_call_word, paths_word, paths_end, takes}
+use Rattle.written_entities.proofs.AssignmentTokens.{call_front, assignment_front, assignment_spelled}
 use Rattle.written_entities.proofs.EntityReading.{begin_word}
 use Rattle.written_driven_models.proofs.VhdlNames.{NamedPort, NamedTerminal, signals_named, ports_named, inputs_named}
 use Rattle.written_driven_models.proofs.VhdlNames.{input_named}
@@ -71,15 +69,6 @@ packages_word : SpellsInside Anything false
 unfolding is_reserved is_used vhdl_words used_words
 packages_word = literal (λ r. refl) refl
 
-is_word : {t : Bool} → SpellsInside Anything t (codes " is\n") (λ s. codes "is" ∷ s) false
-unfolding is_reserved is_used vhdl_words used_words
-is_word = literal (λ r. refl) refl
-
-architecture_word : {t : Bool} → SpellsInside Anything t (codes ";\narchitecture driven of ")
-    (λ s. codes ";" ∷ codes "architecture" ∷ codes "driven" ∷ codes "of" ∷ s) false
-unfolding is_reserved is_used vhdl_words used_words
-architecture_word = literal (λ r. refl) refl
-
 -- bytes that begin, behind a space, with another token than the word `driven`
 abbrev Other : List ℕ → Type 0
 Other r = ends_next vhdl vhdl_marks false (codes "end") (32 ∷ r) ≡ false
@@ -94,6 +83,11 @@ end_word = record {
     by : (b : Bool) → b ≡ false → unless_barred (codes "end") (Some ([], false)) b ≡ Some (codes "end" ∷ [], false)
     by true e = absurd cc
     by false e = refl
+
+architecture_word : {t : Bool} → SpellsInside Anything t (codes ";\narchitecture driven of ")
+    (λ s. codes ";" ∷ codes "architecture" ∷ codes "driven" ∷ codes "of" ∷ s) false
+unfolding is_reserved is_used vhdl_words used_words
+architecture_word = literal (λ r. refl) refl
 
 other_letters : (b : ℕ) (w r : List ℕ) → IsNamed (b ∷ w) → is_same (b ∷ w) (codes "driven") ≡ false → Ends r → Other (b ∷ w ++ r)
 other_letters b w r n other e =
@@ -136,10 +130,10 @@ header_spelled : (m : DriverModel) → IsWrittenDriver m
 unfolding driver_header_text
 header_spelled m w =
     behind packages_word (joins (own_name m w) (λ r q. refl)
-    (behind is_word (behind (inside (its_ports m.ports (some_port m w) (ports_named m w)))
+    (behind (inside is_word) (behind (inside (its_ports m.ports (some_port m w) (ports_named m w)))
     (joins end_word (λ r q. other_named m.name (codes ";\narchitecture driven of " ++ (m.name ++ codes " is\n")) r
     (entity_named m.name w.name) w.other refl)
-    (joins (own_name m w) (λ r q. refl) (behind architecture_word (joins (own_name m w) (λ r q. refl) is_word)))))))
+    (joins (own_name m w) (λ r q. refl) (behind architecture_word (joins (own_name m w) (λ r q. refl) (inside is_word))))))))
 
 -- The signals.
 
@@ -246,15 +240,7 @@ process_spelled m w =
 -- The variables.
 
 abbrev pub driven_variables_front : DriverModel → ℕ → ℕ → Front
-driven_variables_front m n place s =
-    codes "variable" ∷ (122 ∷ 95 ∷ decimal n) ∷ codes ":" ∷ codes "std_logic" ∷ codes ":=" ∷ codes "'X'" ∷ codes ";"
-    ∷ glitch_front n (own_paths m n) s
-
-variables_spelled : (m : DriverModel) (n place : ℕ) → IsCount n
-    → Spells Anything false (driven_variables_text m n place) (driven_variables_front m n place) false
-unfolding driven_variables_text delays_text glitch_data_text
-variables_spelled m n place h = part_behind 122 n refl h variable_word (λ r q. refl)
-    (behind output_type (glitch_spelled n (own_paths m n) h))
+driven_variables_front m n place s = assigned_front n (own_paths m n) s
 
 -- The buffers.
 
@@ -286,17 +272,10 @@ abbrev pub drive_paths_front : DriverModel → List DrivePath → Front
 drive_paths_front m paths s = apart_front (λ q. codes "," ∷ q) (drive_path_front m) paths s
 
 abbrev pub path_call_front : DriverModel → ℕ → List ℕ → List DrivePath → Front
-path_call_front m n x paths s =
-    codes "VitalPathDelay01" ∷ codes
-    "(" ∷ codes "OutSignal" ∷ codes "=>" ∷ x ∷ codes "," ∷ codes "GlitchData" ∷ codes "=>" ∷ (103 ∷ 95 ∷ decimal n) ∷ codes
-    "," ∷ codes "OutSignalName" ∷ codes "=>" ∷ quoted x
-    ∷ codes "," ∷ codes "OutTemp" ∷ codes "=>" ∷ (122 ∷ 95 ∷ decimal n) ∷ codes "," ∷ codes "Paths" ∷ codes "=>" ∷ codes
-    "(" ∷ drive_paths_front m paths
-    (codes ")" ∷ codes "," ∷ codes "Mode" ∷ codes "=>" ∷ codes "VitalTransport" ∷ codes ")" ∷ codes ";" ∷ s)
+path_call_front m n x paths s = codes "VitalPathDelay01" ∷ call_front n x (drive_paths_front m paths) s
 
 abbrev pub line_by_front : DriverModel → ℕ → List ℕ → List DrivePath → Front
-line_by_front m n x [] s = x ∷ codes "<=" ∷ (122 ∷ 95 ∷ decimal n) ∷ codes ";" ∷ s
-line_by_front m n x (path ∷ paths) s = path_call_front m n x (path ∷ paths) s
+line_by_front m n x paths s = assignment_front n x (drive_paths_front m) paths s
 
 abbrev pub driven_line_front : DriverModel → ℕ → ℕ → Front
 driven_line_front m n place s = line_by_front m n (name_at (outputs m.ports) place) (own_paths m n) s
@@ -357,42 +336,13 @@ drive_paths_spelled m w path paths h =
 
 -- The lines of the outputs.
 
-call_spelled : (m : DriverModel) → IsWrittenDriver m → (n : ℕ) (x : List ℕ) (path : DrivePath) (paths : List DrivePath)
-    → own_paths m n ≡ path ∷ paths → IsCount n → IsNamed x → ArePaths m (path ∷ paths)
-    → Spells Anything false (path_call_text m n x) (path_call_front m n x (path ∷ paths)) false
-unfolding path_call_text
-call_spelled m w n x path paths same h k i =
-    let list : Spells Anything false (numbered_texts (drive_path_text m.ports) 1 (own_paths m n))
-    (drive_paths_front m (path ∷ paths)) false =
-    subst (λ (l : List DrivePath). Spells Anything false (numbered_texts (drive_path_text m.ports) 1 l)
-    (drive_paths_front m (path ∷ paths)) false) (sym same) (drive_paths_spelled m w path paths i) in
-    behind path_call_word (joins (name x k) (λ r q. refl)
-    (part_behind 103 n refl h (argument (codes "GlitchData") (λ r. refl)) (λ r q. refl)
-    (quoted_behind x k (argument (codes "OutSignalName") (λ r. refl))
-    (part_behind 122 n refl h (argument (codes "OutTemp") (λ r. refl)) (λ r q. refl)
-    (behind paths_word (behind list paths_end))))))
-
-direct_spelled : (m : DriverModel) (n : ℕ) (x : List ℕ) → IsCount n → IsNamed x
-    → Spells Anything false (direct_text n x) (line_by_front m n x []) false
-unfolding direct_text
-direct_spelled m n x h k = behind indented
-    (joins (name x k) (λ r q. refl) (part_behind 122 n refl h takes (λ r q. refl) line_end))
-
-line_spelled : (m : DriverModel) → IsWrittenDriver m → (n : ℕ) (x : List ℕ) (paths : List DrivePath) → own_paths m n ≡ paths
-    → IsCount n → IsNamed x → ArePaths m paths
-    → Spells Anything false (if nat_lt 0 (length paths) then path_call_text m n x else direct_text n x)
-    (line_by_front m n x paths) false
-line_spelled m w n x [] same h k i = direct_spelled m n x h k
-line_spelled m w n x (path ∷ paths) same h k i =
-    subst (λ (b : Bool). Spells Anything false (if b then path_call_text m n x else direct_text n x)
-    (line_by_front m n x (path ∷ paths)) false) (sym (some_items (length paths)))
-    (call_spelled m w n x path paths same h k i)
-
 driven_line_spelled : (m : DriverModel) → IsWrittenDriver m → (n place : ℕ) → IsCount n → place < m.driver.outputs
     → Spells Anything false (driven_line m n place) (driven_line_front m n place) false
 unfolding driven_line
 driven_line_spelled m w n place h l =
-    line_spelled m w n (name_at (outputs m.ports) place) (own_paths m n) refl h (output_named m w place l) (its_paths m w n)
+    assignment_spelled n (name_at (outputs m.ports) place) (numbered_texts (drive_path_text m.ports) 1) (drive_paths_front m)
+    (own_paths m n) h (output_named m w place l)
+    (λ path paths same. drive_paths_spelled m w path paths (subst (ArePaths m) same (its_paths m w n)))
 
 -- The process behind its list.
 
@@ -401,20 +351,17 @@ statements_front m s =
     counted (driven_variables_front m) 1 m.driver.drives
     (codes "begin" ∷ counted buffer_front 1 m.driver.drives (counted (driven_line_front m) 1 m.driver.drives s))
 
-drive_count : (m : DriverModel) → IsWrittenDriver m → (before : List ℕ) (place : ℕ) (after : List ℕ)
-    → before ++ place ∷ after ≡ m.driver.drives → IsCount (length before + 1)
-drive_count m w before place after same = omega (arith, place_below before place after m.driver.drives same, w.few)
-
 statements_spelled : (m : DriverModel) → IsWrittenDriver m → Spells Anything false (statements_text m) (statements_front m) false
 unfolding statements_text
 statements_spelled m w =
-    behind (counted_anywhere (driven_variables_text m) (driven_variables_front m) m.driver.drives
-    (λ before place after same. variables_spelled m (length before + 1) place (drive_count m w before place after same)))
+    let number : (n : ℕ) → n ≤ length m.driver.drives → IsCount n = (λ n h. omega (arith, h, w.few)) in
+    behind (counted_parts (driven_variables_text m) (driven_variables_front m) m.driver.drives number
+    (λ n place. assigned_spelled n (own_paths m n)))
     (behind begin_word
-    (behind (counted_anywhere buffer_text buffer_front m.driver.drives
-    (λ before place after same. buffer_spelled (length before + 1) place (drive_count m w before place after same)))
+    (behind (counted_parts buffer_text buffer_front m.driver.drives number buffer_spelled)
     (counted_anywhere (driven_line m) (driven_line_front m) m.driver.drives
-    (λ before place after same. driven_line_spelled m w (length before + 1) place (drive_count m w before place after same)
+    (λ before place after same. driven_line_spelled m w (length before + 1) place
+    (number (length before + 1) (place_below before place after m.driver.drives same))
     (fact_at (λ place. place < m.driver.outputs) m.driver.drives w.sound.driver.outputs before place after same)))))
 
 -- The whole, up to the words that end the section.

@@ -39,7 +39,7 @@ use Rattle.written_entities.proofs.TableTokens.{truth_row_front, state_row_front
 use Rattle.written_entities.proofs.TableReading.{truth_table_read, state_table_read}
 use Rattle.written_entities.proofs.NameReading.{expected, known_as}
 use Rattle.written_entities.proofs.Counting.{counted, counted_anywhere, over}
-use Rattle.written_entities.proofs.Parts.{part_behind, fact_at, place_below, state_number, condition_number, table_number_is}
+use Rattle.written_entities.proofs.Parts.{part_behind, fact_at, place_below, counted_parts, state_number, condition_number, table_number_is}
 use Rattle.written_entities.proofs.Tests.{if_true, if_either}
 use Rattle.written_entities.proofs.Elements.{call_end}
 
@@ -165,12 +165,9 @@ its_number_fits e w before output after same =
 pub constants_spelled : (e : VEntity) → IsWellFormedEntity e → Spells Anything false (constants_text e) (constants_front e) false
 unfolding constants_text
 constants_spelled e w =
-    behind (counted_anywhere state_constant_text state_constant_front e.states
-    (λ before state after same. state_constant_spelled (length before + 1) state
-    (state_number e w (length before + 1) (place_below before state after e.states same))))
-    (behind (counted_anywhere condition_constant_text condition_constant_front e.conditions
-    (λ before truth after same. condition_constant_spelled (length before + 1) truth
-    (condition_number e w (length before + 1) (place_below before truth after e.conditions same))))
+    behind (counted_parts state_constant_text state_constant_front e.states (state_number e w) state_constant_spelled)
+    (behind
+    (counted_parts condition_constant_text condition_constant_front e.conditions (condition_number e w) condition_constant_spelled)
     (counted_anywhere (output_constant_text e) (output_constant_front e) e.outputs
     (λ before output after same. output_constant_spelled e (length before + 1) output.value
     (its_number_fits e w before output after same))))
@@ -209,9 +206,9 @@ state_constant_read e w before state after q same =
     let n : ℕ = length before + 1 in
     let written : IsWrittenState state = fact_at IsWrittenState e.states w.states before state after same in
     let sound : IsState e state = fact_at (IsState e) e.states w.sound.states before state after same in
-    let number : IsCount n = state_number e w n (place_below before state after e.states same) in
     let place : length (map table_of before) + 0 + 1 ≡ n = omega (arith, length-map before table_of) in
-    in_turn (known_as (constant_of (tables_up_to before [] [])) (part_named 107 n refl number)
+    in_turn (known_as (constant_of (tables_up_to before [] []))
+    (part_named 107 n refl (state_number e w n (place_below before state after e.states same)))
     (is_next_table (tables_up_to before [] []) n place))
     (in_turn expected (chosen refl (in_turn expected
     (in_turn (state_table_read (columns_of state) state.table (codes ";" ∷ q) written.columns written.rows
@@ -238,9 +235,9 @@ condition_constant_read e w before truth after q same =
     let n : ℕ = length before + 1 in
     let written : IsWrittenTruth truth = fact_at IsWrittenTruth e.conditions w.conditions before truth after same in
     let sound : IsTruth e truth = fact_at (IsTruth e) e.conditions w.sound.conditions before truth after same in
-    let number : IsCount n = condition_number e w n (place_below before truth after e.conditions same) in
     let place : length (map condition_table_of before) + 1 ≡ n = omega (arith, length-map before condition_table_of) in
-    in_turn (known_as (constant_of (tables_up_to e.states before [])) (part_named 99 n refl number)
+    in_turn (known_as (constant_of (tables_up_to e.states before []))
+    (part_named 99 n refl (condition_number e w n (place_below before truth after e.conditions same)))
     (is_next_condition (map table_of e.states) (map condition_table_of before) n place))
     (in_turn expected (in_turn expected
     (in_turn (truth_read (length truth.inputs) truth.table q written.columns written.rows

@@ -67,7 +67,7 @@ packages_word : {t : Bool} → SpellsOutside Anything t
 unfolding is_reserved is_used vhdl_words used_words
 packages_word = literal (λ r. refl) refl
 
-is_word : {t : Bool} → SpellsOutside Anything t (codes " is\n") (λ s. codes "is" ∷ s) false
+pub is_word : {t : Bool} → Spells Anything t (codes " is\n") (λ s. codes "is" ∷ s) false
 unfolding is_reserved is_used vhdl_words used_words
 is_word = literal (λ r. refl) refl
 
@@ -157,9 +157,9 @@ pub header_spelled : (e : VEntity) → IsWellFormedEntity e
 unfolding header_text
 header_spelled e w =
     behind packages_word (joins (own_name e w) (λ r q. refl)
-    (behind is_word (behind (outside (ports_spelled e.ports (all_named e w)))
+    (behind (outside is_word) (behind (outside (ports_spelled e.ports (all_named e w)))
     (behind end_word (joins (own_name e w) (λ r q. refl)
-    (behind architecture_word (joins (own_name e w) (λ r q. refl) is_word)))))))
+    (behind architecture_word (joins (own_name e w) (λ r q. refl) (outside is_word))))))))
 
 -- Reading.
 

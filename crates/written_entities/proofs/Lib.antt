@@ -27,6 +27,7 @@ pub mod StateReading
 pub mod ValueReading
 pub mod QuotedNames
 pub mod PathReading
+pub mod AssignmentTokens
 pub mod OutputReading
 pub mod EntityReading
 pub mod EntityFile

@@ -24,56 +24,32 @@ use Rattle.vhdl_grammar.specs.WellFormed.{IsCount, IsPortName, IsWrittenOutput, 
 use Rattle.vhdl_grammar.specs.WellFormed.{conditions_of_path, conditions_of_output}
 use Rattle.vhdl_writer.specs.Joined.{numbered_texts}
 use Rattle.vhdl_writer.specs.Names.{port_at}
-use Rattle.vhdl_writer.specs.Outputs.{path_text, paths_text, direct_text, output_line}
+use Rattle.vhdl_writer.specs.Outputs.{path_text, output_line}
 use Rattle.grammar_reader.proofs.Fronts.{Front, Anything}
 use Rattle.grammar_reader.proofs.Derivations.{Reads, gives, token, in_turn, chosen, passed, no_turn, Turn, turn, turns, goes_on}
 use Rattle.grammar_reader.proofs.ItemPlaces.{get_at}
-use Rattle.grammar_reader.proofs.Spelling.{literal, joins, behind}
 use Rattle.written_entities.proofs.Names.{IsNamed, part_named, port_named, same_name, same_self, case_turned}
-use Rattle.written_entities.proofs.Spelling.{Spells, argument}
-use Rattle.written_entities.proofs.Words.{name}
+use Rattle.written_entities.proofs.Spelling.{Spells}
 use Rattle.written_entities.proofs.NameReading.{expected, two_expected, three_expected, six_expected, so_named, part_read}
 use Rattle.written_entities.proofs.Counting.{counted, counted_anywhere, apart_front, over}
-use Rattle.written_entities.proofs.Elements.{line_end, indented}
-use Rattle.written_entities.proofs.Parts.{part_behind, fact_at, place_below, output_number}
+use Rattle.written_entities.proofs.Parts.{fact_at, place_below, output_number}
 use Rattle.written_entities.proofs.PortLookUps.{port_is, port_at_is}
 use Rattle.written_entities.proofs.VariableReading.{has_paths, so_many_outputs}
 use Rattle.written_entities.proofs.LookUpOrder.{seen_after, behind_look_ups, seen_with_item, looks_at}
 use Rattle.written_entities.proofs.ConditionReading.{scope, uses_of, Looks}
-use Rattle.written_entities.proofs.QuotedNames.{quoted, quoted_behind, quoted_is}
+use Rattle.written_entities.proofs.QuotedNames.{quoted, quoted_is}
 use Rattle.written_entities.proofs.Tests.{if_true, if_false, some_items}
 use Rattle.written_entities.proofs.PathReading.{path_front, ArePaths, paths_spelled, paths_read}
+use Rattle.written_entities.proofs.AssignmentTokens.{call_front, assignment_front, assignment_spelled}
 
-abbrev call_front : VEntity → ℕ → ℕ → List HPath → Front
-call_front e n p all s =
-    codes "(" ∷ codes "OutSignal" ∷ codes "=>" ∷ port_at e p ∷ codes "," ∷ codes "GlitchData" ∷ codes "=>"
-    ∷ (103 ∷ 95 ∷ decimal n) ∷ codes "," ∷ codes "OutSignalName" ∷ codes "=>" ∷ quoted (port_at e p)
-    ∷ codes "," ∷ codes "OutTemp" ∷ codes "=>" ∷ (122 ∷ 95 ∷ decimal n) ∷ codes "," ∷ codes "Paths" ∷ codes "=>" ∷ codes
-    "(" ∷ apart_front (λ q. codes "," ∷ q) (path_front e) all
-    (codes ")" ∷ codes "," ∷ codes "Mode" ∷ codes "=>" ∷ codes "VitalTransport" ∷ codes ")" ∷ codes ";" ∷ s)
+abbrev paths_front : VEntity → List HPath → Front
+paths_front e all s = apart_front (λ q. codes "," ∷ q) (path_front e) all s
 
 abbrev line_by_paths : VEntity → ℕ → ℕ → List HPath → Front
-line_by_paths e n p [] s = port_at e p ∷ codes "<=" ∷ (122 ∷ 95 ∷ decimal n) ∷ codes ";" ∷ s
-line_by_paths e n p (path ∷ all) s = codes "VitalPathDelay01" ∷ call_front e n p (path ∷ all) s
+line_by_paths e n p all s = assignment_front n (port_at e p) (paths_front e) all s
 
 abbrev pub line_front : VEntity → ℕ → VOutput → Front
 line_front e n output s = line_by_paths e n output.port output.paths s
-
-pub path_call_word : {t : Bool} → Spells Anything t
-    (codes "    VitalPathDelay01 (OutSignal => ")
-    (λ s. codes "VitalPathDelay01" ∷ codes "(" ∷ codes "OutSignal" ∷ codes "=>" ∷ s) false
-path_call_word = literal (λ r. refl) refl
-
-pub paths_word : {t : Bool} → Spells Anything t
-    (codes ", Paths => (") (λ s. codes "," ∷ codes "Paths" ∷ codes "=>" ∷ codes "(" ∷ s) false
-paths_word = literal (λ r. refl) refl
-
-pub paths_end : {t : Bool} → Spells Anything t (codes "), Mode => VitalTransport);\n") (λ s. codes ")" ∷ codes "," ∷ codes "Mode"
-    ∷ codes "=>" ∷ codes "VitalTransport" ∷ codes ")" ∷ codes ";" ∷ s) false
-paths_end = literal (λ r. refl) refl
-
-pub takes : {t : Bool} → Spells Anything t (codes " <= ") (λ s. codes "<=" ∷ s) false
-takes = literal (λ r. refl) refl
 
 -- Outputs.
 
@@ -163,46 +139,19 @@ its_paths e w before output after same =
           (lines_look e w));
     }
 
-call_spelled : (e : VEntity) (n : ℕ) (output : VOutput) (seen : ℕ) (path : HPath) (all : List HPath) (others : List ℕ)
-    → output.paths ≡ path ∷ all → IsCount n → IsNamed (port_at e output.port) → ArePaths e seen (path ∷ all) others
-    → Spells Anything false (paths_text e n output) (λ s. codes "VitalPathDelay01" ∷ call_front e n output.port (path ∷ all) s)
-    false
-unfolding paths_text
-call_spelled e n output seen path all others same m x h =
-    let p : List ℕ = port_at e output.port in
-    let list : Spells Anything false (numbered_texts (path_text e) 1 output.paths)
-    (apart_front (λ q. codes "," ∷ q) (path_front e) (path ∷ all)) false =
-    subst (λ (l : List HPath). Spells Anything false (numbered_texts (path_text e) 1 l)
-    (apart_front (λ q. codes "," ∷ q) (path_front e) (path ∷ all)) false) (sym same) (paths_spelled e seen path all others h)
-    in
-    behind path_call_word (joins (name p x) (λ r q. refl)
-    (part_behind 103 n refl m (argument (codes "GlitchData") (λ r. refl)) (λ r q. refl)
-    (quoted_behind p x (argument (codes "OutSignalName") (λ r. refl))
-    (part_behind 122 n refl m (argument (codes "OutTemp") (λ r. refl)) (λ r q. refl)
-    (behind paths_word (behind list paths_end))))))
-
-direct_spelled : (e : VEntity) (n : ℕ) (output : VOutput) → IsCount n → IsNamed (port_at e output.port)
-    → Spells Anything false (direct_text e n output) (line_by_paths e n output.port []) false
-unfolding direct_text
-direct_spelled e n output m x = behind indented
-    (joins (name (port_at e output.port) x) (λ r q. refl) (part_behind 122 n refl m takes (λ r q. refl) line_end))
-
-line_by_spelled : (e : VEntity) (n : ℕ) (output : VOutput) (seen : ℕ) (all : List HPath) (others : List ℕ) → output.paths ≡ all
-    → IsCount n → IsNamed (port_at e output.port) → ArePaths e seen all others
-    → Spells Anything false (if nat_lt 0 (length all) then paths_text e n output else direct_text e n output)
-    (line_by_paths e n output.port all) false
-line_by_spelled e n output seen [] others same m x h = direct_spelled e n output m x
-line_by_spelled e n output seen (path ∷ all) others same m x h =
-    subst (λ (b : Bool). Spells Anything false (if b then paths_text e n output else direct_text e n output)
-    (line_by_paths e n output.port (path ∷ all)) false) (sym (some_items (length all)))
-    (call_spelled e n output seen path all others same m x h)
+line_spelled : (e : VEntity) (n : ℕ) (output : VOutput) (seen : ℕ) (others : List ℕ) → IsCount n → IsNamed (port_at e output.port)
+    → ArePaths e seen output.paths others
+    → Spells Anything false (output_line e n output) (line_front e n output) false
+line_spelled e n output seen others m x h =
+    assignment_spelled n (port_at e output.port) (numbered_texts (path_text e) 1) (paths_front e) output.paths m x
+    (λ path all same. paths_spelled e seen path all others (subst (λ (l : List HPath). ArePaths e seen l others) same h))
 
 pub lines_spelled : (e : VEntity) → IsWellFormedEntity e
     → Spells Anything false (numbered_texts (output_line e) 1 e.outputs) (counted (line_front e) 1 e.outputs) false
 lines_spelled e w =
     counted_anywhere (output_line e) (line_front e) e.outputs
-    (λ before output after same. line_by_spelled e (length before + 1) output (seen_before e before) output.paths
-    (flat_map conditions_of_output after ++ []) refl
+    (λ before output after same. line_spelled e (length before + 1) output (seen_before e before)
+    (flat_map conditions_of_output after ++ [])
     (output_number e w (length before + 1) (place_below before output after e.outputs same))
     (port_named_at e w (length before) output (output_at e w before output after same))
     (its_paths e w before output after same))
@@ -243,7 +192,7 @@ call_read : (e : VEntity) → IsWellFormedEntity e
     → (done : List (List HPath)) (o seen : ℕ) (output : VOutput) (path : HPath) (all : List HPath) (others : List ℕ)
     (s : List (List ℕ)) → length done ≡ o
     → IsOutputAt e o output → IsCount (o + 1) → output.paths ≡ path ∷ all → ArePaths e seen (path ∷ all) others
-    → Reads (path_call (scope e) (done, uses_of e seen)) (call_front e (o + 1) output.port (path ∷ all) s)
+    → Reads (path_call (scope e) (done, uses_of e seen)) (call_front (o + 1) (port_at e output.port) (paths_front e (path ∷ all)) s)
     (done ++ (path ∷ all) ∷ [], uses_of e (seen_after seen (flat_map conditions_of_path (path ∷ all)))) s
 unfolding path_call
 call_read e w done o seen output path all others s place h m same paths =

@@ -12,11 +12,13 @@ use Rattle.vital_models.specs.declared.model.VOutput.{VOutput}
 use Rattle.vital_models.specs.declared.model.VEntity.{VEntity}
 use Rattle.vital_models.specs.Sound.{output_ports_from}
 use Rattle.vhdl_grammar.specs.WellFormed.{IsCount, IsWellFormedEntity}
+use Rattle.vhdl_writer.specs.Joined.{numbered_texts}
 use Rattle.grammar_reader.proofs.Fronts.{Front, Anything}
 use Rattle.grammar_reader.proofs.ItemPlaces.{at_place}
 use Rattle.grammar_reader.proofs.Spelling.{joins, behind}
 use Rattle.written_entities.proofs.Spelling.{Spells}
 use Rattle.written_entities.proofs.Words.{Ends, part}
+use Rattle.written_entities.proofs.Counting.{counted, counted_anywhere}
 
 -- text that is written where a test holds
 pub shown : {P : List ℕ → Type 0} {t u : Bool} {text : List ℕ} {f : Front} (b : Bool) → b ≡ true → Spells P t text f u
@@ -81,3 +83,11 @@ check_number e w n h = omega (arith, h, w.few)
 
 pub table_number_is : (e : VEntity) → IsWellFormedEntity e → (n : ℕ) → n ≤ length e.states + length e.outputs → IsCount n
 table_number_is e w n h = omega (arith, h, few_outputs e w, w.few)
+
+-- parts that are spelled by their numbers, each of which counts a part
+pub counted_parts : {A : Type 0} (text : ℕ → A → List ℕ) (f : ℕ → A → Front) (all : List A)
+    → ((n : ℕ) → n ≤ length all → IsCount n) → ((n : ℕ) (x : A) → IsCount n → Spells Anything false (text n x) (f n x) false)
+    → Spells Anything false (numbered_texts text 1 all) (counted f 1 all) false
+counted_parts text f all number one =
+    counted_anywhere text f all
+    (λ before x after same. one (length before + 1) x (number (length before + 1) (place_below before x after all same)))

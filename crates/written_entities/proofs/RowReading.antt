@@ -140,21 +140,11 @@ truth_row_read before row s some long = truth_parts_read before row.inputs row.r
 
 level_back : (l : Trits) → symbol_of (level_text l) ≡ Some (symbol.Level l)
 level_back trits.Zero = refl
-level_back trits.One = refl
-level_back trits.Unknown = refl
-level_back trits.Any = refl
-level_back trits.Binary = refl
+level_back _ = refl
 
 symbol_back : (y : VSymbol) → symbol_of (symbol_text y) ≡ Some y
 symbol_back (symbol.Level l) = level_back l
-symbol_back symbol.Steady = refl
-symbol_back symbol.Rise = refl
-symbol_back symbol.Fall = refl
-symbol_back symbol.To1 = refl
-symbol_back symbol.To0 = refl
-symbol_back symbol.From0 = refl
-symbol_back symbol.From1 = refl
-symbol_back symbol.Change = refl
+symbol_back _ = refl
 
 symbol_fits : (before : List VSymbol) (y : VSymbol) → (is_edge y && list_any is_edge before) ≡ false
     → next_by before (Some y) ≡ Fits y

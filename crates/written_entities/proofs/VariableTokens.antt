@@ -8,7 +8,6 @@ use Rattle.cell_machine.specs.declared.checks.CheckKind.TheVariants as check_kin
 use Rattle.vital_models.specs.declared.table.VStateRow.{VStateRow}
 use Rattle.vital_models.specs.declared.model.VState.{VState}
 use Rattle.vital_models.specs.declared.model.VOutput.{VOutput}
-use Rattle.vital_models.specs.declared.model.HPath.{HPath}
 use Rattle.udp_tables.specs.declared.timing_checks.TimingCheck.{TimingCheck}
 use Rattle.vital_models.specs.declared.model.VEntity.{VEntity}
 use Rattle.vital_models.specs.Sound.{columns_of, IsState}
@@ -17,14 +16,15 @@ use Rattle.vhdl_grammar.specs.VhdlTables.{state_width}
 use Rattle.vhdl_grammar.specs.VhdlDeclarations.{first_data}
 use Rattle.vhdl_grammar.specs.WellFormed.{IsNumber, IsCount, IsWrittenState, IsWellFormedEntity}
 use Rattle.vhdl_writer.specs.Declarations.{data_text, check_variables_text, violation_variable_text, width_of}
-use Rattle.vhdl_writer.specs.Declarations.{state_variables_text, glitch_data_text, output_variables_text, variables_text}
+use Rattle.vhdl_writer.specs.Assignments.{glitch_data_text, assigned_variables_text}
+use Rattle.vhdl_writer.specs.Declarations.{state_variables_text, output_variables_text, variables_text}
 use Rattle.grammar_reader.proofs.Fronts.{Front, Anything}
 use Rattle.grammar_reader.proofs.Spelling.{literal, joins, behind, nothing}
 use Rattle.written_entities.proofs.Spelling.{Spells}
 use Rattle.written_entities.proofs.Words.{number}
 use Rattle.written_entities.proofs.Counting.{counted, counted_anywhere}
 use Rattle.written_entities.proofs.Parts.{shown, part_behind, fact_at, place_below, output_number, state_number, check_number}
-use Rattle.written_entities.proofs.Parts.{IsBehind, by_kind}
+use Rattle.written_entities.proofs.Parts.{IsBehind, by_kind, counted_parts}
 use Rattle.written_entities.proofs.Tests.{some_items}
 
 -- Tokens.
@@ -61,15 +61,19 @@ glitch_front n [] s = s
 glitch_front n (path ∷ paths) s =
     codes "variable" ∷ (103 ∷ 95 ∷ decimal n) ∷ codes ":" ∷ codes "VitalGlitchDataType" ∷ codes ";" ∷ s
 
+-- the variables of an output with these paths
+abbrev pub assigned_front : {A : Type 0} → ℕ → List A → Front
+assigned_front n paths s = codes "variable" ∷ (122 ∷ 95 ∷ decimal n) ∷ codes ":" ∷ codes "std_logic" ∷ codes ":=" ∷ codes "'X'"
+    ∷ codes ";" ∷ glitch_front n paths s
+
 abbrev pub output_front : ℕ → VOutput → Front
-output_front n output s = codes "variable" ∷ (122 ∷ 95 ∷ decimal n) ∷ codes ":" ∷ codes "std_logic" ∷ codes ":=" ∷ codes "'X'"
-    ∷ codes ";" ∷ glitch_front n output.paths s
+output_front n output s = assigned_front n output.paths s
 
 abbrev pub variables_front : VEntity → Front
 variables_front e s = counted check_front 1 e.checks
     (violation_front e.checks (counted state_front 1 e.states (counted output_front 1 e.outputs s)))
 
-pub variable_word : {t : Bool} → Spells Anything t (codes "    variable ") (λ s. codes "variable" ∷ s) false
+variable_word : {t : Bool} → Spells Anything t (codes "    variable ") (λ s. codes "variable" ∷ s) false
 unfolding is_reserved is_used vhdl_words used_words
 variable_word = literal (λ r. refl) refl
 
@@ -105,11 +109,11 @@ columns_end : {t : Bool} → Spells Anything t (codes ") := (others => 'X');\n")
     "(" ∷ codes "others" ∷ codes "=>" ∷ codes "'X'" ∷ codes ")" ∷ codes ";" ∷ s) false
 columns_end = literal (λ r. refl) refl
 
-pub output_type : {t : Bool} → Spells Anything t (codes " : std_logic := 'X';\n")
+output_type : {t : Bool} → Spells Anything t (codes " : std_logic := 'X';\n")
     (λ s. codes ":" ∷ codes "std_logic" ∷ codes ":=" ∷ codes "'X'" ∷ codes ";" ∷ s) false
 output_type = literal (λ r. refl) refl
 
-pub glitch_type : {t : Bool} → Spells Anything t (codes " : VitalGlitchDataType;\n")
+glitch_type : {t : Bool} → Spells Anything t (codes " : VitalGlitchDataType;\n")
     (λ s. codes ":" ∷ codes "VitalGlitchDataType" ∷ codes ";" ∷ s) false
 glitch_type = literal (λ r. refl) refl
 
@@ -158,7 +162,7 @@ state_spelled n state h e m =
     (behind columns_type (joins (number (columns_of state) m) (λ r q. refl) columns_end))))
 
 -- the data of the delays of paths, where there are some
-pub glitch_spelled : {A : Type 0} (n : ℕ) (paths : List A) → IsCount n
+glitch_spelled : {A : Type 0} (n : ℕ) (paths : List A) → IsCount n
     → Spells Anything false (if nat_lt 0 (length paths) then glitch_data_text n else []) (glitch_front n paths) false
 unfolding glitch_data_text
 glitch_spelled n [] h = nothing
@@ -166,11 +170,12 @@ glitch_spelled n (path ∷ paths) h =
     shown (nat_lt 0 (length (path ∷ paths))) (some_items (length paths))
     (part_behind 103 n refl h variable_word (λ r q. refl) glitch_type)
 
-output_spelled : (n : ℕ) (output : VOutput) → IsCount n
-    → Spells Anything false (output_variables_text n output) (output_front n output) false
-unfolding output_variables_text
-output_spelled n output h = part_behind 122 n refl h variable_word (λ r q. refl)
-    (behind output_type (glitch_spelled n output.paths h))
+-- the variables of an output with these paths
+pub assigned_spelled : {A : Type 0} (n : ℕ) (paths : List A) → IsCount n
+    → Spells Anything false (assigned_variables_text n (nat_lt 0 (length paths))) (assigned_front n paths) false
+unfolding assigned_variables_text
+assigned_spelled n paths h = part_behind 122 n refl h variable_word (λ r q. refl)
+    (behind output_type (glitch_spelled n paths h))
 
 pub wide_at : (e : VEntity) → IsWellFormedEntity e → (before : List VState) (state : VState) (after : List VState)
     → before ++ state ∷ after ≡ e.states → AllByRecursion (Wide (columns_of state)) state.table.rows
@@ -182,18 +187,15 @@ wide_at e w before state after same =
 pub variables_spelled : (e : VEntity) → IsWellFormedEntity e → Spells Anything false (variables_text e) (variables_front e) false
 unfolding variables_text
 variables_spelled e w =
-    behind (counted_anywhere check_variables_text check_front e.checks
-    (λ before k after same. check_spelled (length before + 1) k
-    (check_number e w (length before + 1) (place_below before k after e.checks same))))
+    behind (counted_parts check_variables_text check_front e.checks (check_number e w) check_spelled)
     (behind (violation_spelled e.checks)
     (behind (counted_anywhere state_variables_text state_front e.states
     (λ before state after same. (let written : IsWrittenState state =
     fact_at IsWrittenState e.states w.states before state after same in
     state_spelled (length before + 1) state (state_number e w (length before + 1) (place_below before state after e.states same))
     (first_width (columns_of state) state.table.rows written.rows (wide_at e w before state after same)) written.width)))
-    (counted_anywhere output_variables_text output_front e.outputs
-    (λ before output after same. output_spelled (length before + 1) output
-    (output_number e w (length before + 1) (place_below before output after e.outputs same))))))
+    (counted_parts output_variables_text output_front e.outputs (output_number e w)
+    (λ n output. assigned_spelled n output.paths))))
 
 abbrev pub is_period_check : TimingCheck → Bool
 is_period_check k = is_period k.kind

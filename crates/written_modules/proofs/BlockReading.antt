@@ -31,11 +31,7 @@ pub record AreTimed (m : VModule) : Type 0 where
 
 no_path : (kind : CheckKind) → begins_by is_path_start (check_word kind) ≡ None
 no_path check_kind.Setup = refl
-no_path check_kind.Hold = refl
-no_path check_kind.Recovery = refl
-no_path check_kind.Removal = refl
-no_path check_kind.Width = refl
-no_path check_kind.Period = refl
+no_path _ = refl
 
 paths_end : (m : VModule) (all : List TimingCheck) (s : List (List ℕ))
     → Stops (begins_by is_path_start) (each (check_tokens m) all (codes "endspecify" ∷ s))

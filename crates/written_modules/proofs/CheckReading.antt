@@ -228,11 +228,7 @@ kind_read m w k check_kind.Period s e v h n = period_read m w k s e v h n
 
 word_is : (kind : CheckKind) → begins_as check_of (check_word kind) ≡ Some (Fits kind)
 word_is check_kind.Setup = refl
-word_is check_kind.Hold = refl
-word_is check_kind.Recovery = refl
-word_is check_kind.Removal = refl
-word_is check_kind.Width = refl
-word_is check_kind.Period = refl
+word_is _ = refl
 
 abbrev pub HasNumber : TimingCheck → Type 0
 HasNumber k = IsNumber k.limit

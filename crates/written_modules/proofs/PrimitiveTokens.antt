@@ -101,8 +101,7 @@ output_tokens true x s = codes "output" ∷ x ∷ codes ";" ∷ codes "reg" ∷ 
 output_tokens false x s = codes "output" ∷ x ∷ codes ";" ∷ s
 
 output_by : (sequential : Bool) (x : List ℕ) → IsName x → Spells Anything false
-    (if sequential then codes "  output " ++ (x ++ (codes ";\n  reg " ++ (x ++ codes ";\n"))) else codes "  output "
-    ++ (x ++ codes ";\n"))
+    (codes "  output " ++ (x ++ ((if sequential then codes ";\n  reg " ++ x else []) ++ codes ";\n")))
     (output_tokens sequential x) false
 output_by true x n = behind output_word
     (joins (name x n) (λ r q. refl) (behind register_word (joins (name x n) (λ r q. refl) line_end)))

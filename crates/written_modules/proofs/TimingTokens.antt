@@ -203,52 +203,47 @@ limited : (m : VModule) (k : TimingCheck) → IsNamedCheck m k
 limited m k h = joins (number k.limit h.limit) (λ r q. refl)
     (behind comma (joins (name (notifier_in m) h.notifier) (λ r q. refl) closed))
 
-ordered : {word : List ℕ} {start : List (List ℕ) → List (List ℕ)} (m : VModule) (k : TimingCheck) → IsNamedCheck m k
-    → Spells Anything false word start false
-    → Spells Anything false (ordered_text word m k) (λ s. start (ordered_tokens m k s)) false
-unfolding ordered_text
-ordered m k h w =
-    behind w (behind (an_edge k.first.edge)
-    (joins (name (port_at m k.first.pin) h.first) (λ r q. refl) (behind comma (behind (an_edge k.second.edge)
-    (joins (name (port_at m k.second.pin) h.second)
-    (λ r q. condition_begins m k.condition (decimal k.limit ++ (codes ", " ++ (notifier_in m ++ codes ");\n"))) r)
-    (conditioned m k.condition h.condition (limited m k h)))))))
+-- the lines of a check by the word that they begin with
+module _ {word : List ℕ} {start : List (List ℕ) → List (List ℕ)} (m : VModule) (k : TimingCheck) (h : IsNamedCheck m k)
+    (w : Spells Anything false word start false) where
+  ordered : Spells Anything false (ordered_text word m k) (λ s. start (ordered_tokens m k s)) false
+  unfolding ordered_text
+  ordered =
+      behind w (behind (an_edge k.first.edge)
+      (joins (name (port_at m k.first.pin) h.first) (λ r q. refl) (behind comma (behind (an_edge k.second.edge)
+      (joins (name (port_at m k.second.pin) h.second)
+      (λ r q. condition_begins m k.condition (decimal k.limit ++ (codes ", " ++ (notifier_in m ++ codes ");\n"))) r)
+      (conditioned m k.condition h.condition (limited m k h)))))))
 
-back_turned : {word : List ℕ} {start : List (List ℕ) → List (List ℕ)} (m : VModule) (k : TimingCheck) → IsNamedCheck m k
-    → Spells Anything false word start false
-    → Spells Anything false (turned_text word m k) (λ s. start (turned_tokens m k s)) false
-unfolding turned_text
-back_turned m k h w =
-    behind w (behind (an_edge k.second.edge)
-    (joins (name (port_at m k.second.pin) h.second)
-    (λ r q. condition_begins m k.condition
-    (edge_text k.first.edge ++ (port_at m k.first.pin
-    ++ (codes ", " ++ (decimal k.limit ++ (codes ", " ++ (notifier_in m ++ codes ");\n")))))) r)
-    (conditioned m k.condition h.condition
-    (behind (an_edge k.first.edge) (joins (name (port_at m k.first.pin) h.first) (λ r q. refl)
-    (behind comma (limited m k h)))))))
+  back_turned : Spells Anything false (turned_text word m k) (λ s. start (turned_tokens m k s)) false
+  unfolding turned_text
+  back_turned =
+      behind w (behind (an_edge k.second.edge)
+      (joins (name (port_at m k.second.pin) h.second)
+      (λ r q. condition_begins m k.condition
+      (edge_text k.first.edge ++ (port_at m k.first.pin
+      ++ (codes ", " ++ (decimal k.limit ++ (codes ", " ++ (notifier_in m ++ codes ");\n")))))) r)
+      (conditioned m k.condition h.condition
+      (behind (an_edge k.first.edge) (joins (name (port_at m k.first.pin) h.first) (λ r q. refl)
+      (behind comma (limited m k h)))))))
 
-wide : {word : List ℕ} {start : List (List ℕ) → List (List ℕ)} (m : VModule) (k : TimingCheck) → IsNamedCheck m k
-    → Spells Anything false word start false
-    → Spells Anything false (width_text word m k) (λ s. start (width_tokens m k s)) false
-unfolding width_text
-wide m k h w =
-    behind w (behind (an_edge k.first.edge)
-    (joins (name (port_at m k.first.pin) h.first)
-    (λ r q. condition_begins m k.condition (decimal k.limit ++ (codes ", 0, " ++ (notifier_in m ++ codes ");\n"))) r)
-    (conditioned m k.condition h.condition
-    (joins (number k.limit h.limit) (λ r q. refl)
-    (behind zero_threshold (joins (name (notifier_in m) h.notifier) (λ r q. refl) closed))))))
+  wide : Spells Anything false (width_text word m k) (λ s. start (width_tokens m k s)) false
+  unfolding width_text
+  wide =
+      behind w (behind (an_edge k.first.edge)
+      (joins (name (port_at m k.first.pin) h.first)
+      (λ r q. condition_begins m k.condition (decimal k.limit ++ (codes ", 0, " ++ (notifier_in m ++ codes ");\n"))) r)
+      (conditioned m k.condition h.condition
+      (joins (number k.limit h.limit) (λ r q. refl)
+      (behind zero_threshold (joins (name (notifier_in m) h.notifier) (λ r q. refl) closed))))))
 
-period : {word : List ℕ} {start : List (List ℕ) → List (List ℕ)} (m : VModule) (k : TimingCheck) → IsNamedCheck m k
-    → Spells Anything false word start false
-    → Spells Anything false (period_line word m k)
-    (λ s. start (port_at m k.first.pin ∷ condition_tokens m k.condition (codes "," ∷ decimal k.limit ∷ end_tokens m s))) false
-unfolding period_line
-period m k h w =
-    behind w (joins (name (port_at m k.first.pin) h.first)
-    (λ r q. condition_begins m k.condition (decimal k.limit ++ (codes ", " ++ (notifier_in m ++ codes ");\n"))) r)
-    (conditioned m k.condition h.condition (limited m k h)))
+  period : Spells Anything false (period_line word m k)
+      (λ s. start (port_at m k.first.pin ∷ condition_tokens m k.condition (codes "," ∷ decimal k.limit ∷ end_tokens m s))) false
+  unfolding period_line
+  period =
+      behind w (joins (name (port_at m k.first.pin) h.first)
+      (λ r q. condition_begins m k.condition (decimal k.limit ++ (codes ", " ++ (notifier_in m ++ codes ");\n"))) r)
+      (conditioned m k.condition h.condition (limited m k h)))
 
 setup_word : Spells Anything false (codes "    $setup(") (λ s. codes "$setup" ∷ codes "(" ∷ s) false
 setup_word = literal (λ r. refl) refl

@@ -4,7 +4,7 @@ use Rattle.std.proofs.lemmas.List.{append-nil}
 use Rattle.lexer.specs.declared.span.Span.{Span}
 use Rattle.lexer.specs.Spans.{LieInside}
 use Rattle.lexer.proofs.Turns.{inside_more}
-use Rattle.driver_sections.specs.Fronts.{IsNext, HasNoNext, behind_gap, tokens_at}
+use Rattle.driver_sections.specs.Fronts.{IsNext, behind_gap, tokens_at}
 use Rattle.driver_sections.specs.Marks.{Vocabulary, Marks, are_next, vocabulary}
 use Rattle.driver_sections.specs.Sections.{section_length, sections_from, StandApart}
 use Rattle.driver_sections.specs.Told.{marks_of}
@@ -48,32 +48,25 @@ loop-token-preserved g c =
     let m : Marks = marks_of c.args.marks.now in
     let flag : Bool = g.S.TokenState.flag c.loop-token.before in
     let text : List ℕ = c.args.text.now in
-    let found : List Span = c.loop-token.found.items in
-    let from : ℕ = c.loop-token.next in
     let t : Span = c.in-Some.token in
-    let next : IsNext v.lexis flag text from t = c.in-Some.ensures.next in
+    let next : IsNext v.lexis flag text c.loop-token.next t = c.in-Some.ensures.next in
     let some : t.at < t.end = next.some in
-    let place : t.at ≡ behind_gap v.lexis text from = next.place in
+    let place : t.at ≡ behind_gap v.lexis text c.loop-token.next = next.place in
     let other : are_next v.is_same m.beginning (tokens_at v.lexis flag text t) ≡ false = sym c.are_next.ensures ∙ c.if-are_next.false in
     record {
-      all = ap (λ (set : Bool). found ++ sections_from v m set t.end 0 (drop t.end text)) c.after-before.ensures
-          ∙ ap (λ (xs : List Span). found ++ xs) (sym (with_token v m flag text from t next other))
+      all = ap (λ (set : Bool). c.loop-token.found.items ++ sections_from v m set t.end 0 (drop t.end text)) c.after-before.ensures
+          ∙ ap (λ (xs : List Span). c.loop-token.found.items ++ xs) (sym (with_token v m flag text c.loop-token.next t next other))
           ∙ c.loop-token.invariant.all;
-      apart = apart_later 0 from t.end found c.loop-token.invariant.apart (omega (arith, some, place));
+      apart = apart_later 0 c.loop-token.next t.end c.loop-token.found.items c.loop-token.invariant.apart (omega (arith, some, place));
       inside = c.loop-token.invariant.inside;
       within = next.within;
     }
 
 pub returns-clause-found : goal.returns-clause-found
 returns-clause-found g c =
-    let v : Vocabulary = vocabulary g.S.Lexicon.lexis g.L.Language.is_same in
-    let m : Marks = marks_of c.args.marks.now in
-    let flag : Bool = g.S.TokenState.flag c.loop-token.before in
-    let text : List ℕ = c.args.text.now in
     let found : List Span = c.loop-token.found.items in
-    let from : ℕ = c.loop-token.next in
-    let none : HasNoNext v.lexis flag text from = c.in_default.ensures.none refl in
-    sym (append-nil found) ∙ ap (λ (xs : List Span). found ++ xs) (sym (without_token v m flag text from none)) ∙ c.loop-token.invariant.all
+    let none = without_token (vocabulary g.S.Lexicon.lexis g.L.Language.is_same) (marks_of c.args.marks.now) (g.S.TokenState.flag c.loop-token.before) c.args.text.now c.loop-token.next (c.in_default.ensures.none refl) in
+    sym (append-nil found) ∙ ap (λ (xs : List Span). found ++ xs) (sym none) ∙ c.loop-token.invariant.all
 
 pub returns-clause-apart : goal.returns-clause-apart
 returns-clause-apart g c =

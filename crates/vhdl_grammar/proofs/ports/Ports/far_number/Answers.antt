@@ -1,28 +1,30 @@
-use Rattle.std.proofs.Common.{◌≡◌, ◌+◌, ◌≤◌, List, None, length, take, sym, ap, ◌∙◌, arith}
+use Rattle.std.proofs.Common.{◌≡◌, ℕ, ◌+◌, ◌≤◌, true, List, Option, None, length, take, drop, sym, ap, ◌∙◌, arith}
 use Rattle.std.specs.Option.{option_map}
 use Rattle.bool_functions.specs.NameList.{number_of}
 use Rattle.udp_tables.specs.declared.models.VPort.{VPort}
+use Rattle.vhdl_grammar.specs.VhdlDeclarations.{port_names}
 use Rattle.vhdl_grammar.specs.VhdlNames.{port_of}
+use Rattle.vhdl_grammar.specs.Lowered.{all_lowered}
 use Rattle.vhdl_tokens.specs.Kept.{lowered}
+use Rattle.vhdl_tokens.specs.Tokens.{is_name}
 use Rattle.vhdl_grammar.proofs.LoweredNames.{far_number}
 use Rattle.vhdl_grammar.proofs.ports.Ports.far_number.Goals as goal
 
+-- what is found in lower case behind the first ports
+found : (inside own : List VPort) (far : List (List ℕ)) (x text : List ℕ) (o : Option ℕ) → inside ≡ own
+    → far ≡ all_lowered (port_names (drop 16 inside)) → 16 ≤ length inside → is_name x ≡ true → port_of (take 16 own) x ≡ None
+    → text ≡ lowered x → o ≡ number_of far text → option_map (λ k. 16 + k) o ≡ port_of own x
+found inside own far x text o same named many is none text_is o_is =
+    ap (option_map (λ k. 16 + k)) (o_is ∙ ap (number_of far) text_is)
+    ∙ sym (far_number inside far named many x is (ap (λ (ports : List VPort). port_of (take 16 ports) x) same ∙ none))
+    ∙ ap (λ (ports : List VPort). port_of ports x) same
+
 pub returns-in-Some : goal.returns-in-Some
 returns-in-Some c is =
-    let name = c.args.name.now in
-    let same : c.deref.result.now ≡ lowered name = c.deref.ensures.value ∙ c.in_ok-lowered.ensures.ok in
-    let many : 16 ≤ length c.self.inside.ports = omega arith in
-    let none : port_of (take 16 c.self.inside.ports) name ≡ None = ap (λ (ports : List VPort). port_of (take 16 ports) name) c.self.view_is ∙ c.requires in
-    ap (option_map (λ k. 16 + k)) (c.in-Some.ensures ∙ ap (number_of c.self.inside.far) same)
-    ∙ sym (far_number c.self.inside.ports c.self.inside.far c.self.invariant.named many name is none)
-    ∙ ap (λ (ports : List VPort). port_of ports name) c.self.view_is
+    found c.self.inside.ports _ c.self.inside.far c.args.name.now c.deref.result.now _ c.self.view_is c.self.invariant.named
+    (omega arith) is c.requires (c.deref.ensures.value ∙ c.in_ok-lowered.ensures.ok) c.in-Some.ensures
 
 pub returns : goal.returns
 returns c is =
-    let name = c.args.name.now in
-    let same : c.deref.result.now ≡ lowered name = c.deref.ensures.value ∙ c.in_ok-lowered.ensures.ok in
-    let many : 16 ≤ length c.self.inside.ports = omega arith in
-    let none : port_of (take 16 c.self.inside.ports) name ≡ None = ap (λ (ports : List VPort). port_of (take 16 ports) name) c.self.view_is ∙ c.requires in
-    ap (option_map (λ k. 16 + k)) (c.in-None.ensures ∙ ap (number_of c.self.inside.far) same)
-    ∙ sym (far_number c.self.inside.ports c.self.inside.far c.self.invariant.named many name is none)
-    ∙ ap (λ (ports : List VPort). port_of ports name) c.self.view_is
+    found c.self.inside.ports _ c.self.inside.far c.args.name.now c.deref.result.now _ c.self.view_is c.self.invariant.named
+    (omega arith) is c.requires (c.deref.ensures.value ∙ c.in_ok-lowered.ensures.ok) c.in-None.ensures

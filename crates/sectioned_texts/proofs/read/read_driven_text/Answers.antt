@@ -1,5 +1,5 @@
 use Rattle.sectioned_texts.proofs.TextLaws.{read_drivers_stand}
-use Rattle.sectioned_texts.proofs.read.read_driven.Goals as goal
+use Rattle.sectioned_texts.proofs.read.read_driven_text.Goals as goal
 
 pub returns-in-Ok-clause-drivers : goal.returns-in-Ok-clause-drivers
 returns-in-Ok-clause-drivers g c =

@@ -1,8 +1,0 @@
-use Rattle.verilog_writer.specs.Timing.{block_text, lines_text}
-use Rattle.verilog_writer.specs.Model.{module_opening_text, module_header_text, wire_text, declarations_text, module_only_text}
-use Rattle.verilog_writer.proofs.models.ModulePart.put.Goals as goal
-
-pub returns-clause-text : goal.returns-clause-text
-unfolding module_only_text module_header_text module_opening_text declarations_text wire_text block_text lines_text
-returns-clause-text g c =
-    rw (c.as_slice-name.ensures, c.as_slice-ports.ensures, c.as_slice-wires.ensures, c.as_slice.ensures, c.as_slice-2.ensures, c.as_slice-3.ensures, c.has_block.ensures) at c.put.ensures.text

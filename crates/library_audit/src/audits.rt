@@ -2,11 +2,9 @@
 ghost use Rattle.std.specs.Prelude.{◌≡◌, IfOk};
 ghost use Rattle.text_io.specs.Desk.{StopsWithCause};
 ghost use Rattle.stimulus.specs.Writes.{WritesTrace};
-ghost use Rattle.cell_machine.specs.CellData.{data_of};
 ghost use Rattle.three_state_cells.specs.DrivenCells.{driven_data_of};
 ghost use Rattle.library_reader.specs.LibraryCells.{described, all_described};
-ghost use Rattle.library_audit.specs.Lines.{audit_line};
-ghost use Rattle.library_audit.specs.Audits.{verdict_in, accepted_text, audit_text, audits_text, is_other as is_other_of};
+ghost use Rattle.library_audit.specs.Audits.{accepted_text, audit_text, audits_text, is_other as is_other_of};
 ghost use Rattle.library_audit.specs.Audits.{accepted_differs, differs, any_differs};
 ghost use Rattle.library_audit.specs.Reads.{AreReady};
 
@@ -26,62 +24,45 @@ fn is_other(found: &Option<Verdict>) -> bool
     !matches!(found, Some(Verdict::Same))
 }
 
-/// Appends to the report the line of a cell that is compared with its module, and answers whether it has none that is the same.
-/// After a fault a prefix of the line was appended.
-fn write_compared<D: Desk>(
+/// What cells are compared with: the models of a file, by their names.
+#[derive(Clone, Copy)]
+struct Comparison<'a> {
     alloc: Global,
-    desk: &mut D,
-    named: &NamedModules,
-    cell: &DrivenCell,
-) -> Result<bool, Stop>
-    requires { AreReady named.now }
-    ensures text { WritesTrace (D.state desk.old) (D.state desk.new)
-        (audit_line cell.now.core.number cell.now.name (verdict_in named.now.models (data_of cell.now.core))) result }
-    ensures other { IfOk result (λ other. other ≡ is_other_of (verdict_in named.now.models (data_of cell.now.core))) }
-    ensures cause { StopsWithCause (D.faults desk.old) (D.faults desk.new) result }
-{
-    let found = named.verdict(alloc, &cell.core)?;
-    write_audit(desk, cell.core.number, cell.name.as_slice(), &found)?;
-    Ok(is_other(&found))
+    named: &'a NamedModules,
 }
 
-/// Appends to the report the line of an accepted cell, and answers whether it is compared and has no module that is the same.
-/// After a fault a prefix of the line was appended.
-fn write_accepted<D: Desk>(
-    alloc: Global,
-    desk: &mut D,
-    named: &NamedModules,
-    cell: &DrivenCell,
-) -> Result<bool, Stop>
-    requires { AreReady named.now }
-    ensures text { WritesTrace (D.state desk.old) (D.state desk.new) (accepted_text named.now.models (driven_data_of cell.now))
-        result }
-    ensures differs { IfOk result (λ other. other ≡ accepted_differs named.now.models (driven_data_of cell.now)) }
-    ensures cause { StopsWithCause (D.faults desk.old) (D.faults desk.new) result }
-{
-    if cell.driver.drives.len() > 0 {
-        write_left_out(desk, cell.core.number, cell.name.as_slice())?;
-        return Ok(false);
+impl Comparison<'_> {
+    /// Appends to the report the line of an accepted cell, and answers whether it is compared and has no module that is the same.
+    /// After a fault a prefix of the line was appended.
+    fn write_accepted<D: Desk>(&self, desk: &mut D, cell: &DrivenCell) -> Result<bool, Stop>
+        requires { AreReady self.now.named.now }
+        ensures text { WritesTrace (D.state desk.old) (D.state desk.new)
+            (accepted_text self.now.named.now.models (driven_data_of cell.now)) result }
+        ensures differs { IfOk result (λ other. other ≡ accepted_differs self.now.named.now.models (driven_data_of cell.now)) }
+        ensures cause { StopsWithCause (D.faults desk.old) (D.faults desk.new) result }
+    {
+        if cell.driver.drives.len() > 0 {
+            write_left_out(desk, cell.core.number, cell.name.as_slice())?;
+            return Ok(false);
+        }
+        let found = self.named.verdict(self.alloc, &cell.core)?;
+        write_audit(desk, cell.core.number, cell.name.as_slice(), &found)?;
+        Ok(is_other(&found))
     }
-    write_compared(alloc, desk, named, cell)
-}
 
-/// Appends to the report the line of a cell, where it is accepted, and answers whether it then has no module that is the same.
-/// After a fault a prefix of the line was appended.
-fn write_cell<D: Desk>(
-    alloc: Global,
-    desk: &mut D,
-    named: &NamedModules,
-    cell: &LibraryCell,
-) -> Result<bool, Stop>
-    requires { AreReady named.now }
-    ensures text { WritesTrace (D.state desk.old) (D.state desk.new) (audit_text named.now.models (described cell.now)) result }
-    ensures differs { IfOk result (λ other. other ≡ differs named.now.models (described cell.now)) }
-    ensures cause { StopsWithCause (D.faults desk.old) (D.faults desk.new) result }
-{
-    match cell {
-        LibraryCell::Accepted { cell, .. } => write_accepted(alloc, desk, named, cell),
-        LibraryCell::Refused { .. } => Ok(false),
+    /// Appends to the report the line of a cell, where it is accepted, and answers whether it then has no module that is the same.
+    /// After a fault a prefix of the line was appended.
+    fn write_cell<D: Desk>(&self, desk: &mut D, cell: &LibraryCell) -> Result<bool, Stop>
+        requires { AreReady self.now.named.now }
+        ensures text { WritesTrace (D.state desk.old) (D.state desk.new)
+            (audit_text self.now.named.now.models (described cell.now)) result }
+        ensures differs { IfOk result (λ other. other ≡ differs self.now.named.now.models (described cell.now)) }
+        ensures cause { StopsWithCause (D.faults desk.old) (D.faults desk.new) result }
+    {
+        match cell {
+            LibraryCell::Accepted { cell, .. } => self.write_accepted(desk, cell),
+            LibraryCell::Refused { .. } => Ok(false),
+        }
     }
 }
 
@@ -99,9 +80,11 @@ pub(crate) fn write_cells<D: Desk>(
         (all_described files.now.cells)) }
     ensures cause { StopsWithCause (D.faults desk.old) (D.faults desk.new) result }
 {
+    let named = &files.named;
+    let comparison = Comparison { alloc, named };
     let mut some_differ = false;
     for cell in files.cells.as_slice() {
-        let cell_differs = write_cell(alloc, desk, &files.named, cell)?;
+        let cell_differs = comparison.write_cell(desk, cell)?;
         some_differ = some_differ || cell_differs;
     }
     Ok(some_differ)

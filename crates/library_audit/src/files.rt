@@ -6,7 +6,7 @@ ghost use Rattle.library_audit.specs.Outcome.{audit_files, audit_of};
 ghost use Rattle.library_audit.specs.Reads.{ReadsFiles};
 
 use crate::modules::{NamedModules, names_of};
-use library_reader::{LibraryCell, read_library};
+use library_reader::{LibraryCell, read_library_file};
 use model_files::read_model_file;
 use model_replay::Verilog;
 use run_outcome::Status;
@@ -35,7 +35,7 @@ pub(crate) fn read_files<D: Desk>(alloc: Global, desk: &mut D) -> Result<AuditFi
     ensures kept { OnOk result (D.faults desk.new ≡ D.faults desk.old) }
     ensures cause { IfErr result (StopsWithStatus (D.faults desk.old) (D.faults desk.new)) }
 {
-    let cells = read_library(alloc, desk, 1)?;
+    let cells = read_library_file(alloc, desk, 1)?;
     let models = read_model_file::<D, Verilog>(alloc, desk, 2)?;
     let names = names_of(alloc, models.as_slice())?;
     Ok(AuditFiles {

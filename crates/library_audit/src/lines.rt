@@ -1,13 +1,11 @@
 //! The line of a cell that is compared with its module.
 ghost use Rattle.text_io.specs.declared.slots.OutSlot.TheVariants.{Report};
 ghost use Rattle.text_io.specs.Desk.{HasCause, WritesText};
-ghost use Rattle.library_audit.specs.Lines.{shape_text, values_text, arguments_text, difference_text, verdict_text, audit_line};
-ghost use Rattle.library_audit.specs.Lines.{left_out_line};
+ghost use Rattle.library_audit.specs.Lines.{shape_text, difference_text, verdict_text, audit_line, left_out_line};
 
 use crate::words::{Known, Place, Values, shape_word, table_word, value_text};
 use table_audit::{Difference, ShapePart, Verdict};
 use text_io::{Bytes, Decimal, Desk, Failed, Line, OutSlot, Part, Put, parts, write_part};
-use trit_cubes::Trit;
 
 /// Another shape: the first part that has one, and its number.
 #[derive(Drop)]
@@ -23,58 +21,27 @@ impl Part for OtherShape {
     }
 }
 
-/// The values of a cell and of its module.
-#[derive(Drop)]
-struct BothValues(Trit, Trit);
-
-impl Part for BothValues {
-    ghost text = { λ v. values_text v.0 v.1 };
-
-    #[tactic(auto, unfolding(crate::specs::Lines::values_text))]
-    fn put<D: Desk>(&self, line: &mut Line, desk: &mut D, slot: OutSlot) -> Put {
-        let model = parts!(Bytes(b" model "), Bytes(value_text(self.1)), Bytes(b"\n"));
-        parts!(Bytes(b" cell "), Bytes(value_text(self.0)), model).put(line, desk, slot)
-    }
-}
-
-/// Where a table has another value than the cell.
-#[derive(Drop)]
-struct Arguments<'a>(&'a Difference);
-
-impl Part for Arguments<'_> {
-    ghost text = { λ a. arguments_text a.0.now };
-
-    #[tactic(auto, unfolding(crate::specs::Lines::arguments_text))]
-    fn put<D: Desk>(&self, line: &mut Line, desk: &mut D, slot: OutSlot) -> Put {
-        let stored = parts!(
-            Bytes(b" state "),
-            Known(self.0.state),
-            Bytes(b" notifier "),
-            Known(self.0.notifier)
-        );
-        let places = parts!(Bytes(b" new"), Values(self.0.places), stored);
-        let old = parts!(Bytes(b" old "), Known(self.0.old), places);
-        parts!(Bytes(b" place "), Place(self.0.changed), old).put(line, desk, slot)
-    }
-}
-
-/// A table with another value than the cell.
+/// A table with another value than the cell: what it is for, its number, where the values differ, and both values.
 #[derive(Drop)]
 struct OtherTable<'a>(&'a Difference);
 
 impl Part for OtherTable<'_> {
     ghost text = { λ t. difference_text t.0.now };
 
-    #[tactic(auto, unfolding(crate::specs::Lines::difference_text))]
     fn put<D: Desk>(&self, line: &mut Line, desk: &mut D, slot: OutSlot) -> Put {
-        let values = BothValues(self.0.of_cell, self.0.of_model);
-        let number = parts!(
-            Bytes(b" "),
-            Decimal(self.0.number as u128),
-            Arguments(self.0),
-            values
-        );
-        parts!(Bytes(b" differs "), Bytes(table_word(self.0.part)), number).put(line, desk, slot)
+        let found = self.0;
+        let notifier = parts!(Bytes(b" notifier "), Known(found.notifier));
+        let stored = parts!(Bytes(b" state "), Known(found.state), notifier);
+        let places = parts!(Bytes(b" new"), Values(found.places), stored);
+        let old = parts!(Bytes(b" old "), Known(found.old), places);
+        let arguments = parts!(Bytes(b" place "), Place(found.changed), old);
+        let of_model = value_text(found.of_model);
+        let model = parts!(Bytes(b" model "), Bytes(of_model), Bytes(b"\n"));
+        let of_cell = value_text(found.of_cell);
+        let values = parts!(Bytes(b" cell "), Bytes(of_cell), model);
+        let number = Decimal(found.number as u128);
+        let numbered = parts!(Bytes(b" "), number, arguments, values);
+        parts!(Bytes(b" differs "), Bytes(table_word(found.part)), numbered).put(line, desk, slot)
     }
 }
 

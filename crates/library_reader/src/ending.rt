@@ -3,9 +3,6 @@
 use liberty_groups::LibraryFault;
 use thiserror::Error;
 
-/// The most bytes that a library may have.
-pub const LIBRARY_LIMIT: usize = 67_108_864;
-
 /// How a library ends.
 #[derive(Clone, Copy)]
 pub enum Ending {

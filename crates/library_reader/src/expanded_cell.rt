@@ -73,7 +73,7 @@ fn read_plain(alloc: Global, progress: &Progress, group: &Group) -> Result<Drive
 
 /// The next cell, whose buses, bundles and banks are expanded to single bits with the types of buses before it. Where they are
 /// not expanded it is refused for that, and else as the cell of the expanded group. `Memory` comes only where memory is wanting.
-pub(crate) fn read_expanded(
+pub(crate) fn read_cell_group(
     alloc: Global,
     progress: &Progress,
     group: &Group,

@@ -13,7 +13,7 @@ ghost use Rattle.library_reader.specs.WrittenItems.{written_for};
 ghost use Rattle.library_reader.specs.Endings.{library_limit};
 ghost use Rattle.library_reader.specs.Folds.{AreBound, IsNumbered, FoldsItems};
 
-use crate::ending::{Ending, LIBRARY_LIMIT};
+use crate::ending::Ending;
 use crate::fold::CellFold;
 use crate::next::{NextCell, count_cell, next_cell};
 use crate::progress::{Progress, unit_of};
@@ -22,6 +22,7 @@ use crate::writer::ItemWriter;
 use cell_attributes::groups::cell_name;
 use cell_cursor::{CellCursor, LibraryItem};
 use liberty_groups::Group;
+use run_outcome::FILE_LIMIT;
 use std::alloc::Global;
 use text_io::{Desk, Stop};
 
@@ -123,8 +124,8 @@ pub fn fold_items<D: Desk, W: ItemWriter, F: CellFold>(
         (D.state desk.new) progress.new result }
     ensures cause { StopsWithCause (D.faults desk.old) (D.faults desk.new) result }
 {
-    let mut cursor = CellCursor::new(alloc, LIBRARY_LIMIT)?;
-    for _turn in 0..LIBRARY_LIMIT + 1 {
+    let mut cursor = CellCursor::new(alloc, FILE_LIMIT)?;
+    for _turn in 0..FILE_LIMIT + 1 {
         match next_step(&mut cursor, desk) {
             Ok(Step::Item(item)) => handle_item(alloc, desk, progress, writer, fold, &item)?,
             Ok(Step::Ended(ending)) => return Ok(ending),

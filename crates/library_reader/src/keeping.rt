@@ -46,7 +46,7 @@ fn cells_by(ending: Ending, cells: Vec<LibraryCell>) -> Result<Vec<LibraryCell>,
     }
 }
 
-/// Reads the cells of the library that is bound, where it is a library text of at most `LIBRARY_LIMIT` bytes. Of cells of one
+/// Reads the cells of the library that is bound, where it is a library text of at most `FILE_LIMIT` bytes. Of cells of one
 /// name the first is kept. Nothing is written, and of the library's text only the statement that has not ended is held.
 ///
 /// Faults: `Failed` where a read failed, `Memory`.

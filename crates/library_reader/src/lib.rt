@@ -23,7 +23,7 @@ mod step;
 mod writer;
 
 pub use cell_lines::{PrintedName, RefusalLine};
-pub use ending::{Ending, LIBRARY_LIMIT, NotWhole};
+pub use ending::{Ending, NotWhole};
 pub use faults::{write_library_fault, write_library_too_long};
 pub use fold::{CellFold, NothingKept, fold_cells};
 pub use items::fold_items;
@@ -32,6 +32,6 @@ pub use left_out::{write_left_out_file, write_left_out_groups};
 pub use library_cell::LibraryCell;
 pub use next::NextCell;
 pub use progress::Progress;
-pub use reading::read_library;
+pub use reading::read_library_file;
 pub use report_lines::{write_accepted_cell, write_refused_cell, write_totals};
 pub use writer::{ItemWriter, NothingWritten};

@@ -6,7 +6,7 @@ ghost use Rattle.library_reader.specs.LibraryCells.{vital_name};
 ghost use Rattle.library_reader.specs.Progress.{after_item};
 ghost use Rattle.library_reader.specs.NextCells.{IsNext};
 
-use crate::expanded_cell::read_expanded;
+use crate::expanded_cell::read_cell_group;
 use crate::progress::Progress;
 use bool_functions::Names;
 use cell_attributes::groups::cell_name;
@@ -50,7 +50,7 @@ pub(crate) fn next_cell(alloc: Global, progress: &Progress, group: &Group) -> Re
     ensures next { IfOk result (λ next. IsNext progress.now group.now next) }
     ensures memory { IfErr result (λ stop. stop ≡ Stop.Memory) }
 {
-    match read_expanded(alloc, progress, group) {
+    match read_cell_group(alloc, progress, group) {
         Ok(cell) => {
             let entity = vital_name(alloc, &cell, &progress.entities)?;
             Ok(NextCell::Accepted { cell, entity })

@@ -28,8 +28,8 @@ fn tell_not_whole<D: Desk>(desk: &mut D, why: NotWhole) -> Status
 }
 
 /// Binds the library that the word at this place names, and reads its cells: of cells of one name the first. A library that is
-/// not whole, or has more than `LIBRARY_LIMIT` bytes, is told by a line of the faults, and ends the run.
-pub fn read_library<D: Desk>(
+/// not whole, or has more than `FILE_LIMIT` bytes, is told by a line of the faults, and ends the run.
+pub fn read_library_file<D: Desk>(
     alloc: Global,
     desk: &mut D,
     place: usize,

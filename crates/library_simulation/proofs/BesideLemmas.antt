@@ -1,6 +1,6 @@
 -- The text of the section of a cell beside the models that stand for it: how far it was appended, and whether it differs.
 use Rattle.std.proofs.Common.{◌≡◌, ◌<◌, ◌≤◌, ℕ, Bool, List, ◌++◌, length, take, get_or, ◌+◌, ◌||◌, Option, is_some, Result, Ok}
-use Rattle.std.proofs.Common.{Err, IfOk, IsErr, IsErrAnd, Some, sym, ap, subst, ◌∙◌}
+use Rattle.std.proofs.Common.{Err, IfOk, IsErr, IsErrAnd, Some, sym, ap, subst, ◌∙◌, arith}
 use Rattle.std.specs.List.{list_any}
 use Rattle.std.proofs.lemmas.List.{take_all}
 use Rattle.std.proofs.lemmas.List.Folds.{list_any_more}
@@ -14,7 +14,7 @@ use Rattle.three_state_cells.specs.declared.driven_cell.DrivenCell.{DrivenCell}
 use Rattle.three_state_cells.specs.DrivenCells.{driven_data_of}
 use Rattle.file_models.specs.FileModels.{machine_by}
 use Rattle.file_models.specs.declared.file_model.FileModel.{FileModel}
-use Rattle.library_reader.specs.LibraryCells.{CellEntry}
+use Rattle.library_reader.specs.LibraryCells.{CellEntry, all_described}
 use Rattle.specify_blocks.specs.declared.model.VModule.{VModule}
 use Rattle.vital_models.specs.declared.model.VEntity.{VEntity}
 use Rattle.model_traces.specs.ModuleTrace.{module_machine}
@@ -27,6 +27,11 @@ use Rattle.stimulus.specs.TraceText.{heading_text}
 use Rattle.stimulus.specs.Comparison.{HavePorts, three_lines, compared_text, first_unlike, verdict_text}
 use Rattle.stimulus.specs.Writes.{WritesTrace}
 use Rattle.stimulus.proofs.Runs.{behind, stops_before, written_part, trace_stops}
+use Rattle.model_files.proofs.KnownThings.{here-some}
+use Rattle.library_simulation.specs.declared.catalog.Simulated.{Simulated}
+use Rattle.library_simulation.specs.declared.known_beside.KnownBeside.{KnownBeside}
+use Rattle.library_simulation.specs.declared.simulation.Simulation.{Simulation}
+use Rattle.library_simulation.specs.KnownBesides.{AreBesides}
 use Rattle.library_simulation.specs.Catalog.{simulated_of}
 use Rattle.library_simulation.specs.Sections.{CanBeCompared}
 use Rattle.std.proofs.lemmas.Option.{slice_get_within}
@@ -194,8 +199,32 @@ differs_whole cells modules entities sections i some_differ over so_far =
     so_far ∙ ap (list_any (differs cells modules entities)) (take_all i sections over)
 
 -- a section that can be run has the number of a cell with models
-pub number-within : (cells : List CellEntry) (modules : List (FileModel VModule)) (entities : List (FileModel VEntity))
+number-within : (cells : List CellEntry) (modules : List (FileModel VModule)) (entities : List (FileModel VEntity))
     (section : Section) → CanBeCompared cells modules entities section
     → section.cell < length (simulated_of cells modules entities).models
 number-within cells modules entities section run =
     slice_get_within (simulated_of cells modules entities).models section.cell _ run.has_models
+
+-- where there is room for what is known of each cell, there is room for what is known of a section's
+pub known-within : (simulation : Simulation) (section : Section) (known : List (Option KnownBeside))
+    → simulation.simulated ≡ simulated_of (all_described simulation.read.cells) simulation.read.modules simulation.read.entities
+    → CanBeCompared (all_described simulation.read.cells) simulation.read.modules simulation.read.entities section
+    → length known ≡ length simulation.simulated.models → section.cell < length known
+known-within simulation section known simulated run each =
+    let read = simulation.read in
+    let many = number-within (all_described read.cells) read.modules read.entities section run in
+    let models = ap (λ (s : Simulated). length s.models) simulated in
+    omega (arith, many, models, each)
+
+-- what was found at the place of its cell stands for the cell
+pub found-stands : (simulation : Simulation) (section : Section) (known : List (Option KnownBeside)) (found : Option KnownBeside)
+    (beside : KnownBeside)
+    → simulation.simulated ≡ simulated_of (all_described simulation.read.cells) simulation.read.modules simulation.read.entities
+    → CanBeCompared (all_described simulation.read.cells) simulation.read.modules simulation.read.entities section
+    → length known ≡ length simulation.simulated.models → AreBesides simulation known
+    → found ≡ get_or known section.cell found → found ≡ Some beside
+    → IsRunOn (all_described simulation.read.cells) simulation.read.modules simulation.read.entities section beside.beside
+    × CanBeGiven beside.beside section
+found-stands simulation section known found beside simulated run each stand at is =
+    let here = here-some known section.cell found beside (known-within simulation section known simulated run each) at is in
+    stand section.cell beside here section.changes run

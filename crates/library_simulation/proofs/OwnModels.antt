@@ -30,7 +30,8 @@ use Rattle.library_simulation.specs.CellModels.{CellModels, cores, over_core, ce
 use Rattle.library_simulation.specs.Comparisons.{cell_machine}
 use Rattle.library_simulation.specs.Sections.{RunsByPorts}
 use Rattle.library_simulation.specs.Generated.{KeepsCellRules, KeepsRules}
-use Rattle.library_simulation.proofs.PortCounts.{inputs_named, outputs_named, outputs_keep}
+use Rattle.model_replay.proofs.PortCounts.{length-input_names, length-output_names}
+use Rattle.library_simulation.proofs.PortCounts.{outputs_keep}
 
 -- Where outputs may not float, nothing is driven.
 
@@ -114,8 +115,8 @@ module _ {M : Type 0} (l : CellModels M) (is_sound : M → Type 0) (machine : M
             outputs = are.outputs cell entity keeps ∙ more ∙ ap (λ n. n + 0) (sym counts.of_outputs);
           };
         };
-        inputs = inputs_named ports;
-        outputs = outputs_named ports;
+        inputs = length-input_names ports;
+        outputs = length-output_names ports;
       }
 
   -- a core behind the drivers of the cell
@@ -138,8 +139,8 @@ module _ {M : Type 0} (l : CellModels M) (is_sound : M → Type 0) (machine : M
           is_core = subst (λ (some : Driver). IsCoreOf some (machine (l.core cell entity))) (sym (are.driver cell entity))
               (core_of cell entity keeps);
         };
-        inputs = inputs_named d.ports ∙ sym sound.inputs;
-        outputs = outputs_named d.ports ∙ sym sound.outputs;
+        inputs = length-input_names d.ports ∙ sym sound.inputs;
+        outputs = length-output_names d.ports ∙ sym sound.outputs;
       }
 
   -- All models of cells can be run.

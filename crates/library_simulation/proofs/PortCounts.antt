@@ -1,8 +1,5 @@
 -- As many names of inputs and of outputs as a cell and the models with its ports have inputs and outputs.
-use Rattle.std.proofs.Common.{◌≡◌, ℕ, suc, ◌+◌, Bool, true, false, cond, not, if◌then◌else◌, List, [], ◌∷◌, length, map, refl}
-use Rattle.std.proofs.Common.{sym, ◌∙◌, arith}
-use Rattle.std.proofs.lemmas.Bool.{and_parts}
-use Rattle.std.proofs.lemmas.List.Recursion.{is_count_by}
+use Rattle.std.proofs.Common.{◌≡◌, ℕ, true, List, [], ◌∷◌, length, map, refl, sym, ◌∙◌, arith}
 use Rattle.cell_machine.specs.declared.pins.Pin.{Pin}
 use Rattle.cell_machine.specs.declared.pins.Direction.{Direction}
 use Rattle.cell_machine.specs.declared.pins.Direction.TheVariants.{Input, Output, Internal}
@@ -12,13 +9,13 @@ use Rattle.cell_machine.proofs.RuleLemmas.{rules_of}
 use Rattle.three_state_cells.specs.DrivenCells.{DrivenData}
 use Rattle.three_state_cells.specs.Timing.{is_output_at}
 use Rattle.three_state_cells.specs.Laws.{KeepsOutputs}
-use Rattle.three_state_cells.proofs.CoreDrivers.{one_if, count}
+use Rattle.three_state_cells.proofs.CoreDrivers.{count}
 use Rattle.generated_drivers.specs.Generated.{pins_of, verilog_driver_of}
 use Rattle.generated_drivers.proofs.PortDirections.{port_directions, pin_of, verilog_directions, vital_directions, inputs_counted}
 use Rattle.generated_drivers.proofs.PortDirections.{outputs_counted}
 use Rattle.generated_drivers.proofs.Fitting.{verilog_drivers_fit}
 use Rattle.udp_tables.specs.declared.models.VPort.{VPort}
-use Rattle.driver_models.specs.Models.{is_input, input_count, output_count, directions}
+use Rattle.driver_models.specs.Models.{input_count, output_count, directions}
 use Rattle.specify_blocks.specs.declared.model.VModule.{VModule}
 use Rattle.specify_blocks.specs.Ports as in_verilog
 use Rattle.specify_blocks.specs.Sound as modules_of
@@ -29,106 +26,45 @@ use Rattle.file_models.specs.declared.file_model.FileModel.{FileModel}
 use Rattle.file_models.specs.FileModels.{machine_by}
 use Rattle.model_traces.specs.ModuleTrace.{module_machine}
 use Rattle.model_traces.specs.EntityTrace.{entity_machine}
-use Rattle.model_files.specs.ModelNames.{input_names, output_names}
+use Rattle.model_replay.proofs.PortCounts.{length-input_names, length-output_names}
 use Rattle.stimulus.specs.declared.ports.Standing.{Standing}
 use Rattle.stimulus.specs.Comparison.{HavePorts}
-use Rattle.stimulus.specs.Differences.{same_fact}
-use Rattle.library_simulation.specs.declared.same_ports.Spelling.{Spelling}
 use Rattle.library_simulation.specs.declared.same_ports.Spelling.TheVariants.{Exact, AnyCase}
 use Rattle.library_simulation.specs.PinNames.{pin_names, named_ports}
-use Rattle.library_simulation.specs.SamePorts.{same_name, same_port, same_ports}
+use Rattle.library_simulation.specs.SamePorts.{same_ports}
 use Rattle.library_simulation.specs.Comparisons.{cell_machine}
 use Rattle.library_simulation.specs.Sections.{RunsByPorts}
 use Rattle.library_simulation.specs.Generated.{KeepsCellRules}
+use Rattle.library_simulation.proofs.PortLemmas.{same_directions}
 
--- Ports that are the same have the same directions.
-
-same_fact-is : (a b : Bool) → same_fact a b ≡ true → a ≡ b
-same_fact-is true true e = refl
-same_fact-is true false e = absurd cc
-same_fact-is false true e = absurd cc
-same_fact-is false false e = refl
-
-same_way : (spelling : Spelling) (one other : VPort) → same_port spelling one other ≡ true → one.input ≡ other.input
-same_way spelling one other e =
-    same_fact-is one.input other.input (and_parts (same_name spelling one.name other.name) (same_fact one.input other.input) e).1
-
-pub same_directions : (spelling : Spelling) (ports others : List VPort) → same_ports spelling ports others ≡ true
-    → directions ports ≡ directions others
-same_directions spelling [] [] e = refl
-same_directions spelling [] (other ∷ others) e = absurd cc
-same_directions spelling (port ∷ ports) [] e = absurd cc
-same_directions spelling (port ∷ ports) (other ∷ others) e =
-    let parts = and_parts (same_port spelling port other) (same_ports spelling ports others) e in
-    let way = same_way spelling port other parts.0 in
-    let more = same_directions spelling ports others parts.1 in
-    λ i. way i ∷ more i
-
--- Ports have as many names of each direction.
-
-input_more : (port : VPort) (ports : List VPort)
-    → length (input_names (port ∷ ports)) ≡ cond (is_input port) (1 + length (input_names ports)) (length (input_names ports))
-input_more port ports =
-    let more : suc (length (input_names ports)) ≡ 1 + length (input_names ports) = omega arith in
-    elim port.input as (λ b. length (if b then port.name ∷ input_names ports else input_names ports) ≡ cond b
-    (1 + length (input_names ports)) (length (input_names ports))) [
-      | true ↦ more
-      | false ↦ refl
-    ]
-
-pub inputs_named : (ports : List VPort) → length (input_names ports) ≡ input_count ports
-inputs_named ports = is_count_by (λ (some : List VPort). length (input_names some)) is_input refl input_more ports
-
-output_more : (port : VPort) (ports : List VPort)
-    → length (output_names (port ∷ ports)) ≡ cond (not port.input) (1 + length (output_names ports)) (length (output_names ports))
-output_more port ports =
-    let more : suc (length (output_names ports)) ≡ 1 + length (output_names ports) = omega arith in
-    elim port.input as (λ b. length (if b then output_names ports else port.name ∷ output_names ports) ≡ cond (not b)
-    (1 + length (output_names ports)) (length (output_names ports))) [
-      | true ↦ refl
-      | false ↦ more
-    ]
-
-pub outputs_named : (ports : List VPort) → length (output_names ports) ≡ output_count ports
-outputs_named ports = is_count_by (λ (some : List VPort). length (output_names some)) (λ (port : VPort). not port.input) refl
-    output_more ports
-
--- So have pins.
-
-pub input_pins : (pins : List Pin) → length (pin_names Input pins) ≡ count (map is_input_at pins)
-input_pins [] = refl
-input_pins (pin ∷ pins) = by pin.name pin.direction (input_pins pins)
-  where
-    by : (name : List ℕ) (direction : Direction) → length (pin_names Input pins) ≡ count (map is_input_at pins)
-        → length (pin_names Input (pin_of name direction ∷ pins)) ≡ one_if (is_input_at (pin_of name direction)) + count
-        (map is_input_at pins)
-    by name Input rest = omega (arith, rest)
-    by name Output rest = omega (arith, rest)
-    by name Internal rest = omega (arith, rest)
-
-pub output_pins : (pins : List Pin) → length (pin_names Output pins) ≡ count (map is_output_at pins)
-output_pins [] = refl
-output_pins (pin ∷ pins) = by pin.name pin.direction (output_pins pins)
-  where
-    by : (name : List ℕ) (direction : Direction) → length (pin_names Output pins) ≡ count (map is_output_at pins)
-        → length (pin_names Output (pin_of name direction ∷ pins)) ≡ one_if (is_output_at (pin_of name direction)) + count
-        (map is_output_at pins)
-    by name Input rest = omega (arith, rest)
-    by name Output rest = omega (arith, rest)
-    by name Internal rest = omega (arith, rest)
-
--- A model that can be run, with ports of these pins.
+-- Pins have as many names of each direction as there are pins of it.
 
 record CountsPins (pins : List Pin) (inputs outputs : ℕ) : Type 0 where
   of_inputs : length (pin_names Input pins) ≡ inputs
   of_outputs : length (pin_names Output pins) ≡ outputs
 
+abbrev AreCounted : List Pin → Type 0
+AreCounted pins = CountsPins pins (count (map is_input_at pins)) (count (map is_output_at pins))
+
+pins_counted : (pins : List Pin) → AreCounted pins
+pins_counted [] = record { of_inputs = refl; of_outputs = refl }
+pins_counted (pin ∷ pins) = by pin.name pin.direction (pins_counted pins)
+  where
+    by : (name : List ℕ) (direction : Direction) → AreCounted pins → AreCounted (pin_of name direction ∷ pins)
+    by name Input rest = record { of_inputs = omega (arith, rest.of_inputs); of_outputs = omega (arith, rest.of_outputs) }
+    by name Output rest = record { of_inputs = omega (arith, rest.of_inputs); of_outputs = omega (arith, rest.of_outputs) }
+    by name Internal rest = record { of_inputs = omega (arith, rest.of_inputs); of_outputs = omega (arith, rest.of_outputs) }
+
+-- A model that can be run, with ports of these pins.
+
 counts_ports : (pins : List Pin) (ports : List VPort) → directions ports ≡ port_directions pins
     → CountsPins pins (input_count ports) (output_count ports)
-counts_ports pins ports same = record {
-  of_inputs = input_pins pins ∙ sym (inputs_counted ports pins same);
-  of_outputs = output_pins pins ∙ sym (outputs_counted ports pins same);
-}
+counts_ports pins ports same =
+    let counted = pins_counted pins in
+    record {
+      of_inputs = counted.of_inputs ∙ sym (inputs_counted ports pins same);
+      of_outputs = counted.of_outputs ∙ sym (outputs_counted ports pins same);
+    }
 
 counts_model :
     {M : Type 0} (is_sound : M → Type 0) (machine : M → Machine) (pins : List Pin) (f : FileModel M)
@@ -137,8 +73,8 @@ counts_model :
 counts_model is_sound machine pins f same run =
     let counts = counts_ports pins f.ports same in
     record {
-      of_inputs = counts.of_inputs ∙ sym (inputs_named f.ports) ∙ run.inputs;
-      of_outputs = counts.of_outputs ∙ sym (outputs_named f.ports) ∙ run.outputs;
+      of_inputs = counts.of_inputs ∙ sym (length-input_names f.ports) ∙ run.inputs;
+      of_outputs = counts.of_outputs ∙ sym (length-output_names f.ports) ∙ run.outputs;
     }
 
 -- the outputs of a core keep the rules of cells

@@ -1,18 +1,41 @@
 -- Lists of ports that are the same.
-use Rattle.std.proofs.Common.{◌≡◌, ◌≢◌, suc, Bool, true, false, List, [], ◌∷◌, length, refl, ap}
+use Rattle.std.proofs.Common.{◌≡◌, ◌≢◌, Bool, true, false, List, [], ◌∷◌, length, refl, sym, ap, ◌∙◌}
 use Rattle.std.proofs.lemmas.Bool.{and_parts}
+use Rattle.std.proofs.lemmas.List.{length-map}
+use Rattle.driver_models.specs.Models.{is_input, directions}
+use Rattle.stimulus.specs.Differences.{same_fact}
 use Rattle.udp_tables.specs.declared.models.VPort.{VPort}
 use Rattle.library_simulation.specs.declared.same_ports.Spelling.{Spelling}
-use Rattle.library_simulation.specs.SamePorts.{same_port, same_ports}
+use Rattle.library_simulation.specs.SamePorts.{same_name, same_port, same_ports}
 
--- lists that are the same have one length
-pub same_length : (spelling : Spelling) (ports others : List VPort) → same_ports spelling ports others ≡ true
+-- ports that are the same have the same directions
+
+same_fact-is : (a b : Bool) → same_fact a b ≡ true → a ≡ b
+same_fact-is true true e = refl
+same_fact-is true false e = absurd cc
+same_fact-is false true e = absurd cc
+same_fact-is false false e = refl
+
+same_way : (spelling : Spelling) (one other : VPort) → same_port spelling one other ≡ true → one.input ≡ other.input
+same_way spelling one other e =
+    same_fact-is one.input other.input (and_parts (same_name spelling one.name other.name) (same_fact one.input other.input) e).1
+
+pub same_directions : (spelling : Spelling) (ports others : List VPort) → same_ports spelling ports others ≡ true
+    → directions ports ≡ directions others
+same_directions spelling [] [] e = refl
+same_directions spelling [] (other ∷ others) e = absurd cc
+same_directions spelling (port ∷ ports) [] e = absurd cc
+same_directions spelling (port ∷ ports) (other ∷ others) e =
+    let parts = and_parts (same_port spelling port other) (same_ports spelling ports others) e in
+    let way = same_way spelling port other parts.0 in
+    let more = same_directions spelling ports others parts.1 in
+    λ i. way i ∷ more i
+
+-- so there are as many of them
+same_length : (spelling : Spelling) (ports others : List VPort) → same_ports spelling ports others ≡ true
     → length ports ≡ length others
-same_length spelling [] [] e = refl
-same_length spelling [] (other ∷ others) e = absurd cc
-same_length spelling (port ∷ ports) [] e = absurd cc
-same_length spelling (port ∷ ports) (other ∷ others) e =
-    ap suc (same_length spelling ports others (and_parts (same_port spelling port other) (same_ports spelling ports others) e).1)
+same_length spelling ports others e =
+    sym (length-map ports is_input) ∙ ap length (same_directions spelling ports others e) ∙ length-map others is_input
 
 pub other_length : (spelling : Spelling) (ports others : List VPort) → length ports ≢ length others
     → false ≡ same_ports spelling ports others

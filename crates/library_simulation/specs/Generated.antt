@@ -29,7 +29,7 @@ use Rattle.run_outcome.specs.declared.status.Status.TheVariants as status
 use Rattle.run_outcome.specs.FileSteps.{FileStop}
 use Rattle.model_files.specs.StimulusAnswer.{stimulus_answer}
 use Rattle.library_simulation.specs.declared.numbers.ModelNumbers.{ModelNumbers}
-use Rattle.library_simulation.specs.CellModels.{CellModels, cores, drivers, all_models, cell_model}
+use Rattle.library_simulation.specs.CellModels.{CellModels, all_models, cell_model}
 use Rattle.library_simulation.specs.NamedModels.{named_models, module_names, lowered_names}
 use Rattle.library_simulation.specs.Catalog.{standing_in, numbers_in, cells_named}
 use Rattle.library_simulation.specs.Comparisons.{Compared, cell_machine, lines_of, compared_at, section_text, any_differs}
@@ -59,23 +59,9 @@ in_vital = record {
   as_core = λ (e : VEntity). record { name = e.name; ports = e.ports };
 }
 
--- the modules of the cores of the accepted cells, and the drivers over them
-abbrev pub core_modules : List CellEntry → List VModule
-core_modules cells = cores in_verilog cells
-
-abbrev pub all_verilog_drivers : List CellEntry → List (FileModel VModule)
-all_verilog_drivers cells = drivers in_verilog cells
-
 -- the Verilog models of the accepted cells: the modules, and behind them the drivers
 abbrev pub modules_of : List CellEntry → List (FileModel VModule)
 modules_of cells = all_models in_verilog cells
-
--- the entities of their cores, and the drivers over them
-abbrev pub core_entities : List CellEntry → List VEntity
-core_entities cells = cores in_vital cells
-
-abbrev pub all_vital_drivers : List CellEntry → List (FileModel VEntity)
-all_vital_drivers cells = drivers in_vital cells
 
 -- the VITAL models of the accepted cells: the entities, and behind them the drivers
 abbrev pub entities_of : List CellEntry → List (FileModel VEntity)

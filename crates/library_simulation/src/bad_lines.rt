@@ -89,7 +89,7 @@ fn write_refused<D: Desk>(desk: &mut D, cell: Option<&LibraryCell>) -> Result<()
 {
     match cell {
         Some(LibraryCell::Refused { name, refusal }) => {
-            write_refused_cell(desk, name.as_slice(), refusal)
+            write_refusal_line(desk, name.as_slice(), refusal)
         }
         Some(LibraryCell::Accepted { .. }) | None => Ok(()),
     }
@@ -97,7 +97,7 @@ fn write_refused<D: Desk>(desk: &mut D, cell: Option<&LibraryCell>) -> Result<()
 
 /// Tells why the cell with this name is refused, and where.
 #[tactic(auto, unfolding(crate::specs::FaultLines::refused_cell_line))]
-fn write_refused_cell<D: Desk>(desk: &mut D, name: &[u8], refusal: &Refusal) -> Result<(), Failed>
+fn write_refusal_line<D: Desk>(desk: &mut D, name: &[u8], refusal: &Refusal) -> Result<(), Failed>
     ensures text { WritesText (D.state desk.old) (D.state desk.new) Faults (refused_cell_line name.now refusal.now) result }
     ensures cause { HasCause (D.faults desk.old) (D.faults desk.new) result }
 {

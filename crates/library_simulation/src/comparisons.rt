@@ -103,7 +103,7 @@ fn all_started<L: Drop, V: Drop, H: Drop>(
 /// Appends to the report the section of three simulators that stand at their starts: this name, the lines of the three traces on
 /// the changes, and whether these are equal. It answers whether two of them differ. After a fault a prefix of the section was
 /// appended.
-fn write_started<D: Desk, L: TraceSim + Drop, V: TraceSim + Drop, H: TraceSim + Drop>(
+fn write_three_traces<D: Desk, L: TraceSim + Drop, V: TraceSim + Drop, H: TraceSim + Drop>(
     alloc: Global,
     desk: &mut D,
     name: &[u8],
@@ -131,7 +131,7 @@ fn write_started<D: Desk, L: TraceSim + Drop, V: TraceSim + Drop, H: TraceSim + 
 
 /// Appends to the report the section of a cell: its name, the lines of the three traces on the section's changes, and whether
 /// these are equal. It answers whether two of them differ. After a fault a prefix of the section was appended.
-fn write_compared<D: Desk>(
+fn write_cell_section<D: Desk>(
     alloc: Global,
     desk: &mut D,
     known: &KnownBeside<'_>,
@@ -151,7 +151,7 @@ fn write_compared<D: Desk>(
     let verilog = start_module(alloc, beside.module, &known.verilog);
     let vital = start_entity(alloc, beside.entity, &known.vital);
     match all_started(liberty, verilog, vital) {
-        Ok(three) => write_started(alloc, desk, name, beside.ports, three, changes),
+        Ok(three) => write_three_traces(alloc, desk, name, beside.ports, three, changes),
         Err(_) => Err(Stop::Memory),
     }
 }
@@ -184,7 +184,7 @@ fn write_compared_section<'a, D: Desk>(
     let Some(beside) = &known[section.cell] else {
         unreachable!();
     };
-    write_compared(alloc, desk, beside, section)
+    write_cell_section(alloc, desk, beside, section)
 }
 
 /// Appends the sections of a simulation to the report, in order, and answers whether two of the three traces of some section

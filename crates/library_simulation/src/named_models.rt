@@ -1,12 +1,13 @@
 //! The models of two files, looked up by their names.
-ghost use Rattle.std.specs.Prelude.{◌≡◌, IfOk};
+ghost use Rattle.std.specs.Prelude.{◌≡◌, slice_get, IfOk};
+ghost use Rattle.std.specs.Option.{option_map};
 ghost use Rattle.bool_functions.specs.NameList.{AreDistinct};
 ghost use Rattle.three_state_cells.specs.DrivenCells.{driven_data_of};
+ghost use Rattle.file_models.specs.declared.file_model.FileModel.{FileModel as FileModelOf};
 ghost use Rattle.library_simulation.specs.NamedModels.{verilog_name as verilog_name_of, module_names as module_names_of};
-ghost use Rattle.library_simulation.specs.NamedModels.{lowered_names as lowered_names_of, shown, has_ports, module_ports};
-ghost use Rattle.library_simulation.specs.NamedModels.{entity_ports, verilog_number as verilog_number_of};
+ghost use Rattle.library_simulation.specs.NamedModels.{lowered_names as lowered_names_of, shown, has_ports};
+ghost use Rattle.library_simulation.specs.NamedModels.{verilog_number as verilog_number_of};
 ghost use Rattle.library_simulation.specs.NamedModels.{vital_number as vital_number_of};
-ghost use Rattle.library_simulation.specs.declared.same_ports.Spelling.TheVariants as spelling;
 
 use crate::numbers::Found;
 use crate::same_ports::Spelling;
@@ -60,7 +61,10 @@ impl<'a> ModelFiles<'a> {
         let ports = verilog_ports(alloc, own_pins(cell))?;
         match self.module_names.number(name.as_slice()) {
             None => Ok(None),
-            Some(number) => Ok(self.module_has(number, ports.as_slice()).then_some(number)),
+            Some(number) => {
+                let is_it = model_has(self.modules, number, Spelling::Exact, ports.as_slice());
+                Ok(is_it.then_some(number))
+            }
         }
     }
 
@@ -78,28 +82,27 @@ impl<'a> ModelFiles<'a> {
         let ports = vital_ports(alloc, own_pins(cell), entity)?;
         match self.entity_names.number(&name) {
             None => Ok(None),
-            Some(number) => Ok(self.entity_has(number, ports.as_slice()).then_some(number)),
+            Some(number) => {
+                let is_it = model_has(self.entities, number, Spelling::AnyCase, ports.as_slice());
+                Ok(is_it.then_some(number))
+            }
         }
     }
+}
 
-    /// Whether the Verilog model with this number has these ports.
-    fn module_has(&self, number: usize, ports: &[VPort]) -> bool
-        ensures { result ≡ has_ports spelling.Exact ports.now (module_ports self.now.modules.now number) }
-    {
-        match self.modules.get(number) {
-            Some(model) => Spelling::Exact.same_ports(ports, model.ports.as_slice()),
-            None => false,
-        }
-    }
-
-    /// Whether the VITAL model with this number has these ports.
-    fn entity_has(&self, number: usize, ports: &[VPort]) -> bool
-        ensures { result ≡ has_ports spelling.AnyCase ports.now (entity_ports self.now.entities.now number) }
-    {
-        match self.entities.get(number) {
-            Some(entity) => Spelling::AnyCase.same_ports(ports, entity.ports.as_slice()),
-            None => false,
-        }
+/// Whether the model with this number, of these, has these ports, whose names are spelled so.
+fn model_has<M: Drop>(
+    models: &[FileModel<M>],
+    number: usize,
+    spelling: Spelling,
+    ports: &[VPort],
+) -> bool
+    ensures { result ≡ has_ports spelling ports.now
+        (option_map (λ (model : FileModelOf M). model.ports) (slice_get models.now number)) }
+{
+    match models.get(number) {
+        Some(model) => spelling.same_ports(ports, model.ports.as_slice()),
+        None => false,
     }
 }
 

@@ -11,7 +11,7 @@ use crate::bad_lines::SimulationStop;
 use crate::catalog::{Simulated, simulation_catalog};
 use crate::laws::sections_can_be_compared;
 use file_models::FileModel;
-use library_reader::{LibraryCell, read_library};
+use library_reader::{LibraryCell, read_library_file};
 use model_files::{read_model_file, read_stimulus_file};
 use model_replay::{Verilog, Vital, entities_have_own_names};
 use run_outcome::Status;
@@ -55,7 +55,7 @@ fn read_cells_and_models<D: Desk>(alloc: Global, desk: &mut D) -> Result<ModelsR
     ensures cause { IfErr result (StopsWithStatus (D.faults desk.old) (D.faults desk.new)) }
 {
     entities_have_own_names();
-    let cells = read_library(alloc, desk, 1)?;
+    let cells = read_library_file(alloc, desk, 1)?;
     let modules = read_model_file::<D, Verilog>(alloc, desk, 2)?;
     let entities = read_model_file::<D, Vital>(alloc, desk, 3)?;
     Ok(ModelsRead {

@@ -1,8 +1,8 @@
 -- The texts of a cell's models: that of its core, and behind it that of its three-state drivers.
-use Rattle.std.proofs.Common.{◌≡◌, true, false, ℕ, List, [], ◌++◌, Result, Ok, Err, IsErr, sym, ap, subst, ◌∙◌, refl}
+use Rattle.std.proofs.Common.{◌≡◌, true, false, ℕ, List, [], ◌++◌, Result, Ok, sym, ap, subst, ◌∙◌, refl}
 use Rattle.text_io.specs.Desk.{DeskState}
 use Rattle.run_outcome.specs.Written.{in_verilog, in_vital, wrote_all, Writes}
-use Rattle.run_outcome.proofs.WrittenLaws.{wrote_all-nothing, all_stops, all_goes_on}
+use Rattle.run_outcome.proofs.WrittenLaws.{wrote_all-nothing}
 use Rattle.three_state_cells.specs.DrivenCells.{DrivenData, may_float}
 use Rattle.cell_machine.specs.declared.cells.Cell.{Cell}
 use Rattle.cell_machine.specs.CellData.{data_of}
@@ -13,16 +13,6 @@ use Rattle.verilog_drivers.specs.DriverText as verilog
 use Rattle.vhdl_drivers.specs.DriverText as vhdl
 use Rattle.library_translation.specs.Cells.{verilog_drivers_text, vital_drivers_text}
 
--- One text after another.
-
-pub verilog_on : {T E : Type 0} (old now new : DeskState) (a b : List ℕ) (r : Result T E)
-    → now ≡ wrote_all old (in_verilog a) → Writes now new (in_verilog b) r → Writes old new (in_verilog (a ++ b)) r
-verilog_on old now new a b r e w = all_goes_on old now new (in_verilog a) (in_verilog b) r e w
-
-pub verilog_first : {S T E F : Type 0} (old new : DeskState) (a b : List ℕ) (y : E) (r : Result T F)
-    → Writes {T = S} {E = E} old new (in_verilog a) (Err y) → IsErr r → Writes old new (in_verilog (a ++ b)) r
-verilog_first old new a b y r w e = all_stops old new (in_verilog a) (in_verilog b) y r w e
-
 -- the text of the module of a core, by another name of the core
 pub verilog_of_core :
     {T E : Type 0} (old new : DeskState) (core other : Cell) (b : List ℕ) (r : Result T E)
@@ -30,14 +20,6 @@ pub verilog_of_core :
     → Writes old new (in_verilog (module_text (module_of (data_of other)) ++ b)) r
 verilog_of_core old new core other b r same w =
     subst (λ c. Writes old new (in_verilog (module_text (module_of (data_of c)) ++ b)) r) same w
-
-pub vital_on : {T E : Type 0} (old now new : DeskState) (a b : List ℕ) (r : Result T E)
-    → now ≡ wrote_all old (in_vital a) → Writes now new (in_vital b) r → Writes old new (in_vital (a ++ b)) r
-vital_on old now new a b r e w = all_goes_on old now new (in_vital a) (in_vital b) r e w
-
-pub vital_first : {S T E F : Type 0} (old new : DeskState) (a b : List ℕ) (y : E) (r : Result T F)
-    → Writes {T = S} {E = E} old new (in_vital a) (Err y) → IsErr r → Writes old new (in_vital (a ++ b)) r
-vital_first old new a b y r w e = all_stops old new (in_vital a) (in_vital b) y r w e
 
 -- The drivers of a cell.
 

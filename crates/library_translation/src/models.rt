@@ -142,24 +142,8 @@ fn write_vital<D: Desk>(
     write_vital_drivers(core.alloc, desk, cell, entity)
 }
 
-/// Writes both models of a cell, which has this core, the Verilog model and then the VHDL model with this name.
+/// Writes both models of a cell, the Verilog model and then the VHDL model with this name.
 #[tactic(auto, unfolding(crate::specs::Cells::models_written))]
-fn write_both<D: Desk>(
-    desk: &mut D,
-    cell: &DrivenCell,
-    core: &ModelSource,
-    entity: &[u8],
-) -> Result<(), Stop>
-    requires bound { ModelsAreBound (D.state desk.old) }
-    requires core { core.now.cell.now ≡ cell.now.core }
-    ensures text { Writes (D.state desk.old) (D.state desk.new) (models_written entity.now (driven_data_of cell.now)) result }
-    ensures cause { StopsWithCause (D.faults desk.old) (D.faults desk.new) result }
-{
-    write_verilog(desk, cell, core)?;
-    write_vital(desk, cell, core, entity)
-}
-
-/// Writes both models of a cell, the VHDL model with this name.
 pub(crate) fn write_models<D: Desk>(
     alloc: Global,
     desk: &mut D,
@@ -171,5 +155,7 @@ pub(crate) fn write_models<D: Desk>(
     ensures cause { StopsWithCause (D.faults desk.old) (D.faults desk.new) result }
 {
     let parts = ModelParts::of(alloc, &cell.core)?;
-    write_both(desk, cell, &parts.source(), entity)
+    let core = parts.source();
+    write_verilog(desk, cell, &core)?;
+    write_vital(desk, cell, &core, entity)
 }

@@ -1,3 +1,2 @@
-pub mod ModelTraces
 pub mod WholeAnswers
 pub mod KnownThings

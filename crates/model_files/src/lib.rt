@@ -16,6 +16,6 @@ pub use faults::write_stimulus_fault;
 pub use format::ModelFormat;
 pub use known::nothing_known;
 pub use language::ModelLanguage;
-pub use limits::{MODEL_LIMIT, STIMULUS_LIMIT};
+pub use limits::STIMULUS_LIMIT;
 pub use model_file::read_model_file;
 pub use stimulus_file::read_stimulus_file;

@@ -11,8 +11,7 @@ ghost use Rattle.model_files.specs.ModelAnswer.{long_model_stop, model_fault_sto
 use crate::faults::{write_model_fault, write_model_too_long};
 use crate::format::ModelFormat;
 use crate::language::ModelLanguage;
-use crate::limits::MODEL_LIMIT;
-use run_outcome::{Status, ended};
+use run_outcome::{FILE_LIMIT, Status, ended};
 use std::alloc::Global;
 use text_io::{Desk, Taken, read_all};
 use udp_tables::ModelFault;
@@ -65,7 +64,7 @@ fn models_taken<D: Desk, L: ModelLanguage>(
 }
 
 /// Binds the file of models that the word at this place names, and reads its models. They are well formed and have names of their
-/// own. A file that is refused, or has more than `MODEL_LIMIT` bytes, is told by a line of the faults, and ends the run with
+/// own. A file that is refused, or has more than `FILE_LIMIT` bytes, is told by a line of the faults, and ends the run with
 /// `Model` or `TooLong`; the run ends with `Memory` where there was none, and with `Outside` only where a call failed.
 pub fn read_model_file<D: Desk, L: ModelLanguage>(
     alloc: Global,
@@ -86,6 +85,6 @@ pub fn read_model_file<D: Desk, L: ModelLanguage>(
 {
     let slot = L::format().slot();
     desk.bind_in(slot, place)?;
-    let taken = read_all(alloc, desk, slot, MODEL_LIMIT)?;
+    let taken = read_all(alloc, desk, slot, FILE_LIMIT)?;
     models_taken::<D, L>(alloc, desk, &taken)
 }

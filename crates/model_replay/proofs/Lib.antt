@@ -1,9 +1,10 @@
 mod NewNames
-mod PortCounts
+pub mod PortCounts
 mod OwnPorts
 mod SameNames
 mod TextAnswers
 mod NamedDrivers
+mod FoundModels
 mod VerilogDrivers
 mod VitalDrivers
 pub mod VerilogModels

@@ -1,5 +1,5 @@
 -- The sections of a replay, appended to the report one behind another.
-use Rattle.std.proofs.Common.{◌≡◌, ℕ, ◌<◌, ◌≤◌, List, [], take, length, get_or, Some, Result, Err, IsErr, slice_get, flat_map}
+use Rattle.std.proofs.Common.{◌≡◌, ℕ, ◌<◌, ◌≤◌, List, take, length, get_or, Some, Result, Err, IsErr, slice_get, flat_map}
 use Rattle.std.proofs.Common.{refl, sym, ap, subst, ◌∙◌}
 use Rattle.std.specs.Option.{option_map}
 use Rattle.std.proofs.lemmas.Option.{slice_get-map, slice_get-get_or, slice_get_within}
@@ -8,7 +8,6 @@ use Rattle.text_io.specs.declared.stop.Stop.{Stop}
 use Rattle.text_io.specs.Desk.{DeskState, wrote}
 use Rattle.text_io.proofs.Wrote.{wrote-nil, wrote_items}
 use Rattle.cell_machine.specs.declared.changes.Change.{Change}
-use Rattle.cell_machine.specs.History.{IsProperFrom}
 use Rattle.stimulus.specs.declared.ports.Ports.{Ports}
 use Rattle.stimulus.specs.declared.sections.Section.{Section}
 use Rattle.stimulus.specs.PortEntries.{NamedCells}
@@ -17,7 +16,7 @@ use Rattle.stimulus.proofs.Runs.{part_of_item}
 use Rattle.model_files.specs.Languages.{Language, model_trace_text}
 use Rattle.model_replay.specs.ModelPorts.{ports_of, models_named}
 use Rattle.model_replay.specs.Outcome.{model_section, section_of, replayed_section_text, replayed_sections_text}
-use Rattle.model_replay.specs.Replays.{CanBeRun}
+use Rattle.model_replay.specs.Replays.{CanBeRun, IsFound}
 
 -- the model of a section that can be run has the section's number
 pub has_model : {M : Type 0} (l : Language M) (models : List M) (section : Section) → CanBeRun l models section
@@ -26,15 +25,6 @@ has_model l models section run = slice_get_within models section.cell run.model 
 
 some_same : {X : Type 0} (x y : X) → Some x ≡ Some y → x ≡ y
 some_same x y e = cc
-
--- A model with the number of a section that can be run, and the ports that the catalog has of it, are as the section wants them.
-pub record IsFound {M : Type 0} (l : Language M) (models : List M) (section : Section) (model : M) (ports : Ports) : Type 0 where
-  pub found : slice_get models section.cell ≡ Some model
-  pub named : ports ≡ ports_of (l.ports model)
-  pub well_formed : l.is_well_formed model
-  pub inputs : length ports.inputs ≡ (l.machine model).inputs
-  pub outputs : length ports.outputs ≡ (l.machine model).outputs
-  pub proper : IsProperFrom (l.machine model).inputs [] section.changes
 
 pub is_found : {M : Type 0} (l : Language M) (models slice : List M) (catalog : NamedCells) (section : Section) (model : M)
     (ports : Ports) → CanBeRun l models section

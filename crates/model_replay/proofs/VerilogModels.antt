@@ -1,6 +1,6 @@
 -- The models of a Verilog text are a catalog's, and can be run.
 use Rattle.std.proofs.Common.{◌≡◌, ℕ, false, List, [], ◌∷◌, ◌++◌, map, get_or, Ok, refl, sym, subst, ◌∙◌, append_assoc}
-use Rattle.std.specs.Prelude.{All, flat_map}
+use Rattle.std.specs.Prelude.{flat_map}
 use Rattle.std.specs.Str.{bytes_eq}
 use Rattle.std.specs.List.{IsDistinct, AllByRecursion, list_any}
 use Rattle.std.proofs.lemmas.List.Folds.{list_any-append}
@@ -16,7 +16,6 @@ use Rattle.verilog_grammar.proofs.VerilogAnswers.{is_answer}
 use Rattle.model_traces.specs.ModuleTrace.{module_machine}
 use Rattle.file_models.specs.sectioned_texts.declared.driven_models.DrivenModels.{DrivenModels}
 use Rattle.file_models.specs.sectioned_texts.DrivenModels.{rest_of, driven_models}
-use Rattle.file_models.specs.sectioned_texts.Drivers.{AllMayStand}
 use Rattle.file_models.proofs.sectioned_texts.TextLaws.{drivers_stand}
 use Rattle.verilog_drivers.proofs.StandingDrivers.{text_may_stand}
 use Rattle.verilog_drivers.specs.VerilogSections.{verilog_sections}
@@ -33,6 +32,7 @@ use Rattle.model_replay.proofs.PortCounts.{length-output_ports}
 use Rattle.model_replay.proofs.OwnPorts.{ArePortsApart, HasPorts, all_have}
 use Rattle.model_replay.proofs.TextAnswers.{ok_mapped}
 use Rattle.model_replay.proofs.NamedDrivers.{IsNamed}
+use Rattle.model_replay.proofs.FoundModels.{AreFound}
 use Rattle.model_replay.proofs.VerilogDrivers.{text_is_named}
 
 -- The names of the modules.
@@ -78,12 +78,10 @@ module_runs m h = record { inputs = refl; outputs = length-output_ports m.ports 
 -- The models of a text.
 
 -- what is known of the models and the drivers of a text
-pub record AreFound (found : DrivenModels VModule) : Type 0 where
-  pub models : AreWellFormed found.models
-  pub stand : AllMayStand verilog_sections found.models found.drivers
-  pub named : All (IsNamed is_name bytes_eq) found.drivers
+abbrev pub AreFoundIn : DrivenModels VModule → Type 0
+AreFoundIn = AreFound verilog_sections AreWellFormed is_name bytes_eq
 
-pub found_in : (bytes : List ℕ) (found : DrivenModels VModule) → driven_models verilog_sections bytes ≡ Ok found → AreFound found
+pub found_in : (bytes : List ℕ) (found : DrivenModels VModule) → driven_models verilog_sections bytes ≡ Ok found → AreFoundIn found
 unfolding verilog_text
 found_in bytes found e =
     let parts = read_parts verilog_sections (IsNamed is_name bytes_eq) text_is_named bytes found e in
@@ -97,7 +95,7 @@ found_in bytes found e =
 own_of : (f : FileModel VModule) → HasPorts f → HasOwnPorts verilog f
 own_of f h = record { names = h.names; inputs = h.inputs; outputs = h.outputs }
 
-pub of_found : (found : DrivenModels VModule) → AreFound found → AreOfText verilog (file_models verilog_sections found)
+pub of_found : (found : DrivenModels VModule) → AreFoundIn found → AreOfText verilog (file_models verilog_sections found)
 of_found found h =
     let models = file_models verilog_sections found in
     let apart = names_apart verilog_sections takes_own bytes_eq bytes_equivalence found h.stand (λ k d below x. refl)

@@ -1,6 +1,5 @@
 -- The models of a VHDL text are a catalog's, and can be run.
 use Rattle.std.proofs.Common.{◌≡◌, ℕ, false, List, ◌∷◌, length, map, get_or, Ok, refl, sym, ap, subst, ◌∙◌}
-use Rattle.std.specs.Prelude.{All}
 use Rattle.std.specs.Str.{bytes_eq, str_eq_ignore_ascii_case}
 use Rattle.std.specs.List.{IsDistinct}
 use Rattle.std.proofs.lemmas.List.{length-map}
@@ -20,7 +19,6 @@ use Rattle.vhdl_grammar.proofs.VhdlAnswers.{is_answer}
 use Rattle.model_traces.specs.EntityTrace.{entity_machine}
 use Rattle.file_models.specs.sectioned_texts.declared.driven_models.DrivenModels.{DrivenModels}
 use Rattle.file_models.specs.sectioned_texts.DrivenModels.{rest_of, driven_models}
-use Rattle.file_models.specs.sectioned_texts.Drivers.{AllMayStand}
 use Rattle.file_models.proofs.sectioned_texts.TextLaws.{drivers_stand}
 use Rattle.vhdl_drivers.proofs.StandingDrivers.{text_may_stand}
 use Rattle.vhdl_drivers.specs.VitalSections.{vital_sections}
@@ -39,6 +37,7 @@ use Rattle.model_replay.proofs.OwnPorts.{ArePortsApart, HasPorts, all_have}
 use Rattle.model_replay.proofs.SameNames.{same_equivalence, same_name}
 use Rattle.model_replay.proofs.TextAnswers.{ok_mapped}
 use Rattle.model_replay.proofs.NamedDrivers.{IsNamed}
+use Rattle.model_replay.proofs.FoundModels.{AreFound}
 use Rattle.model_replay.proofs.VitalDrivers.{text_is_named}
 
 takes_own : TakesOwnName vital_sections
@@ -63,19 +62,17 @@ entity_runs e h = record {
 -- The models of a text.
 
 -- what is known of the models and the drivers of a text
-pub record AreFound (found : DrivenModels VEntity) : Type 0 where
-  pub models : AreWellFormed found.models
-  pub stand : AllMayStand vital_sections found.models found.drivers
-  pub named : All (IsNamed is_name str_eq_ignore_ascii_case) found.drivers
+abbrev pub AreFoundIn : DrivenModels VEntity → Type 0
+AreFoundIn = AreFound vital_sections AreWellFormed is_name str_eq_ignore_ascii_case
 
 pub found_beside : (bytes : List ℕ) (found : DrivenModels VEntity) → driven_models vital_sections bytes ≡ Ok found
-    → AreWellFormed found.models → AreFound found
+    → AreWellFormed found.models → AreFoundIn found
 found_beside bytes found e h =
     let parts = read_parts vital_sections (IsNamed is_name str_eq_ignore_ascii_case) text_is_named bytes found e in
     record { models = h; stand = drivers_stand vital_sections text_may_stand bytes found e; named = parts.drivers }
 
 pub found_in : TextsAreWellFormed → (bytes : List ℕ) (found : DrivenModels VEntity) → IsCount (length bytes)
-    → driven_models vital_sections bytes ≡ Ok found → AreFound found
+    → driven_models vital_sections bytes ≡ Ok found → AreFoundIn found
 unfolding vhdl_text
 found_in well bytes found few e =
     let parts = read_parts vital_sections (IsNamed is_name str_eq_ignore_ascii_case) text_is_named bytes found e in
@@ -87,7 +84,7 @@ found_in well bytes found few e =
 own_of : (f : FileModel VEntity) → HasPorts f → HasOwnPorts vital f
 own_of f h = record { names = h.names; inputs = h.inputs; outputs = h.outputs }
 
-pub of_found : (found : DrivenModels VEntity) → AreFound found → AreEntities (file_models vital_sections found)
+pub of_found : (found : DrivenModels VEntity) → AreFoundIn found → AreEntities (file_models vital_sections found)
 of_found found h =
     let models = file_models vital_sections found in
     let apart = names_apart vital_sections takes_own str_eq_ignore_ascii_case same_equivalence found h.stand

@@ -1,3 +1,4 @@
+pub mod FileLanguages
 pub mod Verilog
 pub mod Vital
 pub mod Laws

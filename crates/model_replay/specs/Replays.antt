@@ -13,7 +13,7 @@ use Rattle.model_files.specs.Languages.{Language}
 use Rattle.model_files.specs.Limits.{model_limit}
 use Rattle.model_files.specs.ModelNames.{input_names, output_names}
 use Rattle.model_replay.specs.declared.reading.Replay.{Replay}
-use Rattle.model_replay.specs.ModelPorts.{models_named}
+use Rattle.model_replay.specs.ModelPorts.{ports_of, models_named}
 use Rattle.model_replay.specs.Outcome.{replay_files, replay_of, replayed_outcome}
 
 -- A section can be run on the model with its number: the model is well formed, it has as many names of inputs and of outputs as
@@ -24,6 +24,15 @@ pub record CanBeRun {M : Type 0} (l : Language M) (models : List M) (section : S
   pub well_formed : l.is_well_formed model
   pub inputs : length (input_names (l.ports model)) ≡ (l.machine model).inputs
   pub outputs : length (output_names (l.ports model)) ≡ (l.machine model).outputs
+  pub proper : IsProperFrom (l.machine model).inputs [] section.changes
+
+-- A model with the number of a section that can be run, and the ports that the catalog has of it, are as the section wants them.
+pub record IsFound {M : Type 0} (l : Language M) (models : List M) (section : Section) (model : M) (ports : Ports) : Type 0 where
+  pub found : slice_get models section.cell ≡ Some model
+  pub named : ports ≡ ports_of (l.ports model)
+  pub well_formed : l.is_well_formed model
+  pub inputs : length ports.inputs ≡ (l.machine model).inputs
+  pub outputs : length ports.outputs ≡ (l.machine model).outputs
   pub proper : IsProperFrom (l.machine model).inputs [] section.changes
 
 -- These changes can be given to a machine whose inputs and outputs have names in these ports: they are of its inputs, at times

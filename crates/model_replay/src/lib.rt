@@ -27,6 +27,6 @@ pub use process_runs::EntityStart;
 pub use run::replay_models;
 pub use starts::{known_entity, known_module, start_entity, start_module};
 pub use verilog::Verilog;
-pub use verilog_sections::{read_driven_models, read_verilog_driver};
+pub use verilog_sections::read_driven_models;
 pub use vital::Vital;
-pub use vital_sections::{read_driven_entities, read_vital_driver};
+pub use vital_sections::read_driven_entities;

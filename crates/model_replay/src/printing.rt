@@ -5,14 +5,34 @@ ghost use Rattle.stimulus.specs.Writes.{WritesTrace};
 ghost use Rattle.model_replay.specs.ModelPorts.{models_named};
 ghost use Rattle.model_replay.specs.KnownModels.{AreStarts};
 ghost use Rattle.model_replay.specs.Outcome.{replayed_section_text, replayed_sections_text};
-ghost use Rattle.model_replay.specs.Replays.{CanBeRun};
+ghost use Rattle.model_replay.specs.Replays.{CanBeRun, IsFound};
 
 use crate::known::learn;
 use crate::reading::Replay;
 use model_files::{ModelLanguage, nothing_known};
 use std::alloc::Global;
-use stimulus::Section;
+use stimulus::{Ports, Section};
 use text_io::{Desk, Stop};
+
+/// Appends a section to the report, whose model this is with the names of its ports, and of which this is known; or, after a
+/// fault, a prefix of it.
+fn write_found_section<D: Desk, L: ModelLanguage>(
+    alloc: Global,
+    desk: &mut D,
+    replay: &Replay<L::Model>,
+    section: &Section,
+    model: &L::Model,
+    start: &L::Start,
+    ports: &Ports,
+) -> Result<(), Stop>
+    requires found { IsFound L.language replay.now.models section.now model.now ports.now }
+    requires start { L.is_start model.now start.now }
+    ensures text { WritesTrace (D.state desk.old) (D.state desk.new)
+        (replayed_section_text L.language replay.now.models section.now) result }
+    ensures cause { StopsWithCause (D.faults desk.old) (D.faults desk.new) result }
+{
+    L::write_model_trace(alloc, desk, model, start, ports, section.changes.as_slice())
+}
 
 /// Appends a section that can be run to the report, or, after a fault, a prefix of it. What is known of its model is found where
 /// no section was of it before.
@@ -39,7 +59,7 @@ fn write_replayed_section<D: Desk, L: ModelLanguage>(
         unreachable!();
     };
     let ports = replay.catalog.ports(section.cell);
-    L::write_model_trace(alloc, desk, model, start, ports, section.changes.as_slice())
+    write_found_section::<D, L>(alloc, desk, replay, section, model, start, ports)
 }
 
 /// Appends the sections of a replay to the report, in order, or, after a fault, a prefix of them. `Failed` comes only where a

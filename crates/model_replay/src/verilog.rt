@@ -1,7 +1,7 @@
 //! Verilog as a language of models.
 
 use crate::starts::{known_module, start_module};
-use crate::traces::write_started;
+use crate::traces::write_model_section;
 use crate::verilog_sections::read_driven_models;
 use cell_machine::{Change, Shared};
 use file_models::{FileModel, file_models};
@@ -58,14 +58,6 @@ impl ModelLanguage for Verilog {
         changes: &[Change],
     ) -> Result<(), Stop> {
         let sim = start_module(alloc, model, start);
-        write_started(
-            alloc,
-            desk,
-            b'V',
-            model.name.as_slice(),
-            sim,
-            ports,
-            changes,
-        )
+        write_model_section(alloc, desk, b'V', model, sim, ports, changes)
     }
 }

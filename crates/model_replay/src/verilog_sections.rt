@@ -1,9 +1,6 @@
 //! Verilog as a language of models and of sections that hold drivers. (IEEE 1364-2005, 12.1 and 19.1.)
 ghost use Rattle.std.specs.Prelude.{◌≡◌, Ok, IfOk, IfErr};
 ghost use Rattle.verilog_grammar.specs.WellFormed.{outer_names};
-ghost use Rattle.driver_models.specs.Models.{IsSound};
-ghost use Rattle.driver_texts.specs.Sections.{section_text, IsFaultOf};
-ghost use Rattle.verilog_drivers.specs.DriverSections.{verilog_section_grammar};
 ghost use Rattle.verilog_drivers.specs.VerilogSections.{verilog_sections};
 ghost use Rattle.sectioned_texts.specs.DrivenModels.{driven_models};
 ghost use Rattle.sectioned_texts.specs.Drivers.{AllMayStand};
@@ -14,7 +11,7 @@ use driver_models::{Core, Cores, DriverModel, KnownNames};
 use driver_sections::{Ending, Marks, all_ends, find_sections};
 use driver_texts::read_driver;
 use lexer::Span;
-use sectioned_texts::{DrivenModels, SectionLanguage, read_driven};
+use sectioned_texts::{DrivenModels, SectionLanguage, read_driven_text};
 use sqlite_items::Items;
 use std::alloc::{AllocError, Global};
 use udp_tables::ModelFault;
@@ -48,21 +45,6 @@ fn names_of(alloc: Global, model: &VModule) -> Result<Items<Items<u8>>, AllocErr
     }
     names.push(Items::from_slice(alloc, model.name.as_slice())?)?;
     Ok(names)
-}
-
-/// The driver of a section of a Verilog text, where these names are taken and the models that may be cores are these, or its first
-/// fault. A driver that is read is sound.
-pub fn read_verilog_driver(
-    alloc: Global,
-    text: &[u8],
-    names: &KnownNames<VerilogDrivers>,
-    cores: &Cores<'_, VerilogDrivers>,
-) -> Result<DriverModel, ModelFault>
-    ensures driver { IfOk result (λ found. section_text verilog_section_grammar names.now cores.now text.now ≡ Ok found) }
-    ensures sound { IfOk result (λ found. IsSound found) }
-    ensures fault { IfErr result (λ e. IsFaultOf verilog_section_grammar names.now cores.now text.now e) }
-{
-    read_driver(alloc, text, names, cores)
 }
 
 impl SectionLanguage for Verilog {
@@ -108,7 +90,7 @@ impl SectionLanguage for Verilog {
         names: &KnownNames<VerilogDrivers>,
         cores: &Cores<'_, VerilogDrivers>,
     ) -> Result<DriverModel, ModelFault> {
-        read_verilog_driver(alloc, text, names, cores)
+        read_driver(alloc, text, names, cores)
     }
 
     ghost hold = { text_may_stand };
@@ -121,5 +103,5 @@ pub fn read_driven_models(alloc: Global, text: &[u8]) -> Result<DrivenModels<VMo
     ensures drivers { IfOk result (λ found. AllMayStand verilog_sections found.models found.drivers) }
     ensures fault { IfErr result (IsFaultIn (driven_models verilog_sections text.now)) }
 {
-    read_driven::<Verilog>(alloc, text)
+    read_driven_text::<Verilog>(alloc, text)
 }

@@ -1,7 +1,7 @@
 //! VHDL by VITAL as a language of models.
 
 use crate::starts::{known_entity, start_entity};
-use crate::traces::write_started;
+use crate::traces::write_model_section;
 use crate::vital_sections::read_driven_entities;
 use cell_machine::{Change, Shared};
 use file_models::{FileModel, file_models};
@@ -60,14 +60,6 @@ impl ModelLanguage for Vital {
         changes: &[Change],
     ) -> Result<(), Stop> {
         let sim = start_entity(alloc, model, start);
-        write_started(
-            alloc,
-            desk,
-            b'H',
-            model.name.as_slice(),
-            sim,
-            ports,
-            changes,
-        )
+        write_model_section(alloc, desk, b'H', model, sim, ports, changes)
     }
 }

@@ -1,8 +1,5 @@
 //! VHDL by VITAL as a language of models and of sections that hold drivers. (IEEE 1076-1993, 1.1 and 1.2; IEEE 1076.4-2000.)
 ghost use Rattle.std.specs.Prelude.{◌≡◌, Ok, IfOk, IfErr};
-ghost use Rattle.driver_models.specs.Models.{IsSound};
-ghost use Rattle.driver_texts.specs.Sections.{section_text, IsFaultOf};
-ghost use Rattle.vhdl_drivers.specs.DriverSections.{vhdl_section_grammar};
 ghost use Rattle.vhdl_drivers.specs.VitalSections.{vital_sections};
 ghost use Rattle.sectioned_texts.specs.DrivenModels.{driven_models};
 ghost use Rattle.sectioned_texts.specs.Drivers.{AllMayStand};
@@ -13,7 +10,7 @@ use driver_models::{Core, Cores, DriverModel, KnownNames};
 use driver_sections::{Ending, Marks, all_ends, find_sections};
 use driver_texts::read_driver;
 use lexer::Span;
-use sectioned_texts::{DrivenModels, SectionLanguage, read_driven};
+use sectioned_texts::{DrivenModels, SectionLanguage, read_driven_text};
 use sqlite_items::Items;
 use std::alloc::{AllocError, Global};
 use udp_tables::ModelFault;
@@ -36,21 +33,6 @@ const MODEL_END: Ending<'static> = Ending {
     words: &[b"end", b"vital"],
     closing: b";",
 };
-
-/// The driver of a section of a VHDL text, where these names are taken and the models that may be cores are these, or its first
-/// fault. A driver that is read is sound.
-pub fn read_vital_driver(
-    alloc: Global,
-    text: &[u8],
-    names: &KnownNames<VitalDrivers>,
-    cores: &Cores<'_, VitalDrivers>,
-) -> Result<DriverModel, ModelFault>
-    ensures driver { IfOk result (λ found. section_text vhdl_section_grammar names.now cores.now text.now ≡ Ok found) }
-    ensures sound { IfOk result (λ found. IsSound found) }
-    ensures fault { IfErr result (λ e. IsFaultOf vhdl_section_grammar names.now cores.now text.now e) }
-{
-    read_driver(alloc, text, names, cores)
-}
 
 impl SectionLanguage for Vital {
     ghost use Rattle.std.specs.Prelude.{◌≡◌};
@@ -97,7 +79,7 @@ impl SectionLanguage for Vital {
         names: &KnownNames<VitalDrivers>,
         cores: &Cores<'_, VitalDrivers>,
     ) -> Result<DriverModel, ModelFault> {
-        read_vital_driver(alloc, text, names, cores)
+        read_driver(alloc, text, names, cores)
     }
 
     ghost hold = { text_may_stand };
@@ -110,5 +92,5 @@ pub fn read_driven_entities(alloc: Global, text: &[u8]) -> Result<DrivenModels<V
     ensures drivers { IfOk result (λ found. AllMayStand vital_sections found.models found.drivers) }
     ensures fault { IfErr result (IsFaultIn (driven_models vital_sections text.now)) }
 {
-    read_driven::<Vital>(alloc, text)
+    read_driven_text::<Vital>(alloc, text)
 }

@@ -3,10 +3,12 @@
 //! command's own outcome stands above.
 #![tactic(auto)]
 
+mod limits;
 mod process;
 mod refusals;
 mod status;
 
+pub use limits::FILE_LIMIT;
 pub use process::{open_closed_streams, program_words};
 pub use refusals::RefusalText;
 pub use status::{Status, compared_status, ended};

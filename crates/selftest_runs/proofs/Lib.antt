@@ -1,5 +1,6 @@
 mod KeptTextLemmas
 mod NamesAlone
+mod OneModels
 mod ModuleTexts
 mod EntityTexts
 pub mod CountLemmas

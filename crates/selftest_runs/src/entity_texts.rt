@@ -8,12 +8,12 @@ ghost use Rattle.written_entities.specs.Laws.{entities_text};
 ghost use Rattle.selftest_runs.specs.EntityNames.{IsNameOfEntity};
 
 use crate::numbered_cells::cell_is_numbered;
+use crate::one_model::one_model;
 use crate::text_desk::{NotKept, TextDesk};
 use cell_machine::Cell;
 use generated_entities::entity_is_well_formed;
 use std::alloc::{AllocError, Global};
 use text_io::OutSlot;
-use udp_tables::ModelFault;
 use vhdl_reader::read_entities;
 use vhdl_writer::write_entity;
 use vital_models::{ModelParts, VEntity, vital_model};
@@ -36,14 +36,7 @@ pub fn read_back_entity(alloc: Global, entity: &VEntity) -> Result<VEntity, Allo
 {
     written_entities_read_back();
     let text = entity_text(alloc, entity)?;
-    match read_entities(alloc, text.as_slice()) {
-        Ok(mut entities) => match entities.pop() {
-            Some(read) => Ok(read),
-            None => unreachable!(),
-        },
-        Err(ModelFault::Memory) => Err(AllocError),
-        Err(_) => unreachable!(),
-    }
+    one_model(read_entities(alloc, text.as_slice()))
 }
 
 /// The VITAL entity of a cell, with this name, written as VHDL text and read back of it. The name is one that an entity of the

@@ -11,6 +11,7 @@ mod library;
 mod models;
 mod module_texts;
 mod numbered_cells;
+mod one_model;
 mod own;
 mod report;
 mod text_desk;

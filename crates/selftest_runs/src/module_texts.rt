@@ -7,12 +7,12 @@ ghost use Rattle.verilog_grammar.specs.WellFormed.{AreWellFormed};
 ghost use Rattle.written_modules.specs.Laws.{modules_text};
 
 use crate::numbered_cells::cell_is_numbered;
+use crate::one_model::one_model;
 use crate::text_desk::{NotKept, TextDesk};
 use cell_machine::Cell;
 use generated_modules::modules_are_well_formed;
 use std::alloc::{AllocError, Global};
 use text_io::OutSlot;
-use udp_tables::ModelFault;
 use verilog_grammar::modules::{VModule, verilog_model};
 use verilog_reader::read_models;
 use verilog_writer::{write_model, write_prelude};
@@ -37,14 +37,7 @@ pub fn read_back_module(alloc: Global, model: &VModule) -> Result<VModule, Alloc
 {
     written_modules_read_back();
     let text = module_text(alloc, model)?;
-    match read_models(alloc, text.as_slice()) {
-        Ok(mut modules) => match modules.pop() {
-            Some(read) => Ok(read),
-            None => unreachable!(),
-        },
-        Err(ModelFault::Memory) => Err(AllocError),
-        Err(_) => unreachable!(),
-    }
+    one_model(read_models(alloc, text.as_slice()))
 }
 
 /// The Verilog module of a cell, with its primitives, written as text and read back of it. `AllocError` comes only where memory

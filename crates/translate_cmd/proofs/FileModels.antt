@@ -36,8 +36,7 @@ use Rattle.library_simulation.specs.Verilog.{verilog}
 use Rattle.library_simulation.specs.Vital.{vital}
 use Rattle.library_simulation.specs.library_reader.LibraryCells.{CellEntry, Accepted, Refused}
 use Rattle.library_simulation.specs.CellModels.{CellModels, cores, drivers}
-use Rattle.library_simulation.specs.Generated.{core_entity, in_verilog, in_vital, core_modules, modules_of}
-use Rattle.library_simulation.specs.Generated.{core_entities, entities_of}
+use Rattle.library_simulation.specs.Generated.{core_entity, in_verilog, in_vital, modules_of, entities_of}
 use Rattle.translate_cmd.specs.TranslatedModels.{verilog_in, vital_in}
 use Rattle.translate_cmd.proofs.AcceptedCells.{modules-well-formed, entities-well-formed}
 use Rattle.translate_cmd.proofs.ReadBack.{libraries-read-back}
@@ -105,11 +104,11 @@ same_modules (Accepted cell entity ∷ cells) = by (same_modules cells) (may_flo
     by rest false = ap (with_cell (module_of cell.core) []) rest
 same_modules (Refused name refusal ∷ cells) = same_modules cells
 
-verilog_by : (cells : List CellEntry) → AllByRecursion (IsFound verilog_sections (core_modules cells)) (core_modules cells)
+verilog_by : (cells : List CellEntry) → AllByRecursion (IsFound verilog_sections (cores in_verilog cells)) (cores in_verilog cells)
     → modules_of cells ≡ file_models verilog_sections (apart in_verilog cells)
 verilog_by cells found =
-    let drivers = all_over in_verilog verilog_sections verilog_core (core_modules cells) cells found in
-    ap (λ (fs : List (FileModel VModule)). map (own_model verilog_sections) (core_modules cells) ++ fs) (sym drivers)
+    let drivers = all_over in_verilog verilog_sections verilog_core (cores in_verilog cells) cells found in
+    ap (λ (fs : List (FileModel VModule)). map (own_model verilog_sections) (cores in_verilog cells) ++ fs) (sym drivers)
 
 -- The VITAL models.
 
@@ -144,11 +143,11 @@ same_entities (Accepted cell entity ∷ cells) given named =
     by rest false e = λ i. with_cell (entity_of cell.core (e i)) [] (rest i)
 same_entities (Refused name refusal ∷ cells) given named = same_entities cells given named
 
-vital_by : (cells : List CellEntry) → AllByRecursion (IsFound vital_sections (core_entities cells)) (core_entities cells)
+vital_by : (cells : List CellEntry) → AllByRecursion (IsFound vital_sections (cores in_vital cells)) (cores in_vital cells)
     → entities_of cells ≡ file_models vital_sections (apart in_vital cells)
 vital_by cells found =
-    let drivers = all_over in_vital vital_sections vital_core (core_entities cells) cells found in
-    ap (λ (fs : List (FileModel VEntity)). map (own_model vital_sections) (core_entities cells) ++ fs) (sym drivers)
+    let drivers = all_over in_vital vital_sections vital_core (cores in_vital cells) cells found in
+    ap (λ (fs : List (FileModel VEntity)). map (own_model vital_sections) (cores in_vital cells) ++ fs) (sym drivers)
 
 -- Each core is found by its name.
 
@@ -177,27 +176,27 @@ entities_found es h =
 
 -- So it is for the cells of a library.
 
+files_are :
+    {M : Type 0} (l : SectionLanguage M) (good : List M → Type 0) (whole : List (FileModel M)) (found read : DrivenModels M)
+    → found ≡ read → good read.models → (good found.models → whole ≡ file_models l found) → whole ≡ file_models l read
+files_are {M} l good whole found read same holds by =
+    by (subst (λ (f : DrivenModels M). good f.models) (sym same) holds) ∙ ap (file_models l) same
+
 modules_apart_are : (library : List ℕ) → apart in_verilog (cells_of library) ≡ verilog_in library
 modules_apart_are library = same_modules (cells_of library) ∙ ap verilog_of (are_accepted library)
 
 modules_are : (library : List ℕ) → modules_of (cells_of library) ≡ file_models verilog_sections (verilog_in library)
 modules_are library =
-    let same = modules_apart_are library in
-    let well_formed = subst (λ (found : DrivenModels VModule). verilog_rules.AreWellFormed found.models) (sym same)
-    (modules-well-formed library).models in
-    verilog_by (cells_of library) (modules_found (core_modules (cells_of library)) well_formed)
-    ∙ ap (file_models verilog_sections) same
+    files_are verilog_sections verilog_rules.AreWellFormed _ _ _ (modules_apart_are library) (modules-well-formed library).models
+    (λ h. verilog_by (cells_of library) (modules_found (cores in_verilog (cells_of library)) h))
 
 entities_apart_are : (library : List ℕ) → apart in_vital (cells_of library) ≡ vital_in library
 entities_apart_are library = same_entities (cells_of library) [] (are_named library) ∙ ap (vital_behind []) (are_accepted library)
 
 pub entities_are : (library : List ℕ) → entities_of (cells_of library) ≡ file_models vital_sections (vital_in library)
 entities_are library =
-    let same = entities_apart_are library in
-    let well_formed = subst (λ (found : DrivenModels VEntity). vital_rules.AreWellFormed found.models) (sym same)
-    (entities-well-formed library).models in
-    vital_by (cells_of library) (entities_found (core_entities (cells_of library)) well_formed)
-    ∙ ap (file_models vital_sections) same
+    files_are vital_sections vital_rules.AreWellFormed _ _ _ (entities_apart_are library) (entities-well-formed library).models
+    (λ h. vital_by (cells_of library) (entities_found (cores in_vital (cells_of library)) h))
 
 -- So the Verilog and the VHDL of the library are read as these.
 

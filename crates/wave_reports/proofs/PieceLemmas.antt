@@ -1,49 +1,39 @@
 -- How a text that is cut at bytes of a kind begins, and where the last of them stands.
-use Rattle.std.proofs.Common.{◌≡◌, ◌≢◌, ◌==◌, ℕ, ◌+◌, ◌<◌, ◌≤◌, Bool, true, false, not, cond, nat_lt, All, List, [], ◌∷◌, ◌++◌}
+use Rattle.std.proofs.Common.{◌≡◌, ◌≢◌, ◌==◌, ℕ, ◌+◌, ◌<◌, ◌≤◌, Bool, true, false, cond, nat_lt, All, List, [], ◌∷◌, ◌++◌}
 use Rattle.std.proofs.Common.{length, take, drop, get_or, Some, None, position, refl, sym, ap, subst, ◌∙◌, arith, length-drop}
 use Rattle.std.proofs.Common.{take-append-drop}
-use Rattle.std.proofs.lemmas.Bool.{cond-true, cond-false, eq-eqb, ne_eqb, ltb-true}
+use Rattle.std.proofs.lemmas.Bool.{cond-true, cond-false, eq-eqb, ne_eqb}
 use Rattle.std.proofs.lemmas.Bool.Decides.{nat_tests}
 use Rattle.std.proofs.lemmas.List.{drop_more, get_or-drop}
 use Rattle.std.proofs.lemmas.List.Elements.{All-head, All-tail, All-from_get_or}
-use Rattle.std.proofs.lemmas.List.Splits.{slice_split_first}
-use Rattle.std.specs.List.{slice_split, onto_first, position_or_len}
+use Rattle.std.proofs.lemmas.List.Quantifiers.{position-Some}
+use Rattle.std.proofs.lemmas.List.Splits.{slice_split_first, slice_split_none}
+use Rattle.std.proofs.lemmas.List.Sums.{position_or_len_is, fails_before_first}
+use Rattle.std.specs.List.{position_or_len}
 use Rattle.wave_reports.specs.Pieces.{pieces, cut_last, cut_step}
-
--- where no byte is of the kind, the text is the one piece
-unsplit : (p : ℕ → Bool) (xs : List ℕ) → length xs ≤ position_or_len p xs → slice_split p xs ≡ xs ∷ []
-unsplit p [] h = refl
-unsplit p (x ∷ xs) h =
-    elim (p x) as (λ b. length (x ∷ xs) ≤ cond (not b) (1 + position_or_len p xs) 0
-    → cond b ([] ∷ slice_split p xs) (onto_first x (slice_split p xs)) ≡ (x ∷ xs) ∷ []) [
-      | true ↦ λ g. absurd (omega (arith, g))
-      | false ↦ λ g. ap (onto_first x) (unsplit p xs (omega (arith, g)))
-    ] h
-
-chosen_some : (b : Bool) (n i : ℕ) → cond b (Some n) None ≡ Some i → (b ≡ true) × (n ≡ i)
-chosen_some true n i e = (refl, cc)
-chosen_some false n i e = absurd cc
-
-chosen_none : (b : Bool) (n : ℕ) → cond b (Some n) None ≡ None → b ≡ false
-chosen_none true n e = absurd cc
-chosen_none false n e = refl
 
 -- the first piece ends at the first byte of the kind
 pub piece_found : (at : ℕ) (xs : List ℕ) (i : ℕ) → position (λ b. b == at) xs ≡ Some i
     → pieces at xs ≡ take i xs ∷ pieces at (drop (i + 1) xs)
 piece_found at xs i e =
     let p : ℕ → Bool = λ b. b == at in
-    let (below, here) = chosen_some (nat_lt (position_or_len p xs) (length xs)) (position_or_len p xs) i e in
+    let (inside, passes, before) = position-Some p xs i 0 e in
+    let here : position_or_len p xs ≡ i = position_or_len_is p xs i 0 (omega (arith, inside)) before (λ _. passes) in
     subst (λ n. pieces at xs ≡ take n xs ∷ pieces at (drop (n + 1) xs)) here
-    (slice_split_first p xs 0 (ltb-true (position_or_len p xs) (length xs) below))
+    (slice_split_first p xs 0 (omega (arith, here, inside)))
+
+chosen_none : (b : Bool) (n : ℕ) → cond b (Some n) None ≡ None → b ≡ false
+chosen_none true n e = absurd cc
+chosen_none false n e = refl
 
 -- and is all where there is none
 pub last_piece : (at : ℕ) (xs : List ℕ) → position (λ b. b == at) xs ≡ None → pieces at xs ≡ xs ∷ []
 last_piece at xs e =
     let p : ℕ → Bool = λ b. b == at in
-    let f : nat_lt (position_or_len p xs) (length xs) ≡ false = chosen_none _ _ e in
-    let le : length xs ≤ position_or_len p xs = grind (arith, nat_tests, f) in
-    unsplit p xs le
+    let none : nat_lt (position_or_len p xs) (length xs) ≡ false = chosen_none _ _ e in
+    let past : length xs ≤ position_or_len p xs = grind (arith, nat_tests, none) in
+    slice_split_none p xs
+    (All-from_get_or (λ b. p b ≡ false) xs 0 (λ k below. fails_before_first p xs k 0 (omega (arith, below, past))))
 
 -- the byte is none of the kind
 abbrev IsNot : ℕ → ℕ → Type 0

@@ -11,12 +11,9 @@ ghost use Rattle.wave_reports.specs.Draws.{Draws};
 
 use crate::dump::write_dump;
 use crate::{Waves, waves_of};
-use run_outcome::Status;
+use run_outcome::{FILE_LIMIT, Status};
 use std::alloc::{AllocError, Global};
 use text_io::{Desk, Failed, InSlot, OutSlot, Stop, Taken, read_all, write_whole};
-
-/// The most bytes that a report may have.
-const REPORT_LIMIT: usize = 67_108_864;
 
 /// What is drawn of the report that was taken.
 fn waves_taken(alloc: Global, taken: &Taken) -> Result<Waves, AllocError>
@@ -65,7 +62,7 @@ pub(crate) fn draw_bound<D: Desk>(alloc: Global, desk: &mut D) -> Result<Status,
     ensures usage { IfOk result (λ status. status ≡ Status.Usage → ⊥) }
     ensures decided { IfOk result (λ status. IsTrue (is_decided status)) }
 {
-    let taken = read_all(alloc, desk, InSlot::Library, REPORT_LIMIT)?;
+    let taken = read_all(alloc, desk, InSlot::Library, FILE_LIMIT)?;
     if taken.more {
         tell_too_long(desk)?;
         return Ok(Status::TooLong);

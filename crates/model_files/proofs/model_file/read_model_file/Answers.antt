@@ -1,5 +1,7 @@
-use Rattle.std.proofs.Common.{◌≡◌, ◌+◌, ap, subst, ◌∙◌}
-use Rattle.text_io.specs.Desk.{opened}
+use Rattle.std.proofs.Common.{◌≡◌, ℕ, ◌+◌, List, ap, subst, ◌∙◌}
+use Rattle.text_io.specs.declared.slots.InSlot.{InSlot}
+use Rattle.text_io.specs.declared.reading.Taken.{Taken}
+use Rattle.text_io.specs.Desk.{DeskState, opened}
 use Rattle.text_io.specs.Read.{IsRead, ReadsAtMost}
 use Rattle.run_outcome.specs.Status.{is_decided}
 use Rattle.run_outcome.proofs.FileStepLaws.{err_is, undecided_stop, bound_then, unbound_ends, unread_ends, taken_as_values}
@@ -31,26 +33,28 @@ returns-in_err-taken-clause-err g c =
     err_is c.from_residual-in_err-taken.result _ _ c.from_residual-in_err-taken.ensures.1
     (λ y is. unread_ends (model_answer l) old mid now (slot_of l.format) c.args.place opening.0 read.0 y opening.1 bound read.2 (ap is_decided is ∙ undecided_stop c.in_err-taken.field-0.0))
 
+-- what was bound and read at a slot, by another name of the slot
+placed :
+    (old mid now : DeskState) (s slot : InSlot) (bytes : List ℕ) (taken : Taken)
+    → s ≡ slot → mid ≡ opened old s bytes → IsRead mid now s model_limit taken
+    → (mid ≡ opened old slot bytes) × IsRead mid now slot model_limit taken
+placed old mid now s slot bytes taken same bound read =
+    (subst (λ t. mid ≡ opened old t bytes) same bound, subst (λ t. IsRead mid now t model_limit taken) same read)
+
 pub returns-clause-ok : goal.returns-clause-ok
 unfolding model_answer
 returns-clause-ok g c =
     let l = g.L.ModelLanguage.language in
-    let old = g.D.Desk.state c.args.desk.now in
-    let mid = g.D.Desk.state c.bind_in.new.self in
-    let now = g.D.Desk.state c.read_all.new.desk in
     let opening = c.in_ok-bind_in.ensures.ok in
-    let same : c.slot-slot.result ≡ slot_of l.format = c.slot-slot.ensures ∙ ap slot_of c.format.ensures in
-    taken_as_values model_limit (long_model_stop l.format) (models_in_text l) old mid now _ (slot_of l.format) c.args.place opening.0 c.in_ok-taken.taken c.models_taken.result
-    opening.1 (subst (λ s. mid ≡ opened old s opening.0) same opening.2) (subst (λ s. IsRead mid now s model_limit c.in_ok-taken.taken) same c.in_ok-taken.ensures.ok) c.models_taken.ensures.ok
+    let there = placed _ _ _ _ (slot_of l.format) _ _ (c.slot-slot.ensures ∙ ap slot_of c.format.ensures) opening.2 c.in_ok-taken.ensures.ok in
+    taken_as_values model_limit (long_model_stop l.format) (models_in_text l) _ _ _ _ (slot_of l.format) c.args.place opening.0
+    c.in_ok-taken.taken c.models_taken.result opening.1 there.0 there.1 c.models_taken.ensures.ok
 
 pub returns-clause-err : goal.returns-clause-err
 unfolding model_answer
 returns-clause-err g c =
     let l = g.L.ModelLanguage.language in
-    let old = g.D.Desk.state c.args.desk.now in
-    let mid = g.D.Desk.state c.bind_in.new.self in
-    let now = g.D.Desk.state c.read_all.new.desk in
     let opening = c.in_ok-bind_in.ensures.ok in
-    let same : c.slot-slot.result ≡ slot_of l.format = c.slot-slot.ensures ∙ ap slot_of c.format.ensures in
-    taken_ends model_limit (long_model_stop l.format) (models_in_text l) old mid now _ (slot_of l.format) c.args.place opening.0 c.in_ok-taken.taken c.models_taken.result
-    opening.1 (subst (λ s. mid ≡ opened old s opening.0) same opening.2) (subst (λ s. IsRead mid now s model_limit c.in_ok-taken.taken) same c.in_ok-taken.ensures.ok) c.models_taken.ensures.err
+    let there = placed _ _ _ _ (slot_of l.format) _ _ (c.slot-slot.ensures ∙ ap slot_of c.format.ensures) opening.2 c.in_ok-taken.ensures.ok in
+    taken_ends model_limit (long_model_stop l.format) (models_in_text l) _ _ _ _ (slot_of l.format) c.args.place opening.0
+    c.in_ok-taken.taken c.models_taken.result opening.1 there.0 there.1 c.models_taken.ensures.err

@@ -1,37 +1,16 @@
 use Rattle.std.proofs.Common.{◌<◌, length, arith}
 use Rattle.stimulus.proofs.Runs.{appends_nothing}
-use Rattle.model_replay.proofs.SectionTexts.{has_model, is_found, section_written}
+use Rattle.model_replay.proofs.SectionTexts.{has_model, is_found}
 use Rattle.model_files.proofs.KnownThings.{here-some, on-ok}
 use Rattle.model_replay.proofs.printing.write_replayed_section.Goals as goal
 
-pub returns-clause-text : goal.returns-clause-text
-returns-clause-text g c =
-    let l = g.L.ModelLanguage.language in
-    let found = is_found l _ _ _ c.args.section.now c.index-as_slice-section.result c.ports-ports.result.now c.requires.run c.requires.catalog c.as_slice.ensures c.index-as_slice-section.is c.ports-ports.ensures in
-    section_written l _ _ c.args.replay.now.models c.args.section.now c.index-as_slice-section.result c.ports-ports.result.now _ _ found c.as_slice-2.ensures c.write_model_trace.ensures.text
+pub write_found_section-requires-clause-found : goal.write_found_section-requires-clause-found
+write_found_section-requires-clause-found g c =
+    is_found g.L.ModelLanguage.language _ _ _ c.args.section.now c.index-as_slice-section.result c.ports-ports.result.now c.requires.run
+    c.requires.catalog c.as_slice.ensures c.index-as_slice-section.is c.ports-ports.ensures
 
-pub write_model_trace-requires-clause-well_formed : goal.write_model_trace-requires-clause-well_formed
-write_model_trace-requires-clause-well_formed g c =
-    let found = is_found g.L.ModelLanguage.language _ _ _ c.args.section.now c.index-as_slice-section.result c.ports-ports.result.now c.requires.run c.requires.catalog c.as_slice.ensures c.index-as_slice-section.is c.ports-ports.ensures in
-    found.well_formed
-
-pub write_model_trace-requires-clause-inputs : goal.write_model_trace-requires-clause-inputs
-write_model_trace-requires-clause-inputs g c =
-    let found = is_found g.L.ModelLanguage.language _ _ _ c.args.section.now c.index-as_slice-section.result c.ports-ports.result.now c.requires.run c.requires.catalog c.as_slice.ensures c.index-as_slice-section.is c.ports-ports.ensures in
-    found.inputs
-
-pub write_model_trace-requires-clause-outputs : goal.write_model_trace-requires-clause-outputs
-write_model_trace-requires-clause-outputs g c =
-    let found = is_found g.L.ModelLanguage.language _ _ _ c.args.section.now c.index-as_slice-section.result c.ports-ports.result.now c.requires.run c.requires.catalog c.as_slice.ensures c.index-as_slice-section.is c.ports-ports.ensures in
-    found.outputs
-
-pub write_model_trace-requires-clause-proper : goal.write_model_trace-requires-clause-proper
-write_model_trace-requires-clause-proper g c =
-    let found = is_found g.L.ModelLanguage.language _ _ _ c.args.section.now c.index-as_slice-section.result c.ports-ports.result.now c.requires.run c.requires.catalog c.as_slice.ensures c.index-as_slice-section.is c.ports-ports.ensures in
-    rw c.as_slice-2.ensures found.proper
-
-pub write_model_trace-requires-clause-start : goal.write_model_trace-requires-clause-start
-write_model_trace-requires-clause-start g c =
+pub write_found_section-requires-clause-start : goal.write_found_section-requires-clause-start
+write_found_section-requires-clause-start g c =
     let found = is_found g.L.ModelLanguage.language _ _ _ c.args.section.now c.index-as_slice-section.result c.ports-ports.result.now c.requires.run c.requires.catalog c.as_slice.ensures c.index-as_slice-section.is c.ports-ports.ensures in
     let models = c.args.replay.now.models in
     let cell = c.args.section.now.cell in
@@ -47,4 +26,4 @@ pub returns-clause-known : goal.returns-clause-known
 returns-clause-known g c =
     let found = is_found g.L.ModelLanguage.language _ _ _ c.args.section.now c.index-as_slice-section.result c.ports-ports.result.now c.requires.run c.requires.catalog c.as_slice.ensures c.index-as_slice-section.is c.ports-ports.ensures in
     let are = c.in_ok-learn.ensures.known c.args.replay.now.models found.found c.requires.known in
-    on-ok _ c.write_model_trace.result are
+    on-ok _ c.write_found_section.result are

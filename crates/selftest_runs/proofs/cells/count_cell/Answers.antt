@@ -4,7 +4,7 @@ use Rattle.cell_machine.specs.CellData.{data_of}
 use Rattle.cell_machine.specs.CellTrace.{inputs_of}
 use Rattle.cell_machine.specs.Inputs.{is_input_at}
 use Rattle.cell_machine.specs.Lines.{Machine, trace}
-use Rattle.caught_models.proofs.Started.{of_started}
+use Rattle.std.proofs.lemmas.Result.{IfOk-at_ok}
 use Rattle.selftest_runs.specs.Counts.{known_in}
 use Rattle.selftest_runs.specs.CellCounts.{changes_by, counts_on}
 use Rattle.selftest_runs.proofs.cells.count_cell.Goals as goal
@@ -13,7 +13,7 @@ pub counts_on-requires-clause-known : goal.counts_on-requires-clause-known
 counts_on-requires-clause-known c =
     let told = c.in_ok-known.ensures in
     subst (λ (m : Machine). c.in_ok-known.known ≡ known_in (trace m.line c.as_slice-changes.result.now))
-    (of_started c.start.result told.0 _ told.1 c.start.ensures.machine) told.2
+    (IfOk-at_ok _ told.1 c.start.ensures.machine) told.2
 
 pub returns : goal.returns
 returns c =

@@ -1,5 +1,4 @@
-use Rattle.std.proofs.lemmas.Result.{on_ok_weaker as on_ok}
-use Rattle.caught_models.proofs.Started.{of_started}
+use Rattle.std.proofs.lemmas.Result.{on_ok_weaker as on_ok, IfOk-at_ok}
 use Rattle.selftest_runs.proofs.CountedCells.{next_counted}
 use Rattle.selftest_runs.proofs.library.CountsCellFold.take.Goals as goal
 
@@ -8,5 +7,5 @@ returns-clause-made c =
     on_ok c.add.result
     (λ told. λ p h cells e.
     next_counted p c.args.group.now c.args.next c.args.self.now told.0 c.add.new.self cells h e
-    (of_started c.count_next-more.result told.0 _ told.1 c.count_next-more.ensures) told.2)
+    (IfOk-at_ok _ told.1 c.count_next-more.ensures) told.2)
     c.add.ensures.sum

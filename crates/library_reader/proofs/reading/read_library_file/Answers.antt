@@ -4,7 +4,7 @@ use Rattle.run_outcome.specs.Status.{is_decided}
 use Rattle.run_outcome.proofs.FileStepLaws.{err_is, undecided_stop, bound_then, unbound_ends, unread_ends}
 use Rattle.library_reader.specs.LibraryAnswer.{library_answer}
 use Rattle.library_reader.proofs.LibraryFileLemmas.{cells_taken, told_ends}
-use Rattle.library_reader.proofs.reading.read_library.Goals as goal
+use Rattle.library_reader.proofs.reading.read_library_file.Goals as goal
 
 pub read_cells-requires : goal.read_cells-requires
 read_cells-requires g c = bound_then _ _ Library c.in_ok-bind_in.ensures.ok.0 c.in_ok-bind_in.ensures.ok.2

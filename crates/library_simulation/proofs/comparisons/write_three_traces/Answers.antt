@@ -1,6 +1,6 @@
 use Rattle.std.proofs.Common.{◌∙◌, ap, is_some}
 use Rattle.library_simulation.proofs.BesideLemmas.{heading_stops, lines_stop, verdict_stops, section_whole, write_cause}
-use Rattle.library_simulation.proofs.comparisons.write_started.Goals as goal
+use Rattle.library_simulation.proofs.comparisons.write_three_traces.Goals as goal
 
 pub returns-in_err-write_heading-clause-text : goal.returns-in_err-write_heading-clause-text
 returns-in_err-write_heading-clause-text g c = heading_stops _ _ _ _ _ _ c.in_err-write_heading.ensures.text c.from_residual.ensures.0

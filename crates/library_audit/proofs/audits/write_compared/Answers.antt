@@ -1,5 +1,0 @@
-use Rattle.stimulus.proofs.Runs.{appends_nothing}
-use Rattle.library_audit.proofs.audits.write_compared.Goals as goal
-
-pub returns-in_err-found-clause-text : goal.returns-in_err-found-clause-text
-returns-in_err-found-clause-text g c = appends_nothing _ _ _ c.from_residual.ensures.0

@@ -1,5 +1,0 @@
-use Rattle.vhdl_drivers.proofs.StandingDrivers.{text_may_stand}
-use Rattle.model_replay.proofs.vital_sections.read_vital_driver.Goals as goal
-
-pub returns-clause-sound : goal.returns-clause-sound
-returns-clause-sound c = c.read_driver.ensures.sound text_may_stand

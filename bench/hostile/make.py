@@ -219,13 +219,14 @@ def cut_cell(n):
     return "library(L){cell(C){" + "a:1;" * n
 
 
-def deep_groups(n):
-    """groups thirty deep in a cell, as deep as groups may be"""
-    return "library(L){cell(C){" + ("a(){" * 30 + "}" * 30) * n + "}}"
+def repeated(text):
+    """cells that repeat this text"""
+    return lambda n: "library(L){cell(C){" + text * n + "}}"
 
 
-def short_attributes(n):
-    return "library(L){cell(C){" + "a:1;" * n + "}}"
+def deep(opening):
+    """cells of groups that open so, thirty deep, as deep as groups may be"""
+    return repeated(opening * 30 + "}" * 30)
 
 
 def short_arguments(n):
@@ -320,6 +321,22 @@ def timing_that_names_a_bundle(n):
         for name, said in (("A", ""), ("B", 'timing () { related_pin : "A"; }\n' * n))
     )
     return library(cell(*bundles))
+
+
+def timing_of_floating_bits(n):
+    """the same of outputs that may float, behind a pin that does"""
+    first = 'pin (Z) { direction : output; function : "E"; three_state : "E"; }\n'
+    bundles = (
+        "bundle (%s) { members (%s); %s}\n" % (name, ", ".join("%s%d" % (name, k) for k in range(n)), said)
+        for name, said in (
+            ("A", "direction : input; "),
+            (
+                "B",
+                'direction : output; function : "A"; three_state : "E"; ' + 'timing () { related_pin : "A"; }\n' * n,
+            ),
+        )
+    )
+    return library(cell(inputs(["E"]), first, *bundles))
 
 
 def statements_of_a_bundle(n):
@@ -562,6 +579,7 @@ TRANSLATED = {
     "timing_of_a_floating_bundle": (timing_of_a_floating_bundle, (100, 200, 400)),
     "timing_of_a_bundle_with_a_pin": (timing_of_a_bundle_with_a_pin, (100, 200, 400)),
     "timing_that_names_a_bundle": (timing_that_names_a_bundle, (100, 200, 400)),
+    "timing_of_floating_bits": (timing_of_floating_bits, (100, 200, 400)),
     "statements_of_a_bundle": (statements_of_a_bundle, (100, 200, 400)),
     "functions_of_a_bundle": (functions_of_a_bundle, (250, 500, 1000)),
     "pins_of_a_bundle": (pins_of_a_bundle, (1000, 2000, 4000)),
@@ -570,8 +588,14 @@ TRANSLATED = {
     "delay_file": (delay_file, (150000, 300000, 600000)),
     "brackets": (brackets, (4000000, 8000000, 16000000)),
     "cut_cell": (cut_cell, (1000000, 2000000, 4000000)),
-    "deep_groups": (deep_groups, (25000, 50000, 100000)),
-    "short_attributes": (short_attributes, (1000000, 2000000, 4000000)),
+    "deep_groups": (deep("a(){"), (25000, 50000, 100000)),
+    "deep_groups_of_two": (deep("a(b){a:1;"), (12500, 25000, 50000)),
+    "short_attributes": (repeated("a:1;"), (1000000, 2000000, 4000000)),
+    "no_values": (repeated("a:;"), (1000000, 2000000, 4000000)),
+    "two_values": (repeated("a:b b;"), (500000, 1000000, 2000000)),
+    "two_arguments": (repeated("a(b,b);"), (500000, 1000000, 2000000)),
+    "groups_of_two": (repeated("a(){a:;a:;}"), (250000, 500000, 1000000)),
+    "groups_of_five": (repeated("a(){" + "a:;" * 5 + "}"), (125000, 250000, 500000)),
     "short_arguments": (short_arguments, (1000000, 2000000, 4000000)),
     "long_timing_type": (long_timing_type, (250000, 500000, 1000000)),
 }

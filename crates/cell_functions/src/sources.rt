@@ -21,7 +21,7 @@ fn insert_all(found: &mut Vec<usize>, numbers: &[usize]) -> Result<(), AllocErro
 }
 
 /// Puts the names of two functions into an ascending list, where both are there.
-#[tactic(auto, using(cell_attributes::proofs::Inserting::insert_append))]
+#[tactic(auto, using(bool_functions::proofs::Trees::insert_all_append))]
 fn insert_both(
     alloc: Global,
     found: &mut Vec<usize>,
@@ -98,7 +98,7 @@ fn source_of(pins: usize, i: usize) -> Source
 }
 
 /// What some names stand for, ascending.
-#[tactic(auto, using(cell_attributes::proofs::Inserting::insert_append))]
+#[tactic(auto, using(bool_functions::proofs::Trees::insert_all_append))]
 fn behind(
     alloc: Global,
     pins: usize,

@@ -1,6 +1,6 @@
 -- Times in picoseconds, rounded up.
 use Rattle.std.proofs.Common.{◌≡◌, ℕ, ◌+◌, ◌*◌, ◌/◌, ◌%◌, ◌^◌, ◌<◌, ◌≤◌, suc, Bool, true, false, Option, Some, None, refl, sym}
-use Rattle.std.proofs.Common.{ap, subst, arith, cond, add-one}
+use Rattle.std.proofs.Common.{ap, subst, ◌∙◌, arith, cond, add-one}
 use Rattle.std.specs.Prelude.{nat_le, ℤ, pos, negsuc, neg_ℤ, nat_abs, ◌*ℤ◌, ◌≤ℤ◌, ◌<ℤ◌, MatchOption, IfSome}
 use Rattle.std.specs.Int.{div_ceil}
 use Rattle.std.proofs.lemmas.Bool.Decides.{nat_tests}
@@ -11,7 +11,7 @@ use Rattle.std.proofs.Math.Nat.{div-add-mod}
 use Rattle.liberty_text.specs.declared.decimal.Fixed.{Fixed}
 use Rattle.liberty_text.specs.declared.time.Unit.{Unit}
 use Rattle.liberty_text.specs.Time.{time_exponent, times_ten, over_ten, IsRoundedUp, IsTooLong, bounded, scaled, rounded_up}
-use Rattle.liberty_text.specs.Time.{picoseconds_of}
+use Rattle.liberty_text.specs.Time.{picoseconds_of, IsWithin}
 
 -- a number of parts is at most the whole
 pub quotient_part : (n p m : ℕ) → m ≤ n / p → m * p ≤ n
@@ -141,3 +141,27 @@ time_says value unit = by_test (rounded_up value.mantissa (time_exponent value u
 
 pub time_answer : (value : Fixed) (unit : Unit) (found : Option ℕ) → found ≡ picoseconds_of value unit → SaysTime value unit found
 time_answer value unit found e = subst (SaysTime value unit) (sym e) (time_says value unit)
+
+-- a product that is not below the number of parts shows that the time is not above
+
+pub parts_fit : (most parts : ℕ) → most ≤ 999999999999999 → parts ≤ 10000 → most * parts < 2 ^ 64
+parts_fit most parts h few =
+    let product : most * parts ≤ 999999999999999 * parts = mul-le-mul_right parts h in
+    omega (arith, product, few)
+
+within_bounded : (most n : ℕ) → n ≤ most → most ≤ 999999999999999 → IsWithin most (bounded n)
+within_bounded most n h small =
+    let test : nat_le n 999999999999999 ≡ true = grind (arith, nat_tests, h, small) in
+    subst (IsWithin most) (sym (ap (λ q. cond q (Some n) None) test)) h
+
+whole_within : (m e : ℤ) (most parts : ℕ) → pos 0 ≤ℤ m → parts ≡ over_ten e → times_ten e ≡ 1
+    → nat_abs m ≤ most * parts → rounded_up m e ≤ most
+whole_within (pos m) e most parts some p t h =
+    let product : m * times_ten e ≡ m = ap (λ k. m * k) t ∙ omega arith in
+    let whole : most * parts ≡ most * over_ten e = ap (λ k. most * k) p in
+    scaled_least m e most (omega (arith, product, whole, h))
+whole_within (negsuc m) e most parts some p t h = omega arith
+
+pub shown_within : (m e : ℤ) (most parts : ℕ) → pos 0 ≤ℤ m → most ≤ 999999999999999 → parts ≡ over_ten e → times_ten e ≡ 1
+    → nat_abs m ≤ most * parts → IsWithin most (bounded (rounded_up m e))
+shown_within m e most parts some small p t h = within_bounded most (rounded_up m e) (whole_within m e most parts some p t h) small

@@ -56,3 +56,8 @@ rounded_up (negsuc m) e = 0
 -- a time in picoseconds, or none above the greatest
 abbrev pub picoseconds_of : Fixed → Unit → Option ℕ
 picoseconds_of value unit = bounded (rounded_up value.mantissa (time_exponent value unit))
+
+-- there is a time, of at most so many picoseconds
+abbrev pub IsWithin : ℕ → Option ℕ → Type 0
+IsWithin most None = ⊥
+IsWithin most (Some time) = time ≤ most

@@ -24,7 +24,7 @@ pub use laws::{one_reading, tokens_cover};
 pub use number::fixed;
 pub use scanner::{Mode, Scanner};
 pub use text::{one_value, plain_value, quotes_read_back, text_value};
-pub use time::{Unit, picoseconds};
+pub use time::{Unit, is_shown_within, picoseconds};
 pub use token::{Scan, Stop, TextFault, Token, TokenKind};
 pub use unread::Unread;
 pub use whole_texts::{scan, scan_kept, tokens};

@@ -1,8 +1,9 @@
 //! Times in whole picoseconds.
 
-ghost use Rattle.std.specs.Prelude.{◌≡◌, ◌^◌, ◌≤◌, ◌<◌, ◌*◌, pos, negsuc, MatchOption, IfSome};
+ghost use Rattle.std.specs.Prelude.{◌≡◌, ◌^◌, ◌≤◌, ◌<◌, ◌*◌, true, pos, negsuc, MatchOption, IfSome};
 ghost use Rattle.std.specs.Int.{div_ceil};
-ghost use Rattle.liberty_text.specs.Time.{IsRoundedUp, IsTooLong, picoseconds_of, unit_exponent, scaled, bounded};
+ghost use Rattle.liberty_text.specs.Time.{IsRoundedUp, IsTooLong, IsWithin, picoseconds_of, unit_exponent, scaled, bounded};
+ghost use Rattle.liberty_text.specs.Time.{times_ten, over_ten, rounded_up};
 
 use crate::decimal::Fixed;
 
@@ -130,6 +131,44 @@ pub fn picoseconds(value: Fixed, unit: Unit) -> Option<u64>
     ensures exact { result ≡ picoseconds_of value unit }
 {
     whole_time(value, unit)
+}
+
+/// How many parts make a picosecond, where a number has one to four places behind one.
+fn parts_of_picosecond(exponent: i16) -> Option<u64>
+    ensures parts { IfSome result (λ parts. (parts ≡ over_ten exponent) × (times_ten exponent ≡ 1)) }
+    ensures few { IfSome result (λ parts. parts ≤ 10000) }
+{
+    match exponent {
+        -1 => Some(10),
+        -2 => Some(100),
+        -3 => Some(1_000),
+        -4 => Some(10_000),
+        _ => None,
+    }
+}
+
+/// Whether one product shows that a number times ten to an exponent, rounded up, is a time that is not above another one.
+#[tactic(auto, using(crate::proofs::Times::shown_within, crate::proofs::Times::parts_fit))]
+fn is_product_within(mantissa: i64, exponent: i16, most: u64) -> bool
+    ensures { result ≡ true → IsWithin most (bounded (rounded_up mantissa exponent)) }
+{
+    let Some(parts) = parts_of_picosecond(exponent) else {
+        return false;
+    };
+    if mantissa < 0 || most > GREATEST {
+        return false;
+    }
+    mantissa.unsigned_abs() <= most * parts
+}
+
+/// Whether one product shows that a time is not above another one, both in picoseconds. Where it does not, the time may still
+/// be one that is not above. Takes no memory.
+#[inline(always)]
+pub fn is_shown_within(value: Fixed, unit: Unit, most: u64) -> bool
+    ensures { result ≡ true → IsWithin most (picoseconds_of value unit) }
+{
+    let exponent = i16::from(value.exponent) + unit_exponent(unit);
+    is_product_within(value.mantissa, exponent, most)
 }
 
 /// `picoseconds`, as it is computed.

@@ -1,7 +1,7 @@
 -- Entries of tables that are digits, a point and digits.
 use Rattle.std.proofs.Common.{◌≡◌, ℕ, ◌+◌, ◌-◌, ◌*◌, ◌<◌, ◌≤◌, ◌++◌, suc, Bool, true, false, List, [], ◌∷◌, Some, length}
 use Rattle.std.proofs.Common.{take, drop, Ok, Err, Option, None, ◌==◌, ◌||◌, subst, refl, sym, ◌∙◌, ap, arith, cond}
-use Rattle.std.specs.Prelude.{◌^◌, ◌&&◌, nat_lt, nat_le, pos, ◌-ℤ◌}
+use Rattle.std.specs.Prelude.{max, ◌^◌, ◌&&◌, nat_lt, nat_le, pos, ◌-ℤ◌}
 use Rattle.std.proofs.lemmas.Bool.{true≢false, and_parts, eqb-true}
 use Rattle.std.proofs.Math.Nat.{pow-suc, pow-le-pow_right}
 use Rattle.std.proofs.lemmas.Bool.Decides.{nat_tests}
@@ -14,6 +14,7 @@ use Rattle.liberty_text.specs.Number.{fixed_found, fixed_of}
 use Rattle.liberty_text.specs.Number as n
 use Rattle.liberty_text.proofs.Spelling.{run_digits, number_complete}
 use Rattle.timing_arcs.specs.declared.tables.Sum.{Sum}
+use Rattle.liberty_text.specs.Time.{IsWithin}
 use Rattle.timing_arcs.specs.Times.{time_as, time_of, time_in}
 use Rattle.timing_arcs.specs.Tables.{is_separator}
 use Rattle.timing_arcs.specs.Sums.{with_time, with_entry}
@@ -186,6 +187,22 @@ joined unit at sum after text size time e within some t a =
     length-take-le (word_length is_separator text) text (omega (arith, e, within)) in
     let has : (length word == 0) ≡ false = ap (λ n. n == 0) long ∙ some in
     a ∙ ap (with_time at sum) t ∙ sym (ap (λ q. cond q sum (with_entry unit at sum word)) has)
+
+pub joined_number : (unit : Option TimeUnit) (at : ℕ) (sum after : Sum) (text : List ℕ) (size : ℕ) (number : Fixed)
+    → size ≡ word_length is_separator text → size ≤ length text → (word_length is_separator text == 0) ≡ false
+    → fixed_of (take (word_length is_separator text) text) ≡ Ok number → after ≡ with_time at sum (time_in unit number)
+    → after ≡ with_word unit at sum (take (word_length is_separator text) text)
+joined_number unit at sum after text size number e within some n a =
+    joined unit at sum after text size (time_in unit number) e within some
+    (time_in_is unit (take (word_length is_separator text) text) number n) a
+
+-- a time that is not above the greatest leaves that as it is
+pub not_above : (at : ℕ) (sum : Sum) (time : Option ℕ) → IsWithin sum.greatest time
+    → record { has_entry = true; greatest = sum.greatest; bad_at = sum.bad_at } ≡ with_time at sum time
+not_above at sum None h = absurd h
+not_above at sum (Some time) h =
+    let same : sum.greatest ≡ max sum.greatest time = omega (arith, h) in
+    ap (λ (g : ℕ). record { has_entry = true; greatest = g; bad_at = sum.bad_at }) same
 
 -- no entry leaves it as it is
 

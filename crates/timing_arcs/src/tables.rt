@@ -1,9 +1,10 @@
 //! The tables of timing groups and the times in them.
-ghost use Rattle.std.specs.Prelude.{◌≡◌, ◌≤◌, length, take};
+ghost use Rattle.std.specs.Prelude.{◌≡◌, ◌≤◌, true, length, take};
 ghost use Rattle.std.specs.Option.{option_copied};
 ghost use Rattle.liberty_groups.specs.declared.tree.Item.{out-Item};
 ghost use Rattle.liberty_groups.specs.Attributes.{groups_named, first_of};
 ghost use Rattle.cell_machine.specs.Delay.{least};
+ghost use Rattle.liberty_text.specs.Time.{IsWithin};
 ghost use Rattle.timing_arcs.specs.Times.{time_of, time_in};
 ghost use Rattle.timing_arcs.specs.Tables.{limit_of, bad_numbers_at, is_separator};
 ghost use Rattle.timing_arcs.specs.Sums.{first_unless, no_sum, with_time, with_text, with_arguments, with_item, with_table};
@@ -49,14 +50,6 @@ pub(crate) fn time(unit: Option<Unit>, text: &[u8]) -> Option<u64>
     }
 }
 
-/// The entry at the front of a text, up to its end or to a separator.
-#[derive(Clone, Copy)]
-struct FrontEntry {
-    /// How many bytes it has.
-    length: usize,
-    time: Option<u64>,
-}
-
 /// The time of a number, in picoseconds: nothing where the unit is unknown or the time is above the greatest.
 fn time_in(unit: Option<Unit>, number: Fixed) -> Option<u64>
     ensures { result ≡ time_in unit number }
@@ -64,23 +57,14 @@ fn time_in(unit: Option<Unit>, number: Fixed) -> Option<u64>
     picoseconds(number, unit?)
 }
 
-/// The entry at the front of a text.
-#[tactic(auto, using(crate::proofs::PlainEntries::time_in_is))]
-fn front_entry(unit: Option<Unit>, text: &[u8]) -> FrontEntry
-    ensures length { result.length ≡ word_length is_separator text.now }
-    ensures within { result.length ≤ length text.now }
-    ensures time { result.time ≡ time_of unit (take (word_length is_separator text.now) text.now) }
+/// Whether one product shows that a number is a time that is not above this one.
+#[inline(always)]
+fn is_shown_within(unit: Option<Unit>, number: Fixed, most: u64) -> bool
+    ensures { result ≡ true → IsWithin most (time_in unit number) }
 {
-    if let Some(entry) = plain_entry(text) {
-        return FrontEntry {
-            length: entry.length,
-            time: time_in(unit, entry.number),
-        };
-    }
-    let (word, _) = text.split_at(entry_length(text));
-    FrontEntry {
-        length: word.len(),
-        time: time(unit, word),
+    match unit {
+        Some(unit) => liberty_text::is_shown_within(number, unit, most),
+        None => false,
     }
 }
 
@@ -107,6 +91,19 @@ impl Sum {
         }
     }
 
+    /// Adds an entry, in the statement at this offset, that is this number. Most entries of a table are below one before them,
+    /// which a product shows sooner than a quotient.
+    #[tactic(auto, using(crate::proofs::PlainEntries::not_above))]
+    fn add_number(&mut self, unit: Option<Unit>, at: usize, number: Fixed)
+        ensures { self.new ≡ with_time at self.old (time_in unit number) }
+    {
+        if is_shown_within(unit, number, self.greatest) {
+            self.has_entry = true;
+        } else {
+            self.add_time(at, time_in(unit, number));
+        }
+    }
+
     /// Adds the entry at the front of a text, in the statement at this offset, if it has a byte, and answers how many it has.
     #[tactic(auto, using(crate::proofs::PlainEntries::joined, crate::proofs::PlainEntries::passed, crate::proofs::PlainEntries::none_there))]
     fn add_front(&mut self, unit: Option<Unit>, at: usize, text: &[u8]) -> usize
@@ -117,9 +114,13 @@ impl Sum {
         if is_end(text) {
             return 0;
         }
-        let front = front_entry(unit, text);
-        self.add_time(at, front.time);
-        front.length
+        if let Some(entry) = plain_entry(text) {
+            self.add_number(unit, at, entry.number);
+            return entry.length;
+        }
+        let (word, _) = text.split_at(entry_length(text));
+        self.add_time(at, time(unit, word));
+        word.len()
     }
 
     /// Adds the entries of a text, in the statement at this offset.

@@ -6,9 +6,8 @@ ghost use Rattle.cell_machine.specs.CellRules.{is_name as is_name_of};
 ghost use Rattle.cell_attributes.specs.Declarations.{Declared as DeclaredName, bears as bears_of, declared_pin, declared_state};
 ghost use Rattle.cell_attributes.specs.Declarations.{declared_in as declared_in_of, may_share as may_share_of};
 ghost use Rattle.cell_attributes.specs.Declarations.{clashes as clashes_of, clashes_after, bad_name_in as bad_name_in_of};
-ghost use Rattle.cell_attributes.specs.KnownNames.{clash_in, IsAgainst, IsKnown};
-ghost use Rattle.cell_attributes.specs.States.{states_in as states_in_of};
 ghost use Rattle.cell_attributes.specs.Shown.{shown_name, shown_state};
+ghost use Rattle.cell_attributes.specs.KnownNames.{clash_in, IsAgainst, IsKnown};
 
 use crate::groups::{is_pin, is_state};
 use crate::limits::MOST_NAME_BYTES;
@@ -102,18 +101,17 @@ fn declare_state<'a>(
     Ok(())
 }
 
-/// Adds the names of the states of a group.
+/// Adds the names of states, whose group has this offset.
 fn declare_states<'a>(
-    alloc: Global,
     declared: &mut Vec<Declared<'a>>,
-    group: &'a Group,
+    states: &[StateName<'a>],
+    at: usize,
 ) -> Result<(), AllocError>
     ensures { OnOk result (map shown_name declared.new.items ≡ map shown_name declared.old.items
-        ++ flat_map (declared_state group.now.at) (states_in_of group.now)) }
+        ++ flat_map (declared_state at) (map shown_state states.now)) }
 {
-    let states = states_in(alloc, group)?;
-    for state in &states {
-        declare_state(declared, *state, group.at)?;
+    for state in states {
+        declare_state(declared, *state, at)?;
     }
     Ok(())
 }
@@ -129,7 +127,8 @@ fn declare_group<'a>(
     if is_pin(group) {
         declare_pins(declared, group)
     } else if is_state(group) {
-        declare_states(alloc, declared, group)
+        let states = states_in(alloc, group)?;
+        declare_states(declared, &states, group.at)
     } else {
         Ok(())
     }

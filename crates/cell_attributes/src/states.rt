@@ -42,16 +42,12 @@ pub fn arguments_of(group: &Group) -> Option<Arguments<'_>>
 pub fn both_named(text: &[u8]) -> Option<Both>
     ensures { result ≡ both_named_of text.now }
 {
-    if text == b"L".as_slice() {
-        Some(Both::Low)
-    } else if text == b"H".as_slice() {
-        Some(Both::High)
-    } else if text == b"N".as_slice() {
-        Some(Both::Keep)
-    } else if text == b"X".as_slice() {
-        Some(Both::Unknown)
-    } else {
-        None
+    match text {
+        b"L" => Some(Both::Low),
+        b"H" => Some(Both::High),
+        b"N" => Some(Both::Keep),
+        b"X" => Some(Both::Unknown),
+        _ => None,
     }
 }
 
@@ -104,25 +100,14 @@ pub fn states_in(alloc: Global, group: &Group) -> Result<Vec<StateName<'_>>, All
     nodes_in(alloc, second.bytes.as_slice())
 }
 
-/// Adds the states of a group.
-fn add_states<'a>(
-    alloc: Global,
-    states: &mut Vec<StateName<'a>>,
-    group: &'a Group,
-) -> Result<(), AllocError>
-    ensures { OnOk result (map shown_state states.new.items ≡ map shown_state states.old.items ++ states_in_of group.now) }
-{
-    let mut more = states_in(alloc, group)?;
-    states.append(&mut more)
-}
-
 /// The states of some groups, in order.
 pub fn states_of<'a>(alloc: Global, groups: &[&'a Group]) -> Result<Vec<StateName<'a>>, AllocError>
     ensures { IfOk result (λ states. map shown_state states.items ≡ flat_map states_in_of (map (λ group. group.now) groups.now)) }
 {
     let mut states = Vec::new(alloc);
     for group in groups {
-        add_states(alloc, &mut states, group)?;
+        let mut more = states_in(alloc, group)?;
+        states.append(&mut more)?;
     }
     Ok(states)
 }

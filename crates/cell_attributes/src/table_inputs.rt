@@ -11,6 +11,17 @@ use crate::texts::{Use, class_at, control_use};
 use crate::vocabulary::Vocabulary;
 use std::alloc::{AllocError, Global};
 
+/// What the names of the inputs of a table are.
+#[derive(Drop)]
+pub(crate) struct TableInputs {
+    /// Their numbers.
+    pub(crate) numbers: Vec<usize>,
+    /// Whether one names nothing.
+    pub(crate) unknown: bool,
+    /// Whether one is a variable or node.
+    pub(crate) coupled: bool,
+}
+
 /// The names of the inputs of a table.
 fn input_words(alloc: Global, arguments: Option<Arguments<'_>>) -> Result<Vec<&[u8]>, AllocError>
     ensures { IfOk result (λ words. map (λ word. word.now) words.items ≡ input_words_of
@@ -83,17 +94,6 @@ fn numbers_of(
         }
     }
     Ok(numbers)
-}
-
-/// What the names of the inputs of a table are.
-#[derive(Drop)]
-pub(crate) struct TableInputs {
-    /// Their numbers.
-    pub(crate) numbers: Vec<usize>,
-    /// Whether one names nothing.
-    pub(crate) unknown: bool,
-    /// Whether one is a variable or node.
-    pub(crate) coupled: bool,
 }
 
 /// What the names of the inputs of a table are.

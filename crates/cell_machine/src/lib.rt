@@ -58,7 +58,7 @@ pub use laws::{
     report_is_whole_list, same_value_changes_nothing, times_decide_reports,
 };
 pub use liberty_sim::LibertySim;
-pub use output_tables::point_value;
+pub use output_tables::{output_values, point_value};
 pub use outputs::{OutputPin, Source};
 pub use pin_values::numbered_value;
 pub use pins::{Direction, Pin};

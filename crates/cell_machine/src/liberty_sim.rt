@@ -4,10 +4,6 @@ ghost use Rattle.cell_machine.specs.Report.{any_true};
 ghost use Rattle.cell_machine.specs.CellData.{data_of};
 ghost use Rattle.cell_machine.specs.CellTrace.{inputs_of, cell_machine_of};
 ghost use Rattle.cell_machine.specs.CellStarts.{IsCellStart};
-ghost use Rattle.cell_machine.specs.CheckInputs.{check_inputs};
-ghost use Rattle.cell_machine.specs.ArcPlaces.{AreArcPlaces};
-ghost use Rattle.cell_machine.specs.OutputTables.{AreOutputTables};
-ghost use Rattle.cell_machine.specs.StepTables.{AreStepTables};
 ghost use Rattle.cell_machine.specs.LibertyStands.{Stands, cell_machine_sized};
 
 use crate::cell_start::{CellStart, StartValues};
@@ -38,10 +34,7 @@ pub struct LibertySim<'a> {
     reports: Items<bool>,
     shown: Items<Shown>,
     kept: KeptArcs,
-    ghost numbered_checks: { known.check_inputs ≡ check_inputs (data_of cell.now) },
-    ghost tabled_outputs: { AreOutputTables (data_of cell.now) known.outputs },
-    ghost placed_arcs: { AreArcPlaces (data_of cell.now) known.places },
-    ghost tabled_steps: { AreStepTables (data_of cell.now) known.steps },
+    ghost is_start: { IsCellStart (data_of cell.now) known },
     ghost each_input: { length inputs ≡ inputs_of (data_of cell.now) },
     ghost each_time: { length times ≡ inputs_of (data_of cell.now) },
     ghost each_state: { length states ≡ length cell.now.groups },

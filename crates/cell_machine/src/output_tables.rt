@@ -32,7 +32,7 @@ pub fn point_value(cell: &Cell, output: usize, point: &[bool]) -> Trit
 }
 
 /// The values of an output at all points of its support, each at the number of its point.
-fn output_values(alloc: Global, cell: &Cell, output: usize) -> Result<Vec<Trit>, AllocError>
+pub fn output_values(alloc: Global, cell: &Cell, output: usize) -> Result<Vec<Trit>, AllocError>
     requires { output < length cell.now.outputs }
     ensures { IfOk result (λ values. AreValuesOf (length (sources_at (data_of cell.now) output))
         (output_value_at (data_of cell.now) output) values.items) }

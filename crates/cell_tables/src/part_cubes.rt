@@ -1,6 +1,5 @@
 //! The cubes of a cell's conditions and outputs.
 ghost use Rattle.std.specs.Prelude.{◌≡◌, ◌<◌, length, IfOk};
-ghost use Rattle.trit_cubes.specs.Sets.{AreValuesOf};
 ghost use Rattle.cell_machine.specs.CellData.{data_of};
 ghost use Rattle.cell_machine.specs.CellTrace.{sources_at, output_value_at};
 ghost use Rattle.udp_tables.specs.Conditions.{IsSmall, support_of, condition_at};
@@ -9,9 +8,8 @@ ghost use Rattle.cell_tables.specs.Cubes.{function_cubes};
 use crate::cubes::FunctionCubes;
 use crate::function_cubes::{function_cubes, table_cubes};
 use bool_functions::Function;
-use cell_machine::{Cell, point_value};
+use cell_machine::{Cell, output_values};
 use std::alloc::{AllocError, Global};
-use trit_cubes::{Trit, values_of};
 
 /// The cubes of a condition over the pins that it names.
 pub(crate) fn condition_cubes(
@@ -43,19 +41,4 @@ pub(crate) fn output_cubes(
     let values = output_values(alloc, cell, output)?;
     let cubes = function_cubes(alloc, places, &values)?;
     Ok(cubes)
-}
-
-/// The values of an output at all points of its support.
-fn output_values(alloc: Global, cell: &Cell, output: usize) -> Result<Vec<Trit>, AllocError>
-    requires { output < length cell.now.outputs }
-    ensures { IfOk result (λ values. AreValuesOf (length (sources_at (data_of cell.now) output))
-        (output_value_at (data_of cell.now) output) values.items) }
-{
-    let places = cell.output_pin(output).support.len();
-    let values = values_of(
-        alloc,
-        places,
-        &|point: &[bool]| { point_value(cell, output, point) },
-    )?;
-    Ok(values)
 }

@@ -19,7 +19,7 @@ use Rattle.cell_timings.specs.declared.timings.CellTiming.{CellTiming}
 use Rattle.cell_timings.specs.declared.answers.TimingSoFar.{TimingSoFar}
 use Rattle.cell_timings.specs.PinTimings.{Answer, malformed_timing, unknown_timing, own_timing, number_timing, wide_in}
 use Rattle.cell_timings.specs.Held.{next_answer, held_from, AreSharedTexts}
-use Rattle.cell_timings.specs.CellTimings.{timing_told, HasAnswer, timing_and, pin_told, with_pin}
+use Rattle.cell_timings.specs.CellTimings.{timing_told, timing_and, pin_told, with_pin}
 
 texts_there : (a b : Subject) (texts : TimingTexts) → cell_of a ≡ cell_of b → AreTexts a texts → AreTexts b texts
 texts_there a b texts e h = record {
@@ -36,23 +36,6 @@ shared_there a b owner (Some texts) e h = (texts_there a b texts e h.0, h.1)
 pub least_told : (o : Option ℕ) → least (option_map_or (λ at. at ∷ []) o []) ≡ o
 least_told None = refl
 least_told (Some at) = refl
-
-pub has_answer : (old new : CellTiming) (pin : ℕ) (owner : Group) (answer : Answer)
-    → HasAnswer old new pin owner answer → new ≡ timing_and old (pin_told pin owner answer)
-has_answer old new pin owner answer h = λ i. record {
-  checks = h.checks i;
-  arcs = h.arcs i;
-  check_at = h.check_at i;
-  arc_at = h.arc_at i;
-  left_out = h.left_out i;
-  least = record {
-    malformed = h.malformed i;
-    unknown_name = h.unknown_name i;
-    own_condition = h.own_condition i;
-    number = h.number i;
-    wide = h.wide i;
-  };
-}
 
 and_nothing : (timing : CellTiming) (pin : ℕ) → timing_and timing (timing_told pin [] []) ≡ timing
 and_nothing timing pin = λ i. record {

@@ -5,6 +5,7 @@ use Rattle.cell_machine.specs.Delay.{lesser, least}
 use Rattle.timing_arcs.specs.declared.subject.Subject.{Subject}
 use Rattle.timing_arcs.specs.declared.subject.Room.{Room}
 use Rattle.cell_attributes.specs.Limits.{first_past}
+use Rattle.cell_timings.specs.declared.offsets.LeastOffsets.{LeastOffsets}
 use Rattle.cell_timings.specs.declared.timings.CellTiming.{CellTiming}
 use Rattle.cell_timings.specs.declared.answers.TimingSoFar.{TimingSoFar}
 use Rattle.cell_timings.specs.PinTimings.{Answer, answers_from, malformed_timing, unknown_timing, own_timing, number_timing}
@@ -28,18 +29,25 @@ timing_told pin owners answers = record {
   };
 }
 
--- The timing of pins, and then that of one more, whose number, group and answer these are.
-pub record HasAnswer (old new : CellTiming) (pin : ℕ) (owner : Group) (answer : Answer) : Type 0 where
-  pub checks : new.checks ≡ old.checks ++ checks_in answer
-  pub arcs : new.arcs ≡ old.arcs ++ arcs_in answer
-  pub check_at : new.check_at ≡ old.check_at ++ check_at_in answer
-  pub arc_at : new.arc_at ≡ old.arc_at ++ arc_at_in answer
-  pub left_out : new.left_out ≡ old.left_out ++ left_out_in pin owner answer
-  pub malformed : new.least.malformed ≡ lesser old.least.malformed (least (malformed_timing answer))
-  pub unknown_name : new.least.unknown_name ≡ lesser old.least.unknown_name (least (unknown_timing answer))
-  pub own_condition : new.least.own_condition ≡ lesser old.least.own_condition (least (own_timing answer))
-  pub number : new.least.number ≡ lesser old.least.number (least (number_timing answer))
-  pub wide : new.least.wide ≡ lesser old.least.wide (least (wide_in answer))
+-- Where the timing of one pin is wrong, by its answer.
+abbrev pub offsets_in : Answer → LeastOffsets
+offsets_in answer = record {
+  malformed = least (malformed_timing answer);
+  unknown_name = least (unknown_timing answer);
+  own_condition = least (own_timing answer);
+  number = least (number_timing answer);
+  wide = least (wide_in answer);
+}
+
+-- of two offsets in each way in which timing may be wrong the lesser
+abbrev pub lesser_offsets : LeastOffsets → LeastOffsets → LeastOffsets
+lesser_offsets first rest = record {
+  malformed = lesser first.malformed rest.malformed;
+  unknown_name = lesser first.unknown_name rest.unknown_name;
+  own_condition = lesser first.own_condition rest.own_condition;
+  number = lesser first.number rest.number;
+  wide = lesser first.wide rest.wide;
+}
 
 -- the timing of pins and of those behind them
 abbrev pub timing_and : CellTiming → CellTiming → CellTiming
@@ -49,13 +57,7 @@ timing_and first rest = record {
   check_at = first.check_at ++ rest.check_at;
   arc_at = first.arc_at ++ rest.arc_at;
   left_out = first.left_out ++ rest.left_out;
-  least = record {
-    malformed = lesser first.least.malformed rest.least.malformed;
-    unknown_name = lesser first.least.unknown_name rest.least.unknown_name;
-    own_condition = lesser first.least.own_condition rest.least.own_condition;
-    number = lesser first.least.number rest.least.number;
-    wide = lesser first.least.wide rest.least.wide;
-  };
+  least = lesser_offsets first.least rest.least;
 }
 
 -- the timing of one pin
@@ -66,13 +68,7 @@ pin_told pin owner answer = record {
   check_at = check_at_in answer;
   arc_at = arc_at_in answer;
   left_out = left_out_in pin owner answer;
-  least = record {
-    malformed = least (malformed_timing answer);
-    unknown_name = least (unknown_timing answer);
-    own_condition = least (own_timing answer);
-    number = least (number_timing answer);
-    wide = least (wide_in answer);
-  };
+  least = offsets_in answer;
 }
 
 -- the timing so far, and that of the next pin of the cell, whose group this is, as far as there is room

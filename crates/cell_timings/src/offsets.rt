@@ -1,7 +1,6 @@
 //! Where the timing of the pins of a cell is wrong.
 ghost use Rattle.std.specs.Prelude.{◌≡◌};
-ghost use Rattle.cell_machine.specs.Delay.{lesser as lesser_of, least};
-ghost use Rattle.cell_timings.specs.PinTimings.{malformed_timing, unknown_timing, own_timing, number_timing, wide_in};
+ghost use Rattle.cell_timings.specs.CellTimings.{lesser_offsets, offsets_in};
 
 use cell_machine::least::lesser;
 use timing_arcs::{PinTiming, TimingFault};
@@ -25,11 +24,7 @@ impl LeastOffsets {
     /// Takes in what reading the timing of a pin answers.
     #[tactic(auto, using(cell_machine::proofs::LeastLemmas::lesser_none, crate::proofs::Told::least_told))]
     pub(crate) fn add(&mut self, answer: &Result<PinTiming, TimingFault>)
-        ensures malformed { self.new.malformed ≡ lesser_of self.old.malformed (least (malformed_timing answer.now)) }
-        ensures unknown_name { self.new.unknown_name ≡ lesser_of self.old.unknown_name (least (unknown_timing answer.now)) }
-        ensures own_condition { self.new.own_condition ≡ lesser_of self.old.own_condition (least (own_timing answer.now)) }
-        ensures number { self.new.number ≡ lesser_of self.old.number (least (number_timing answer.now)) }
-        ensures wide { self.new.wide ≡ lesser_of self.old.wide (least (wide_in answer.now)) }
+        ensures { self.new ≡ lesser_offsets self.old (offsets_in answer.now) }
     {
         match answer {
             Ok(timing) => self.wide = lesser(self.wide, timing.wide),

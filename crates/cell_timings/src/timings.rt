@@ -1,6 +1,6 @@
 //! The checks and the delay arcs of a cell, what it leaves out, and where its timing is wrong.
 ghost use Rattle.std.specs.Prelude.{◌≡◌, [], OnOk};
-ghost use Rattle.cell_timings.specs.CellTimings.{timing_told, HasAnswer};
+ghost use Rattle.cell_timings.specs.CellTimings.{timing_told, timing_and, pin_told};
 
 use crate::left_out::{LeftOut, add_left_out};
 use crate::offsets::LeastOffsets;
@@ -54,7 +54,7 @@ impl CellTiming {
         owner: &Group,
         answer: Result<PinTiming, TimingFault>,
     ) -> Result<(), AllocError>
-        ensures { OnOk result (HasAnswer self.old self.new pin owner.now answer) }
+        ensures { OnOk result (self.new ≡ timing_and self.old (pin_told pin owner.now answer)) }
     {
         self.least.add(&answer);
         let Ok(timing) = answer else {

@@ -6,7 +6,7 @@ use Rattle.text_io.specs.declared.file_commands.FileCommand.TheVariants.{Transla
 use Rattle.text_io.specs.declared.outside.Failed.{Failed}
 use Rattle.text_io.specs.declared.slots.InSlot.{InSlot}
 use Rattle.text_io.specs.declared.slots.InSlot.TheVariants.{Library}
-use Rattle.text_io.specs.declared.slots.OutSlot.TheVariants.{VerilogText, VitalText, Faults}
+use Rattle.text_io.specs.declared.slots.OutSlot.TheVariants.{VerilogText, Faults}
 use Rattle.text_io.specs.declared.slots.Slot.TheVariants.{Input, Output}
 use Rattle.text_io.specs.Desk.{DeskState, Folder, is_bound, opened, created, took, wrote, IsFileAt, WritesText}
 use Rattle.text_io.specs.Plan.{plan, asked_files, planned_files}
@@ -19,8 +19,8 @@ use Rattle.run_outcome.specs.Binding.{bound_state, AreNamed, Binds, bytes_at}
 use Rattle.run_outcome.specs.Runs.{RunsAs}
 use Rattle.run_outcome.proofs.RunsLaws.{faults_runs}
 use Rattle.run_outcome.proofs.LibraryRunLaws.{ReadsLibrary, library_runs}
-use Rattle.wave_reports.specs.Outcome.{report_limit, outcome_where, wave_files, report_outcome, names_both, files_where}
-use Rattle.wave_reports.specs.Outcome.{run_where, files_of, run_of, usage_line}
+use Rattle.wave_reports.specs.Outcome.{report_limit, outcome_where, wave_files, translation_files, report_outcome, names_both}
+use Rattle.wave_reports.specs.Outcome.{files_where, run_where, files_of, run_of, usage_line}
 
 -- Binding.
 
@@ -62,15 +62,11 @@ bound_last old now new bytes (Err y) h f ok err = record {
   whole = tt;
 }
 
-pub report_bound : (old now : DeskState) (bytes : InSlot → List ℕ) → now ≡ bound_state old wave_files bytes
-    → IsTrue (is_bound now (Input Library))
+-- the report is bound then, and the dump
+pub both_bound : (old now : DeskState) (bytes : InSlot → List ℕ) → now ≡ bound_state old wave_files bytes
+    → IsTrue (is_bound now (Input Library)) × IsTrue (is_bound now (Output VerilogText))
 unfolding opened created
-report_bound old now bytes e = rw e refl
-
-pub dump_bound : (old now : DeskState) (bytes : InSlot → List ℕ) → now ≡ bound_state old wave_files bytes
-    → IsTrue (is_bound now (Output VerilogText))
-unfolding opened created
-dump_bound old now bytes e = rw e refl
+both_bound old now bytes e = rw e (refl, refl)
 
 -- the report is the file that is read
 reads_report : ReadsLibrary wave_files ((Output VerilogText, 2) ∷ [])
@@ -104,7 +100,7 @@ drawn_runs old now new bytes result taken text faults h f state part whole =
 -- The words.
 
 planned : (asked : Option FileCommand) → names_both asked ≡ true
-    → planned_files asked ≡ (Input Library, 1) ∷ (Output VerilogText, 2) ∷ (Output VitalText, 3) ∷ []
+    → planned_files asked ≡ translation_files
 planned (Some Translate) e = refl
 planned (Some Simulate) e = absurd cc
 planned (Some ReplayVerilog) e = absurd cc
@@ -114,7 +110,7 @@ planned None e = absurd cc
 
 -- the plan of words that name the two
 pub both_planned : (words : List (List ℕ)) → names_both (asked_files words) ≡ true
-    → plan words ≡ (Input Library, 1) ∷ (Output VerilogText, 2) ∷ (Output VitalText, 3) ∷ []
+    → plan words ≡ translation_files
 both_planned words e = planned (asked_files words) e
 
 -- a run of such words

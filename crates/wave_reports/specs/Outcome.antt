@@ -3,7 +3,7 @@ use Rattle.std.specs.Prelude.{ℕ, Bool, true, false, List, [], ◌∷◌, lengt
 use Rattle.text_io.specs.declared.file_commands.FileCommand.{FileCommand}
 use Rattle.text_io.specs.declared.file_commands.FileCommand.TheVariants.{Translate}
 use Rattle.text_io.specs.declared.slots.InSlot.TheVariants.{Library}
-use Rattle.text_io.specs.declared.slots.OutSlot.TheVariants.{VerilogText}
+use Rattle.text_io.specs.declared.slots.OutSlot.TheVariants.{VerilogText, VitalText}
 use Rattle.text_io.specs.declared.slots.Slot.TheVariants.{Input, Output}
 use Rattle.text_io.specs.Desk.{Folder}
 use Rattle.text_io.specs.Plan.{asked_files}
@@ -18,6 +18,10 @@ use Rattle.wave_reports.specs.Dump.{dump_text}
 -- the most bytes that a report may have
 abbrev pub report_limit : ℕ
 report_limit = 67108864
+
+-- the files of a translation, by the places of their words
+abbrev pub translation_files : Files
+translation_files = (Input Library, 1) ∷ (Output VerilogText, 2) ∷ (Output VitalText, 3) ∷ []
 
 -- the report stands where a translation has its library, and the dump where it has its Verilog text
 abbrev pub wave_files : Files

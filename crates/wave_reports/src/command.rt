@@ -1,21 +1,19 @@
 //! A run that draws the waves of a report.
-ghost use Rattle.std.specs.Prelude.{◌≡◌, ◌≤◌, [], ◌∷◌, IsTrue};
-ghost use Rattle.text_io.specs.declared.slots.InSlot.TheVariants.{Library};
-ghost use Rattle.text_io.specs.declared.slots.OutSlot.TheVariants.{VerilogText, VitalText, Faults};
-ghost use Rattle.text_io.specs.declared.slots.Slot.TheVariants.{Input, Output};
+ghost use Rattle.std.specs.Prelude.{◌≡◌, ◌≤◌, IsTrue};
+ghost use Rattle.text_io.specs.declared.slots.OutSlot.TheVariants.{Faults};
 ghost use Rattle.text_io.specs.Desk.{HasCause, Rose, WritesText};
 ghost use Rattle.text_io.specs.Plan.{plan};
 ghost use Rattle.run_outcome.specs.Status.{is_unfailed};
 ghost use Rattle.run_outcome.specs.Binding.{Binds};
 ghost use Rattle.run_outcome.specs.Runs.{RunsAs, StopsWithStatus};
-ghost use Rattle.wave_reports.specs.Outcome.{wave_files, files_of, run_of, report_outcome, names_both as names_both_of};
-ghost use Rattle.wave_reports.specs.Outcome.{usage_line};
+ghost use Rattle.wave_reports.specs.Outcome.{wave_files, translation_files, files_of, run_of, report_outcome, usage_line};
+ghost use Rattle.wave_reports.specs.Outcome.{names_both as names_both_of};
 ghost use Rattle.run_outcome.specs.Binding.{bytes_at};
 
 use crate::draw::draw_bound;
 use run_outcome::{Status, ended};
 use std::alloc::Global;
-use text_io::{Desk, Failed, FileCommand, InSlot, OutSlot, Stop, asked_files, write_whole};
+use text_io::{Desk, Failed, FileCommand, InSlot, OutSlot, asked_files, write_whole};
 
 /// The line that tells of words without a reading.
 const USAGE: &[u8] = b"usage: report_waves REPORT VCD\n";
@@ -66,7 +64,7 @@ fn names_both(asked: Option<FileCommand>) -> bool
 
 /// Draws the waves of the report that the words name.
 fn draw_report<D: Desk>(alloc: Global, desk: &mut D) -> Status
-    requires { plan (D.state desk.old).words ≡ (Input Library, 1) ∷ (Output VerilogText, 2) ∷ (Output VitalText, 3) ∷ [] }
+    requires { plan (D.state desk.old).words ≡ translation_files }
     ensures writes { RunsAs wave_files (λ folder. report_outcome (bytes_at (D.state desk.old).words folder 1)) (D.state desk.old)
         (D.state desk.new) result }
     ensures cause { StopsWithStatus (D.faults desk.old) (D.faults desk.new) result }
@@ -74,8 +72,7 @@ fn draw_report<D: Desk>(alloc: Global, desk: &mut D) -> Status
     match bind_files(desk) {
         Ok(()) => match draw_bound(alloc, desk) {
             Ok(status) => status,
-            Err(Stop::Failed) => Status::Outside,
-            Err(Stop::Memory) => Status::Memory,
+            Err(stop) => Status::from(stop),
         },
         Err(Failed) => Status::Outside,
     }
@@ -84,7 +81,7 @@ fn draw_report<D: Desk>(alloc: Global, desk: &mut D) -> Status
 /// Binds the report and the dump, in this order.
 #[tactic(auto, unfolding(text_io::specs::Desk::opened, text_io::specs::Desk::created))]
 fn bind_files<D: Desk>(desk: &mut D) -> Result<(), Failed>
-    requires { plan (D.state desk.old).words ≡ (Input Library, 1) ∷ (Output VerilogText, 2) ∷ (Output VitalText, 3) ∷ [] }
+    requires { plan (D.state desk.old).words ≡ translation_files }
     ensures binds { Binds wave_files (D.state desk.old) (D.state desk.new) result }
     ensures cause { HasCause (D.faults desk.old) (D.faults desk.new) result }
 {

@@ -10,8 +10,7 @@ pub loop-i-preserved : goal.loop-i-preserved
 loop-i-preserved c =
     let cell = c.args.cell.now in
     let many : c.loop-i.i < length c.loop-i.shown = omega arith in
-    let inside : c.loop-i.i < length cell.outputs = omega (arith, c.loop-i.invariant.len, c.requires.one_each) in
-    let here = some_at cell.outputs c.loop-i.i inside in
+    let here = some_at cell.outputs c.loop-i.i (omega (arith, many, c.loop-i.invariant.len, c.requires.one_each)) in
     record {
       whole =
           each-kept (λ o s. shown_step cell.pins cell.groups cell.arcs c.args.seen.now.inputs.now c.args.seen.now.states.now c.args.seen.now.change o s.value) cell.outputs c.loop-i.shown

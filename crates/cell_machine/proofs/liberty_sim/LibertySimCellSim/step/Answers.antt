@@ -40,28 +40,28 @@ returns-clause-stands c = λ h st.
 pub entry-requires : goal.entry-requires
 entry-requires c =
     let sim = c.args.self.now in
-    (entries-there (data_of sim.cell.now) c.get-3.result.now sim.known c.args.pin c.get-3.ensures sim.placed_arcs c.requires.pin).between
+    (entries-there (data_of sim.cell.now) c.get-3.result.now sim.known c.args.pin c.get-3.ensures sim.is_start.places_are c.requires.pin).between
 
 pub forget-requires-clause-naming : goal.forget-requires-clause-naming
 forget-requires-clause-naming c =
     let sim = c.args.self.now in
-    (entries-there (data_of sim.cell.now) c.get-3.result.now sim.known c.args.pin c.get-3.ensures sim.placed_arcs c.requires.pin).naming
+    (entries-there (data_of sim.cell.now) c.get-3.result.now sim.known c.args.pin c.get-3.ensures sim.is_start.places_are c.requires.pin).naming
 
 pub forget-requires-clause-firsts : goal.forget-requires-clause-firsts
 forget-requires-clause-firsts c =
     let sim = c.args.self.now in
-    (entries-there (data_of sim.cell.now) c.get-3.result.now sim.known c.args.pin c.get-3.ensures sim.placed_arcs c.requires.pin).firsts
+    (entries-there (data_of sim.cell.now) c.get-3.result.now sim.known c.args.pin c.get-3.ensures sim.is_start.places_are c.requires.pin).firsts
 
 pub forget-requires-clause-conditions : goal.forget-requires-clause-conditions
 forget-requires-clause-conditions c =
     let sim = c.args.self.now in
-    (forgotten-below (data_of sim.cell.now) c.get-3.result.now sim.known sim.kept c.args.pin c.get-3.ensures sim.placed_arcs
+    (forgotten-below (data_of sim.cell.now) c.get-3.result.now sim.known sim.kept c.args.pin c.get-3.ensures sim.is_start.places_are
     c.requires.time.1.0.kept_are c.requires.pin).0
 
 pub forget-requires-clause-delays : goal.forget-requires-clause-delays
 forget-requires-clause-delays c =
     let sim = c.args.self.now in
-    (forgotten-below (data_of sim.cell.now) c.get-3.result.now sim.known sim.kept c.args.pin c.get-3.ensures sim.placed_arcs
+    (forgotten-below (data_of sim.cell.now) c.get-3.result.now sim.known sim.kept c.args.pin c.get-3.ensures sim.is_start.places_are
     c.requires.time.1.0.kept_are c.requires.pin).1
 
 pub show_all-requires-clause-places : goal.show_all-requires-clause-places
@@ -69,7 +69,7 @@ show_all-requires-clause-places c =
     let sim = c.args.self.now in
     let cell = data_of sim.cell.now in
     let entry = subst (λ (k : CellStart). slice_get k.places.between c.args.pin ≡ Some c.entry.result.now) c.get-3.ensures c.entry.ensures.is in
-    range-at (arcs_from cell) (inputs_of cell) c.args.pin sim.known.places.between _ sim.placed_arcs.between_are entry
+    range-at (arcs_from cell) (inputs_of cell) c.args.pin sim.known.places.between _ sim.is_start.places_are.between_are entry
 
 pub show_all-requires-clause-kept : goal.show_all-requires-clause-kept
 show_all-requires-clause-kept c =
@@ -84,17 +84,14 @@ show_all-requires-clause-kept c =
     subst (λ (k : CellStart). AreForgotten (get_or k.places.firsts c.args.pin []) sim.kept.delays left.delays) c.get-3.ensures
     c.forget.ensures.delays in
     subst (λ v. AreKeptArcs cell v left) (sym inputs)
-    (left-is-kept cell sim.inputs sim.known.places sim.kept left c.args.pin c.args.to sim.placed_arcs c.requires.time.1.0.kept_are c.requires.pin
+    (left-is-kept cell sim.inputs sim.known.places sim.kept left c.args.pin c.args.to sim.is_start.places_are c.requires.time.1.0.kept_are c.requires.pin
     conditions delays)
 
 pub invariant_of-self : goal.invariant_of-self
 invariant_of-self c =
     let sim = c.args.self.now in
     record {
-      numbered_checks = sim.numbered_checks;
-      tabled_outputs = sim.tabled_outputs;
-      placed_arcs = sim.placed_arcs;
-      tabled_steps = sim.tabled_steps;
+      is_start = sim.is_start;
       each_input = ap length c.set.ensures ∙ length-set sim.inputs c.args.pin c.args.to ∙ sim.each_input;
       each_time = ap length c.set-2.ensures ∙ length-set sim.times c.args.pin c.stamped-times.result ∙ sim.each_time;
       each_state = c.change_states.ensures.len ∙ sim.each_state;

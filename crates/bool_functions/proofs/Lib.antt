@@ -1,4 +1,5 @@
 pub mod NameLists
+pub mod FoldedNames
 pub mod Elements
 pub mod Supports
 pub mod Trees

@@ -1,7 +1,8 @@
 -- Items by their places.
-use Rattle.std.proofs.Common.{◌≡◌, ℕ, zero, suc, ◌+◌, Bool, true, false, ◌||◌, cond, List, [], ◌∷◌, ◌++◌, length, Option, Some}
+use Rattle.std.proofs.Common.{◌≡◌, ℕ, zero, suc, ◌+◌, ◌<◌, Bool, true, false, ◌||◌, cond, List, [], ◌∷◌, ◌++◌, length, Option, Some}
 use Rattle.std.proofs.Common.{None, is_some, slice_get, refl, sym, ap, ◌∙◌, arith, subst, length-append}
 use Rattle.std.specs.List.{AllByRecursion, list_any, position_from}
+use Rattle.std.specs.Option.{option_map_or}
 use Rattle.std.specs.Str.{bytes_eq}
 use Rattle.std.proofs.lemmas.Cmp.{nat_list_eq_equiv}
 
@@ -24,6 +25,17 @@ one_longer before x = sym (length-append before (x ∷ []))
 pub none_if : (o : Option ℕ) → is_some o ≡ false → o ≡ None
 none_if None h = refl
 none_if (Some at) h = absurd cc
+
+-- what passes a test is there
+pub passing : {A : Type 0} (test : A → Bool) (o : Option A) → option_map_or test o false ≡ true → (x : A) × (o ≡ Some x)
+passing test None h = absurd cc
+passing test (Some x) h = (x, refl)
+
+-- there is an item at each place of a list
+pub known_item : {A : Type 0} (xs : List A) (i : ℕ) → i < length xs → (x : A) × (slice_get xs i ≡ Some x)
+known_item [] i h = absurd (omega (arith, h))
+known_item (x ∷ xs) zero h = (x, refl)
+known_item (x ∷ xs) (suc i) h = known_item xs i (omega (arith, h))
 
 -- the item with a number, between others
 pub record IsAt {A : Type 0} (xs : List A) (i : ℕ) (x : A) : Type 0 where

@@ -49,25 +49,8 @@ fn port_map(
     with_end(cursor, &[b")", b";"], drives)
 }
 
-/// The instance of the core.
-#[tactic(auto, unfolding(crate::specs::DriverSections::core_call))]
-fn core_call(
-    cursor: &mut Cursor,
-    alloc: Global,
-    cores: &Cores<'_, VitalDrivers>,
-    ports: &[VPort],
-    driven: usize,
-) -> Read<CoreCall>
-    ensures { Reads (read (spec.core_call cores.now ports.now driven) cursor.old) result cursor.new }
-{
-    core_start(cursor)?;
-    let core = core_name(cursor, alloc, cores, ports, driven)?;
-    let drives = port_map(cursor, alloc, ports, driven)?;
-    Ok(CoreCall { core, drives })
-}
-
 /// The signals, and the instance of the core, where the models that may be cores are these.
-#[tactic(auto, unfolding(crate::specs::DriverSections::section_core))]
+#[tactic(auto, unfolding(crate::specs::DriverSections::section_core, crate::specs::DriverSections::core_call))]
 pub(crate) fn section_core(
     cursor: &mut Cursor,
     alloc: Global,
@@ -77,5 +60,8 @@ pub(crate) fn section_core(
     ensures { Reads (read (spec.section_core cores.now ports.now) cursor.old) result cursor.new }
 {
     let driven = driver_signals(cursor, alloc)?;
-    core_call(cursor, alloc, cores, ports, driven)
+    core_start(cursor)?;
+    let core = core_name(cursor, alloc, cores, ports, driven)?;
+    let drives = port_map(cursor, alloc, ports, driven)?;
+    Ok(CoreCall { core, drives })
 }

@@ -8,7 +8,7 @@ use driven_traces::DrivePath;
 use driver_models::DriverModel;
 use driver_texts::output_name;
 use text_io::{Bytes, Decimal, Desk, Line, OutSlot, Part, Put, parts};
-use vhdl_writer::{AssignedVariables, Assignment, At, ItemText};
+use vhdl_writer::{AssignedVariables, Assignment, At, ItemText, TwiceNumbered};
 
 /// Whether one of these paths leads to the driven output with this number, from 0.
 fn has_path_to(paths: &[DrivePath], number: usize) -> bool
@@ -49,16 +49,13 @@ impl ItemText<usize> for Buffers {
 
     #[tactic(auto, unfolding(crate::specs::DriverText::buffer_text))]
     fn put<D: Desk>(&self, at: &At<usize>, line: &mut Line, desk: &mut D, slot: OutSlot) -> Put {
-        let number = at.number as u128;
-        parts!(
-            Bytes(b"    z_"),
-            Decimal(number),
-            Bytes(b" := VitalBUFIF1 (d_"),
-            Decimal(number),
-            Bytes(b", e_"),
-            Decimal(number),
-            Bytes(b");\n")
-        )
+        let number = Decimal(at.number as u128);
+        TwiceNumbered {
+            start: b"    z_",
+            next: b" := VitalBUFIF1 (d_",
+            number: at.number,
+            rest: parts!(Bytes(b", e_"), number, Bytes(b");\n")),
+        }
         .put(line, desk, slot)
     }
 }
@@ -70,7 +67,6 @@ pub(crate) struct DrivenLines<'a>(pub(crate) &'a DriverModel);
 impl ItemText<usize> for DrivenLines<'_> {
     ghost text = { λ m n place. driven_line m.0.now n place };
 
-    #[tactic(auto, unfolding(crate::specs::DriverText::driven_line))]
     fn put<D: Desk>(&self, at: &At<usize>, line: &mut Line, desk: &mut D, slot: OutSlot) -> Put {
         let ports = self.0.ports.as_slice();
         let paths = OwnPaths {

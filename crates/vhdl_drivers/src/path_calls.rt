@@ -53,19 +53,6 @@ impl RepeatedPart<Vhdl> for NextPath<'_> {
     }
 }
 
-/// The paths from these ports to the driven output with this number, from 0.
-#[tactic(auto, unfolding(crate::specs::DriverSections::drive_paths))]
-fn drive_paths(
-    cursor: &mut Cursor,
-    alloc: Global,
-    ports: &[VPort],
-    drive: usize,
-) -> Read<Items<DrivePath>>
-    ensures { Reads (read (spec.drive_paths ports.now drive) cursor.old) result cursor.new }
-{
-    one_or_more(cursor, b",", &NextPath { ports, drive }, Items::new(alloc))
-}
-
 /// The text of this name.
 #[tactic(auto, using(crate::proofs::NamedTexts::text_fits, crate::proofs::NamedTexts::text_other))]
 fn text_of_name(cursor: &mut Cursor, name: &[u8]) -> Read<()>
@@ -96,7 +83,7 @@ fn path_call_start(cursor: &mut Cursor, number: usize, name: &[u8]) -> Read<()>
 }
 
 /// The call of the paths from these ports to the driven output with this number, from 0, and this name: these paths, and its own.
-#[tactic(auto, unfolding(crate::specs::DriverSections::path_call))]
+#[tactic(auto, unfolding(crate::specs::DriverSections::path_call, crate::specs::DriverSections::drive_paths))]
 pub(crate) fn path_call(
     cursor: &mut Cursor,
     alloc: Global,
@@ -110,7 +97,11 @@ pub(crate) fn path_call(
 {
     cursor.this_name(b"VitalPathDelay01")?;
     path_call_start(cursor, number, name)?;
-    let own = drive_paths(cursor, alloc, ports, number)?;
+    let next = NextPath {
+        ports,
+        drive: number,
+    };
+    let own = one_or_more(cursor, b",", &next, Items::new(alloc))?;
     expect_all(
         cursor,
         &[b")", b",", b"Mode", b"=>", b"VitalTransport", b")", b";"],

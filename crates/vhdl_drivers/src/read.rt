@@ -1,43 +1,17 @@
 //! VHDL as a language with sections that hold drivers. (IEEE 1076-1993, 1.1, 1.2 and 9.6; IEEE 1076.4-2000, VitalBUFIF1; the form
 //! of the section is this project's.)
 
-ghost use Rattle.grammar_reader.specs.Reading.{read, Reads};
-ghost use Rattle.vhdl_drivers.specs.DriverSections as spec;
-
 use crate::core_call::section_core;
 use crate::front::section_front;
 use crate::language::VitalDrivers;
 use crate::section::section_process;
 use driver_models::{Cores, KnownNames};
-use driver_texts::{CoreCall, DriverSections, SectionFront, SectionRead};
+use driver_texts::{DriverSections, SectionFront, SectionRead};
 use grammar_reader::Read;
 use lexer::Scan;
 use std::alloc::{AllocError, Global};
-use udp_tables::VPort;
 use vhdl_grammar::{Cursor, Vhdl};
 use vhdl_tokens::scan;
-
-/// What a core is read as, and a cursor where its reading stopped.
-#[derive(Drop)]
-struct CoreRead<'a> {
-    call: Read<CoreCall>,
-    left: Cursor<'a>,
-}
-
-/// The signals and the core of a driver with these ports, where the models that may be cores are these.
-fn core_behind<'a>(
-    alloc: Global,
-    before: &mut Cursor<'a>,
-    cores: &Cores<'_, VitalDrivers>,
-    ports: &[VPort],
-) -> CoreRead<'a>
-    ensures { Reads (read (spec.section_core cores.now ports.now) before.old) result.call result.left }
-{
-    let mut inner = before.in_language::<VitalDrivers>(alloc);
-    let call = section_core(&mut inner, alloc, cores, ports);
-    let left = inner.in_language::<Vhdl>(alloc);
-    CoreRead { call, left }
-}
 
 impl DriverSections for VitalDrivers {
     ghost use Rattle.vhdl_drivers.specs.DriverSections.{vhdl_section_grammar};
@@ -67,8 +41,9 @@ impl DriverSections for VitalDrivers {
         cores: &Cores<'_, VitalDrivers>,
         front: SectionFront,
     ) -> SectionRead<'a, Vhdl> {
-        let ports = front.ports.as_slice();
-        let CoreRead { call, mut left } = core_behind(alloc, before, cores, ports);
+        let mut inner = before.in_language::<VitalDrivers>(alloc);
+        let call = section_core(&mut inner, alloc, cores, front.ports.as_slice());
+        let mut left = inner.in_language::<Vhdl>(alloc);
         let driver = match call {
             Ok(call) => section_process(&mut left, alloc, front, call),
             Err(stop) => Err(stop),

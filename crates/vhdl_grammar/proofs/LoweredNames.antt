@@ -1,5 +1,5 @@
 -- Names that are looked up in lower case.
-use Rattle.std.proofs.Common.{◌≡◌, ℕ, zero, suc, ◌+◌, ◌≤◌, Bool, true, false, not, cond, ◌||◌, ◌==◌, if◌then◌else◌, List, []}
+use Rattle.std.proofs.Common.{◌≡◌, ℕ, zero, suc, ◌+◌, ◌≤◌, Bool, true, false, not, cond, ◌==◌, if◌then◌else◌, List, []}
 use Rattle.std.proofs.Common.{◌∷◌, ◌++◌, length, take, drop, Option, Some, None, refl, sym, ap, subst, ◌∙◌, arith}
 use Rattle.std.specs.Char.{is_ascii_alphabetic}
 use Rattle.std.specs.List.{list_any, position, position_from}
@@ -8,13 +8,11 @@ use Rattle.std.specs.Str.{bytes_eq, str_eq_ignore_ascii_case}
 use Rattle.std.proofs.lemmas.Bool.{eqb-true}
 use Rattle.std.proofs.lemmas.Iterator.Adapters.{position_from-zero}
 use Rattle.std.proofs.lemmas.List.{append-nil, map-append}
-use Rattle.std.proofs.lemmas.List.Folds.{list_any-append}
-use Rattle.std.proofs.lemmas.Slice.Eq.{bytes_eq-Decides}
 use Rattle.std.specs.Cmp.{first_so as first_true}
 use Rattle.bool_functions.specs.NameList.{number_of, Adds}
-use Rattle.bool_functions.proofs.NameLists.{list_any-map, position-map, position-none, position-some}
+use Rattle.bool_functions.proofs.NameLists.{list_any-map, position-map, position-none}
+use Rattle.bool_functions.proofs.FoldedNames.{some_position, added_same}
 use Rattle.grammar_reader.proofs.Places.{drop_far, none_behind}
-use Rattle.grammar_reader.proofs.Tests.{there, not_there}
 use Rattle.udp_tables.specs.declared.models.VPort.{VPort}
 use Rattle.vital_tables.specs.declared.model.VEntity.{VEntity}
 use Rattle.vital_tables.specs.Sound.{output_ports_from}
@@ -49,50 +47,10 @@ among_lowered : (names : List (List ℕ)) (x : List ℕ) → is_name x ≡ true
 among_lowered names x e =
     (λ i. list_any (λ (y : List ℕ). same_lowered x y e i) names) ∙ sym (list_any-map lowered (bytes_eq (lowered x)) names)
 
--- there is a place where the test holds exactly where it holds of one
-pub some_position : {X : Type 0} (p : X → Bool) (xs : List X) → is_some (position p xs) ≡ list_any p xs
-some_position p xs = by (list_any p xs) refl (position p xs) refl
-  where
-    by : (b : Bool) → list_any p xs ≡ b → (o : Option ℕ) → position p xs ≡ o → is_some o ≡ b
-    by true e (Some i) f = refl
-    by true e None f = absurd (position-some p xs e f)
-    by false e (Some i) f = absurd (let g = position-none p xs e in cc)
-    by false e None f = refl
-
 -- a name is one of others exactly where it is found in lower case
 pub found_among : (known others : List (List ℕ)) (x : List ℕ) → HaveSame known others → is_name x ≡ true
     → is_some (number_of known (lowered x)) ≡ is_among others x
 found_among known others x h e = some_position (bytes_eq (lowered x)) known ∙ h (lowered x) ∙ sym (among_lowered others x e)
-
-any_added : (names : List (List ℕ)) (name x : List ℕ)
-    → list_any (bytes_eq x) (all_lowered (names ++ name ∷ [])) ≡ (list_any (bytes_eq x) (all_lowered names)
-    || list_any (bytes_eq x) (lowered name ∷ []))
-any_added names name x = ap (list_any (bytes_eq x)) (map-append lowered names (name ∷ []))
-    ∙ list_any-append (bytes_eq x) (all_lowered names) (lowered name ∷ [])
-
--- a name is added in lower case, unless it is there
-added_same : (old new others : List (List ℕ)) (name : List ℕ) (found : Option ℕ) → Adds old (lowered name) found new
-    → HaveSame old others → HaveSame new (others ++ name ∷ [])
-added_same old new others name (Some i) a h = λ x.
-    ap (list_any (bytes_eq x)) a.2 ∙ list_any-append (bytes_eq x) old (lowered name ∷ [])
-    ∙ ap (λ b. b || list_any (bytes_eq x) (lowered name ∷ [])) (h x)
-    ∙ sym (any_added others name x)
-added_same old new others name None a h = λ x.
-    ap (list_any (bytes_eq x)) a.1 ∙ by_name x (bytes_eq x (lowered name)) refl
-    ∙ ap (λ b. b || list_any (bytes_eq x) (lowered name ∷ [])) (h x)
-    ∙ sym (any_added others name x)
-  where
-    among : (b : Bool) → list_any (bytes_eq (lowered name)) old ≡ b → list_any (bytes_eq (lowered name)) old ≡ true
-    among true e = e
-    among false e = absurd (a.0 (position-none (bytes_eq (lowered name)) old e))
-
-    by_name : (x : List ℕ) (b : Bool) → bytes_eq x (lowered name) ≡ b
-        → list_any (bytes_eq x) old ≡ (list_any (bytes_eq x) old || list_any (bytes_eq x) (lowered name ∷ []))
-    by_name x true e =
-        there (list_any (bytes_eq x) old) (list_any (bytes_eq x) (lowered name ∷ []))
-        (ap (λ (y : List ℕ). list_any (bytes_eq y) old) ((bytes_eq-Decides x (lowered name)).0 e)
-        ∙ among (list_any (bytes_eq (lowered name)) old) refl)
-    by_name x false e = not_there (list_any (bytes_eq x) old) (list_any (bytes_eq x) (lowered name ∷ [])) (ap (λ b. b || false) e)
 
 -- one more entity
 pub entity_added : (old new : List (List ℕ)) (entities : List VEntity) (entity : VEntity) (found : Option ℕ)
@@ -100,7 +58,7 @@ pub entity_added : (old new : List (List ℕ)) (entities : List VEntity) (entity
     → HaveSame old (entity_names entities) → HaveSame new (entity_names (entities ++ entity ∷ []))
 entity_added old new entities entity found a h =
     subst (HaveSame new) (sym (map-append (λ (e : VEntity). e.name) entities (entity ∷ [])))
-    (added_same old new (entity_names entities) entity.name found a h)
+    (added_same lowered old new (entity_names entities) entity.name found a h)
 
 -- the number of a port, by its name
 pub port_number : (ports : List VPort) (names : List (List ℕ)) → names ≡ all_lowered (port_names ports) → (x : List ℕ)

@@ -11,6 +11,7 @@ mod parts;
 mod states;
 mod symbols;
 mod tables;
+mod twice_numbered;
 mod variables;
 
 pub use assignments::{AssignedVariables, Assignment};
@@ -18,3 +19,4 @@ pub use declarations::{EntityHeader, PortList};
 pub use entity::write_entity;
 pub use names::apart;
 pub use parts::{At, Each, ItemText};
+pub use twice_numbered::TwiceNumbered;

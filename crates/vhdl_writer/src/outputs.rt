@@ -40,14 +40,8 @@ impl ItemText<VOutput> for ValueLines<'_> {
     fn put<D: Desk>(&self, at: &At<VOutput>, line: &mut Line, desk: &mut D, slot: OutSlot) -> Put {
         let number = Decimal(at.number as u128);
         let value = Value(self.0, at.number, &at.item.value);
-        parts!(
-            Bytes(b"    z_"),
-            number,
-            Bytes(b" := "),
-            value,
-            Bytes(b";\n")
-        )
-        .put(line, desk, slot)
+        let end = Bytes(b";\n");
+        parts!(Bytes(b"    z_"), number, Bytes(b" := "), value, end).put(line, desk, slot)
     }
 }
 
@@ -60,13 +54,8 @@ impl ItemText<usize> for Zeros<'_> {
 
     #[tactic(auto, unfolding(crate::specs::Outputs::zero_text))]
     fn put<D: Desk>(&self, at: &At<usize>, line: &mut Line, desk: &mut D, slot: OutSlot) -> Put {
-        let condition = Condition(self.0, *at.item);
-        parts!(
-            Bytes(apart(b" and ", at.number)),
-            condition,
-            Bytes(b" = '0'")
-        )
-        .put(line, desk, slot)
+        let start = Bytes(apart(b" and ", at.number));
+        parts!(start, Condition(self.0, *at.item), Bytes(b" = '0'")).put(line, desk, slot)
     }
 }
 

@@ -3,6 +3,7 @@ ghost use Rattle.vhdl_writer.specs.Statements.{report_text, state_text};
 
 use crate::names::{StateColumns, apart};
 use crate::parts::{At, CheckAt, InEntity, ItemText};
+use crate::twice_numbered::TwiceNumbered;
 use text_io::{Bytes, Decimal, Desk, Line, OutSlot, Part, Put, parts};
 use udp_tables::TimingCheck;
 use vital_models::VState;
@@ -26,19 +27,15 @@ impl ItemText<VState> for InEntity<'_> {
 
     #[tactic(auto, unfolding(crate::specs::Statements::state_text))]
     fn put<D: Desk>(&self, at: &At<VState>, line: &mut Line, desk: &mut D, slot: OutSlot) -> Put {
-        let number = at.number as u128;
         let columns = StateColumns(self.0, at.item);
-        parts!(
-            Bytes(b"    VitalStateTable (Result => s_"),
-            Decimal(number),
-            Bytes(b", PreviousDataIn => p_"),
-            Decimal(number),
-            Bytes(b", StateTable => k_"),
-            Decimal(number),
-            Bytes(b", DataIn => "),
-            columns,
-            Bytes(b");\n")
-        )
+        let data = parts!(Bytes(b", DataIn => "), columns, Bytes(b");\n"));
+        let number = Decimal(at.number as u128);
+        TwiceNumbered {
+            start: b"    VitalStateTable (Result => s_",
+            next: b", PreviousDataIn => p_",
+            number: at.number,
+            rest: parts!(Bytes(b", StateTable => k_"), number, data),
+        }
         .put(line, desk, slot)
     }
 }

@@ -5,6 +5,7 @@ ghost use Rattle.vhdl_writer.specs.Declarations.{state_variables_text, output_va
 
 use crate::assignments::AssignedVariables;
 use crate::parts::{At, CheckAt, ItemText};
+use crate::twice_numbered::TwiceNumbered;
 use cell_machine::CheckKind;
 use text_io::{Bytes, Decimal, Desk, Line, OutSlot, Part, Put, parts};
 use udp_tables::TimingCheck;
@@ -31,13 +32,12 @@ impl ItemText<TimingCheck> for VariableLines {
 
     #[tactic(auto, unfolding(crate::specs::Declarations::check_variables_text))]
     fn put<D: Desk>(&self, at: &CheckAt, line: &mut Line, desk: &mut D, slot: OutSlot) -> Put {
-        parts!(
-            Bytes(b"    variable x_"),
-            Decimal(at.number as u128),
-            Bytes(b" : X01 := '0';\n    variable d_"),
-            Decimal(at.number as u128),
-            Bytes(data_text(at.item.kind))
-        )
+        TwiceNumbered {
+            start: b"    variable x_",
+            next: b" : X01 := '0';\n    variable d_",
+            number: at.number,
+            rest: Bytes(data_text(at.item.kind)),
+        }
         .put(line, desk, slot)
     }
 }
@@ -68,16 +68,17 @@ impl ItemText<VState> for VariableLines {
 
     #[tactic(auto, unfolding(crate::specs::Declarations::state_variables_text))]
     fn put<D: Desk>(&self, at: &At<VState>, line: &mut Line, desk: &mut D, slot: OutSlot) -> Put {
-        let number = at.number as u128;
-        parts!(
-            Bytes(b"    variable s_"),
-            Decimal(number),
-            Bytes(b" : std_logic := 'X';\n    variable p_"),
-            Decimal(number),
-            Bytes(b" : std_logic_vector (1 to "),
-            Decimal(width_of(at.item.table.rows.as_slice()) as u128),
-            Bytes(b") := (others => 'X');\n")
-        )
+        let width = width_of(at.item.table.rows.as_slice());
+        TwiceNumbered {
+            start: b"    variable s_",
+            next: b" : std_logic := 'X';\n    variable p_",
+            number: at.number,
+            rest: parts!(
+                Bytes(b" : std_logic_vector (1 to "),
+                Decimal(width as u128),
+                Bytes(b") := (others => 'X');\n")
+            ),
+        }
         .put(line, desk, slot)
     }
 }

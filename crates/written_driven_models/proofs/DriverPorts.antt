@@ -1,5 +1,5 @@
 -- The ports of a sound driver: which of them are driven, and between which its paths lead.
-use Rattle.std.proofs.Common.{◌≡◌, ℕ, zero, suc, ◌<◌, not, List, [], ◌∷◌, length, Some, slice_get, refl, sym, ◌∙◌, subst, arith}
+use Rattle.std.proofs.Common.{◌≡◌, ℕ, ◌<◌, not, List, length, Some, slice_get, refl, sym, ◌∙◌, subst}
 use Rattle.std.specs.List.{AllByRecursion}
 use Rattle.std.proofs.lemmas.List.Elements.{recursion_from_All}
 use Rattle.std.proofs.lemmas.List.Sums.{length-filter}
@@ -10,13 +10,8 @@ use Rattle.driver_models.specs.declared.model.DriverModel.{DriverModel}
 use Rattle.driver_models.specs.Models.{IsSound}
 use Rattle.driver_texts.specs.NumberedPorts.{ports_of}
 use Rattle.driver_texts.specs.PortNames.{inputs, outputs, name_at, driven_name}
-use Rattle.written_modules.proofs.grammar_reader.ItemPlaces.{all_at}
+use Rattle.written_modules.proofs.grammar_reader.ItemPlaces.{all_at, known_item}
 use Rattle.written_driven_models.proofs.NumberedDrives.{Numbered, ports_numbered}
-
-got : {A : Type 0} (xs : List A) (k : ℕ) → k < length xs → (x : A) × (slice_get xs k ≡ Some x)
-got [] k h = absurd (omega (arith, h))
-got (x ∷ xs) zero h = (x, refl)
-got (x ∷ xs) (suc k) h = got xs k (omega (arith, h))
 
 -- a number names a port, among these ports
 pub record IsPortAt (ports : List VPort) (k : ℕ) : Type 0 where
@@ -52,12 +47,12 @@ module _ (m : DriverModel) (h : IsSound m) where
 
   pub path_start : (path : DrivePath) → IsPathOf m.driver path → IsPortAt (inputs m.ports) path.from
   path_start path p =
-      let start = got (inputs m.ports) path.from (subst (λ k. path.from < k) inputs_counted p.from) in
+      let start = known_item (inputs m.ports) path.from (subst (λ k. path.from < k) inputs_counted p.from) in
       record { port = start.0; stands = start.1 }
 
   pub drive_at : (k : ℕ) → k < length m.driver.drives → IsDriveAt m k
   drive_at k l =
-      let drive = got m.driver.drives k l in
-      let port = got (outputs m.ports) drive.0
+      let drive = known_item m.driver.drives k l in
+      let port = known_item (outputs m.ports) drive.0
       (all_at (λ p. p < length (outputs m.ports)) m.driver.drives k drive.0 drives_below drive.1) in
       record { place = drive.0; driven = drive.1; output = record { port = port.0; stands = port.1 } }

@@ -27,7 +27,7 @@ use Rattle.vhdl_writer.specs.Joined.{apart_text}
 use Rattle.vhdl_writer.specs.Names.{port_at, inputs_at, input_text, inputs_text, condition_text}
 use Rattle.grammar_reader.proofs.Fronts.{Front, Anything}
 use Rattle.grammar_reader.proofs.Derivations.{Reads, from_same, to_same, gives, token, in_turn, goes_on}
-use Rattle.grammar_reader.proofs.ItemPlaces.{at_place, all_at, get_at, one_longer}
+use Rattle.grammar_reader.proofs.ItemPlaces.{at_place, all_at, get_at, one_longer, known_item}
 use Rattle.grammar_reader.proofs.Spelling.{literal, behind}
 use Rattle.written_entities.proofs.Names.{part_named, unnumbered}
 use Rattle.written_entities.proofs.Spelling.{Spells}
@@ -36,7 +36,7 @@ use Rattle.written_entities.proofs.Elements.{names_front, names_spelled, closed,
 use Rattle.written_entities.proofs.Parts.{part_behind, condition_number}
 use Rattle.written_entities.proofs.PortLookUps.{input_named, input_found, kept_one}
 use Rattle.written_entities.proofs.VariableReading.{all_tables, variables_of}
-use Rattle.written_entities.proofs.LookUpOrder.{seen_with, next_look_up, no_more, at_front, take_next, known_item}
+use Rattle.written_entities.proofs.LookUpOrder.{seen_with, next_look_up, no_more, at_front, take_next}
 use Rattle.written_entities.proofs.Tests.{if_true, equal_self, numbers_turned}
 
 -- the declarations of a written entity

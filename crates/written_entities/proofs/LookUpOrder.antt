@@ -101,8 +101,3 @@ take_next {A = A} xs n x h =
     (at.split ∙ sym (append_assoc at.before (x ∷ []) at.after))
     ∙ take-append_seam (at.before ++ x ∷ []) at.after in
     ap (λ (l : List A). l ++ x ∷ []) front ∙ sym whole
-
-pub known_item : {A : Type 0} (xs : List A) (i : ℕ) → i < length xs → (x : A) × (slice_get xs i ≡ Some x)
-known_item [] i h = absurd (omega (arith, h))
-known_item (x ∷ xs) zero h = (x, refl)
-known_item (x ∷ xs) (suc i) h = known_item xs i (omega (arith, h))

@@ -1,8 +1,8 @@
 -- The ports of a written entity by their names.
-use Rattle.std.proofs.Common.{◌≡◌, ℕ, Bool, true, false, ◌||◌, IsTrue, List, [], ◌∷◌, ◌++◌, Option, Some, None, slice_get, refl}
+use Rattle.std.proofs.Common.{◌≡◌, ℕ, Bool, true, false, ◌||◌, IsTrue, List, [], ◌∷◌, ◌++◌, Some, slice_get, refl}
 use Rattle.std.proofs.Common.{sym, ap, ◌∙◌, subst}
 use Rattle.std.specs.List.{IsDistinct, list_any, position}
-use Rattle.std.specs.Option.{option_map, option_map_or}
+use Rattle.std.specs.Option.{option_map}
 use Rattle.std.proofs.lemmas.List.{map-append}
 use Rattle.std.proofs.lemmas.List.Elements.{recursion_from_All}
 use Rattle.std.proofs.lemmas.Option.{slice_get-map}
@@ -16,7 +16,7 @@ use Rattle.vhdl_grammar.specs.VhdlNames.{kept, port_of, input_of, an_input}
 use Rattle.vhdl_grammar.specs.WellFormed.{IsPortName, AreApart, IsWellFormedEntity}
 use Rattle.vhdl_writer.specs.Names.{port_at}
 use Rattle.grammar_reader.proofs.Derivations.{Reads}
-use Rattle.grammar_reader.proofs.ItemPlaces.{item_at, all_at}
+use Rattle.grammar_reader.proofs.ItemPlaces.{item_at, all_at, passing}
 use Rattle.written_entities.proofs.Names.{IsNamed, port_named, same_self}
 use Rattle.written_entities.proofs.NameReading.{known_as, is_new, first_place}
 
@@ -51,22 +51,13 @@ port_place e w p port h =
     (same_self port.name)
     ∙ ap (λ (n : ℕ). Some n) at.place
 
-pub known_port : (ports : List VPort) (p : ℕ) (test : VPort → Bool) → option_map_or test (slice_get ports p) false ≡ true
-    → (port : VPort) × (slice_get ports p ≡ Some port)
-known_port ports p test h = by (slice_get ports p) refl h
-  where
-    by : (o : Option VPort) → slice_get ports p ≡ o → option_map_or test o false ≡ true → (port : VPort)
-        × (slice_get ports p ≡ Some port)
-    by None e h = absurd cc
-    by (Some port) e h = (port, e)
-
 pub port_at_is : (e : VEntity) (p : ℕ) (port : VPort) → slice_get e.ports p ≡ Some port → port_at e p ≡ port.name
 port_at_is e p port h = rw h refl
 
 -- the name of an input, and what it stands for
 pub input_is : (e : VEntity) → IsWellFormedEntity e → (p : ℕ) → IsTrue (is_input_port e.ports p) → IsPortName (port_at e p)
 input_is e w p h =
-    let at = known_port e.ports p (λ (port : VPort). port.input) h in
+    let at = passing (λ (port : VPort). port.input) (slice_get e.ports p) h in
     subst IsPortName (sym (port_at_is e p at.0 at.1)) (port_is e w p at.0 at.1)
 
 pub input_named : (e : VEntity) → IsWellFormedEntity e → (p : ℕ) → IsTrue (is_input_port e.ports p) → IsNamed (port_at e p)
@@ -78,7 +69,7 @@ kept_one test n h = rw h refl
 pub input_found : (e : VEntity) → IsWellFormedEntity e → (p : ℕ) → IsTrue (is_input_port e.ports p)
     → input_of e.ports (port_at e p) ≡ Some p
 input_found e w p h =
-    let at = known_port e.ports p (λ (port : VPort). port.input) h in
+    let at = passing (λ (port : VPort). port.input) (slice_get e.ports p) h in
     ap (kept (is_input_port e.ports)) (ap (port_of e.ports) (port_at_is e p at.0 at.1) ∙ port_place e w p at.0 at.1)
     ∙ kept_one (is_input_port e.ports) p h
 

@@ -1,5 +1,5 @@
 -- The nets of a written module: their names, and the nets that these names stand for.
-use Rattle.std.proofs.Common.{◌≡◌, ℕ, zero, suc, ◌+◌, Bool, true, false, not, ◌&&◌, ◌||◌, nat_lt, cond, IsTrue, List, [], ◌∷◌}
+use Rattle.std.proofs.Common.{◌≡◌, ℕ, ◌+◌, Bool, true, false, not, ◌&&◌, ◌||◌, nat_lt, cond, IsTrue, List, [], ◌∷◌}
 use Rattle.std.proofs.Common.{◌++◌, length, map, Option, Some, None, is_some, slice_get, refl, sym, ap, ◌∙◌, arith, subst}
 use Rattle.std.proofs.Common.{append_assoc}
 use Rattle.std.specs.List.{AllByRecursion, list_any, position, position_from}
@@ -24,7 +24,7 @@ use Rattle.verilog_grammar.specs.VerilogModules.{port_name, port_names, net_by, 
 use Rattle.verilog_grammar.specs.WellFormed.{IsName, AreApart, register_names}
 use Rattle.verilog_writer.specs.Nets.{notifier_in, net_at}
 use Rattle.written_modules.proofs.NameReading.{is_new}
-use Rattle.grammar_reader.proofs.ItemPlaces.{same_bytes, found_behind, item_at, all_at}
+use Rattle.grammar_reader.proofs.ItemPlaces.{same_bytes, found_behind, item_at, all_at, passing, known_item}
 use Rattle.written_modules.proofs.ModuleTokens.{IsNamedPort, IsNamed}
 use Rattle.written_modules.proofs.DeclarationReading.{AreDeclared}
 
@@ -143,36 +143,23 @@ net_read m h net.Notifier (x, e) =
 
 -- Where nets are known.
 
-known_port : (ports : List VPort) (p : ℕ) (test : VPort → Bool) → option_map_or test (slice_get ports p) false ≡ true
-    → (port : VPort) × (slice_get ports p ≡ Some port)
-known_port ports p test h = by (slice_get ports p) refl h
-  where
-    by : (o : Option VPort) → slice_get ports p ≡ o → option_map_or test o false ≡ true → (port : VPort)
-        × (slice_get ports p ≡ Some port)
-    by None e h = absurd cc
-    by (Some port) e h = (port, e)
-
-known_item : {A : Type 0} (xs : List A) (i : ℕ) → nat_lt i (length xs) ≡ true → (x : A) × (slice_get xs i ≡ Some x)
-known_item [] i h = absurd (grind (arith, nat_tests))
-known_item (x ∷ xs) zero h = (x, refl)
-known_item (x ∷ xs) (suc i) h = known_item xs i (grind (arith, nat_tests))
-
 known_register : (n : Option (List ℕ)) → is_some n ≡ true → (x : List ℕ) × (n ≡ Some x)
 known_register None h = absurd cc
 known_register (Some x) h = (x, refl)
 
 pub input_known : (m : VModule) (p : ℕ) → IsTrue (is_input_port m.ports p) → IsKnown m (net.Port p)
-input_known m p h = known_port m.ports p (λ (port : VPort). port.input) h
+input_known m p h = passing (λ (port : VPort). port.input) (slice_get m.ports p) h
 
 pub output_known : (m : VModule) (p : ℕ) → IsTrue (is_output_port m.ports p) → IsKnown m (net.Port p)
-output_known m p h = known_port m.ports p (λ (port : VPort). not port.input) h
+output_known m p h = passing (λ (port : VPort). not port.input) (slice_get m.ports p) h
 
 pub register_known : (m : VModule) → IsTrue (is_some m.notifier) → IsKnown m net.Notifier
 register_known m h = known_register m.notifier h
 
 pub driven_known : (m : VModule) (n : VNet) → is_driven m n ≡ true → IsKnown m n
 driven_known m (net.Port p) h = output_known m p h
-driven_known m (net.Wire w) h = known_item m.wires w h
+driven_known m (net.Wire w) h =
+    let inside : nat_lt w (length m.wires) ≡ true = h in known_item m.wires w (grind (arith, nat_tests))
 driven_known m net.Notifier h = absurd cc
 
 pub state_driven : (m : VModule) (n : VNet) → holds_state m n ≡ true → is_driven m n ≡ true

@@ -1,7 +1,7 @@
 use Rattle.std.proofs.Common.{◌≡◌, ◌∷◌, ◌++◌, [], ℕ, List, sym, ap, subst, ◌∙◌}
 use Rattle.bool_functions.specs.NameList.{Adds}
+use Rattle.bool_functions.proofs.FoldedNames.{added_same}
 use Rattle.driver_models.specs.Cores.{HaveSame}
-use Rattle.driver_models.proofs.FoldedNames.{added_same}
 use Rattle.driver_models.proofs.known_names.add_name.Goals as goal
 
 pub returns-clause-same : goal.returns-clause-same

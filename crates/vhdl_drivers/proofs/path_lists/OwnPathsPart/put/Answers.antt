@@ -7,11 +7,8 @@ use Rattle.vhdl_drivers.proofs.path_lists.OwnPathsPart.put.Goals.{then-path-self
 use Rattle.vhdl_drivers.proofs.path_lists.OwnPathsPart.put.Goals as goal
 
 pub loop-path-init : goal.loop-path-init
-loop-path-init g c = record {
-  put = record { done = []; gathered = Gathers-nil _ _ _; others = refl };
-  number = omega arith;
-  kept = omega arith;
-}
+loop-path-init g c =
+    record { put = record { done = []; gathered = Gathers-nil _ _ _; others = refl }; number = omega arith; kept = omega arith }
 
 pub put-requires : goal.put-requires
 put-requires g c = gathered_bound _ _ _ _ _ _ (Output c.args.slot) c.loop-path.invariant.put.gathered c.requires

@@ -3,7 +3,4 @@ use Rattle.vhdl_writer.proofs.checks.SetupHoldPart.put.Goals as goal
 
 pub returns-clause-text : goal.returns-clause-text
 unfolding setup_hold_text
-returns-clause-text g c =
-    let transition = rw c.transition_text.ensures at c.put.ensures.text in
-    let reference = rw c.reference_of-reference.ensures at transition in
-    rw (← c.high_word.ensures) (rw (← c.low_word.ensures) reference)
+returns-clause-text g c = rw (← c.high_word.ensures) (rw (← c.low_word.ensures) c.put.ensures.text)

@@ -3,4 +3,4 @@ use Rattle.vhdl_writer.proofs.variables.VariableLinesItemTextVState.put.Goals as
 
 pub returns-clause-text : goal.returns-clause-text
 unfolding state_variables_text
-returns-clause-text g c = rw (← c.as_slice.ensures) (rw (← c.width_of.ensures) c.put.ensures.text)
+returns-clause-text g c = rw (← c.as_slice.ensures) (rw (← c.width_of-width.ensures) c.put.ensures.text)

@@ -1,6 +1,6 @@
 //! What the terminals of an instance may be. (IEEE 1364-2005, 8.6; the restrictions on places are this project's.)
 
-ghost use Rattle.std.specs.Prelude.{◌≡◌, ◌==◌, length};
+ghost use Rattle.std.specs.Prelude.{◌≡◌};
 ghost use Rattle.std.specs.List.{list_all};
 ghost use Rattle.verilog_grammar.specs.VerilogModules as spec;
 

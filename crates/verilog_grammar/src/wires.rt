@@ -71,27 +71,8 @@ fn new_wire_name(
     cursor.fresh_name(alloc, taken)
 }
 
-/// The line of a wire, behind its word, and behind the ports and others, of which these are the names: the name of the wire.
-#[tactic(auto, unfolding(crate::specs::VerilogModules::declared_wire))]
-fn wire_line(
-    cursor: &mut Cursor,
-    alloc: Global,
-    ports: &[VPort],
-    wires: &[Items<u8>],
-    names: &TextNames<'_>,
-) -> Read<Items<u8>>
-    requires { HaveSame names.now (spec.port_names ports.now ++ wires.now) }
-    ensures reads { ReadsAs (λ name. wires.now ++ name ∷ []) (read (spec.declared_wire ports.now wires.now) cursor.old) result
-        cursor.new }
-    ensures named { IfOk result (λ name. name ≡ next_bytes cursor.old) }
-    ensures fresh { IfOk result (λ _. is_among names.now (next_bytes cursor.old) ≡ false) }
-{
-    let name = new_wire_name(cursor, alloc, ports, wires, names)?;
-    cursor.expect(b";")?;
-    Ok(name)
-}
-
 /// Adds one more declared wire, behind its word, of which this is the next token.
+#[tactic(auto, unfolding(crate::specs::VerilogModules::declared_wire))]
 fn module_wire<'a>(
     cursor: &mut Cursor,
     alloc: Global,
@@ -105,7 +86,8 @@ fn module_wire<'a>(
         cursor.new }
     ensures named { OnOk result (HaveSame found.new.names (spec.port_names ports.now ++ found.new.items)) }
 {
-    let name = wire_line(cursor, alloc, ports, found.items.as_slice(), &found.names)?;
+    let name = new_wire_name(cursor, alloc, ports, found.items.as_slice(), &found.names)?;
+    cursor.expect(b";")?;
     found.add(name, token)
 }
 

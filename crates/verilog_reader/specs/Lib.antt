@@ -5,3 +5,4 @@ pub mod NameSearch
 pub mod DrivenNets
 pub mod Netlist
 pub mod Terminals
+pub mod Calls

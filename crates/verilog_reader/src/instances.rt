@@ -1,9 +1,10 @@
 //! The instances of a module, by recursive descent. (IEEE 1364-2005, 7.1, 7.3 and 8.6.)
 
-ghost use Rattle.std.specs.Prelude.{◌≡◌, IfOk};
+ghost use Rattle.std.specs.Prelude.{◌≡◌, Some, IfOk};
 ghost use Rattle.grammar_reader.specs.Words.{valued};
 ghost use Rattle.verilog_grammar.specs.VerilogModules as spec;
 ghost use Rattle.verilog_reader.specs.Begun.{is_instance_start, instance_primitive};
+ghost use Rattle.verilog_reader.specs.Calls as calls;
 ghost use Rattle.verilog_reader.specs.NameSearch.{udp_name};
 ghost use Rattle.verilog_reader.specs.Netlist.{MayFind};
 ghost use Rattle.grammar_reader.specs.Reading.{read, Reads, ReadsAs};
@@ -12,12 +13,12 @@ use crate::connections::{driven_terminal, first_terminal, more_terminals};
 use crate::name_search::{many_names, place_of};
 use crate::netlist::Netlist;
 use crate::nets::is_sequential;
-use crate::terminals::has_all_inputs;
+use crate::terminals::input_count;
 use first_names::FirstNames;
 use grammar_reader::{Language, Read, Refusal, Stop, value_of, where_read};
-use sqlite_items::Boxed;
+use sqlite_items::{Boxed, Items};
 use std::alloc::Global;
-use verilog_grammar::modules::{Instance, VModule};
+use verilog_grammar::modules::{Instance, VModule, VNet};
 use verilog_tokens::is_name;
 use verilog_udp_reader::{Cursor, NamedItems, Verilog};
 
@@ -53,8 +54,36 @@ fn instance_primitive(
     }
 }
 
+/// The inputs of an instance of the primitive with this number, behind its output, which has this name.
+#[tactic(auto, unfolding(crate::specs::Calls::call_inputs))]
+fn call_inputs<'a>(
+    cursor: &mut Cursor<'a>,
+    alloc: Global,
+    model: &Netlist,
+    name: &'a [u8],
+    output: VNet,
+    udp: usize,
+) -> Read<Instance>
+    requires { spec.net_of model.now name.now ≡ Some output }
+    ensures { ReadsAs (spec.with_instance model.now) (read (calls.call_inputs model.now udp output) cursor.old) result
+        cursor.new }
+{
+    let sequential = is_sequential(model.module().udps.as_slice(), udp);
+    let mut found = first_terminal(cursor, alloc, model, sequential, output, name)?;
+    more_terminals(cursor, model, sequential, output, &mut found)?;
+    let NamedItems { items: inputs, .. } = found;
+    let whole = inputs.len() == input_count(model.module().udps.as_slice(), udp);
+    cursor.expect_where(whole, Refusal::Width, b")")?;
+    cursor.expect(b";")?;
+    Ok(Instance::Primitive {
+        udp,
+        output,
+        inputs,
+    })
+}
+
 /// The terminals of an instance of the primitive with this number, behind its name.
-#[tactic(auto, unfolding(verilog_grammar::specs::VerilogModules::call))]
+#[tactic(auto, unfolding(verilog_grammar::specs::VerilogModules::call, crate::specs::Calls::call_inputs))]
 fn call(cursor: &mut Cursor, alloc: Global, model: &Netlist, udp: usize) -> Read<Instance>
     ensures { ReadsAs (spec.with_instance model.now) (read (spec.call model.now udp) cursor.old) result cursor.new }
 {
@@ -63,17 +92,7 @@ fn call(cursor: &mut Cursor, alloc: Global, model: &Netlist, udp: usize) -> Read
     let name = cursor.bytes();
     let output = driven_terminal(cursor, model, sequential)?;
     cursor.expect(b",")?;
-    let mut found = first_terminal(cursor, alloc, model, sequential, output, name)?;
-    more_terminals(cursor, model, sequential, output, &mut found)?;
-    let NamedItems { items: inputs, .. } = found;
-    let whole = has_all_inputs(model.module().udps.as_slice(), udp, inputs.as_slice());
-    cursor.expect_where(whole, Refusal::Width, b")")?;
-    cursor.expect(b";")?;
-    Ok(Instance::Primitive {
-        udp,
-        output,
-        inputs,
-    })
+    call_inputs(cursor, alloc, model, name, output, udp)
 }
 
 /// A bit.

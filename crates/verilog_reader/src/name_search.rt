@@ -1,8 +1,6 @@
 //! Things that are found by their names, where there are more than a few in the time of one look-up.
 
-ghost use Rattle.std.specs.Prelude.{◌≡◌, IfOk, IfErr};
-ghost use Rattle.std.specs.List.{position};
-ghost use Rattle.std.specs.Str.{bytes_eq};
+ghost use Rattle.std.specs.Prelude.{◌≡◌, bytes_eq, position, IfOk, IfErr};
 ghost use Rattle.verilog_grammar.specs.VerilogModules.{port_name};
 ghost use Rattle.first_names.specs.Places.{FindsFirst};
 ghost use Rattle.verilog_reader.specs.NameSearch.{udp_name, own_name};

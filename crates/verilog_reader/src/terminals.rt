@@ -1,6 +1,6 @@
 //! What the terminals of an instance may be. (IEEE 1364-2005, 8.6; the restrictions on places are this project's.)
 
-ghost use Rattle.std.specs.Prelude.{◌≡◌, ◌==◌, length};
+ghost use Rattle.std.specs.Prelude.{◌≡◌};
 ghost use Rattle.std.specs.List.{list_all};
 ghost use Rattle.verilog_grammar.specs.VerilogModules as spec;
 
@@ -49,20 +49,13 @@ pub fn may_feed(model: &Netlist, sequential: bool, net: VNet) -> bool
 }
 
 /// How many inputs the primitive with this number has.
-fn input_count(udps: &[Udp], udp: usize) -> usize
+pub fn input_count(udps: &[Udp], udp: usize) -> usize
     ensures { result ≡ spec.input_count udps.now udp }
 {
     match udps.get(udp) {
         Some(udp) => udp.inputs.len(),
         None => 0,
     }
-}
-
-/// Whether there are as many inputs as the primitive with this number has.
-pub fn has_all_inputs(udps: &[Udp], udp: usize, inputs: &[VNet]) -> bool
-    ensures { result ≡ (length inputs.now == spec.input_count udps.now udp) }
-{
-    inputs.len() == input_count(udps, udp)
 }
 
 /// Whether each output is driven.

@@ -1,17 +1,16 @@
 //! The tables of states. (IEEE 1076.4-2000, VitalStateTableType.)
 
-ghost use Rattle.std.specs.Prelude.{◌≡◌, []};
+ghost use Rattle.std.specs.Prelude.{◌≡◌, length};
 ghost use Rattle.grammar_reader.specs.declared.refusal.Refusal.TheVariants.{Syntax};
 ghost use Rattle.grammar_reader.specs.Reading.{read, Token, Reads};
-ghost use Rattle.vhdl_grammar.specs.VhdlRules as rules;
 ghost use Rattle.vhdl_grammar.specs.VhdlTables as spec;
 
-use crate::rows::{NextRow, TableRow, first_entries, no_entries};
+use crate::rows::{RowEntry, TableRow, first_entries, rows_of};
 use crate::symbols::{has_edge, is_edge, result_at, state_at, symbol_of};
-use grammar_reader::{Read, Refusal, RepeatedPart, Stop, one_or_more, with_end};
+use grammar_reader::{Read, Refusal, Stop};
 use sqlite_items::Items;
 use std::alloc::Global;
-use vhdl_grammar::{Cursor, Vhdl, elements, state_width};
+use vhdl_grammar::Cursor;
 use vital_tables::{Trits, VNext, VStateRow, VStateTable, VSymbol};
 
 /// A symbol of a row, behind these.
@@ -28,20 +27,13 @@ fn a_symbol(cursor: &mut Cursor<'_>, symbols: &[VSymbol]) -> Read<VSymbol>
     Ok(symbol)
 }
 
-/// A symbol of a row.
-#[derive(Drop)]
-struct NextSymbol;
-
-impl RepeatedPart<Vhdl> for NextSymbol {
-    type Found = Items<VSymbol>;
-
-    ghost reading = { λ _ symbols s. read (spec.next_symbol symbols) s };
+impl RowEntry for VSymbol {
+    ghost reading = { λ symbols s. read (spec.next_symbol symbols) s };
 
     #[tactic(auto, unfolding(vhdl_grammar::specs::VhdlTables::next_symbol))]
-    fn next(&self, cursor: &mut Cursor<'_>, mut symbols: Items<VSymbol>) -> Read<Items<VSymbol>> {
-        let symbol = a_symbol(cursor, symbols.as_slice())?;
-        symbols.push(symbol)?;
-        Ok(symbols)
+    fn next(cursor: &mut Cursor<'_>, symbols: &[VSymbol]) -> Read<VSymbol> {
+        let symbol = a_symbol(cursor, symbols)?;
+        Ok(symbol)
     }
 }
 
@@ -66,17 +58,9 @@ fn state_row_with(
 impl TableRow for VStateRow {
     type Entry = VSymbol;
 
-    ghost entries = { λ s. read spec.symbols s };
-
     ghost row_of = { spec.state_row_of };
 
-    ghost is_as_long = { spec.is_as_long_as_state_rows };
-
-    #[tactic(auto, unfolding(vhdl_grammar::specs::VhdlTables::symbols))]
-    fn entries(cursor: &mut Cursor<'_>, alloc: Global, rows: &[VStateRow]) -> Read<Items<VSymbol>> {
-        let none = no_entries(alloc, state_width(rows))?;
-        one_or_more(cursor, b",", &NextSymbol, none)
-    }
+    ghost input_count = { λ row. length row.inputs };
 
     fn row_of(found: Items<VSymbol>) -> Option<VStateRow>
         ensures { result ≡ spec.state_row_of found }
@@ -90,27 +74,16 @@ impl TableRow for VStateRow {
         state_row_with(first_entries(found, columns), state, next)
     }
 
-    fn is_as_long(rows: &[VStateRow], row: &VStateRow) -> bool {
-        match rows.first() {
-            Some(first) => row.inputs.len() == first.inputs.len(),
-            None => true,
-        }
+    fn input_count(&self) -> usize {
+        self.inputs.len()
     }
 }
 
-/// The rows of a table.
-fn state_rows(cursor: &mut Cursor<'_>, alloc: Global) -> Read<Items<VStateRow>>
-    ensures { Reads (read (rules.elements spec.state_row []) cursor.old) result cursor.new }
-{
-    elements(cursor, &NextRow::<VStateRow>::new(alloc), Items::new(alloc))
-}
-
 /// The table of a state.
-#[tactic(auto, unfolding(vhdl_grammar::specs::VhdlTables::state_table))]
+#[tactic(auto, unfolding(vhdl_grammar::specs::VhdlTables::state_table, vhdl_grammar::specs::VhdlTables::state_row, vhdl_grammar::specs::VhdlTables::symbols, vhdl_grammar::specs::VhdlRules::elements, vhdl_grammar::specs::VhdlRules::only_element, vhdl_grammar::specs::VhdlRules::several_elements, vhdl_grammar::specs::VhdlRules::more_elements))]
 pub fn state_table(cursor: &mut Cursor<'_>, alloc: Global) -> Read<VStateTable>
     ensures { Reads (read spec.state_table cursor.old) result cursor.new }
 {
-    cursor.expect(b"(")?;
-    let rows = state_rows(cursor, alloc)?;
-    with_end(cursor, &[b")"], VStateTable { rows })
+    let rows = rows_of(cursor, alloc)?;
+    Ok(VStateTable { rows })
 }

@@ -1,17 +1,16 @@
 //! Truth tables. (IEEE 1076.4-2000, VitalTruthTableType.)
 
-ghost use Rattle.std.specs.Prelude.{◌≡◌, []};
+ghost use Rattle.std.specs.Prelude.{◌≡◌, length};
 ghost use Rattle.grammar_reader.specs.Reading.{read, Reads};
 ghost use Rattle.grammar_reader.specs.Words.{valued};
-ghost use Rattle.vhdl_grammar.specs.VhdlRules as rules;
 ghost use Rattle.vhdl_grammar.specs.VhdlTables as spec;
 
-use crate::rows::{NextRow, TableRow, first_entries, no_entries};
+use crate::rows::{RowEntry, TableRow, first_entries, rows_of};
 use crate::symbols::{level_of, value_of};
-use grammar_reader::{Read, RepeatedPart, one_or_more, with_end};
+use grammar_reader::Read;
 use sqlite_items::Items;
 use std::alloc::Global;
-use vhdl_grammar::{Cursor, Vhdl, elements, truth_width};
+use vhdl_grammar::Cursor;
 use vital_tables::{Trits, TruthRow, TruthTable};
 
 /// A level of a row.
@@ -23,37 +22,22 @@ fn a_level(cursor: &mut Cursor<'_>) -> Read<Trits>
     cursor.value(found)
 }
 
-/// A level of a row, behind others.
-#[derive(Drop)]
-struct NextLevel;
-
-impl RepeatedPart<Vhdl> for NextLevel {
-    type Found = Items<Trits>;
-
-    ghost reading = { λ _ levels s. read (spec.next_level levels) s };
+impl RowEntry for Trits {
+    ghost reading = { λ levels s. read (spec.next_level levels) s };
 
     #[tactic(auto, unfolding(vhdl_grammar::specs::VhdlTables::next_level))]
-    fn next(&self, cursor: &mut Cursor<'_>, mut levels: Items<Trits>) -> Read<Items<Trits>> {
+    fn next(cursor: &mut Cursor<'_>, _levels: &[Trits]) -> Read<Trits> {
         let level = a_level(cursor)?;
-        levels.push(level)?;
-        Ok(levels)
+        Ok(level)
     }
 }
 
 impl TableRow for TruthRow {
     type Entry = Trits;
 
-    ghost entries = { λ s. read spec.levels s };
-
     ghost row_of = { spec.truth_row_of };
 
-    ghost is_as_long = { spec.is_as_long_as_truth_rows };
-
-    #[tactic(auto, unfolding(vhdl_grammar::specs::VhdlTables::levels))]
-    fn entries(cursor: &mut Cursor<'_>, alloc: Global, rows: &[TruthRow]) -> Read<Items<Trits>> {
-        let none = no_entries(alloc, truth_width(rows))?;
-        one_or_more(cursor, b",", &NextLevel, none)
-    }
+    ghost input_count = { λ row. length row.inputs };
 
     fn row_of(found: Items<Trits>) -> Option<TruthRow>
         ensures { result ≡ spec.truth_row_of found }
@@ -71,27 +55,16 @@ impl TableRow for TruthRow {
         })
     }
 
-    fn is_as_long(rows: &[TruthRow], row: &TruthRow) -> bool {
-        match rows.first() {
-            Some(first) => row.inputs.len() == first.inputs.len(),
-            None => true,
-        }
+    fn input_count(&self) -> usize {
+        self.inputs.len()
     }
 }
 
-/// The rows of a table.
-fn truth_rows(cursor: &mut Cursor<'_>, alloc: Global) -> Read<Items<TruthRow>>
-    ensures { Reads (read (rules.elements spec.truth_row []) cursor.old) result cursor.new }
-{
-    elements(cursor, &NextRow::<TruthRow>::new(alloc), Items::new(alloc))
-}
-
 /// A truth table.
-#[tactic(auto, unfolding(vhdl_grammar::specs::VhdlTables::truth_table))]
+#[tactic(auto, unfolding(vhdl_grammar::specs::VhdlTables::truth_table, vhdl_grammar::specs::VhdlTables::truth_row, vhdl_grammar::specs::VhdlTables::levels, vhdl_grammar::specs::VhdlRules::elements, vhdl_grammar::specs::VhdlRules::only_element, vhdl_grammar::specs::VhdlRules::several_elements, vhdl_grammar::specs::VhdlRules::more_elements))]
 pub fn truth_table(cursor: &mut Cursor<'_>, alloc: Global) -> Read<TruthTable>
     ensures { Reads (read spec.truth_table cursor.old) result cursor.new }
 {
-    cursor.expect(b"(")?;
-    let rows = truth_rows(cursor, alloc)?;
-    with_end(cursor, &[b")"], TruthTable { rows })
+    let rows = rows_of(cursor, alloc)?;
+    Ok(TruthTable { rows })
 }

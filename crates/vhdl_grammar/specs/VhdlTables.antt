@@ -22,32 +22,53 @@ use Rattle.vital_tables.specs.declared.table.VStateTable.{VStateTable}
 use Rattle.grammar_reader.specs.declared.refusal.Refusal.{Refusal}
 use Rattle.grammar_reader.specs.declared.refusal.Refusal.TheVariants.{Syntax, TwoEdges, Width}
 use Rattle.grammar_reader.specs.Words.{Grammar, ◌>>=◌, valued}
+use Rattle.grammar_reader.specs.WordValues.{value_among}
 use Rattle.vhdl_tokens.specs.Spelling.{is_same}
 use Rattle.vhdl_grammar.specs.declared.scope.Tables.{Tables}
 use Rattle.vhdl_grammar.specs.VhdlRules.{expect, begins, known, numbered, elements}
 
+-- The token behind the entries of a row. They have to be a row, and it breaks a strict rule unless it is as long as the first
+-- one.
+abbrev pub row_end : {R : Type 0} → (R → Bool) → Option R → List ℕ → Verdict R Refusal
+row_end is_as_long None x = Misfit Syntax
+row_end is_as_long (Some row) x = if is_same x (codes ")") then (if is_as_long row then Fits row else Foul Width row)
+    else Misfit Syntax
+
+-- the row behind these is as long as the first of them, by how many inputs a row has
+abbrev pub is_as_long : {R : Type 0} → (R → ℕ) → List R → R → Bool
+is_as_long input_count [] row = true
+is_as_long input_count (first ∷ rows) row = nat_eq (input_count row) (input_count first)
+
+-- ENTRY { "," ENTRY }, each behind those before it
+abbrev pub entries : {E : Type 0} → (List E → Grammar (List E)) → Grammar (List E)
+entries entry = entry [] >>= λ first. r.Many (λ _. begins (codes ",")) (λ found _. entry found) first
+
+-- "(" ENTRIES ")", a row behind these rows
+abbrev pub row_by : {E R : Type 0} → Grammar (List E) → (List E → Option R) → (R → Bool) → List R → Grammar (List R)
+row_by entries row_of is_as_long rows = do
+  _ ← expect (codes "(")
+  all ← entries
+  row ← r.Token (row_end is_as_long (row_of all)) Syntax
+  r.Gives (rows ++ row ∷ [])
+
+-- "(" ROWS ")", a table of rows
+abbrev pub table_of : {R T : Type 0} → (List R → Grammar (List R)) → (List R → T) → Grammar T
+table_of row table = do
+  _ ← expect (codes "(")
+  rows ← elements row []
+  _ ← expect (codes ")")
+  r.Gives (table rows)
+
 -- the level that a symbol stands for
 abbrev pub level_of : List ℕ → Option Trits
-level_of x =
-    if bytes_eq x (codes "'0'") then Some trits.Zero
-    else (if bytes_eq x (codes "'1'") then Some trits.One
-    else (if bytes_eq x (codes "'X'") then Some trits.Unknown
-    else (if bytes_eq x (codes "'-'") then Some trits.Any
-    else (if bytes_eq x (codes "'B'") then Some trits.Binary
-    else None))))
+level_of = value_among bytes_eq ((codes "'0'", trits.Zero) ∷ (codes "'1'", trits.One) ∷ (codes "'X'", trits.Unknown)
+    ∷ (codes "'-'", trits.Any) ∷ (codes "'B'", trits.Binary) ∷ [])
 
 -- what a symbol stands for in a table of a state, where it is no level
 abbrev pub change_of : List ℕ → Option VSymbol
-change_of x =
-    if bytes_eq x (codes "'S'") then Some symbol.Steady
-    else (if bytes_eq x (codes "'/'") then Some symbol.Rise
-    else (if bytes_eq x (codes "'\\'") then Some symbol.Fall
-    else (if bytes_eq x (codes "'P'") then Some symbol.To1
-    else (if bytes_eq x (codes "'N'") then Some symbol.To0
-    else (if bytes_eq x (codes "'p'") then Some symbol.From0
-    else (if bytes_eq x (codes "'n'") then Some symbol.From1
-    else (if bytes_eq x (codes "'*'") then Some symbol.Change
-    else None)))))))
+change_of = value_among bytes_eq ((codes "'S'", symbol.Steady) ∷ (codes "'/'", symbol.Rise) ∷ (codes "'\\'", symbol.Fall)
+    ∷ (codes "'P'", symbol.To1) ∷ (codes "'N'", symbol.To0) ∷ (codes "'p'", symbol.From0) ∷ (codes "'n'", symbol.From1)
+    ∷ (codes "'*'", symbol.Change) ∷ [])
 
 abbrev pub symbol_by : List ℕ → Option Trits → Option VSymbol
 symbol_by x (Some level) = Some (symbol.Level level)
@@ -76,9 +97,7 @@ next_symbol symbols = do
 
 -- SYMBOL { "," SYMBOL }
 unfoldable pub symbols : Grammar (List VSymbol)
-symbols = do
-  first ← next_symbol []
-  r.Many (λ _. begins (codes ",")) (λ found _. next_symbol found) first
+symbols = entries next_symbol
 
 -- the state column of a row is a level
 abbrev pub state_in : VSymbol → Option Trits
@@ -111,13 +130,6 @@ state_row_of all =
     (option_and_then next_in (slice_get all (length all - 1)))
     else None
 
--- The token behind the symbols of a row. They have to be a row, and it breaks a strict rule unless it is as long as the first
--- one.
-abbrev pub row_end : {R : Type 0} → (R → Bool) → Option R → List ℕ → Verdict R Refusal
-row_end is_as_long None x = Misfit Syntax
-row_end is_as_long (Some row) x = if is_same x (codes ")") then (if is_as_long row then Fits row else Foul Width row)
-    else Misfit Syntax
-
 -- how many inputs the first row has
 abbrev pub state_width : List VStateRow → ℕ
 state_width [] = 0
@@ -125,24 +137,15 @@ state_width (row ∷ rows) = length row.inputs
 
 -- the row behind these is as long as the first of them
 abbrev pub is_as_long_as_state_rows : List VStateRow → VStateRow → Bool
-is_as_long_as_state_rows [] row = true
-is_as_long_as_state_rows (first ∷ rows) row = nat_eq (length row.inputs) (length first.inputs)
+is_as_long_as_state_rows = is_as_long (λ (row : VStateRow). length row.inputs)
 
 -- "(" SYMBOL { "," SYMBOL } ")", a row of a state's table, behind these rows
 unfoldable pub state_row : List VStateRow → Grammar (List VStateRow)
-state_row rows = do
-  _ ← expect (codes "(")
-  all ← symbols
-  row ← r.Token (row_end (is_as_long_as_state_rows rows) (state_row_of all)) Syntax
-  r.Gives (rows ++ row ∷ [])
+state_row rows = row_by symbols state_row_of (is_as_long_as_state_rows rows) rows
 
 -- the table of a state
 unfoldable pub state_table : Grammar VStateTable
-state_table = do
-  _ ← expect (codes "(")
-  rows ← elements state_row []
-  _ ← expect (codes ")")
-  r.Gives (record { rows = rows })
+state_table = table_of state_row (λ (rows : List VStateRow). record { rows = rows })
 
 -- a level of a row of a truth table, behind these
 unfoldable pub next_level : List Trits → Grammar (List Trits)
@@ -152,9 +155,7 @@ next_level levels = do
 
 -- LEVEL { "," LEVEL }
 unfoldable pub levels : Grammar (List Trits)
-levels = do
-  first ← next_level []
-  r.Many (λ _. begins (codes ",")) (λ found _. next_level found) first
+levels = entries next_level
 
 -- what a row of a truth table gives
 abbrev pub value_of : Trits → Option Trit
@@ -180,24 +181,15 @@ truth_width [] = 0
 truth_width (row ∷ rows) = length row.inputs
 
 abbrev pub is_as_long_as_truth_rows : List TruthRow → TruthRow → Bool
-is_as_long_as_truth_rows [] row = true
-is_as_long_as_truth_rows (first ∷ rows) row = nat_eq (length row.inputs) (length first.inputs)
+is_as_long_as_truth_rows = is_as_long (λ (row : TruthRow). length row.inputs)
 
 -- "(" LEVEL { "," LEVEL } ")", a row of a truth table, behind these rows
 unfoldable pub truth_row : List TruthRow → Grammar (List TruthRow)
-truth_row rows = do
-  _ ← expect (codes "(")
-  all ← levels
-  row ← r.Token (row_end (is_as_long_as_truth_rows rows) (truth_row_of all)) Syntax
-  r.Gives (rows ++ row ∷ [])
+truth_row rows = row_by levels truth_row_of (is_as_long_as_truth_rows rows) rows
 
 -- a truth table
 unfoldable pub truth_table : Grammar TruthTable
-truth_table = do
-  _ ← expect (codes "(")
-  rows ← elements truth_row []
-  _ ← expect (codes ")")
-  r.Gives (record { rows = rows })
+truth_table = table_of truth_row (λ (rows : List TruthRow). record { rows = rows })
 
 -- no table yet
 abbrev pub no_tables : Tables

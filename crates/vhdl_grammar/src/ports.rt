@@ -1,6 +1,6 @@
 //! The ports of an entity, with a list that finds a name at once.
 
-ghost use Rattle.std.specs.Prelude.{◌≡◌, [], ◌∷◌, ◌++◌, if◌then◌else◌, true, false, drop, IfOk, IfErr};
+ghost use Rattle.std.specs.Prelude.{◌≡◌, [], ◌∷◌, ◌++◌, if◌then◌else◌, true, false, drop, IfOk, IfErr, OnOk};
 ghost use Rattle.vhdl_tokens.specs.Tokens.{is_name};
 ghost use Rattle.vhdl_grammar.specs.VhdlRules.{is_among};
 ghost use Rattle.vhdl_grammar.specs.VhdlDeclarations.{port_names};
@@ -9,7 +9,7 @@ ghost use Rattle.vhdl_grammar.specs.Lowered.{all_lowered};
 
 use crate::language::Vhdl;
 use crate::listed::{NEAR, near};
-use bool_functions::Names;
+use crate::lowercase_names::LowercaseNames;
 use grammar_reader::{Language, Stop};
 use sqlite_items::Items;
 use std::alloc::{AllocError, Global};
@@ -23,7 +23,7 @@ use udp_tables::VPort;
 pub struct Ports {
     alloc: Global,
     ports: Items<VPort>,
-    far: Names,
+    far: LowercaseNames,
     outputs: Items<usize>,
 }
 
@@ -55,21 +55,18 @@ fn outputs_with(
 }
 
 /// Adds the name of one more port behind these to the list of those that are not compared one by one, where it is one of them.
-fn add_far(alloc: Global, far: &mut Names, ports: &[VPort], port: &VPort) -> Result<(), Stop>
+fn add_far(far: &mut LowercaseNames, ports: &[VPort], port: &VPort) -> Result<(), Stop>
     requires kept { far.old ≡ all_lowered (port_names (drop 16 ports.now)) }
     requires named { is_name port.now.name ≡ true }
     requires fresh { is_among (port_names ports.now) port.now.name ≡ false }
-    ensures added { IfOk result (λ _. far.new ≡ all_lowered (port_names (drop 16 (ports.now ++ port.now ∷ [])))) }
+    ensures added { OnOk result (far.new ≡ all_lowered (port_names (drop 16 (ports.now ++ port.now ∷ [])))) }
     ensures memory { IfErr result (λ stop. stop ≡ Stop.Memory) }
 {
     if ports.len() < NEAR {
         return Ok(());
     }
-    let lowered = port.name.as_slice().to_ascii_lowercase(alloc)?;
-    match far.add(&lowered) {
-        Ok(_) => Ok(()),
-        Err(_) => Err(Stop::Memory),
-    }
+    far.add(port.name.as_slice())?;
+    Ok(())
 }
 
 /// The number of the port with this name, looked for one after another.
@@ -97,7 +94,7 @@ impl Ports {
         Ports {
             alloc,
             ports: Items::new(alloc),
-            far: Names::new(alloc),
+            far: LowercaseNames::new(alloc),
             outputs: Items::new(alloc),
         }
     }
@@ -140,8 +137,8 @@ impl Ports {
         if self.ports.len() <= NEAR {
             return Ok(None);
         }
-        let lowered = name.to_ascii_lowercase(self.alloc)?;
-        match self.far.number(&lowered) {
+        let found = self.far.number(name)?;
+        match found {
             Some(number) => Ok(Some(NEAR + number)),
             None => Ok(None),
         }
@@ -169,7 +166,7 @@ impl Ports {
             mut far,
             outputs,
         } = self;
-        add_far(alloc, &mut far, ports.as_slice(), &port)?;
+        add_far(&mut far, ports.as_slice(), &port)?;
         let outputs = outputs_with(outputs, ports.len(), port.input)?;
         ports.push(port)?;
         Ok(Ports {

@@ -7,50 +7,62 @@ ghost use Rattle.vhdl_grammar.specs.VhdlOutputs as spec;
 
 use grammar_reader::{Read, RepeatedPart, one_or_more, where_read, while_next};
 use sqlite_items::Items;
+use std::marker::PhantomData;
 use std::mem::replace;
 use vhdl_grammar::entities::{HGate, HPath};
 use vhdl_grammar::{
     Cursor, Declarations, Uses, Vhdl, an_input, condition, expect_all, this_number, time,
 };
 
-/// The conditions so far that have to be 0, and the lists of the conditions that were looked up.
-type Zeros = (Items<usize>, Uses);
+/// Parts so far, and the lists of the conditions that were looked up.
+type Found<T> = (Items<T>, Uses);
 
-/// The paths of an output so far, and the lists of the conditions that were looked up.
-type Paths = (Items<HPath>, Uses);
+/// A part that stands behind others of its kind, and looks up conditions.
+trait LookingUp: Drop {
+    ghost use Rattle.std.specs.Prelude.{ℕ, List};
+    ghost use Rattle.grammar_rules.specs.Reading.{Outcome};
+    ghost use Rattle.grammar_reader.specs.declared.refusal.Refusal.{Refusal};
+    ghost use Rattle.grammar_reader.specs.Reading.{ReadsAs};
+    ghost use Rattle.vhdl_grammar.specs.declared.scope.Scope.{Scope};
+    ghost use Rattle.vhdl_grammar.specs.VhdlNames as names;
 
-/// A condition that has to be 0, which stands behind these then; the lists have its own, too.
-#[tactic(auto, unfolding(vhdl_grammar::specs::VhdlOutputs::next_zero))]
-fn zero(
-    cursor: &mut Cursor,
-    scope: &Declarations,
-    conditions: &mut Items<usize>,
-    uses: &mut Uses,
-) -> Read<()>
-    ensures { ReadsAs (λ _. (conditions.new, uses.new)) (read (spec.next_zero scope.now (conditions.old, uses.old)) cursor.old)
-        result cursor.new }
-{
-    cursor.expect(b"VitalTruthTable")?;
-    let number = condition(cursor, scope.alloc(), scope, uses)?;
-    expect_all(cursor, &[b"=", b"'0'"])?;
-    conditions.push(number)?;
-    Ok(())
+    ghost reading: { Scope → List Self × names.Uses → List (List ℕ) → Outcome (List ℕ) Refusal (List Self × names.Uses) };
+
+    /// Puts one more part behind these; the lists of the conditions have its own, too, then.
+    fn push_next(cursor: &mut Cursor, scope: &Declarations, found: &mut Found<Self>) -> Read<()>
+        ensures { ReadsAs (λ _. found.new) (reading scope.now found.old cursor.old) result cursor.new };
 }
 
-/// A condition that has to be 0.
+/// A part of these declarations.
 #[derive(Drop)]
-struct NextZero<'a>(&'a Declarations);
+struct Next<'a, P> {
+    scope: &'a Declarations,
+    part: PhantomData<P>,
+}
 
-impl RepeatedPart<Vhdl> for NextZero<'_> {
-    type Found = Zeros;
+impl<P: LookingUp> RepeatedPart<Vhdl> for Next<'_, P> {
+    type Found = Found<P>;
 
-    ghost reading = { λ zero found s. read (spec.next_zero zero.0.now found) s };
+    ghost reading = { λ next found s. P.reading next.scope.now found s };
 
     #[tactic(auto, using(grammar_reader::proofs::WithRest::reads_before))]
-    fn next(&self, cursor: &mut Cursor<'_>, before: Zeros) -> Read<Zeros> {
-        let (mut conditions, mut uses) = before;
-        let rest = zero(cursor, self.0, &mut conditions, &mut uses);
-        where_read((conditions, uses), rest)
+    fn next(&self, cursor: &mut Cursor<'_>, mut found: Found<P>) -> Read<Found<P>> {
+        let rest = P::push_next(cursor, self.scope, &mut found);
+        where_read(found, rest)
+    }
+}
+
+/// A condition that has to be 0, by its number.
+impl LookingUp for usize {
+    ghost reading = { λ scope found s. read (spec.next_zero scope found) s };
+
+    #[tactic(auto, unfolding(vhdl_grammar::specs::VhdlOutputs::next_zero))]
+    fn push_next(cursor: &mut Cursor, scope: &Declarations, zeros: &mut Found<usize>) -> Read<()> {
+        cursor.expect(b"VitalTruthTable")?;
+        let number = condition(cursor, scope.alloc(), scope, &mut zeros.1)?;
+        expect_all(cursor, &[b"=", b"'0'"])?;
+        zeros.0.push(number)?;
+        Ok(())
     }
 }
 
@@ -63,7 +75,11 @@ fn all_zero(cursor: &mut Cursor, scope: &Declarations, first: usize, uses: &mut 
     let mut conditions = Items::new(scope.alloc());
     conditions.push(first)?;
     let before = replace(uses, Items::new(scope.alloc()));
-    let (all, more) = while_next(cursor, b"and", &NextZero(scope), (conditions, before))?;
+    let next = Next::<usize> {
+        scope,
+        part: PhantomData,
+    };
+    let (all, more) = while_next(cursor, b"and", &next, (conditions, before))?;
     *uses = more;
     Ok(HGate::AllZero(all))
 }
@@ -117,47 +133,26 @@ fn path_number(cursor: &mut Cursor, paths: &[HPath]) -> Read<()>
     this_number(cursor, paths.len())
 }
 
-/// A path, which stands behind these then; the lists have those of its conditions, too.
-#[tactic(auto, unfolding(vhdl_grammar::specs::VhdlOutputs::next_path))]
-fn path(
-    cursor: &mut Cursor,
-    scope: &Declarations,
-    paths: &mut Items<HPath>,
-    uses: &mut Uses,
-) -> Read<()>
-    ensures { ReadsAs (λ _. (paths.new, uses.new)) (read (spec.next_path scope.now (paths.old, uses.old)) cursor.old) result
-        cursor.new }
-{
-    path_number(cursor, paths.as_slice())?;
-    expect_all(cursor, &[b"=>", b"("])?;
-    let from = an_input(cursor, scope.ports())?;
-    expect_all(cursor, &[b"'", b"last_event", b","])?;
-    let (rise, fall) = delays(cursor)?;
-    let gate = gate_of(cursor, scope, uses)?;
-    cursor.expect(b")")?;
-    paths.push(HPath {
-        from,
-        rise,
-        fall,
-        gate,
-    })?;
-    Ok(())
-}
+/// A path of an output.
+impl LookingUp for HPath {
+    ghost reading = { λ scope found s. read (spec.next_path scope found) s };
 
-/// A path, behind others.
-#[derive(Drop)]
-struct NextPath<'a>(&'a Declarations);
-
-impl RepeatedPart<Vhdl> for NextPath<'_> {
-    type Found = Paths;
-
-    ghost reading = { λ path found s. read (spec.next_path path.0.now found) s };
-
-    #[tactic(auto, using(grammar_reader::proofs::WithRest::reads_before))]
-    fn next(&self, cursor: &mut Cursor<'_>, before: Paths) -> Read<Paths> {
-        let (mut paths, mut uses) = before;
-        let rest = path(cursor, self.0, &mut paths, &mut uses);
-        where_read((paths, uses), rest)
+    #[tactic(auto, unfolding(vhdl_grammar::specs::VhdlOutputs::next_path))]
+    fn push_next(cursor: &mut Cursor, scope: &Declarations, paths: &mut Found<HPath>) -> Read<()> {
+        path_number(cursor, paths.0.as_slice())?;
+        expect_all(cursor, &[b"=>", b"("])?;
+        let from = an_input(cursor, scope.ports())?;
+        expect_all(cursor, &[b"'", b"last_event", b","])?;
+        let (rise, fall) = delays(cursor)?;
+        let gate = gate_of(cursor, scope, &mut paths.1)?;
+        cursor.expect(b")")?;
+        paths.0.push(HPath {
+            from,
+            rise,
+            fall,
+            gate,
+        })?;
+        Ok(())
     }
 }
 
@@ -169,7 +164,11 @@ pub fn paths(cursor: &mut Cursor, scope: &Declarations, uses: &mut Uses) -> Read
     cursor.expect(b"(")?;
     let before = replace(uses, Items::new(scope.alloc()));
     let none = (Items::new(scope.alloc()), before);
-    let (all, more) = one_or_more(cursor, b",", &NextPath(scope), none)?;
+    let next = Next::<HPath> {
+        scope,
+        part: PhantomData,
+    };
+    let (all, more) = one_or_more(cursor, b",", &next, none)?;
     *uses = more;
     cursor.expect(b")")?;
     Ok(all)

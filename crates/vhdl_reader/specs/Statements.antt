@@ -5,4 +5,4 @@ use Rattle.vhdl_declarations_reader.specs.vhdl_grammar.VhdlText.{entity_with}
 use Rattle.vhdl_reader.specs.declared.statements.Statements.{Statements}
 
 abbrev pub entity_of : Scope → Statements → VEntity
-entity_of scope read = entity_with scope read.checks read.columns read.values read.lines
+entity_of scope read = entity_with scope read.checks read.columns read.values (read.paths, read.uses)

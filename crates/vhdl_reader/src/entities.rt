@@ -4,19 +4,17 @@ ghost use Rattle.std.specs.Prelude.{◌≡◌, [], ◌∷◌, ◌++◌, IfOk, If
 ghost use Rattle.vhdl_declarations_reader.specs.vhdl_grammar.VhdlText.{entity_names};
 ghost use Rattle.vhdl_declarations_reader.specs.vhdl_grammar.Lowered.{HaveSame};
 
-use bool_functions::Names;
 use grammar_reader::{Read, Stop, where_read};
 use std::alloc::{AllocError, Global};
 use std::marker::Model;
 use vhdl_declarations_reader::entities::VEntity;
+use vhdl_declarations_reader::grammar::LowercaseNames;
 
-/// Entities in the order of their text. Contracts see the list of them. Beside them stand their names in lower case, since a name
-/// is the same whatever the case of its letters. (IEEE 1076-1993, 13.3.1.)
+/// Entities in the order of their text. Contracts see the list of them. Beside them stand their names in lower case.
 #[derive(Drop)]
 pub struct Entities {
-    alloc: Global,
     entities: Vec<VEntity>,
-    lowered: Names,
+    lowered: LowercaseNames,
 }
 
 impl Model for Entities {
@@ -34,9 +32,8 @@ impl Model for Entities {
 
 /// Puts an entity behind these, and its name in lower case behind these names.
 fn add_entity(
-    alloc: Global,
     entities: &mut Vec<VEntity>,
-    lowered: &mut Names,
+    lowered: &mut LowercaseNames,
     entity: VEntity,
 ) -> Read<()>
     requires { HaveSame lowered.old (entity_names entities.old.items) }
@@ -44,10 +41,7 @@ fn add_entity(
     ensures lowered { IfOk result (λ _. HaveSame lowered.new (entity_names entities.new.items)) }
     ensures memory { IfErr result (λ stop. stop ≡ Stop.Memory) }
 {
-    let name = entity.name.as_slice().to_ascii_lowercase(alloc)?;
-    let Ok(_) = lowered.add(&name) else {
-        return Err(Stop::Memory);
-    };
+    lowered.add(entity.name.as_slice())?;
     entities.push(entity)?;
     Ok(())
 }
@@ -63,9 +57,8 @@ impl Entities {
         ensures { result ≡ [] }
     {
         Entities {
-            alloc,
             entities: Vec::new(alloc),
-            lowered: Names::new(alloc),
+            lowered: LowercaseNames::new(alloc),
         }
     }
 
@@ -74,8 +67,8 @@ impl Entities {
         requires { is_name name.now ≡ true }
         ensures { IfOk result (λ taken. taken ≡ is_among (entity_names self.now) name.now) }
     {
-        let lowered = name.to_ascii_lowercase(self.alloc)?;
-        Ok(self.lowered.number(&lowered).is_some())
+        let found = self.lowered.number(name)?;
+        Ok(found.is_some())
     }
 
     /// These entities, and one more behind them.
@@ -84,17 +77,12 @@ impl Entities {
         ensures memory { IfErr result (λ stop. stop ≡ Stop.Memory) }
     {
         let Entities {
-            alloc,
             mut entities,
             mut lowered,
         } = self;
-        let rest = add_entity(alloc, &mut entities, &mut lowered, entity);
+        let rest = add_entity(&mut entities, &mut lowered, entity);
         let (entities, lowered) = where_read((entities, lowered), rest)?;
-        Ok(Entities {
-            alloc,
-            entities,
-            lowered,
-        })
+        Ok(Entities { entities, lowered })
     }
 
     /// The list of these entities.

@@ -76,13 +76,14 @@ fn behind_values(
         result cursor.new }
 {
     let Checks { checks, uses } = checked;
-    let lines = output_lines(cursor, scope, uses)?;
-    entity_end(cursor, scope, lines.1.as_slice())?;
+    let (paths, uses) = output_lines(cursor, scope, uses)?;
+    entity_end(cursor, scope, uses.as_slice())?;
     Ok(Statements {
         checks,
         columns,
         values,
-        lines,
+        paths,
+        uses,
     })
 }
 

@@ -104,9 +104,9 @@ pub fn entity_with(
         checks,
         columns,
         values,
-        lines,
+        paths,
+        uses,
     } = statements;
-    let (paths, uses) = lines;
     let inner = both(
         joined(alloc, states, columns),
         joined(alloc, conditions, uses),

@@ -1,4 +1,4 @@
-use Rattle.std.proofs.Common.{◌≡◌, ℕ, List, sym, ap, subst, ◌∙◌}
+use Rattle.std.proofs.Common.{◌≡◌, ℕ, List, sym, subst}
 use Rattle.bool_functions.specs.NameList.{Adds}
 use Rattle.vhdl_declarations_reader.specs.vital_tables.declared.model.VEntity.{VEntity}
 use Rattle.vhdl_tokens.specs.Kept.{lowered}
@@ -9,8 +9,8 @@ use Rattle.vhdl_reader.proofs.entities.add_entity.Goals as goal
 
 pub returns-clause-lowered : goal.returns-clause-lowered
 returns-clause-lowered c =
-    let same : c.deref.result.now ≡ lowered c.args.entity.name = c.deref.ensures.value ∙ c.in_ok-name.ensures.ok ∙ ap lowered c.as_slice.ensures in
     let added =
-    entity_added c.args.lowered.now c.add.new.self c.args.entities.now.items c.args.entity c.in-Ok.field-0
-    (subst (λ (x : List ℕ). Adds c.args.lowered.now x c.in-Ok.field-0 c.add.new.self) same c.in-Ok.ensures.added) c.requires in
+    entity_added c.args.lowered.now c.add.new.self c.args.entities.now.items c.args.entity c.in_ok-add.field-0
+    (subst (λ (x : List ℕ). Adds c.args.lowered.now (lowered x) c.in_ok-add.field-0 c.add.new.self) c.as_slice.ensures
+    c.in_ok-add.ensures.added) c.requires in
     subst (λ (entities : List VEntity). HaveSame c.add.new.self (entity_names entities)) (sym c.in_ok-push.ensures.items) added

@@ -1,8 +1,6 @@
 use Rattle.std.proofs.Common.{◌≡◌, List, ap, ◌∙◌}
 use Rattle.std.specs.Option.{is_some}
-use Rattle.bool_functions.specs.NameList.{number_of}
 use Rattle.vhdl_declarations_reader.specs.vital_tables.declared.model.VEntity.{VEntity}
-use Rattle.vhdl_tokens.specs.Kept.{lowered}
 use Rattle.vhdl_declarations_reader.specs.vhdl_grammar.VhdlRules.{is_among}
 use Rattle.vhdl_declarations_reader.specs.vhdl_grammar.VhdlText.{entity_names}
 use Rattle.vhdl_declarations_reader.proofs.vhdl_grammar.LoweredNames.{found_among}
@@ -10,7 +8,6 @@ use Rattle.vhdl_reader.proofs.entities.Entities.has.Goals as goal
 
 pub returns : goal.returns
 returns c =
-    let same : c.deref.result.now ≡ lowered c.args.name.now = c.deref.ensures.value ∙ c.in_ok-lowered.ensures.ok in
-    c.is_some.ensures ∙ ap is_some (c.number.ensures ∙ ap (number_of c.self.inside.lowered) same)
+    c.is_some.ensures ∙ ap is_some c.in_ok-found.ensures
     ∙ found_among c.self.inside.lowered (entity_names c.self.inside.entities.items) c.args.name.now c.self.invariant c.requires
     ∙ ap (λ (entities : List VEntity). is_among (entity_names entities) c.args.name.now) c.self.view_is

@@ -57,12 +57,12 @@ fn toggled(notifier: Trit) -> Trit
     }
 }
 
-/// A run of a module, with what its instances drive and with room for the values of the nets that feed one of them.
+/// A run of a module, with what its instances drive.
 #[derive(Drop)]
 pub struct ModuleState {
     /// What each instance drives, X where it has a state.
     pub kept: Items<Trit>,
-    /// The room.
+    /// Place for the values of the nets that feed one instance.
     pub room: Items<Trit>,
     /// The run.
     pub run: ModuleRun,

@@ -38,8 +38,8 @@ pub struct VerilogSim<'a> {
 }
 
 impl<'a> VerilogSim<'a> {
-    /// The simulator of a sound module before any change, by what is known of it there: all inputs, states and the register of the
-    /// checks are unknown.
+    /// The simulator of a sound module before any change, by what is known of it there: all inputs, states and the register of
+    /// the checks are unknown.
     pub fn start_by(
         alloc: Global,
         model: &'a VModule,

@@ -1,7 +1,7 @@
 //! Theorems on the definitions, for the proofs of other crates. The functions do nothing.
 
-ghost use Rattle.audited_modules.specs.Laws.{MatchingModulesFit, AuditedModulesAgree, DifferencesAreUnlike};
-ghost use Rattle.audited_modules.specs.Laws.{GeneratedModulesMatch, GeneratedModulesAreSame};
+ghost use Rattle.audited_modules.specs.Laws.{MatchingModulesFit, AuditedModulesAgree};
+ghost use Rattle.audited_modules.specs.Laws.{GeneratedModulesMatch, GeneratedModulesAreSame, DifferencesAreUnlike};
 
 /// A sound module that matches a cell fits it.
 pub fn matching_modules_fit()

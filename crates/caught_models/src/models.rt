@@ -43,10 +43,10 @@ pub fn is_entity_caught(
     entity: &VEntity,
     changes: &[Change],
 ) -> Result<bool, AllocError>
+    requires proper { IsProperFrom (inputs_of (data_of cell.now)) [] changes.now }
     requires sound { entities.IsSound entity.now }
     requires inputs { inputs_of (data_of cell.now) ≡ input_count entity.now.ports }
     requires outputs { length cell.now.outputs ≡ length entity.now.outputs }
-    requires proper { IsProperFrom (inputs_of (data_of cell.now)) [] changes.now }
     ensures { IfOk result (λ caught. caught ≡ is_caught (cell_trace (data_of cell.now) changes.now)
         (entity_trace entity.now changes.now)) }
 {

@@ -43,9 +43,6 @@ module _ (d : CellData) (e : VEntity) (fits : EntityFits d e) where
   run-is : (h : List Change) → (process_after e h).inputs ≡ inputs_after n h
   run-is h = process-inputs e h ∙ ap (λ k. inputs_after k h) fits.inputs
 
-  times-are : (h : List Change) → (process_after e h).times ≡ map (last_times e.ports n h) e.checks
-  times-are h = process-times e h ∙ ap (λ k. map (last_times e.ports k h) e.checks) fits.inputs
-
   report-same :
       (c : Change) (h : List Change) (k : Check) (j : TimingCheck)
       → FitsCheck d e k j
@@ -58,6 +55,9 @@ module _ (d : CellData) (e : VEntity) (fits : EntityFits d e) where
       λ i.
       happens (second i) a c
       && (f.enabled (inputs_after n (c ∷ h)) (length-inputs n (c ∷ h)) i && is_within c.at (f.measures.limit i) (opens i))
+
+  times-are : (h : List Change) → (process_after e h).times ≡ map (last_times e.ports n h) e.checks
+  times-are h = process-times e h ∙ ap (λ k. map (last_times e.ports k h) e.checks) fits.inputs
 
   -- the reports at an event
   event-reports : (h : List Change) (c : Change) → reports_at e (process_after e h) c ≡ reports_of d (c ∷ h)
@@ -126,13 +126,13 @@ module _ (d : CellData) (e : VEntity) (fits : EntityFits d e) where
   delay-tied :
       (h : List Change) → IsProper n h → (output : OutputPin) (o : VOutput) → FitsOutput d e output o
       → delay_after e h o ≡ cell.delay_after d h output
-  delay-tied [] proper output o f = refl
   delay-tied (c ∷ h) proper output o f =
       let was : output_after e h o ≡ cell.output_after d h output = output-tied h proper.2 output o f in
       let now : output_after e (c ∷ h) o ≡ cell.output_after d (c ∷ h) output = output-tied (c ∷ h) proper output o f in
       let paths =
       ap (λ v. paths_from e v c.pin o) (run-is (c ∷ h)) ∙ f.paths (inputs_after n (c ∷ h)) c.pin (length-inputs n (c ∷ h)) in
       λ i. if same (was i) (now i) then None else Some (least_delay (was i) (now i) (paths i))
+  delay-tied [] proper output o f = refl
 
   pub traces-agree : (cs : List Change) → IsProperFrom n [] cs → entity_trace e cs ≡ cell_trace d cs
   traces-agree =

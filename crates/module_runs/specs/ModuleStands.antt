@@ -7,7 +7,7 @@ use Rattle.run_parts.specs.declared.shown.ShownPort.{ShownPort}
 use Rattle.model_traces.specs.PortNumbers.{input_count, output_ports}
 use Rattle.model_traces.specs.ModuleRun.{HasEach, run_after}
 use Rattle.model_traces.specs.ModuleTrace.{output_after, delay_after, reports_after}
-use Rattle.trit_cubes.specs.declared.trits.Trit.{Trit}
+use Rattle.module_runs.specs.declared.module_run.ModuleState.{ModuleState}
 use Rattle.module_runs.specs.Wiring.{is_wired}
 use Rattle.module_runs.specs.KeptValues.{kept_values}
 pub use Rattle.model_traces.specs.ModuleTrace.{module_machine}
@@ -17,13 +17,16 @@ pub use Rattle.model_traces.specs.ModuleSized.{module_sized}
 abbrev pub shown_after : VModule → List Change → ℕ → ShownPort
 shown_after m h p = record { port = p; value = output_after m h p; delay = delay_after m h p }
 
--- A run of a module, with what its instances drive, with the reports of its checks and with room for the values of the nets that
--- feed any instance.
-pub record IsReady (m : VModule) (run : ModuleRun) (kept : List Trit) (reports : List Bool) (room : ℕ) : Type 0 where
-  pub wired : IsTrue (is_wired room m)
-  pub current : kept ≡ kept_values m run.inputs run.states
-  pub each_input : length run.inputs ≡ input_count m.ports
-  pub one_each : HasEach m run
+-- A run of a module stands with what its instances drive, and with room for the values of the nets that feed any instance.
+pub record IsCurrent (m : VModule) (state : ModuleState) : Type 0 where
+  pub wired : IsTrue (is_wired (length state.room) m)
+  pub kept_are : state.kept ≡ kept_values m state.run.inputs state.run.states
+  pub one_each : HasEach m state.run
+
+-- The same, with a value for each input and a report of each check.
+pub record IsReady (m : VModule) (state : ModuleState) (reports : List Bool) : Type 0 where
+  pub current : IsCurrent m state
+  pub each_input : length state.run.inputs ≡ input_count m.ports
   pub one_report : length reports ≡ length m.checks
 
 -- The simulator of a module stands after a history: its fields are what the run gives there.

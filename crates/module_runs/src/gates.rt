@@ -1,8 +1,8 @@
 //! The gates of a module's paths: the wires by which `if` paths are active, and the instances that drive them.
 ghost use Rattle.std.specs.Prelude.{◌≡◌, ◌<◌, false, length, slice_get, slice_index_or, Some, replicate, IfOk};
-ghost use Rattle.specify_blocks.specs.declared.model.VPath.{VPath as VPathOf};
 ghost use Rattle.specify_blocks.specs.declared.model.Instance.{Instance as InstanceOf};
 ghost use Rattle.specify_blocks.specs.Nets.{has_state};
+ghost use Rattle.specify_blocks.specs.declared.model.VPath.{VPath as VPathOf};
 ghost use Rattle.module_runs.specs.NetDrivers.{AreDrivers};
 ghost use Rattle.module_runs.specs.Gates.{IsGate, AreGates, gate_zero};
 

@@ -44,7 +44,7 @@ impl ModuleIndex {
         let masks = masks_of_all(alloc, model.udps.as_slice())?;
         let numbers = input_numbers(alloc, model.ports.as_slice())?;
         let drivers = Drivers::of(alloc, model)?;
-        let paths = paths_by_output(alloc, model.ports.len(), model.paths.as_slice())?;
+        let paths = paths_by_output(alloc, model.paths.as_slice(), model.ports.len())?;
         let ports = Ports {
             list: model.ports.as_slice(),
             numbers: numbers.as_slice(),

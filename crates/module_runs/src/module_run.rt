@@ -1,10 +1,11 @@
-//! How a change of an input takes the run of a module on. `room` has place for the values of the nets that feed one instance.
-ghost use Rattle.std.specs.Prelude.{◌≡◌, ◌<◌, false, List, [], ◌∷◌, length, slice_set, IsTrue, IfOk};
-ghost use Rattle.trit_cubes.specs.declared.trits.Trit.{Trit};
+//! How a change of an input takes the run of a module on.
+ghost use Rattle.std.specs.Prelude.{◌≡◌, ◌<◌, false, All, List, [], ◌∷◌, length, slice_set, IsTrue, IfOk};
 ghost use Rattle.module_runs.specs.Wiring.{is_wired};
 ghost use Rattle.module_runs.specs.Gates.{gate_zeros};
-ghost use Rattle.module_runs.specs.KeptValues.{kept_values};
-ghost use Rattle.module_runs.specs.ModuleStands.{IsReady};
+ghost use Rattle.trit_cubes.specs.declared.trits.Trit.{Trit};
+ghost use Rattle.module_runs.specs.KeptValues.{kept_value, kept_values};
+ghost use Rattle.module_runs.specs.ModuleStands.{IsCurrent, IsReady};
+ghost use Rattle.run_parts.specs.Places.{FindsAnew};
 ghost use Rattle.cell_machine.specs.History.{value_before};
 ghost use Rattle.model_traces.specs.Primitives.{next_states};
 ghost use Rattle.model_traces.specs.PortNumbers.{input_count};
@@ -56,201 +57,229 @@ fn toggled(notifier: Trit) -> Trit
     }
 }
 
-/// The primitives that see a change take their next states. It answers whether some state changed.
-fn turn_states(
-    run: &mut ModuleRun,
-    tables: &ModuleTables,
-    turn: Turn,
-    room: &mut Items<Trit>,
-) -> bool
-    requires wired { IsTrue (is_wired (length room.old) tables.now.model.now) }
-    requires one_each { HasEach tables.now.model.now run.old }
-    ensures stepped { run.new ≡ record {
-      inputs = run.old.inputs;
-      states =
-          next_states tables.now.model.now run.old.inputs run.old.notifier turn run.old.states;
-      notifier =
-          run.old.notifier;
-      stamps = run.old.stamps;
-    } }
-    ensures still { result ≡ false → run.new.states ≡ run.old.states }
-    ensures one_each { HasEach tables.now.model.now run.new }
-    ensures len { length room.new ≡ length room.old }
-{
-    step_states(
-        tables,
-        run.inputs.as_slice(),
-        run.notifier,
-        turn,
-        &mut run.states,
-        room,
-    )
+/// A run of a module, with what its instances drive.
+#[derive(Drop)]
+pub struct ModuleState {
+    /// What each instance drives, X where it has a state.
+    pub kept: Items<Trit>,
+    /// Place for the values of the nets that feed one instance.
+    pub room: Items<Trit>,
+    /// The run.
+    pub run: ModuleRun,
 }
 
-/// What states feed is found anew where some state changed. Before, what is kept was so for the same inputs. It answers whether a
-/// gate changed between 0 and not 0.
-fn find_fed_where_changed(
-    changed: bool,
-    run: &ModuleRun,
-    kept: &mut Items<Trit>,
-    tables: &ModuleTables,
-    room: &mut Items<Trit>,
-) -> bool
-    requires wired { IsTrue (is_wired (length room.old) tables.now.model.now) }
-    requires one_each { length kept.old ≡ length tables.now.model.now.instances }
-    requires still { changed ≡ false → kept.old ≡ kept_values tables.now.model.now run.now.inputs run.now.states }
-    ensures current { (before : List Trit) → kept.old ≡ kept_values tables.now.model.now run.now.inputs before
-        → kept.new ≡ kept_values tables.now.model.now run.now.inputs run.now.states }
-    ensures still { result ≡ false → gate_zeros tables.now.index.now.gates.places kept.new
-        ≡ gate_zeros tables.now.index.now.gates.places kept.old }
-    ensures len { length room.new ≡ length room.old }
-{
-    if !changed {
-        return false;
+impl ModuleState {
+    /// The primitives that see a change take their next states. It answers whether some state changed.
+    fn turn_states(&mut self, tables: &ModuleTables, turn: Turn) -> bool
+        requires wired { IsTrue (is_wired (length self.old.room) tables.now.model.now) }
+        requires one_each { HasEach tables.now.model.now self.old.run }
+        ensures stepped { self.new.run ≡ record {
+          inputs = self.old.run.inputs;
+          states =
+              next_states tables.now.model.now self.old.run.inputs self.old.run.notifier turn self.old.run.states;
+          notifier =
+              self.old.run.notifier;
+          stamps = self.old.run.stamps;
+        } }
+        ensures still { result ≡ false → self.new.run.states ≡ self.old.run.states }
+        ensures one_each { HasEach tables.now.model.now self.new.run }
+        ensures kept { self.new.kept ≡ self.old.kept }
+        ensures len { length self.new.room ≡ length self.old.room }
+    {
+        step_states(
+            tables,
+            self.run.inputs.as_slice(),
+            self.run.notifier,
+            turn,
+            &mut self.run.states,
+            &mut self.room,
+        )
     }
-    let values = ModuleStates {
-        tables: *tables,
-        inputs: run.inputs.as_slice(),
-        states: run.states.as_slice(),
-    };
-    find_anew(&values, tables.fed_by_states(), kept, room)
-}
 
-/// The input takes its value, and what it feeds is found anew. It answers whether a gate changed between 0 and not 0.
-fn set_input(
-    run: &mut ModuleRun,
-    kept: &mut Items<Trit>,
-    tables: &ModuleTables,
-    change: Change,
-    room: &mut Items<Trit>,
-) -> bool
-    requires wired { IsTrue (is_wired (length room.old) tables.now.model.now) }
-    requires current { kept.old ≡ kept_values tables.now.model.now run.old.inputs run.old.states }
-    requires inside { change.pin < length run.old.inputs }
-    ensures changed { run.new ≡ record {
-      inputs = slice_set run.old.inputs change.pin change.to;
-      states = run.old.states;
-      notifier =
-          run.old.notifier;
-      stamps = run.old.stamps;
-    } }
-    ensures current { kept.new ≡ kept_values tables.now.model.now run.new.inputs run.new.states }
-    ensures still { result ≡ false → gate_zeros tables.now.index.now.gates.places kept.new
-        ≡ gate_zeros tables.now.index.now.gates.places kept.old }
-    ensures len { length room.new ≡ length room.old }
-{
-    run.inputs.set(change.pin, change.to);
-    let values = ModuleStates {
-        tables: *tables,
-        inputs: run.inputs.as_slice(),
-        states: run.states.as_slice(),
-    };
-    let places = tables.fed_by(Turned::Input(change.pin));
-    find_anew(&values, places, kept, room)
-}
-
-/// The input takes its value, what it feeds is found anew, and the primitives with a state that it feeds take their next states.
-/// It answers whether a gate changed between 0 and not 0.
-fn change_input(
-    run: &mut ModuleRun,
-    kept: &mut Items<Trit>,
-    tables: &ModuleTables,
-    change: Change,
-    from: Trit,
-    room: &mut Items<Trit>,
-) -> bool
-    requires wired { IsTrue (is_wired (length room.old) tables.now.model.now) }
-    requires one_each { HasEach tables.now.model.now run.old }
-    requires current { kept.old ≡ kept_values tables.now.model.now run.old.inputs run.old.states }
-    requires inside { change.pin < length run.old.inputs }
-    requires from { from ≡ value_before run.old.inputs change }
-    ensures stepped { run.new ≡ entered tables.now.model.now run.old change }
-    ensures one_each { HasEach tables.now.model.now run.new }
-    ensures current { kept.new ≡ kept_values tables.now.model.now run.new.inputs run.new.states }
-    ensures still { result ≡ false → gate_zeros tables.now.index.now.gates.places kept.new
-        ≡ gate_zeros tables.now.index.now.gates.places kept.old }
-    ensures len { length room.new ≡ length room.old }
-{
-    let by_input = set_input(run, kept, tables, change, room);
-    let turn = Turn {
-        what: Turned::Input(change.pin),
-        from,
-    };
-    let changed = turn_states(run, tables, turn, room);
-    let by_states = find_fed_where_changed(changed, run, kept, tables, room);
-    either(by_input, by_states)
-}
-
-/// The register of the checks changes once. It answers whether some state changed.
-fn toggle_notifier(run: &mut ModuleRun, tables: &ModuleTables, room: &mut Items<Trit>) -> bool
-    requires wired { IsTrue (is_wired (length room.old) tables.now.model.now) }
-    requires one_each { HasEach tables.now.model.now run.old }
-    ensures stepped { run.new ≡ notified tables.now.model.now run.old }
-    ensures one_each { HasEach tables.now.model.now run.new }
-    ensures inputs { run.new.inputs ≡ run.old.inputs }
-    ensures still { result ≡ false → run.new.states ≡ run.old.states }
-    ensures len { length room.new ≡ length room.old }
-{
-    let turn = Turn {
-        what: Turned::Notifier,
-        from: run.notifier,
-    };
-    run.notifier = toggled(run.notifier);
-    turn_states(run, tables, turn, room)
-}
-
-/// The register changes where a check reported, and what states feed is found anew. It answers whether a gate changed
-/// between 0 and not 0.
-fn toggle_where_reported(
-    run: &mut ModuleRun,
-    kept: &mut Items<Trit>,
-    tables: &ModuleTables,
-    reported: bool,
-    room: &mut Items<Trit>,
-) -> bool
-    requires wired { IsTrue (is_wired (length room.old) tables.now.model.now) }
-    requires one_each { HasEach tables.now.model.now run.old }
-    requires current { kept.old ≡ kept_values tables.now.model.now run.old.inputs run.old.states }
-    ensures stepped { run.new ≡ shaken tables.now.model.now (reported ∷ []) run.old }
-    ensures one_each { HasEach tables.now.model.now run.new }
-    ensures current { kept.new ≡ kept_values tables.now.model.now run.new.inputs run.new.states }
-    ensures inputs { run.new.inputs ≡ run.old.inputs }
-    ensures still { result ≡ false → gate_zeros tables.now.index.now.gates.places kept.new
-        ≡ gate_zeros tables.now.index.now.gates.places kept.old }
-    ensures len { length room.new ≡ length room.old }
-{
-    if !reported {
-        return false;
+    /// What these instances drive is found anew. It answers whether a gate changed between 0 and not 0.
+    fn find_places_anew(&mut self, tables: &ModuleTables, places: &[usize]) -> bool
+        requires wired { IsTrue (is_wired (length self.old.room) tables.now.model.now) }
+        requires inside { All (λ place. place < length tables.now.model.now.instances) places.now }
+        requires one_each { length self.old.kept ≡ length tables.now.model.now.instances }
+        ensures anew { FindsAnew (kept_value tables.now.model.now self.old.run.inputs self.old.run.states)
+            tables.now.model.now.instances places.now self.old.kept self.new.kept }
+        ensures run { self.new.run ≡ self.old.run }
+        ensures still { result ≡ false → gate_zeros tables.now.index.now.gates.places self.new.kept
+            ≡ gate_zeros tables.now.index.now.gates.places self.old.kept }
+        ensures len { length self.new.room ≡ length self.old.room }
+    {
+        let values = ModuleStates {
+            tables: *tables,
+            inputs: self.run.inputs.as_slice(),
+            states: self.run.states.as_slice(),
+        };
+        find_anew(&values, places, &mut self.kept, &mut self.room)
     }
-    let changed = toggle_notifier(run, tables, room);
-    find_fed_where_changed(changed, run, kept, tables, room)
-}
 
-/// The register changes once for each report. It answers whether a gate changed between 0 and not 0.
-fn toggle_for_each(
-    run: &mut ModuleRun,
-    kept: &mut Items<Trit>,
-    tables: &ModuleTables,
-    reports: &[bool],
-    room: &mut Items<Trit>,
-) -> bool
-    requires wired { IsTrue (is_wired (length room.old) tables.now.model.now) }
-    requires one_each { HasEach tables.now.model.now run.old }
-    requires current { kept.old ≡ kept_values tables.now.model.now run.old.inputs run.old.states }
-    ensures stepped { run.new ≡ shaken tables.now.model.now reports.now run.old }
-    ensures one_each { HasEach tables.now.model.now run.new }
-    ensures current { kept.new ≡ kept_values tables.now.model.now run.new.inputs run.new.states }
-    ensures inputs { run.new.inputs ≡ run.old.inputs }
-    ensures still { result ≡ false → gate_zeros tables.now.index.now.gates.places kept.new
-        ≡ gate_zeros tables.now.index.now.gates.places kept.old }
-    ensures len { length room.new ≡ length room.old }
-{
-    let mut changed = false;
-    for i in 0..reports.len() {
-        let turned = toggle_where_reported(run, kept, tables, reports[i], room);
-        changed = either(changed, turned);
+    /// What states feed is found anew where some state changed. Before, what is kept was so for the same inputs. It answers
+    /// whether a gate changed between 0 and not 0.
+    fn find_fed_where_changed(&mut self, tables: &ModuleTables, changed: bool) -> bool
+        requires wired { IsTrue (is_wired (length self.old.room) tables.now.model.now) }
+        requires one_each { length self.old.kept ≡ length tables.now.model.now.instances }
+        requires still { changed ≡ false
+            → self.old.kept ≡ kept_values tables.now.model.now self.old.run.inputs self.old.run.states }
+        ensures current { (before : List Trit) → self.old.kept ≡ kept_values tables.now.model.now self.old.run.inputs before
+            → self.new.kept ≡ kept_values tables.now.model.now self.old.run.inputs self.old.run.states }
+        ensures run { self.new.run ≡ self.old.run }
+        ensures still { result ≡ false → gate_zeros tables.now.index.now.gates.places self.new.kept
+            ≡ gate_zeros tables.now.index.now.gates.places self.old.kept }
+        ensures len { length self.new.room ≡ length self.old.room }
+    {
+        if !changed {
+            return false;
+        }
+        self.find_places_anew(tables, tables.fed_by_states())
     }
-    changed
+
+    /// The input takes its value, and what it feeds is found anew. It answers whether a gate changed between 0 and not 0.
+    fn set_input(&mut self, tables: &ModuleTables, change: Change) -> bool
+        requires wired { IsTrue (is_wired (length self.old.room) tables.now.model.now) }
+        requires current { self.old.kept ≡ kept_values tables.now.model.now self.old.run.inputs self.old.run.states }
+        requires inside { change.pin < length self.old.run.inputs }
+        ensures changed { self.new.run ≡ record {
+          inputs = slice_set self.old.run.inputs change.pin change.to;
+          states = self.old.run.states;
+          notifier =
+              self.old.run.notifier;
+          stamps = self.old.run.stamps;
+        } }
+        ensures current { self.new.kept ≡ kept_values tables.now.model.now (slice_set self.old.run.inputs change.pin change.to)
+            self.old.run.states }
+        ensures still { result ≡ false → gate_zeros tables.now.index.now.gates.places self.new.kept
+            ≡ gate_zeros tables.now.index.now.gates.places self.old.kept }
+        ensures len { length self.new.room ≡ length self.old.room }
+    {
+        self.run.inputs.set(change.pin, change.to);
+        self.find_places_anew(tables, tables.fed_by(Turned::Input(change.pin)))
+    }
+
+    /// The input takes its value, what it feeds is found anew, and the primitives with a state that it feeds take their next
+    /// states. It answers whether a gate changed between 0 and not 0.
+    fn change_input(&mut self, tables: &ModuleTables, change: Change, from: Trit) -> bool
+        requires current { IsCurrent tables.now.model.now self.old }
+        requires inside { change.pin < length self.old.run.inputs }
+        requires from { from ≡ value_before self.old.run.inputs change }
+        ensures stepped { self.new.run ≡ entered tables.now.model.now self.old.run change }
+        ensures current { IsCurrent tables.now.model.now self.new }
+        ensures still { result ≡ false → gate_zeros tables.now.index.now.gates.places self.new.kept
+            ≡ gate_zeros tables.now.index.now.gates.places self.old.kept }
+    {
+        let by_input = self.set_input(tables, change);
+        let turn = Turn {
+            what: Turned::Input(change.pin),
+            from,
+        };
+        let changed = self.turn_states(tables, turn);
+        let by_states = self.find_fed_where_changed(tables, changed);
+        either(by_input, by_states)
+    }
+
+    /// The register of the checks changes once. It answers whether some state changed.
+    fn toggle_notifier(&mut self, tables: &ModuleTables) -> bool
+        requires wired { IsTrue (is_wired (length self.old.room) tables.now.model.now) }
+        requires one_each { HasEach tables.now.model.now self.old.run }
+        ensures stepped { self.new.run ≡ notified tables.now.model.now self.old.run }
+        ensures one_each { HasEach tables.now.model.now self.new.run }
+        ensures inputs { self.new.run.inputs ≡ self.old.run.inputs }
+        ensures still { result ≡ false → self.new.run.states ≡ self.old.run.states }
+        ensures kept { self.new.kept ≡ self.old.kept }
+        ensures len { length self.new.room ≡ length self.old.room }
+    {
+        let turn = Turn {
+            what: Turned::Notifier,
+            from: self.run.notifier,
+        };
+        self.run.notifier = toggled(self.run.notifier);
+        self.turn_states(tables, turn)
+    }
+
+    /// The register changes where a check reported, and what states feed is found anew. It answers whether a gate changed
+    /// between 0 and not 0.
+    fn toggle_where_reported(&mut self, tables: &ModuleTables, reported: bool) -> bool
+        requires { IsCurrent tables.now.model.now self.old }
+        ensures stepped { self.new.run ≡ shaken tables.now.model.now (reported ∷ []) self.old.run }
+        ensures current { IsCurrent tables.now.model.now self.new }
+        ensures inputs { self.new.run.inputs ≡ self.old.run.inputs }
+        ensures still { result ≡ false → gate_zeros tables.now.index.now.gates.places self.new.kept
+            ≡ gate_zeros tables.now.index.now.gates.places self.old.kept }
+    {
+        if !reported {
+            return false;
+        }
+        let changed = self.toggle_notifier(tables);
+        self.find_fed_where_changed(tables, changed)
+    }
+
+    /// The register changes once for each report. It answers whether a gate changed between 0 and not 0.
+    fn toggle_for_each(&mut self, tables: &ModuleTables, reports: &[bool]) -> bool
+        requires { IsCurrent tables.now.model.now self.old }
+        ensures stepped { self.new.run ≡ shaken tables.now.model.now reports.now self.old.run }
+        ensures current { IsCurrent tables.now.model.now self.new }
+        ensures inputs { self.new.run.inputs ≡ self.old.run.inputs }
+        ensures still { result ≡ false → gate_zeros tables.now.index.now.gates.places self.new.kept
+            ≡ gate_zeros tables.now.index.now.gates.places self.old.kept }
+    {
+        let mut changed = false;
+        for i in 0..reports.len() {
+            let turned = self.toggle_where_reported(tables, reports[i]);
+            changed = either(changed, turned);
+        }
+        changed
+    }
+
+    /// Takes the run over an event, and writes which checks report. It answers whether a gate changed between 0 and not 0.
+    fn step_event(
+        &mut self,
+        tables: &ModuleTables,
+        change: Change,
+        from: Trit,
+        reports: &mut Items<bool>,
+    ) -> bool
+        requires ready { IsReady tables.now.model.now self.old reports.old }
+        requires inside { change.pin < length self.old.run.inputs }
+        requires from { from ≡ value_before self.old.run.inputs change }
+        ensures stepped { self.new.run ≡ happened tables.now.model.now self.old.run change }
+        ensures reports { reports.new ≡ reports_at tables.now.model.now self.old.run change }
+        ensures still { result ≡ false → gate_zeros tables.now.index.now.gates.places self.new.kept
+            ≡ gate_zeros tables.now.index.now.gates.places self.old.kept }
+        ensures ready { IsReady tables.now.model.now self.new reports.new }
+    {
+        let by_input = self.change_input(tables, change, from);
+        let kept = self.kept.as_slice();
+        compare_checks(&mut self.run, kept, tables, change, from, reports);
+        let by_reports = self.toggle_for_each(tables, reports.as_slice());
+        either(by_input, by_reports)
+    }
+
+    /// Takes the run over a change of an input, and writes which checks report. It answers whether a gate changed between 0 and
+    /// not 0.
+    pub(crate) fn step(
+        &mut self,
+        tables: &ModuleTables,
+        change: Change,
+        reports: &mut Items<bool>,
+    ) -> bool
+        requires ready { IsReady tables.now.model.now self.old reports.old }
+        requires inside { change.pin < length self.old.run.inputs }
+        ensures stepped { self.new.run ≡ run_step tables.now.model.now self.old.run change }
+        ensures reports { reports.new ≡ step_reports tables.now.model.now self.old.run change }
+        ensures still { result ≡ false → gate_zeros tables.now.index.now.gates.places self.new.kept
+            ≡ gate_zeros tables.now.index.now.gates.places self.old.kept }
+        ensures ready { IsReady tables.now.model.now self.new reports.new }
+    {
+        let from = self.run.inputs.as_slice()[change.pin];
+        if from == change.to {
+            clear(reports);
+            false
+        } else {
+            self.step_event(tables, change, from, reports)
+        }
+    }
 }
 
 /// Writes which checks report at a change, and takes the times that they keep over it.
@@ -276,65 +305,12 @@ fn compare_checks(
         states: run.states.as_slice(),
         kept,
     };
-    let ports = tables.ports();
     let seen = InputChange {
-        ports,
+        ports: tables.ports(),
         from,
         change,
     };
     let checks = tables.model.checks.as_slice();
     compare_all(&values, &seen, checks, run.stamps.as_slice(), reports);
     stamp_all(&seen, checks, &mut run.stamps);
-}
-
-/// Takes the run over an event, and writes which checks report. It answers whether a gate changed between 0 and not 0.
-fn step_event(
-    run: &mut ModuleRun,
-    kept: &mut Items<Trit>,
-    tables: &ModuleTables,
-    change: Change,
-    from: Trit,
-    reports: &mut Items<bool>,
-    room: &mut Items<Trit>,
-) -> bool
-    requires ready { IsReady tables.now.model.now run.old kept.old reports.old (length room.old) }
-    requires inside { change.pin < length run.old.inputs }
-    requires from { from ≡ value_before run.old.inputs change }
-    ensures stepped { run.new ≡ happened tables.now.model.now run.old change }
-    ensures reports { reports.new ≡ reports_at tables.now.model.now run.old change }
-    ensures still { result ≡ false → gate_zeros tables.now.index.now.gates.places kept.new
-        ≡ gate_zeros tables.now.index.now.gates.places kept.old }
-    ensures ready { IsReady tables.now.model.now run.new kept.new reports.new (length room.new) }
-{
-    let by_input = change_input(run, kept, tables, change, from, room);
-    compare_checks(run, kept.as_slice(), tables, change, from, reports);
-    let by_reports = toggle_for_each(run, kept, tables, reports.as_slice(), room);
-    either(by_input, by_reports)
-}
-
-/// Takes the run over a change of an input, and writes which checks report. `kept` has what each instance without a state drives.
-/// It answers whether a gate changed between 0 and not 0.
-pub(crate) fn step_run(
-    run: &mut ModuleRun,
-    kept: &mut Items<Trit>,
-    tables: &ModuleTables,
-    change: Change,
-    reports: &mut Items<bool>,
-    room: &mut Items<Trit>,
-) -> bool
-    requires ready { IsReady tables.now.model.now run.old kept.old reports.old (length room.old) }
-    requires inside { change.pin < length run.old.inputs }
-    ensures stepped { run.new ≡ run_step tables.now.model.now run.old change }
-    ensures reports { reports.new ≡ step_reports tables.now.model.now run.old change }
-    ensures still { result ≡ false → gate_zeros tables.now.index.now.gates.places kept.new
-        ≡ gate_zeros tables.now.index.now.gates.places kept.old }
-    ensures ready { IsReady tables.now.model.now run.new kept.new reports.new (length room.new) }
-{
-    let from = run.inputs.as_slice()[change.pin];
-    if from == change.to {
-        clear(reports);
-        false
-    } else {
-        step_event(run, kept, tables, change, from, reports, room)
-    }
 }

@@ -1,11 +1,11 @@
 //! A module with what is known of it.
 ghost use Rattle.std.specs.Prelude.{◌≡◌, filter};
-ghost use Rattle.model_traces.specs.declared.turns.Turned.TheVariants as turned;
 ghost use Rattle.model_traces.specs.NetValues.{driver};
 ghost use Rattle.module_runs.specs.ModuleIndexed.{IsModuleIndex};
 ghost use Rattle.module_runs.specs.OutputPaths.{leads_to};
 ghost use Rattle.module_runs.specs.FedInstances.{fed_places};
 ghost use Rattle.module_runs.specs.KeptValues.{state_places};
+ghost use Rattle.model_traces.specs.declared.turns.Turned.TheVariants as turned;
 
 use crate::module_index::ModuleIndex;
 use crate::tables::Table;

@@ -1,8 +1,8 @@
 //! The values of a module's nets.
 ghost use Rattle.std.specs.Prelude.{◌≡◌, Some};
 ghost use Rattle.specify_blocks.specs.Nets.{has_state};
-ghost use Rattle.model_traces.specs.NetValues.{value_from, net_value};
 ghost use Rattle.module_runs.specs.KeptValues.{kept_values};
+ghost use Rattle.model_traces.specs.NetValues.{value_from, net_value};
 
 use crate::module_tables::ModuleTables;
 use cell_machine::numbered_value;

@@ -71,9 +71,9 @@ fn primitive_value(
     table: &Table,
     room: &mut Items<Trit>,
 ) -> Trit
+    requires room { length nets.now ≤ length room.old }
     requires table { IsTrue (is_table table.now.udp.now) }
     requires entries { length nets.now ≡ length table.now.udp.now.inputs }
-    requires room { length nets.now ≤ length room.old }
     ensures value { result ≡ primitive_value values.now.tables.model.now values.now.inputs.now values.now.states.now state
         nets.now table.now.udp.now }
     ensures len { length room.new ≡ length room.old }

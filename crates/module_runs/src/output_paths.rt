@@ -11,8 +11,8 @@ use std::alloc::{AllocError, Global};
 /// there.
 pub(crate) fn paths_by_output(
     alloc: Global,
-    ports: usize,
     paths: &[VPath],
+    ports: usize,
 ) -> Result<Items<Items<VPath>>, AllocError>
     ensures { IfOk result (λ all. AreByOutput paths.now all) }
 {

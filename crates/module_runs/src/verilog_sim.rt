@@ -2,21 +2,20 @@
 ghost use Rattle.std.specs.Prelude.{◌≡◌, [], length, IfOk};
 ghost use Rattle.run_parts.specs.KeptDelays.{AreKept};
 ghost use Rattle.module_runs.specs.OutputPaths.{output_paths};
+ghost use Rattle.module_runs.specs.ModuleStands.{IsReady, Stands, module_machine, module_sized};
 ghost use Rattle.specify_blocks.specs.Sound.{IsSound};
 ghost use Rattle.model_traces.specs.PortNumbers.{output_ports};
 ghost use Rattle.module_runs.specs.ModuleIndexed.{IsModuleIndex};
 ghost use Rattle.module_runs.specs.ModuleStarts.{IsModuleStart};
-ghost use Rattle.module_runs.specs.ModuleStands.{IsReady, Stands, module_machine, module_sized};
 
 use crate::gates::either;
-use crate::module_run::{start_run, step_run};
+use crate::module_run::{ModuleState, start_run};
 use crate::module_shown::show_all;
 use crate::module_start::ModuleStart;
 use crate::module_tables::ModuleTables;
 use crate::module_values::ModuleValues;
 use crate::wiring::most_nets;
 use cell_machine::{CellSim, Change, Shared, Sizes};
-use model_traces::ModuleRun;
 use run_parts::{KeptDelays, ShownPort, no_reports, unknown_values};
 use specify_blocks::VModule;
 use sqlite_items::Items;
@@ -28,30 +27,19 @@ use trit_cubes::Trit;
 pub struct VerilogSim<'a> {
     model: &'a VModule,
     known: Shared<ModuleStart>,
-    run: ModuleRun,
-    kept: Items<Trit>,
+    state: ModuleState,
     delays: KeptDelays,
     reports: Items<bool>,
     shown: Items<ShownPort>,
-    room: Items<Trit>,
     ghost indexed: { IsModuleIndex model.now known.index },
-    ghost ready: { IsReady model.now run kept reports (length room) },
-    ghost delays_kept: { AreKept (output_paths model.now run.inputs run.states) delays },
+    ghost ready: { IsReady model.now state reports },
+    ghost delays_kept: { AreKept (output_paths model.now state.run.inputs state.run.states) delays },
     ghost each_output: { length shown ≡ length (output_ports model.now.ports) },
 }
 
 impl<'a> VerilogSim<'a> {
-    /// The simulator of a sound module before any change: all inputs, states and the register of the checks are unknown.
-    pub fn start(alloc: Global, model: &'a VModule) -> Result<VerilogSim<'a>, AllocError>
-        requires { IsSound model.now }
-        ensures machine { IfOk result (λ sim. ⟦<VerilogSim<'a> as CellSim>⟧.machine sim ≡ module_machine model.now) }
-        ensures stands { IfOk result (λ sim. ⟦<VerilogSim<'a> as CellSim>⟧.stands sim []) }
-    {
-        let known = Shared::new(alloc, ModuleStart::of(alloc, model)?)?;
-        VerilogSim::start_by(alloc, model, &known)
-    }
-
-    /// The same, by what is known of the module before any change.
+    /// The simulator of a sound module before any change, by what is known of it there: all inputs, states and the register of
+    /// the checks are unknown.
     pub fn start_by(
         alloc: Global,
         model: &'a VModule,
@@ -71,24 +59,32 @@ impl<'a> VerilogSim<'a> {
         Ok(VerilogSim {
             model,
             known: known.again()?,
-            run,
-            kept,
+            state: ModuleState { kept, room, run },
             delays,
             reports,
             shown,
-            room,
         })
+    }
+
+    /// The same, which first finds what is known of the module.
+    pub fn start(alloc: Global, model: &'a VModule) -> Result<VerilogSim<'a>, AllocError>
+        requires { IsSound model.now }
+        ensures machine { IfOk result (λ sim. ⟦<VerilogSim<'a> as CellSim>⟧.machine sim ≡ module_machine model.now) }
+        ensures stands { IfOk result (λ sim. ⟦<VerilogSim<'a> as CellSim>⟧.stands sim []) }
+    {
+        let known = Shared::new(alloc, ModuleStart::of(alloc, model)?)?;
+        VerilogSim::start_by(alloc, model, &known)
     }
 }
 
 impl<'a> CellSim for VerilogSim<'a> {
     ghost machine = { λ s. module_machine s.model.now };
 
-    ghost stands = { λ s h. Stands s.model.now s.run s.reports s.shown h };
+    ghost stands = { λ s h. Stands s.model.now s.state.run s.reports s.shown h };
 
     fn sizes(&self) -> Sizes {
         Sizes {
-            inputs: self.run.inputs.len(),
+            inputs: self.state.run.inputs.len(),
             outputs: self.shown.len(),
             checks: self.reports.len(),
         }
@@ -99,21 +95,16 @@ impl<'a> CellSim for VerilogSim<'a> {
             model: self.model,
             index: &self.known.get().index,
         };
-        let changed = step_run(
-            &mut self.run,
-            &mut self.kept,
-            &tables,
-            Change { at, pin, to },
-            &mut self.reports,
-            &mut self.room,
-        );
+        let changed = self
+            .state
+            .step(&tables, Change { at, pin, to }, &mut self.reports);
         let stateful = tables.index.gates.stateful;
         self.delays.forget_where(either(changed, stateful));
         let values = ModuleValues {
             tables,
-            inputs: self.run.inputs.as_slice(),
-            states: self.run.states.as_slice(),
-            kept: self.kept.as_slice(),
+            inputs: self.state.run.inputs.as_slice(),
+            states: self.state.run.states.as_slice(),
+            kept: self.state.kept.as_slice(),
         };
         show_all(&values, pin, &mut self.shown, &mut self.delays);
     }

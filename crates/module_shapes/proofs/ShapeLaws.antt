@@ -86,16 +86,16 @@ same-kinds kind.Removal = refl
 same-kinds kind.Width = refl
 same-kinds kind.Period = refl
 
+same-edges : (a : Edge) → same_edge a a ≡ true
+same-edges edge.Any = refl
+same-edges edge.Rise = refl
+same-edges edge.Fall = refl
+
 edges-same : (a b : Edge) → same_edge a b ≡ true → a ≡ b
 edges-same edge.Any edge.Any h = refl
 edges-same edge.Rise edge.Rise h = refl
 edges-same edge.Fall edge.Fall h = refl
 edges-same _ _ h = absurd (true≢false (sym h))
-
-same-edges : (a : Edge) → same_edge a a ≡ true
-same-edges edge.Any = refl
-same-edges edge.Rise = refl
-same-edges edge.Fall = refl
 
 events-same : (e f : Event) → same_event e f ≡ true → e ≡ f
 events-same e f h =

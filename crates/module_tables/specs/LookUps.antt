@@ -1,6 +1,6 @@
 -- What the comparison keeps between look-ups, for the contracts of its functions: selected rows, and values by the numbers of
 -- points.
-use Rattle.std.specs.Prelude.{◌≡◌, ◌≢◌, ℕ, suc, ◌≤◌, List, length, map, position, Option, Some, None, unwrap_or, slice_set}
+use Rattle.std.specs.Prelude.{◌≡◌, ◌≢◌, ℕ, suc, ◌<◌, ◌≤◌, List, length, map, position, Option, Some, None, unwrap_or, slice_set}
 use Rattle.trit_cubes.specs.declared.trits.Trit.{Trit}
 use Rattle.trit_cubes.specs.declared.trits.Trit.TheVariants.{Unknown}
 use Rattle.trit_cubes.specs.Sets.{AreValuesOf}
@@ -17,7 +17,7 @@ use Rattle.specify_blocks.specs.Nets.{same_net}
 use Rattle.row_selection.specs.declared.change_rows.ChangeRows.{ChangeRows}
 use Rattle.module_tables.specs.declared.net_rows.NetRows.{NetRows}
 use Rattle.module_terminals.specs.Terminals.{nets_feeding}
-use Rattle.module_tables.specs.Tables.{arranged, next_by, group_next}
+use Rattle.module_tables.specs.Tables.{arranged, next_by, group_next, place_net}
 
 -- Where the nets of a list stand among others, 10 for one that is none of them: at most ten nets have values.
 abbrev pub place_among : List VNet → VNet → ℕ
@@ -52,6 +52,13 @@ pub record GivesNext (m : VModule) (changed : VNet) (old : Trit) (i : Instance) 
 pub record LooksUp (d : CellData) (m : VModule) (g : ℕ) (changed : VNet) (old : Trit) (r : NetRows) : Type 0 where
   pub next_is :
       (values : List Trit) (s : Trit) → length values ≤ 10 → looked_up r values s ≡ group_next d m g values changed old s
+
+-- At a change of the pin at place p of the support of group g rows give the next state of the instance that stands for it, and
+-- each pin of the support has a value after the change.
+pub record IsPinChange (d : CellData) (m : VModule) (g p : ℕ) (old : Trit) (values : List Trit) (r : NetRows) : Type 0 where
+  pub looks_up : LooksUp d m g (place_net d g p) old r
+  pub inside : p < length values
+  pub each_pin : length values ≡ length (support_at d g)
 
 -- The next state by rows is the same at every value of the register of the checks, where there is one, for all values of the
 -- pins of group g.

@@ -9,7 +9,7 @@ ghost use Rattle.module_tables.specs.Tables.{place_net, cell_step, model_step, c
 ghost use Rattle.module_tables.specs.Tables.{steps_by_note, steps_by_state, steps_where_changed, steps_by_list, steps_by_old};
 ghost use Rattle.module_tables.specs.Tables.{steps_compared, note_compared, notes_by_list, notes_by_old, notes_compared};
 ghost use Rattle.module_tables.specs.Tables.{first_difference};
-ghost use Rattle.module_tables.specs.LookUps.{AreSteps, AreForces, LooksUp, IgnoresNote};
+ghost use Rattle.module_tables.specs.LookUps.{AreSteps, AreForces, IsPinChange, LooksUp, IgnoresNote};
 ghost use Rattle.module_tables.specs.Lists.{trit_before};
 
 use crate::cell_values::{PinChange, edge_values, forced_by, forces, step_value, step_values};
@@ -107,6 +107,37 @@ impl<'a> GroupTables<'a> {
         }
     }
 
+    /// The first difference at changes of the pins.
+    #[tactic(auto, using(crate::proofs::Firsts::turn, crate::proofs::Firsts::done))]
+    pub(crate) fn steps(&self) -> Option<Difference>
+        requires sound { IsSound self.now.model.now }
+        ensures { result ≡ first_difference (steps_compared (data_of self.now.cell.now) self.now.model.now self.now.group) }
+    {
+        let pins = self.pins();
+        for place in 0..pins {
+            if let Some(found) = self.over_olds(place) {
+                return Some(found);
+            }
+        }
+        None
+    }
+
+    /// The first difference at changes of the register.
+    #[tactic(auto, using(crate::proofs::Firsts::turn, crate::proofs::Firsts::done))]
+    pub(crate) fn notes(&self) -> Option<Difference>
+        requires sound { IsSound self.now.model.now }
+        ensures { result ≡ first_difference (notes_compared (data_of self.now.cell.now) self.now.model.now self.now.group) }
+    {
+        let table = forces(self.cell, self.group);
+        let forces = table.as_slice();
+        for k in 0..3 {
+            if let Some(found) = self.notes_by_old(note_before(k), forces) {
+                return Some(found);
+            }
+        }
+        None
+    }
+
     /// How many pins the support has.
     fn pins(&self) -> usize
         ensures value { result ≡ length (support_at (data_of self.now.cell.now) self.now.group) }
@@ -139,9 +170,8 @@ impl<'a> GroupTables<'a> {
     /// The next state by the module at a change of a pin.
     #[tactic(auto, using(crate::proofs::NetOrder::noted_few))]
     fn model_step(&self, change: PinChange<'_>, note: Trit, state: Trit) -> Trit
-        requires rows { LooksUp (data_of self.now.cell.now) self.now.model.now self.now.group
-            (place_net (data_of self.now.cell.now) self.now.group change.place) change.old change.rows.now }
-        requires values { length change.values.now ≡ length (support_at (data_of self.now.cell.now) self.now.group) }
+        requires change { IsPinChange (data_of self.now.cell.now) self.now.model.now self.now.group change.place change.old
+            change.values.now change.rows.now }
         ensures { result ≡ model_step (data_of self.now.cell.now) self.now.model.now self.now.group change.entry.place
             change.entry.old change.entry.values.now note state }
     {
@@ -158,10 +188,8 @@ impl<'a> GroupTables<'a> {
         note: Option<Trit>,
         of_cell: Trit,
     ) -> Option<Difference>
-        requires rows { LooksUp (data_of self.now.cell.now) self.now.model.now self.now.group
-            (place_net (data_of self.now.cell.now) self.now.group change.place) change.old change.rows.now }
-        requires place { change.place < length change.values.now }
-        requires values { length change.values.now ≡ length (support_at (data_of self.now.cell.now) self.now.group) }
+        requires change { IsPinChange (data_of self.now.cell.now) self.now.model.now self.now.group change.place change.old
+            change.values.now change.rows.now }
         requires of_cell { of_cell ≡ cell_step (data_of self.now.cell.now) self.now.group change.place change.old
             change.values.now state }
         ensures { result ≡ first_difference
@@ -188,10 +216,8 @@ impl<'a> GroupTables<'a> {
 
     /// The first difference at a change of a pin from one state, over the values of the register.
     fn over_notes(&self, change: PinChange<'_>, state: Trit) -> Option<Difference>
-        requires rows { LooksUp (data_of self.now.cell.now) self.now.model.now self.now.group
-            (place_net (data_of self.now.cell.now) self.now.group change.place) change.old change.rows.now }
-        requires place { change.place < length change.values.now }
-        requires values { length change.values.now ≡ length (support_at (data_of self.now.cell.now) self.now.group) }
+        requires change { IsPinChange (data_of self.now.cell.now) self.now.model.now self.now.group change.place change.old
+            change.values.now change.rows.now }
         requires steps { AreSteps (data_of self.now.cell.now) self.now.group change.place change.steps.now }
         ensures { result ≡ first_difference
             (steps_by_note (data_of self.now.cell.now) self.now.model.now self.now.group change.entry.place change.entry.old
@@ -213,12 +239,10 @@ impl<'a> GroupTables<'a> {
         state: Trit,
         of_cell: Trit,
     ) -> Option<Difference>
-        requires rows { LooksUp (data_of self.now.cell.now) self.now.model.now self.now.group
-            (place_net (data_of self.now.cell.now) self.now.group change.place) change.old change.rows.now }
-        requires place { change.place < length change.values.now }
-        requires values { length change.values.now ≡ length (support_at (data_of self.now.cell.now) self.now.group) }
         requires of_cell { of_cell ≡ cell_step (data_of self.now.cell.now) self.now.group change.place change.old
             change.values.now state }
+        requires change { IsPinChange (data_of self.now.cell.now) self.now.model.now self.now.group change.place change.old
+            change.values.now change.rows.now }
         ensures { result ≡ first_difference
             (map (step_compared (data_of self.now.cell.now) self.now.model.now self.now.group change.entry.place change.entry.old
             change.entry.values.now state) (notes true)) }
@@ -235,10 +259,8 @@ impl<'a> GroupTables<'a> {
     /// The first difference at a change of a pin, over the states.
     #[tactic(auto, using(crate::proofs::Firsts::turn, crate::proofs::Firsts::done))]
     fn over_states(&self, change: PinChange<'_>) -> Option<Difference>
-        requires rows { LooksUp (data_of self.now.cell.now) self.now.model.now self.now.group
-            (place_net (data_of self.now.cell.now) self.now.group change.place) change.old change.rows.now }
-        requires place { change.place < length change.values.now }
-        requires values { length change.values.now ≡ length (support_at (data_of self.now.cell.now) self.now.group) }
+        requires change { IsPinChange (data_of self.now.cell.now) self.now.model.now self.now.group change.place change.old
+            change.values.now change.rows.now }
         requires steps { AreSteps (data_of self.now.cell.now) self.now.group change.place change.steps.now }
         ensures { result ≡ first_difference
             (steps_by_state (data_of self.now.cell.now) self.now.model.now self.now.group change.entry.place change.entry.old
@@ -262,10 +284,8 @@ impl<'a> GroupTables<'a> {
     /// Whether it is known, without a look at the values of the register one by one, that the module gives what the cell gives at
     /// a change of a pin.
     fn agrees(&self, change: PinChange<'_>) -> bool
-        requires rows { LooksUp (data_of self.now.cell.now) self.now.model.now self.now.group
-            (place_net (data_of self.now.cell.now) self.now.group change.place) change.old change.rows.now }
-        requires place { change.place < length change.values.now }
-        requires values { length change.values.now ≡ length (support_at (data_of self.now.cell.now) self.now.group) }
+        requires change { IsPinChange (data_of self.now.cell.now) self.now.model.now self.now.group change.place change.old
+            change.values.now change.rows.now }
         requires steps { AreSteps (data_of self.now.cell.now) self.now.group change.place change.steps.now }
         requires note { change.ignores_note ≡ true → IgnoresNote (data_of self.now.cell.now) self.now.group change.rows.now }
         ensures { result ≡ true → first_difference
@@ -283,10 +303,8 @@ impl<'a> GroupTables<'a> {
 
     /// The first difference at a change of a pin, none where the pin has the value that it had.
     fn where_changed(&self, change: PinChange<'_>) -> Option<Difference>
-        requires rows { LooksUp (data_of self.now.cell.now) self.now.model.now self.now.group
-            (place_net (data_of self.now.cell.now) self.now.group change.place) change.old change.rows.now }
-        requires place { change.place < length change.values.now }
-        requires values { length change.values.now ≡ length (support_at (data_of self.now.cell.now) self.now.group) }
+        requires change { IsPinChange (data_of self.now.cell.now) self.now.model.now self.now.group change.place change.old
+            change.values.now change.rows.now }
         requires steps { AreSteps (data_of self.now.cell.now) self.now.group change.place change.steps.now }
         requires note { change.ignores_note ≡ true → IgnoresNote (data_of self.now.cell.now) self.now.group change.rows.now }
         ensures { result ≡ first_difference
@@ -343,21 +361,6 @@ impl<'a> GroupTables<'a> {
         let steps = table.as_slice();
         for k in 0..3 {
             if let Some(found) = self.over_lists(place, trit_numbered(k), steps) {
-                return Some(found);
-            }
-        }
-        None
-    }
-
-    /// The first difference at changes of the pins.
-    #[tactic(auto, using(crate::proofs::Firsts::turn, crate::proofs::Firsts::done))]
-    pub(crate) fn steps(&self) -> Option<Difference>
-        requires sound { IsSound self.now.model.now }
-        ensures { result ≡ first_difference (steps_compared (data_of self.now.cell.now) self.now.model.now self.now.group) }
-    {
-        let pins = self.pins();
-        for place in 0..pins {
-            if let Some(found) = self.over_olds(place) {
                 return Some(found);
             }
         }
@@ -437,22 +440,6 @@ impl<'a> GroupTables<'a> {
         for k in 0..count {
             let list = list_numbered(pins, k, count);
             if let Some(found) = self.notes_by_list(change, list.as_slice()) {
-                return Some(found);
-            }
-        }
-        None
-    }
-
-    /// The first difference at changes of the register.
-    #[tactic(auto, using(crate::proofs::Firsts::turn, crate::proofs::Firsts::done))]
-    pub(crate) fn notes(&self) -> Option<Difference>
-        requires sound { IsSound self.now.model.now }
-        ensures { result ≡ first_difference (notes_compared (data_of self.now.cell.now) self.now.model.now self.now.group) }
-    {
-        let table = forces(self.cell, self.group);
-        let forces = table.as_slice();
-        for k in 0..3 {
-            if let Some(found) = self.notes_by_old(note_before(k), forces) {
                 return Some(found);
             }
         }

@@ -1,5 +1,5 @@
 //! What a simulator knows of its entity before any change.
-use crate::entity_rows::EntityRows;
+use crate::entity_rows::{EntityRows, entity_rows};
 use crate::fed_conditions::Conditions;
 use cell_machine::entry;
 use run_parts::{DelayPlaces, Ports, fed_by_inputs, input_count, input_numbers};
@@ -14,10 +14,10 @@ pub struct EntityIndex {
     pub rows: EntityRows,
     /// For each port how many inputs stand before it.
     pub numbers: Items<usize>,
-    /// For each input the places of the conditions that it feeds.
-    pub fed: Items<Items<usize>>,
     /// For each output the places where the delays of its paths are kept.
     pub places: Items<DelayPlaces>,
+    /// For each input the places of the conditions that it feeds.
+    pub fed: Items<Items<usize>>,
 }
 
 impl EntityIndex {
@@ -28,7 +28,7 @@ impl EntityIndex {
     pub(crate) fn of(alloc: Global, model: &VEntity) -> Result<EntityIndex, AllocError>
         ensures { IfOk result (λ index. IsEntityIndex model.now index) }
     {
-        let rows = EntityRows::of(alloc, model)?;
+        let rows = entity_rows(alloc, model)?;
         let numbers = input_numbers(alloc, model.ports.as_slice())?;
         let ports = Ports {
             list: model.ports.as_slice(),

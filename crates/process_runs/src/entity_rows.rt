@@ -1,6 +1,6 @@
 //! What is known of the rows of an entity's tables.
+ghost use Rattle.process_runs.specs.TableRows.{entity_rows, value_rows};
 ghost use Rattle.std.specs.Prelude.{◌≡◌, ◌<◌, ℕ, length, map, slice_get, Some, IfOk};
-ghost use Rattle.process_runs.specs.TableRows.{value_rows};
 
 use crate::process_rooms::{columns_of, source_count};
 use crate::table_rows::TableRows;
@@ -20,22 +20,18 @@ pub struct EntityRows {
     pub outputs: Items<TableRows>,
 }
 
-impl EntityRows {
-    ghost use Rattle.process_runs.specs.TableRows.{entity_rows};
-
-    /// What is known of the rows of all tables of an entity. `AllocError` comes only where memory is wanted and not there.
-    pub(crate) fn of(alloc: Global, model: &VEntity) -> Result<EntityRows, AllocError>
-        ensures { IfOk result (λ rows. rows ≡ entity_rows model.now) }
-    {
-        let states = rows_of_all(alloc, model.states.as_slice())?;
-        let conditions = rows_of_all(alloc, model.conditions.as_slice())?;
-        let outputs = rows_of_all(alloc, model.outputs.as_slice())?;
-        Ok(EntityRows {
-            states,
-            conditions,
-            outputs,
-        })
-    }
+/// What is known of the rows of all tables of an entity. `AllocError` comes only where memory is wanted and not there.
+pub(crate) fn entity_rows(alloc: Global, model: &VEntity) -> Result<EntityRows, AllocError>
+    ensures { IfOk result (λ rows. rows ≡ entity_rows model.now) }
+{
+    let states = rows_of_all(alloc, model.states.as_slice())?;
+    let conditions = rows_of_all(alloc, model.conditions.as_slice())?;
+    let outputs = rows_of_all(alloc, model.outputs.as_slice())?;
+    Ok(EntityRows {
+        states,
+        conditions,
+        outputs,
+    })
 }
 
 /// A part of an entity that has a table.

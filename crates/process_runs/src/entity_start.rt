@@ -1,4 +1,6 @@
 //! An entity before any change.
+ghost use Rattle.process_runs.specs.EntityStarts.{IsEntityStart};
+
 use crate::entity_index::EntityIndex;
 use crate::entity_tables::EntityTables;
 use crate::kept_conditions::first_conditions;
@@ -14,10 +16,10 @@ use vital_models::VEntity;
 /// What is known of an entity before any change, which all its simulators begin with.
 #[derive(Drop)]
 pub struct EntityStart {
-    /// Where its parts are found.
-    pub index: EntityIndex,
     /// The value of each condition.
     pub conditions: Items<Trit>,
+    /// Where its parts are found.
+    pub index: EntityIndex,
     /// What its outputs show.
     pub shown: Items<ShownPort>,
 }
@@ -25,7 +27,6 @@ pub struct EntityStart {
 impl EntityStart {
     ghost use Rattle.std.specs.Prelude.{IfOk};
     ghost use Rattle.process_runs.specs.EntityRooms.{IsSound};
-    ghost use Rattle.process_runs.specs.EntityStarts.{IsEntityStart};
 
     /// What is known of a sound entity before any change: all inputs and states are unknown. `AllocError` comes only where memory
     /// is wanted and not there.
@@ -33,20 +34,20 @@ impl EntityStart {
         requires { IsSound model.now }
         ensures { IfOk result (λ start. IsEntityStart model.now start) }
     {
-        let mut room = unknown_values(alloc, most_columns(model))?;
-        let run = start_state(alloc, model)?;
         let index = EntityIndex::of(alloc, model)?;
         let tables = EntityTables {
             model,
             index: &index,
         };
+        let mut room = unknown_values(alloc, most_columns(model))?;
+        let run = start_state(alloc, model)?;
         let conditions = first_conditions(alloc, &tables, run.inputs.as_slice(), &mut room)?;
         let shown = first_shown(
             alloc,
             &tables,
+            conditions.as_slice(),
             run.inputs.as_slice(),
             run.states.as_slice(),
-            conditions.as_slice(),
             &mut room,
         )?;
         Ok(EntityStart {

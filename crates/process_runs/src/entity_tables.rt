@@ -3,6 +3,7 @@ ghost use Rattle.std.specs.Prelude.{◌≡◌, ◌<◌, [], slice_get, unwrap_or
 ghost use Rattle.model_traces.specs.PortNumbers.{input_count};
 ghost use Rattle.process_runs.specs.EntityIndexed.{IsEntityIndex};
 ghost use Rattle.process_runs.specs.KeptConditions.{fed_places};
+ghost use Rattle.process_runs.specs.TableRows.{rows_of_state, rows_of_truth, rows_of_value};
 
 use crate::entity_index::EntityIndex;
 use crate::entity_rows::rows_at;
@@ -21,22 +22,21 @@ pub struct EntityTables<'a> {
     ghost indexed: { IsEntityIndex model.now index.now },
 }
 
+/// The places with this number, none where there is no such list.
+fn places_at(all: &[Items<usize>], i: usize) -> &[usize]
+    ensures { result.now ≡ unwrap_or (slice_get all.now i) [] }
+{
+    match at(all, i) {
+        Some(places) => places.as_slice(),
+        None => &[],
+    }
+}
+
 impl<'a> EntityTables<'a> {
     ghost use Rattle.std.specs.Prelude.{Some, length};
     ghost use Rattle.vital_models.specs.declared.model.VState.{VState};
     ghost use Rattle.vital_models.specs.declared.model.VTruth.{VTruth};
     ghost use Rattle.vital_models.specs.declared.model.VOutput.{VOutput};
-    ghost use Rattle.process_runs.specs.TableRows.{rows_of_state, rows_of_truth, rows_of_value};
-
-    /// The ports of the entity.
-    pub(crate) fn ports(&self) -> Ports
-        ensures { result.list.now ≡ self.now.model.now.ports }
-    {
-        Ports {
-            list: self.model.ports.as_slice(),
-            numbers: self.index.numbers.as_slice(),
-        }
-    }
 
     /// The places of the conditions that an input feeds, in order.
     pub(crate) fn fed_by(&self, input: usize) -> &[usize]
@@ -70,14 +70,14 @@ impl<'a> EntityTables<'a> {
     {
         rows_at(&self.index.rows.outputs, &self.model.outputs, i)
     }
-}
 
-/// The places with this number, none where there is no such list.
-fn places_at(all: &[Items<usize>], i: usize) -> &[usize]
-    ensures { result.now ≡ unwrap_or (slice_get all.now i) [] }
-{
-    match at(all, i) {
-        Some(places) => places.as_slice(),
-        None => &[],
+    /// The ports of the entity.
+    pub(crate) fn ports(&self) -> Ports
+        ensures { result.list.now ≡ self.now.model.now.ports }
+    {
+        Ports {
+            list: self.model.ports.as_slice(),
+            numbers: self.index.numbers.as_slice(),
+        }
     }
 }

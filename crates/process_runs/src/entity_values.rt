@@ -10,14 +10,14 @@ use trit_cubes::Trit;
 /// An entity with the values of its inputs, its states and its conditions, by which its outputs have their values.
 #[derive(Clone, Copy)]
 pub struct EntityValues<'a> {
-    /// The entity, with the words of its tables.
-    pub tables: EntityTables<'a>,
     /// The value of each input.
     pub inputs: &'a [Trit],
     /// Each state.
     pub states: &'a [Trit],
     /// The value of each condition.
     pub conditions: &'a [Trit],
+    /// The entity, with the words of its tables.
+    pub tables: EntityTables<'a>,
     ghost current: { conditions.now ≡ condition_values tables.model.now inputs.now },
 }
 

@@ -1,12 +1,12 @@
 //! How a change of an input takes the run of a process on.
 ghost use Rattle.std.specs.Prelude.{◌≡◌, ◌<◌, false, length, slice_set, IfOk};
-ghost use Rattle.cell_machine.specs.History.{value_before};
 ghost use Rattle.cell_machine.specs.Report.{any_true};
 ghost use Rattle.model_traces.specs.PortNumbers.{input_count};
 ghost use Rattle.run_parts.specs.KeptDelays.{zeros};
 ghost use Rattle.process_runs.specs.EntityRooms.{IsSound, HasRoom};
 ghost use Rattle.process_runs.specs.KeptConditions.{condition_values};
 ghost use Rattle.process_runs.specs.EntitySteps.{HasParts, start_state, violation_by, event_reports, event_step, state_step};
+ghost use Rattle.cell_machine.specs.History.{value_before};
 ghost use Rattle.process_runs.specs.EntitySteps.{change_reports, IsReady, CanTake};
 
 use crate::entity_tables::EntityTables;
@@ -25,14 +25,14 @@ use vital_models::VEntity;
 /// What a run of a process holds.
 #[derive(Drop)]
 pub struct ProcessState {
+    /// The violation at the last event.
+    pub violation: Trit,
     /// The value of each input.
     pub inputs: Items<Trit>,
     /// The value that each input had at the last event, with which the tables were looked up.
     pub before: Items<Trit>,
     /// Each state.
     pub states: Items<Trit>,
-    /// The violation at the last event.
-    pub violation: Trit,
     /// For each check the times that it keeps.
     pub stamps: Items<Times>,
 }
@@ -43,10 +43,10 @@ pub(crate) fn start_state(alloc: Global, model: &VEntity) -> Result<ProcessState
     ensures each_input { IfOk result (λ run. length run.inputs ≡ input_count model.now.ports) }
     ensures one_each { IfOk result (λ run. HasParts model.now run) }
 {
+    let states = unknown_values(alloc, model.states.len())?;
     let count = input_count(model.ports.as_slice());
     let inputs = unknown_values(alloc, count)?;
     let before = unknown_values(alloc, count)?;
-    let states = unknown_values(alloc, model.states.len())?;
     let stamps = no_times(alloc, model.checks.len())?;
     Ok(ProcessState {
         inputs,

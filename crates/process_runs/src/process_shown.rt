@@ -121,9 +121,9 @@ fn show_start(
 pub(crate) fn first_shown(
     alloc: Global,
     tables: &EntityTables,
+    conditions: &[Trit],
     inputs: &[Trit],
     states: &[Trit],
-    conditions: &[Trit],
     room: &mut Items<Trit>,
 ) -> Result<Items<ShownPort>, AllocError>
     requires sound { IsSound tables.now.model.now }

@@ -1,10 +1,10 @@
 //! The next states of an entity.
 ghost use Rattle.std.specs.Prelude.{◌≡◌, ◌≤◌, ◌<◌, Some, length, map, slice_get};
 ghost use Rattle.cell_machine.specs.Each.{each};
-ghost use Rattle.vital_models.specs.Sound.{IsStateTable, columns_of};
 ghost use Rattle.vital_models.specs.LookUps.{lookup_state};
 ghost use Rattle.process_runs.specs.EntityRooms.{IsSound, HasRoom};
 ghost use Rattle.process_runs.specs.EntitySteps.{next_by};
+ghost use Rattle.vital_models.specs.Sound.{IsStateTable, columns_of};
 ghost use Rattle.process_runs.specs.TableRows.{rows_of_state};
 ghost use Rattle.model_traces.specs.ProcessRun.{columns};
 ghost use Rattle.model_traces.specs.PortNumbers.{input_value};

@@ -1,10 +1,10 @@
 //! The values of an entity's conditions and outputs, of the values of its inputs and its states. `room` has place for the columns
 //! of any table.
 ghost use Rattle.std.specs.Prelude.{◌≡◌, ◌<◌, ◌≤◌, length, map, All};
-ghost use Rattle.vital_models.specs.Sound.{IsValue};
 ghost use Rattle.vital_models.specs.LookUps.{lookup_truth};
 ghost use Rattle.process_runs.specs.EntityRooms.{source_count};
 ghost use Rattle.process_runs.specs.TableRows.{truth_rows, rows_of_truth, rows_of_value};
+ghost use Rattle.vital_models.specs.Sound.{IsValue};
 ghost use Rattle.model_traces.specs.PortNumbers.{input_value};
 ghost use Rattle.model_traces.specs.ProcessValues.{truth_value, source_value, output_value};
 

@@ -5,9 +5,9 @@ ghost use Rattle.process_runs.specs.EntityProps.{value_prop};
 ghost use Rattle.process_runs.specs.EntityIndexed.{IsEntityIndex};
 ghost use Rattle.process_runs.specs.EntityStarts.{IsEntityStart};
 ghost use Rattle.run_parts.specs.KeptDelays.{AreKept};
+ghost use Rattle.process_runs.specs.EntitySteps.{IsReady, EntityStands, entity_machine, entity_sized};
 ghost use Rattle.process_runs.specs.NumberedPaths.{numbered_paths};
 ghost use Rattle.process_runs.specs.EntityRooms.{IsSound};
-ghost use Rattle.process_runs.specs.EntitySteps.{IsReady, EntityStands, entity_machine, entity_sized};
 
 use crate::entity_start::EntityStart;
 use crate::entity_tables::EntityTables;
@@ -41,18 +41,8 @@ pub struct VitalSim<'a> {
 }
 
 impl<'a> VitalSim<'a> {
-    /// The simulator of a sound entity before any change: all inputs and states, the columns of its tables and the violation are
-    /// unknown. `AllocError` comes only where memory is wanted and not there.
-    pub fn start(alloc: Global, model: &'a VEntity) -> Result<VitalSim<'a>, AllocError>
-        requires { IsSound model.now }
-        ensures machine { IfOk result (λ sim. ⟦<VitalSim<'a> as CellSim>⟧.machine sim ≡ entity_machine model.now) }
-        ensures stands { IfOk result (λ sim. ⟦<VitalSim<'a> as CellSim>⟧.stands sim []) }
-    {
-        let known = Shared::new(alloc, EntityStart::of(alloc, model)?)?;
-        VitalSim::start_by(alloc, model, &known)
-    }
-
-    /// The same, by what is known of the entity before any change.
+    /// The simulator of a sound entity before any change, by what is known of it there: all inputs and states, the columns of its
+    /// tables and the violation are unknown. `AllocError` comes only where memory is wanted and not there.
     pub fn start_by(
         alloc: Global,
         model: &'a VEntity,
@@ -82,6 +72,16 @@ impl<'a> VitalSim<'a> {
             earlier,
             room,
         })
+    }
+
+    /// The same, which first finds what is known of the entity.
+    pub fn start(alloc: Global, model: &'a VEntity) -> Result<VitalSim<'a>, AllocError>
+        requires { IsSound model.now }
+        ensures machine { IfOk result (λ sim. ⟦<VitalSim<'a> as CellSim>⟧.machine sim ≡ entity_machine model.now) }
+        ensures stands { IfOk result (λ sim. ⟦<VitalSim<'a> as CellSim>⟧.stands sim []) }
+    {
+        let known = Shared::new(alloc, EntityStart::of(alloc, model)?)?;
+        VitalSim::start_by(alloc, model, &known)
     }
 }
 

@@ -5,6 +5,7 @@
 
 mod column_values;
 mod first_rows;
+mod given_values;
 mod primitives;
 mod row_tests;
 mod rows;

@@ -1,12 +1,12 @@
 //! Look-ups of primitives of at most 64 rows by the masks of their rows. (IEEE 1364-2005, clause 8.)
 ghost use Rattle.std.specs.Prelude.{◌≡◌, ◌≤◌, length};
-ghost use Rattle.trit_cubes.specs.declared.trits.Trit.TheVariants as trit;
 ghost use Rattle.udp_tables.specs.Primitive.{IsCombinational, level_output};
 ghost use Rattle.udp_tables.specs.Sequential.{HasEntries, udp_next, row_next};
-ghost use Rattle.row_masks.specs.Masks.{by_number, row_masks};
+ghost use Rattle.row_masks.specs.Masks.{row_masks};
 ghost use Rattle.row_masks.specs.LookUps.{udp_passes};
 
 use crate::column_values::ColumnValues;
+use crate::given_values::{GivingRow, given_by};
 use crate::row_tests::{MaskedRow, RowTest};
 use crate::rows::RowMasks;
 use sqlite_items::at;
@@ -31,16 +31,11 @@ impl MaskedRow for UdpRow {
     }
 }
 
-/// What the row with this number gives in this state, x where there is none.
-fn next_by(rows: &[UdpRow], state: Trit, number: Option<usize>) -> Trit
-    ensures { result ≡ by_number (row_next state) rows.now trit.Unknown number }
-{
-    let Some(number) = number else {
-        return Trit::Unknown;
-    };
-    match at(rows, number) {
-        Some(row) => row.next.after(state),
-        None => Trit::Unknown,
+impl GivingRow for UdpRow {
+    ghost gives = { λ row state. row_next state row };
+
+    fn gives(&self, state: Trit) -> Trit {
+        self.next.after(state)
     }
 }
 
@@ -54,7 +49,7 @@ pub fn masked_next<C: ColumnValues>(udp: &Udp, masks: &RowMasks, state: Trit, va
     requires news { length (C.news values.now) ≡ length udp.now.inputs }
     ensures { result ≡ udp_next udp.now.rows (C.olds values.now) (C.news values.now) state }
 {
-    next_by(udp.rows.as_slice(), state, masks.decisive(state, values))
+    given_by(udp.rows.as_slice(), state, masks.decisive(state, values))
 }
 
 /// The output of a combinational primitive whose inputs have the values after the change: that of the first row that matches, x
@@ -67,7 +62,7 @@ pub fn masked_level<C: ColumnValues>(udp: &Udp, masks: &RowMasks, values: &C) ->
     requires news { length (C.news values.now) ≡ length udp.now.inputs }
     ensures { result ≡ level_output udp.now.rows (C.news values.now) }
 {
-    next_by(
+    given_by(
         udp.rows.as_slice(),
         Trit::Unknown,
         masks.first_match(masks.all, values),

@@ -1,12 +1,12 @@
 //! Look-ups of VITAL's tables of at most 64 rows by the masks of their rows. (IEEE 1076.4-2000, VitalTruthTable and
 //! VitalStateTable.)
 ghost use Rattle.std.specs.Prelude.{◌≡◌, ◌≤◌, All, length};
-ghost use Rattle.trit_cubes.specs.declared.trits.Trit.TheVariants as trit;
 ghost use Rattle.vital_tables.specs.LookUps.{lookup_truth, lookup_state, row_next};
-ghost use Rattle.row_masks.specs.Masks.{by_number, row_masks};
+ghost use Rattle.row_masks.specs.Masks.{row_masks};
 ghost use Rattle.row_masks.specs.LookUps.{truth_passes, state_passes};
 
 use crate::column_values::ColumnValues;
+use crate::given_values::{GivingRow, given_by};
 use crate::row_tests::{MaskedRow, RowTest};
 use crate::rows::RowMasks;
 use sqlite_items::at;
@@ -38,44 +38,35 @@ impl MaskedRow for VStateRow {
 
     fn passes(&self, test: RowTest) -> bool {
         match test {
+            RowTest::State(state) => self.state.matches(state),
             RowTest::Column { place, old, new } => match at(self.inputs.as_slice(), place) {
                 Some(symbol) => symbol.matches(old, new),
                 None => false,
             },
-            RowTest::State(state) => self.state.matches(state),
             RowTest::First => true,
             RowTest::Nothing => true,
         }
     }
 }
 
-/// What the row with this number of a truth table gives, X where there is none.
-fn result_by(rows: &[TruthRow], number: Option<usize>) -> Trit
-    ensures { result ≡ by_number (λ row. row.result) rows.now trit.Unknown number }
-{
-    let Some(number) = number else {
-        return Trit::Unknown;
-    };
-    match at(rows, number) {
-        Some(row) => row.result,
-        None => Trit::Unknown,
+impl GivingRow for TruthRow {
+    ghost gives = { λ row _. row.result };
+
+    fn gives(&self, _: Trit) -> Trit {
+        self.result
     }
 }
 
-/// What the row with this number of a state table gives in this state, X where there is none.
-fn next_by(rows: &[VStateRow], state: Trit, number: Option<usize>) -> Trit
-    ensures { result ≡ by_number (row_next state) rows.now trit.Unknown number }
-{
-    let Some(number) = number else {
-        return Trit::Unknown;
-    };
-    match at(rows, number) {
-        Some(row) => row.result.after(state),
-        None => Trit::Unknown,
+impl GivingRow for VStateRow {
+    ghost gives = { λ row state. row_next state row };
+
+    fn gives(&self, state: Trit) -> Trit {
+        self.result.after(state)
     }
 }
 
-/// What a truth table of so many columns gives for the values after the change: the result of the first row that matches, X without one.
+/// What a truth table of so many columns gives for the values after the change: the result of the first row that matches, X
+/// without one.
 pub fn masked_truth<C: ColumnValues>(table: &TruthTable, masks: &RowMasks, values: &C) -> Trit
     requires rows { All (λ row. length row.inputs ≡ length (C.news values.now)) table.now.rows }
     requires few { length table.now.rows ≤ 64 }
@@ -83,7 +74,11 @@ pub fn masked_truth<C: ColumnValues>(table: &TruthTable, masks: &RowMasks, value
     requires still { C.olds values.now ≡ C.news values.now }
     ensures { result ≡ lookup_truth table.now.rows (C.news values.now) }
 {
-    result_by(table.rows.as_slice(), masks.first_match(masks.all, values))
+    given_by(
+        table.rows.as_slice(),
+        Trit::Unknown,
+        masks.first_match(masks.all, values),
+    )
 }
 
 /// The next state that a state table gives: that of the first row that matches, X without one.
@@ -99,7 +94,7 @@ pub fn masked_state<C: ColumnValues>(
     requires olds { length (C.olds values.now) ≡ length (C.news values.now) }
     ensures { result ≡ lookup_state table.now.rows (C.olds values.now) (C.news values.now) state }
 {
-    next_by(
+    given_by(
         table.rows.as_slice(),
         state,
         masks.first_match(masks.states.at(state), values),

@@ -1,8 +1,8 @@
 //! The delays of paths, kept from one change to the next for each input and output between which the paths lead.
 ghost use Rattle.std.specs.Prelude.{◌≡◌, ℕ, ◌<◌, List, Some, false, IfOk};
-ghost use Rattle.trit_cubes.specs.declared.trits.Trit.{Trit as TritOf};
 ghost use Rattle.cell_machine.specs.Delay.{Path, least_delay};
 ghost use Rattle.run_parts.specs.KeptDelays.{AreKept, AreFound};
+ghost use Rattle.trit_cubes.specs.declared.trits.Trit.{Trit as TritOf};
 
 use crate::delay_places::{DelayPlaces, place_count};
 use crate::kept_delay::KeptDelay;
@@ -21,6 +21,20 @@ pub struct KeptDelays {
     pub falls: Items<KeptDelay>,
     /// How often all was forgotten; there as long as it can be counted. What was found earlier does not hold any more.
     pub turn: Option<u64>,
+}
+
+/// So many places without a delay.
+fn unknown_delays(alloc: Global, count: usize) -> Result<Items<KeptDelay>, AllocError>
+    ensures { IfOk result (λ all. (a b : TritOf) (paths : ℕ → ℕ → List Path) → AreFound a b paths (Some 1) all) }
+{
+    let none = KeptDelay {
+        input: 0,
+        output: 0,
+        turn: 0,
+        delay: 0,
+    };
+    let all = vec![in alloc; none; count]?;
+    Ok(Items::from_vec(all))
 }
 
 impl KeptDelays {
@@ -84,20 +98,6 @@ impl KeptDelays {
             self.turn = later(self.turn);
         }
     }
-}
-
-/// So many places without a delay.
-fn unknown_delays(alloc: Global, count: usize) -> Result<Items<KeptDelay>, AllocError>
-    ensures { IfOk result (λ all. (a b : TritOf) (paths : ℕ → ℕ → List Path) → AreFound a b paths (Some 1) all) }
-{
-    let none = KeptDelay {
-        input: 0,
-        output: 0,
-        turn: 0,
-        delay: 0,
-    };
-    let all = vec![in alloc; none; count]?;
-    Ok(Items::from_vec(all))
 }
 
 /// The turn after one.

@@ -13,13 +13,13 @@ use Rattle.verilog_tokens.specs.Tokens.{is_name}
 abbrev pub expect : List ℕ → Grammar (Unit {0})
 expect text = words.expect bytes_eq text
 
--- a token that must stand here, and breaks a strict rule of this kind unless the condition holds
-abbrev pub expect_where : Bool → Refusal → List ℕ → Grammar (Unit {0})
-expect_where holds k text = words.expect_where bytes_eq holds k text
-
 -- a part that begins with this token
 abbrev pub begins : List ℕ → List ℕ → Option (Verdict (Unit {0}) Refusal)
 begins text = words.begins bytes_eq text
+
+-- a token that must stand here, and breaks a strict rule of this kind unless the condition holds
+abbrev pub expect_where : Bool → Refusal → List ℕ → Grammar (Unit {0})
+expect_where holds k text = words.expect_where bytes_eq holds k text
 
 -- a part that begins with this token, which breaks a strict rule of this kind unless the condition holds
 abbrev pub begins_where : Bool → Refusal → List ℕ → List ℕ → Option (Verdict (Unit {0}) Refusal)
@@ -37,13 +37,13 @@ any_name = words.any_name is_name
 abbrev pub is_among : List (List ℕ) → List ℕ → Bool
 is_among names x = words.is_among bytes_eq names x
 
--- a name that is declared here, and was none of these before
-abbrev pub new_name : List (List ℕ) → Grammar (List ℕ)
-new_name names = words.new_name is_name bytes_eq names
-
 -- a name that stands for a value at its place
 abbrev pub known : {A : Type 0} → (List ℕ → Option A) → Grammar A
 known find = words.known is_name find
+
+-- a name that is declared here, and was none of these before
+abbrev pub new_name : List (List ℕ) → Grammar (List ℕ)
+new_name names = words.new_name is_name bytes_eq names
 
 -- This name. Where there is none, no name is allowed.
 abbrev pub this_name : Option (List ℕ) → Grammar (Unit {0})

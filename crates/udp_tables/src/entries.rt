@@ -26,8 +26,8 @@ pub struct Entries {
 
 impl Model for Entries {
     ghost use Rattle.std.specs.Prelude.{List};
-    ghost use Rattle.udp_tables.specs.declared.table.Entry.{Entry};
     ghost use Rattle.udp_tables.specs.Entries.{held_entries};
+    ghost use Rattle.udp_tables.specs.declared.table.Entry.{Entry};
 
     ghost Value = { List Entry };
 

@@ -48,18 +48,18 @@ pub enum ModelFault {
     Memory,
 }
 
-impl From<AllocError> for ModelFault {
-    ghost from_gives = { λ _ e. e ≡ fault.Memory };
-
-    fn from(_: AllocError) -> ModelFault {
-        ModelFault::Memory
-    }
-}
-
 impl<T: Drop> From<AllocFailed<T>> for ModelFault {
     ghost from_gives = { λ _ e. e ≡ fault.Memory };
 
     fn from(_: AllocFailed<T>) -> ModelFault {
+        ModelFault::Memory
+    }
+}
+
+impl From<AllocError> for ModelFault {
+    ghost from_gives = { λ _ e. e ≡ fault.Memory };
+
+    fn from(_: AllocError) -> ModelFault {
         ModelFault::Memory
     }
 }

@@ -33,11 +33,18 @@ impl Column for Trit {
     ghost level = { level_of };
 
     fn level(self) -> Level {
-        match self {
-            Trit::Zero => Level::Zero,
-            Trit::One => Level::One,
-            Trit::Unknown => Level::Unknown,
-        }
+        level_of(self)
+    }
+}
+
+/// The level that only this value has.
+fn level_of(value: Trit) -> Level
+    ensures { result ≡ level_of value }
+{
+    match value {
+        Trit::Zero => Level::Zero,
+        Trit::One => Level::One,
+        Trit::Unknown => Level::Unknown,
     }
 }
 

@@ -2,11 +2,11 @@
 ghost use Rattle.std.specs.Prelude.{◌≡◌, ◌+◌, ◌≤◌, map, length, drop, IfOk};
 ghost use Rattle.cell_machine.specs.Machine.{init};
 ghost use Rattle.udp_tables.specs.Edges.{change_columns};
-ghost use Rattle.udp_tables.specs.Generated.{level_entry, next_to};
+ghost use Rattle.udp_tables.specs.Generated.{level_entry};
 ghost use Rattle.udp_tables.specs.Sequential.{level_symbol, edge_entry};
 
 use crate::row_makers::StepRows;
-use crate::table::{Entry, Level, Next};
+use crate::table::{Entry, Level};
 use std::alloc::{AllocError, Global};
 use trit_cubes::{Cube, Trit};
 
@@ -79,8 +79,8 @@ pub(crate) fn edge_entry(old: Trit, new: Trit) -> Entry
     ensures { result ≡ edge_entry old new }
 {
     match old {
-        Trit::Zero => Entry::Pair(Level::Zero, Level::from(new)),
-        Trit::One => Entry::Pair(Level::One, Level::from(new)),
+        Trit::Zero => Entry::Pair(Level::Zero, level_symbol(new)),
+        Trit::One => Entry::Pair(Level::One, level_symbol(new)),
         Trit::Unknown => match new {
             Trit::Zero => Entry::Pair(Level::Any, Level::Zero),
             Trit::One => Entry::Pair(Level::Any, Level::One),
@@ -89,26 +89,13 @@ pub(crate) fn edge_entry(old: Trit, new: Trit) -> Entry
     }
 }
 
-impl From<Trit> for Level {
-    ghost from_gives = { λ place level. level ≡ level_symbol place };
-
-    fn from(place: Trit) -> Level {
-        match place {
-            Trit::Zero => Level::Zero,
-            Trit::One => Level::One,
-            Trit::Unknown => Level::Any,
-        }
-    }
-}
-
-impl From<Trit> for Next {
-    ghost from_gives = { λ value next. next ≡ next_to value };
-
-    fn from(value: Trit) -> Next {
-        match value {
-            Trit::Zero => Next::Zero,
-            Trit::One => Next::One,
-            Trit::Unknown => Next::Unknown,
-        }
+/// The level for a place that is fixed at a value, or free where it is unknown.
+pub(crate) fn level_symbol(place: Trit) -> Level
+    ensures { result ≡ level_symbol place }
+{
+    match place {
+        Trit::Zero => Level::Zero,
+        Trit::One => Level::One,
+        Trit::Unknown => Level::Any,
     }
 }

@@ -6,7 +6,7 @@ ghost use Rattle.udp_tables.specs.Sequential.{level_symbol, edge_entry, noted, n
 
 use crate::entries::Entries;
 use crate::row_makers::{LevelRows, StepRows};
-use crate::symbols::{cube_symbols, edge_entry};
+use crate::symbols::{cube_symbols, edge_entry, level_symbol};
 use crate::table::{Entry, Level, Next, UdpRow};
 use sqlite_items::Items;
 use std::alloc::{AllocError, Global};
@@ -29,7 +29,7 @@ impl LevelRows for UdpRows {
     fn level_row(self, symbols: Vec<Entry>, value: Trit) -> Result<UdpRow, AllocError>
         ensures { IfOk result (λ row. row ≡ symbols_row self.notifier symbols.items level.Any (next_to value)) }
     {
-        symbols_row(self.notifier, symbols, Level::Any, Next::from(value))
+        symbols_row(self.notifier, symbols, Level::Any, next_after(Some(value)))
     }
 }
 
@@ -50,7 +50,7 @@ impl StepRows for UdpRows {
         rows: &mut Items<UdpRow>,
         inputs: usize,
     ) -> Result<(), AllocError> {
-        add_notifier_row(alloc, rows, self.notifier, inputs)
+        add_notifier_row(alloc, self.notifier, inputs, rows)
     }
 
     fn change_row(
@@ -64,7 +64,7 @@ impl StepRows for UdpRows {
         symbols_row(
             self.notifier,
             symbols,
-            Level::from(state),
+            level_symbol(state),
             next_after(gives),
         )
     }
@@ -75,7 +75,9 @@ fn next_after(gives: Option<Trit>) -> Next
     ensures { result ≡ next_after gives }
 {
     match gives {
-        Some(value) => Next::from(value),
+        Some(Trit::Zero) => Next::Zero,
+        Some(Trit::One) => Next::One,
+        Some(Trit::Unknown) => Next::Unknown,
         None => Next::Keep,
     }
 }
@@ -111,9 +113,9 @@ fn symbols_row(
 /// Adds the row by which each change of the notifier makes the state unknown, where there is a notifier.
 fn add_notifier_row(
     alloc: Global,
-    rows: &mut Items<UdpRow>,
     notifier: bool,
     pins: usize,
+    rows: &mut Items<UdpRow>,
 ) -> Result<(), AllocError>
     requires { pins ≤ 10 }
     ensures { OnOk result (rows.new ≡ rows.old ++ notifier_rows notifier pins) }

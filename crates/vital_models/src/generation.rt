@@ -37,10 +37,10 @@ pub fn vital_model(from: &ModelSource, name: &[u8]) -> Result<VEntity, AllocErro
     Ok(VEntity {
         name,
         ports,
+        checks,
         states,
         conditions,
         outputs,
-        checks,
     })
 }
 

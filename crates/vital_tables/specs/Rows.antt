@@ -69,14 +69,14 @@ abbrev pub symbols_row : Bool → List VSymbol → Trits → VNext → VStateRow
 symbols_row checks symbols state following =
     record { inputs = violated checks (symbol.Level trits.Any) symbols; state = state; result = following }
 
+-- the row that gives this value on the points of a cube, whatever the violation and the state are
+abbrev pub level_row : Bool → Trit → List Trit → VStateRow
+level_row checks value cube = symbols_row checks (map level_symbol cube) trits.Any (next_to value)
+
 -- the result of a row that gives this value, or keeps the state where there is none
 abbrev pub next_after : Option Trit → VNext
 next_after None = next.Keep
 next_after (Some value) = next_to value
-
--- the row that gives this value on the points of a cube, whatever the violation and the state are
-abbrev pub level_row : Bool → Trit → List Trit → VStateRow
-level_row checks value cube = symbols_row checks (map level_symbol cube) trits.Any (next_to value)
 
 -- the row by which a violation makes the state unknown, unless a row before it decides
 abbrev pub violation_rows : Bool → ℕ → List VStateRow

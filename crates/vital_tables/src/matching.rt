@@ -40,10 +40,10 @@ impl VNext {
         ensures { result ≡ next_of state self }
     {
         match self {
+            VNext::Keep => state,
             VNext::Zero => Trit::Zero,
             VNext::One => Trit::One,
             VNext::Unknown => Trit::Unknown,
-            VNext::Keep => state,
         }
     }
 }

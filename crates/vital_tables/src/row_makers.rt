@@ -48,7 +48,7 @@ impl LevelRows for StateTableRows {
     fn level_row(self, symbols: Vec<VSymbol>, value: Trit) -> Result<VStateRow, AllocError>
         ensures { IfOk result (λ row. row ≡ symbols_row self.violation symbols.items trits.Any (next_to value)) }
     {
-        symbols_row(self.violation, symbols, Trits::Any, VNext::from(value))
+        symbols_row(self.violation, symbols, Trits::Any, next_after(Some(value)))
     }
 }
 
@@ -69,7 +69,7 @@ impl StepRows for StateTableRows {
         rows: &mut Items<VStateRow>,
         inputs: usize,
     ) -> Result<(), AllocError> {
-        add_violation_row(alloc, rows, self.violation, inputs)
+        add_violation_row(alloc, self.violation, inputs, rows)
     }
 
     fn change_row(
@@ -94,7 +94,9 @@ fn next_after(gives: Option<Trit>) -> VNext
     ensures { result ≡ next_after gives }
 {
     match gives {
-        Some(value) => VNext::from(value),
+        Some(Trit::Zero) => VNext::Zero,
+        Some(Trit::One) => VNext::One,
+        Some(Trit::Unknown) => VNext::Unknown,
         None => VNext::Keep,
     }
 }
@@ -134,9 +136,9 @@ fn symbols_row(
 /// Adds the row by which a violation makes the state unknown, where there is a column for it.
 fn add_violation_row(
     alloc: Global,
-    rows: &mut Items<VStateRow>,
     violation: bool,
     pins: usize,
+    rows: &mut Items<VStateRow>,
 ) -> Result<(), AllocError>
     requires { pins ≤ 10 }
     ensures { OnOk result (rows.new ≡ rows.old ++ violation_rows violation pins) }

@@ -1,5 +1,6 @@
 //! The words of the rows of VITAL's tables, by which most rows that do not match are known without a look at their symbols.
 ghost use Rattle.std.specs.Prelude.{◌≡◌, IfOk, map, slice_get, Some};
+ghost use Rattle.vital_tables.specs.RowWords.{level_of, level_now, truth_words, state_words};
 
 use crate::table::{Trits, TruthRow, VStateRow, VSymbol};
 use sqlite_items::Items;
@@ -7,8 +8,6 @@ use std::alloc::{AllocError, Global};
 use udp_tables::{Column, Level, RowWords};
 
 impl Column for Trits {
-    ghost use Rattle.vital_tables.specs.RowWords.{level_of};
-
     ghost level = { level_of };
 
     fn level(self) -> Level {
@@ -23,8 +22,6 @@ impl Column for Trits {
 }
 
 impl Column for VSymbol {
-    ghost use Rattle.vital_tables.specs.RowWords.{level_now};
-
     ghost level = { level_now };
 
     fn level(self) -> Level {
@@ -55,8 +52,6 @@ pub trait TableRow {
 }
 
 impl TableRow for TruthRow {
-    ghost use Rattle.vital_tables.specs.RowWords.{truth_words};
-
     ghost words = { truth_words };
 
     fn words(&self) -> RowWords {
@@ -65,8 +60,6 @@ impl TableRow for TruthRow {
 }
 
 impl TableRow for VStateRow {
-    ghost use Rattle.vital_tables.specs.RowWords.{state_words};
-
     ghost words = { state_words };
 
     fn words(&self) -> RowWords {

@@ -1,8 +1,8 @@
 //! The symbols of VITAL's tables for the places of a cube.
 ghost use Rattle.std.specs.Prelude.{◌≡◌};
-ghost use Rattle.vital_tables.specs.Rows.{edge_symbol, next_to};
+ghost use Rattle.vital_tables.specs.Rows.{edge_symbol};
 
-use crate::table::{Trits, VNext, VSymbol};
+use crate::table::{Trits, VSymbol};
 use trit_cubes::Trit;
 use udp_tables::PlaceSymbol;
 
@@ -42,17 +42,5 @@ pub(crate) fn edge_symbol(old: Trit, new: Trit) -> VSymbol
         (Trit::Unknown, Trit::Zero) => VSymbol::To0,
         (Trit::Unknown, Trit::One) => VSymbol::To1,
         (Trit::Unknown, Trit::Unknown) => VSymbol::Change,
-    }
-}
-
-impl From<Trit> for VNext {
-    ghost from_gives = { λ value next. next ≡ next_to value };
-
-    fn from(value: Trit) -> VNext {
-        match value {
-            Trit::Zero => VNext::Zero,
-            Trit::One => VNext::One,
-            Trit::Unknown => VNext::Unknown,
-        }
     }
 }

@@ -24,6 +24,13 @@ pub struct TruthTable {
     pub rows: Items<TruthRow>,
 }
 
+/// A state table of one state. (IEEE 1076.4-2000, VitalStateTable.)
+#[derive(Drop)]
+pub struct VStateTable {
+    /// The rows, in order.
+    pub rows: Items<VStateRow>,
+}
+
 /// A row of a truth table.
 #[derive(Drop)]
 pub struct TruthRow {
@@ -31,13 +38,6 @@ pub struct TruthRow {
     pub inputs: Items<Trits>,
     /// What the row gives.
     pub result: Trit,
-}
-
-/// A state table of one state. (IEEE 1076.4-2000, VitalStateTable.)
-#[derive(Drop)]
-pub struct VStateTable {
-    /// The rows, in order.
-    pub rows: Items<VStateRow>,
 }
 
 /// A row of a state table.

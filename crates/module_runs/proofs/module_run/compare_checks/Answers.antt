@@ -10,7 +10,7 @@ returns-clause-reports c =
     c.compare_all.ensures.reports
     ∙ (λ i.
     each
-    (reports_where (c.ports-ports.ensures i) (is_enabled m (c.as_slice.ensures i) (c.as_slice-2.ensures i)) c.args.from c.args.change)
+    (reports_where (c.ports.ensures i) (is_enabled m (c.as_slice.ensures i) (c.as_slice-2.ensures i)) c.args.from c.args.change)
     (c.as_slice-checks.ensures i) (c.as_slice-3.ensures i))
 
 pub returns-clause-one_each : goal.returns-clause-one_each

@@ -8,11 +8,6 @@ use Rattle.run_parts.proofs.KeptDelayLemmas.{zeros-kept}
 use Rattle.run_parts.proofs.PlaceLemmas.{step-more, found-anew}
 use Rattle.process_runs.proofs.kept_conditions.find_anew.Goals as goal
 
-pub entry-truth-requires : goal.entry-truth-requires
-entry-truth-requires c =
-    let inside : c.loop-j.j < length c.args.places.now = omega arith in
-    c.requires.inside c.loop-j.j _ inside
-
 pub loop-j-preserved : goal.loop-j-preserved
 loop-j-preserved c =
     let e = c.args.tables.now.model.now in
@@ -36,3 +31,8 @@ returns-clause-anew c =
     let e = c.args.tables.now.model.now in
     found-anew (truth_value e.ports c.args.inputs.now) Unknown e.conditions c.args.places.now c.loop-j.j c.args.values.now c.loop-j.values
     (omega arith) c.loop-j.invariant.rest
+
+pub entry-truth-requires : goal.entry-truth-requires
+entry-truth-requires c =
+    let inside : c.loop-j.j < length c.args.places.now = omega arith in
+    c.requires.inside c.loop-j.j _ inside

@@ -11,12 +11,12 @@ loop-i-preserved c =
     let v = c.args.values.now in
     let many : c.loop-i.i < length c.loop-i.shown = omega arith in
     record {
-      whole =
-          each-kept (output_step v.tables.model.now v.inputs.now v.states.now c.args.input) v.tables.model.now.outputs c.loop-i.shown c.loop-i.i _
-          c.entry-output.ensures.is many (rw c.as_slice.ensures at c.output_step-now.ensures.shown) c.set.ensures c.loop-i.invariant.whole;
       len = ap length c.set.ensures ∙ length-set c.loop-i.shown c.loop-i.i c.output_step-now.result ∙ c.loop-i.invariant.len;
       kept = c.output_step-now.ensures.kept;
       room = c.output_step-now.ensures.len ∙ c.loop-i.invariant.room;
+      whole =
+          each-kept (output_step v.tables.model.now v.inputs.now v.states.now c.args.input) v.tables.model.now.outputs c.loop-i.shown c.loop-i.i _
+          c.entry-output.ensures.is many (rw c.as_slice.ensures at c.output_step-now.ensures.shown) c.set.ensures c.loop-i.invariant.whole;
     }
 
 pub returns-clause-stepped : goal.returns-clause-stepped

@@ -16,7 +16,7 @@ first_match-requires-clause-news g c = columns-are udp_passes c.args.udp.now.row
 pub returns : goal.returns
 returns g c =
     let udp = c.args.udp.now in
-    c.next_by.ensures
+    c.given_by.ensures
     ∙ (λ i. by_number (row_next Unknown) (c.as_slice.ensures i) Unknown (c.first_match.ensures i))
     ∙ level-decided udp.rows (length udp.inputs) c.args.masks.now _ _ c.requires.table.entries c.requires.few
     c.requires.masks c.requires.still c.requires.news

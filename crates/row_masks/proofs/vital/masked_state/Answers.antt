@@ -16,7 +16,7 @@ pub returns : goal.returns
 returns g c =
     let olds = g.C.ColumnValues.olds c.args.values.now in
     let news = g.C.ColumnValues.news c.args.values.now in
-    c.next_by.ensures
+    c.given_by.ensures
     ∙ (λ i. by_number (row_next c.args.state) (c.as_slice.ensures i) Unknown ((c.first_match.ensures
     ∙ ap (λ m. first_row (matching m c.args.masks.now.columns olds news)) c.at.ensures) i))
     ∙ state-decided c.args.table.now.rows c.args.masks.now c.args.state olds news c.requires.rows c.requires.few c.requires.masks

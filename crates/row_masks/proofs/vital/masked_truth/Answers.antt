@@ -14,6 +14,6 @@ first_match-requires-clause-news g c = columns-are truth_passes c.args.table.now
 
 pub returns : goal.returns
 returns g c =
-    c.result_by.ensures
+    c.given_by.ensures
     ∙ (λ i. by_number (λ (row : TruthRow). row.result) (c.as_slice.ensures i) Unknown (c.first_match.ensures i))
     ∙ truth-decided c.args.table.now.rows c.args.masks.now _ _ c.requires.rows c.requires.few c.requires.masks c.requires.still

@@ -19,14 +19,17 @@ pub invariant_of-result-clause-ready : goal.invariant_of-result-clause-ready
 invariant_of-result-clause-ready c =
     let m = c.args.model.now in
     record {
-      wired =
-          subst (λ n. IsTrue (is_wired n m)) (sym (ap length c.in_ok-room.ensures ∙ length-replicate c.most_nets.result Unknown))
-          c.most_nets.ensures;
       current =
-          c.in_ok-kept.ensures ∙ c.as_slice.ensures ∙ ap (λ (k : ModuleStart). k.kept) c.get.ensures ∙ c.requires.known.kept_are
-          ∙ ap (λ (r : ModuleRun). kept_values m r.inputs r.states) (sym c.in_ok-run.ensures.run);
+          record {
+            wired =
+                subst (λ n. IsTrue (is_wired n m)) (sym (ap length c.in_ok-room.ensures ∙ length-replicate c.most_nets.result Unknown))
+                c.most_nets.ensures;
+            kept_are =
+                c.in_ok-kept.ensures ∙ c.as_slice.ensures ∙ ap (λ (k : ModuleStart). k.kept) c.get.ensures ∙ c.requires.known.kept_are
+                ∙ ap (λ (r : ModuleRun). kept_values m r.inputs r.states) (sym c.in_ok-run.ensures.run);
+            one_each = c.in_ok-run.ensures.one_each;
+          };
       each_input = c.in_ok-run.ensures.each_input;
-      one_each = c.in_ok-run.ensures.one_each;
       one_report = ap length c.in_ok-reports.ensures ∙ length-replicate c.len.result false ∙ c.len.ensures;
     }
 

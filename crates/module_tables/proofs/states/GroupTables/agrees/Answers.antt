@@ -28,9 +28,9 @@ returns c h =
     let same : next_states (cell_step d g p old values) ≡ next_states of_model
     = sym c.step_values.ensures ∙ c.are_same.ensures h ∙ c.next_states-of_model.ensures ∙ ap (λ xs. next_states (looked_up rows xs)) are in
     let known : c.args.change.ignores_note ≡ true = search rules in
-    let few : length values ≤ 8 = omega (arith, c.requires.values, c.pins-few.ensures.value, c.pins-few.ensures.few) in
+    let few : length values ≤ 8 = omega (arith, c.requires.change.each_pin, c.pins-few.ensures.value, c.pins-few.ensures.few) in
     states-agree d m g p old values
     (λ note s.
-    sym (c.requires.rows.next_is (all note) s (noted_few (has_notifier d) note values few))
-    ∙ (c.requires.note known).same_next note s values c.requires.values
+    sym (c.requires.change.looks_up.next_is (all note) s (noted_few (has_notifier d) note values few))
+    ∙ (c.requires.note known).same_next note s values c.requires.change.each_pin
     ∙ sym (states-same (cell_step d g p old values) of_model same s))

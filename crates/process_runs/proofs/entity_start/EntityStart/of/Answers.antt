@@ -7,7 +7,7 @@ use Rattle.process_runs.proofs.entity_start.EntityStart.of.Goals as goal
 pub returns : goal.returns
 returns c =
     let conditions = rw c.as_slice.ensures at c.in_ok-conditions.ensures.values in
-    let shown = rw (c.as_slice-2.ensures, c.as_slice-3.ensures) at c.in_ok-shown.ensures in
+    let shown = rw (c.as_slice-3.ensures, c.as_slice-4.ensures) at c.in_ok-shown.ensures in
     record {
       indexed = c.in_ok-index.ensures;
       conditions_are = conditions ∙ ap (λ (r : ProcessState). condition_values c.args.model.now r.inputs) c.in_ok-run.ensures.run;

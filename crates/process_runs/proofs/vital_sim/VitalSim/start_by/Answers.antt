@@ -9,12 +9,6 @@ use Rattle.process_runs.proofs.EntityLemmas.{entity-starts}
 use Rattle.process_runs.specs.NumberedPaths.{numbered_paths}
 use Rattle.process_runs.proofs.vital_sim.VitalSim.start_by.Goals as goal
 
-pub returns-clause-stands : goal.returns-clause-stands
-returns-clause-stands c =
-    let shown = c.in_ok-shown.ensures ∙ c.as_slice-3.ensures ∙ ap (λ (k : EntityStart). k.shown) c.get-3.ensures ∙ c.requires.known.shown_are in
-    entity-starts c.args.model.now c.in_ok-run.run' c.in_ok-reports.reports c.in_ok-shown.shown c.in_ok-run.ensures.run
-    (c.in_ok-reports.ensures ∙ ap (λ n. replicate n false) c.len.ensures) shown
-
 pub invariant_of-result-clause-ready : goal.invariant_of-result-clause-ready
 invariant_of-result-clause-ready c =
     let e = c.args.model.now in
@@ -36,3 +30,9 @@ invariant_of-result-clause-ready c =
 
 pub invariant_of-result-clause-kept : goal.invariant_of-result-clause-kept
 invariant_of-result-clause-kept c = c.in_ok-delays.ensures (numbered_paths c.args.model.now c.in_ok-run.run'.inputs)
+
+pub returns-clause-stands : goal.returns-clause-stands
+returns-clause-stands c =
+    let shown = c.in_ok-shown.ensures ∙ c.as_slice-3.ensures ∙ ap (λ (k : EntityStart). k.shown) c.get-3.ensures ∙ c.requires.known.shown_are in
+    entity-starts c.args.model.now c.in_ok-run.run' c.in_ok-reports.reports c.in_ok-shown.shown c.in_ok-run.ensures.run
+    (c.in_ok-reports.ensures ∙ ap (λ n. replicate n false) c.len.ensures) shown

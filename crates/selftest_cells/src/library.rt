@@ -17,10 +17,12 @@ fn flip_flop() -> &'static [u8]
 {
     b"ff (\"IQ\", \"IQN\") {\nnext_state : \"D\";\nclocked_on : \"CK\";\nclear : \"R\";\n}\n\
         pin (\"CK\") {\ndirection : \"input\";\n}\n\
-        pin (\"D\") {\ndirection : \"input\";\ntiming () {\nrelated_pin : \"CK\";\ntiming_type : \"setup_rising\";\n\
+        pin (\"D\") {\ndirection : \"input\";\n\
+        timing () {\nrelated_pin : \"CK\";\ntiming_type : \"setup_rising\";\n\
         rise_constraint (\"scalar\") {\nvalues (\"20\");\n}\nfall_constraint (\"scalar\") {\nvalues (\"20\");\n}\n}\n}\n\
         pin (\"R\") {\ndirection : \"input\";\n}\n\
-        pin (\"Q\") {\ndirection : \"output\";\nfunction : \"IQ\";\ntiming () {\nrelated_pin : \"CK\";\ntiming_type : \"rising_edge\";\n\
+        pin (\"Q\") {\ndirection : \"output\";\nfunction : \"IQ\";\n\
+        timing () {\nrelated_pin : \"CK\";\ntiming_type : \"rising_edge\";\n\
         cell_rise (\"scalar\") {\nvalues (\"5\");\n}\ncell_fall (\"scalar\") {\nvalues (\"7\");\n}\n}\n}\n"
 }
 

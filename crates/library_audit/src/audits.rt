@@ -85,7 +85,7 @@ pub(crate) fn write_cells<D: Desk>(
     let mut some_differ = false;
     for cell in files.cells.as_slice() {
         let cell_differs = comparison.write_cell(desk, cell)?;
-        some_differ = some_differ || cell_differs;
+        some_differ |= cell_differs;
     }
     Ok(some_differ)
 }

@@ -2,8 +2,7 @@
 ghost use Rattle.std.specs.Prelude.{◌≡◌, IfOk, IfErr, OnOk};
 ghost use Rattle.text_io.specs.Plan.{plan};
 ghost use Rattle.run_outcome.specs.Runs.{RunsAs, StopsWithStatus};
-ghost use Rattle.library_audit.specs.Outcome.{audit_files, audit_of};
-ghost use Rattle.library_audit.specs.Reads.{ReadsFiles};
+ghost use Rattle.library_audit.specs.{Outcome.audit_files, Outcome.audit_of, Reads.ReadsFiles};
 
 use crate::modules::{NamedModules, names_of};
 use library_reader::{LibraryCell, read_library_file};

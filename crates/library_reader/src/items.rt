@@ -1,17 +1,12 @@
 //! The items of a library, one after another.
 ghost use Rattle.std.specs.Prelude.{◌≡◌, List, [], ◌++◌, IsTrue, IfOk, OnOk};
-ghost use Rattle.text_io.specs.declared.slots.Slot.TheVariants.{Input};
-ghost use Rattle.text_io.specs.declared.slots.InSlot.TheVariants.{Library};
-ghost use Rattle.text_io.specs.Desk.{is_bound, StopsWithCause};
+ghost use Rattle.text_io.specs.{declared.slots.Slot.TheVariants.Input, declared.slots.InSlot.TheVariants.Library, Desk.is_bound};
+ghost use Rattle.text_io.specs.Desk.{StopsWithCause};
 ghost use Rattle.run_outcome.specs.Written.{Writes};
 ghost use Rattle.cell_cursor.specs.declared.item.LibraryItem.TheVariants as item;
-ghost use Rattle.library_reader.specs.LibraryCells.{CellEntry};
-ghost use Rattle.library_reader.specs.Progress.{no_progress, after_item};
-ghost use Rattle.library_reader.specs.NextCells.{IsNext};
-ghost use Rattle.library_reader.specs.KeptCells.{item_kept};
-ghost use Rattle.library_reader.specs.WrittenItems.{written_for};
-ghost use Rattle.library_reader.specs.Endings.{library_limit};
-ghost use Rattle.library_reader.specs.Folds.{AreBound, IsNumbered, FoldsItems};
+ghost use Rattle.library_reader.specs.{LibraryCells.CellEntry, Progress.no_progress, Progress.after_item, NextCells.IsNext};
+ghost use Rattle.library_reader.specs.{KeptCells.item_kept, WrittenItems.written_for, Endings.library_limit, Folds.AreBound};
+ghost use Rattle.library_reader.specs.{Folds.IsNumbered, Folds.FoldsItems};
 
 use crate::ending::Ending;
 use crate::fold::CellFold;

@@ -2,9 +2,7 @@
 ghost use Rattle.std.specs.Prelude.{◌≡◌, ◌+◌, ◌<◌, ◌^◌, IfOk, IfErr, OnOk};
 ghost use Rattle.cell_cursor.specs.declared.item.LibraryItem.TheVariants as item;
 ghost use Rattle.three_state_cells.specs.DrivenCells.{driven_data_of};
-ghost use Rattle.library_reader.specs.LibraryCells.{vital_name};
-ghost use Rattle.library_reader.specs.Progress.{after_item};
-ghost use Rattle.library_reader.specs.NextCells.{IsNext};
+ghost use Rattle.library_reader.specs.{LibraryCells.vital_name, Progress.after_item, NextCells.IsNext};
 
 use crate::expanded_cell::read_cell_group;
 use crate::progress::Progress;

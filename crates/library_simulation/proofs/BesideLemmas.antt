@@ -89,10 +89,6 @@ differs_is cells modules entities section beside is = sym (ap (λ c. differs_by 
 
 -- The machines of three simulators that were started are those of what the section is run on.
 
--- what holds of what was started
-pub of_started : {T E : Type 0} (r : Result T E) (x : T) (P : T → Type 0) → r ≡ Ok x → IfOk r P → P x
-of_started r x P e h = rw e at h
-
 pub have_ports : (beside : Beside) (liberty verilog vital : DriveMachine) → liberty ≡ machine_in beside.cell.now
     → verilog ≡ machine_by module_machine beside.module.now → vital ≡ machine_by entity_machine beside.entity.now
     → HavePorts beside.ports.now (machine_in beside.cell.now) (machine_by module_machine beside.module.now)

@@ -206,7 +206,7 @@ pub(crate) fn write_compared_sections<D: Desk>(
     let mut some_differ = false;
     for section in simulation.sections.as_slice() {
         let section_differs = write_compared_section(alloc, desk, simulation, &mut known, section)?;
-        some_differ = some_differ || section_differs;
+        some_differ |= section_differs;
     }
     Ok(some_differ)
 }

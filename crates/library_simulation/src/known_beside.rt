@@ -2,13 +2,10 @@
 ghost use Rattle.std.specs.Prelude.{◌≡◌, IfOk};
 ghost use Rattle.specify_blocks.specs.Sound as modules_of;
 ghost use Rattle.vital_models.specs.Sound as entities_of;
-ghost use Rattle.model_traces.specs.ModuleTrace.{module_machine};
-ghost use Rattle.model_traces.specs.EntityTrace.{entity_machine};
+ghost use Rattle.model_traces.specs.{ModuleTrace.module_machine, EntityTrace.entity_machine};
 ghost use Rattle.file_models.specs.FileModels.{IsRunnable};
-ghost use Rattle.cell_machine.specs.CellData.{data_of};
-ghost use Rattle.cell_machine.specs.CellStarts.{IsCellStart};
-ghost use Rattle.model_replay.specs.ModuleStarts.{IsModuleStart};
-ghost use Rattle.model_replay.specs.EntityStarts.{IsEntityStart};
+ghost use Rattle.cell_machine.specs.{CellData.data_of, CellStarts.IsCellStart};
+ghost use Rattle.model_replay.specs.{ModuleStarts.IsModuleStart, EntityStarts.IsEntityStart};
 
 use crate::comparisons::Beside;
 use cell_machine::{CellStart, Shared};

@@ -1,7 +1,8 @@
 //! Laws of the definitions, for the crates above. The functions do nothing.
-ghost use Rattle.library_simulation.specs.Sections.{SectionsCanBeCompared, DescribedAreCells};
-ghost use Rattle.library_simulation.specs.Generated.{DescribedKeepRules, AcceptedAreReady, OwnModelsShowTheSame};
-ghost use Rattle.library_simulation.specs.Generated.{NoSectionDiffers, NeverModelOrDiffer};
+ghost use Rattle.library_simulation.specs.{Sections.SectionsCanBeCompared, Sections.DescribedAreCells};
+ghost use Rattle.library_simulation.specs.{Generated.DescribedKeepRules, Generated.AcceptedAreReady};
+ghost use Rattle.library_simulation.specs.{Generated.OwnModelsShowTheSame, Generated.NoSectionDiffers};
+ghost use Rattle.library_simulation.specs.Generated.{NeverModelOrDiffer};
 
 /// Each section of a stimulus that is read over the catalog is on an accepted cell with a Verilog and a VITAL model that stand
 /// for it, and where all models can be run these three can be run on its changes: each has as many inputs and outputs as the cell

@@ -1,15 +1,11 @@
 //! The items of a library, one after another: what is written for each.
 ghost use Rattle.std.specs.Prelude.{◌≡◌, [], ◌∷◌, IsTrue};
-ghost use Rattle.text_io.specs.declared.slots.Slot.TheVariants.{Input};
-ghost use Rattle.text_io.specs.declared.slots.InSlot.TheVariants.{Library};
-ghost use Rattle.text_io.specs.declared.slots.OutSlot.TheVariants.{VerilogText, VitalText};
-ghost use Rattle.text_io.specs.Desk.{is_bound, StopsWithCause};
+ghost use Rattle.text_io.specs.{declared.slots.Slot.TheVariants.Input, declared.slots.InSlot.TheVariants.Library};
+ghost use Rattle.text_io.specs.{declared.slots.OutSlot.TheVariants.VerilogText, declared.slots.OutSlot.TheVariants.VitalText};
+ghost use Rattle.text_io.specs.{Desk.is_bound, Desk.StopsWithCause};
 ghost use Rattle.run_outcome.specs.Written.{in_report};
-ghost use Rattle.library_reader.specs.LeftOutLines.{left_out_file_line};
-ghost use Rattle.library_reader.specs.Endings.{library_limit};
-ghost use Rattle.library_reader.specs.Progress.{no_progress};
-ghost use Rattle.library_translation.specs.Cells.{ModelsAreBound, cell_written};
-ghost use Rattle.library_translation.specs.Library.{Handles};
+ghost use Rattle.library_reader.specs.{LeftOutLines.left_out_file_line, Endings.library_limit, Progress.no_progress};
+ghost use Rattle.library_translation.specs.{Cells.ModelsAreBound, Cells.cell_written, Library.Handles};
 
 use crate::cells::write_accepted;
 use crate::stopped::stopped;

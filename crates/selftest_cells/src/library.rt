@@ -1,5 +1,5 @@
 //! The texts of the cells that a run makes for itself.
-ghost use Rattle.std.specs.Prelude.{◌≡◌, ◌++◌, IfOk, OnOk};
+ghost use Rattle.std.specs.Prelude.{◌≡◌, ◌%◌, ◌++◌, IfOk, OnOk};
 ghost use Rattle.liberty_groups.specs.Writing.{group_text, items_text};
 ghost use Rattle.selftest_cells.specs.Library.{function_items, flip_flop_items, latch_items, clock_gate_items, items_by};
 ghost use Rattle.selftest_cells.specs.Library.{cell_group, front_text, AreWritable};
@@ -15,109 +15,45 @@ use std::alloc::{AllocError, Global};
 fn flip_flop() -> &'static [u8]
     ensures { result.now ≡ items_text flip_flop_items }
 {
-    b"ff (\"IQ\", \"IQN\") {
-next_state : \"D\";
-clocked_on : \"CK\";
-clear : \"R\";
-}
-pin (\"CK\") {
-direction : \"input\";
-}
-pin (\"D\") {
-direction : \"input\";
-timing () {
-related_pin : \"CK\";
-timing_type : \"setup_rising\";
-rise_constraint (\"scalar\") {
-values (\"20\");
-}
-fall_constraint (\"scalar\") {
-values (\"20\");
-}
-}
-}
-pin (\"R\") {
-direction : \"input\";
-}
-pin (\"Q\") {
-direction : \"output\";
-function : \"IQ\";
-timing () {
-related_pin : \"CK\";
-timing_type : \"rising_edge\";
-cell_rise (\"scalar\") {
-values (\"5\");
-}
-cell_fall (\"scalar\") {
-values (\"7\");
-}
-}
-}
-"
+    b"ff (\"IQ\", \"IQN\") {\nnext_state : \"D\";\nclocked_on : \"CK\";\nclear : \"R\";\n}\n\
+        pin (\"CK\") {\ndirection : \"input\";\n}\n\
+        pin (\"D\") {\ndirection : \"input\";\n\
+        timing () {\nrelated_pin : \"CK\";\ntiming_type : \"setup_rising\";\n\
+        rise_constraint (\"scalar\") {\nvalues (\"20\");\n}\nfall_constraint (\"scalar\") {\nvalues (\"20\");\n}\n}\n}\n\
+        pin (\"R\") {\ndirection : \"input\";\n}\n\
+        pin (\"Q\") {\ndirection : \"output\";\nfunction : \"IQ\";\n\
+        timing () {\nrelated_pin : \"CK\";\ntiming_type : \"rising_edge\";\n\
+        cell_rise (\"scalar\") {\nvalues (\"5\");\n}\ncell_fall (\"scalar\") {\nvalues (\"7\");\n}\n}\n}\n"
 }
 
 /// The statements of a cell with a latch that has a least pulse width.
 fn latch() -> &'static [u8]
     ensures { result.now ≡ items_text latch_items }
 {
-    b"latch (\"IQ\", \"IQN\") {
-data_in : \"D\";
-enable : \"EN\";
-}
-pin (\"EN\") {
-direction : \"input\";
-min_pulse_width_high : \"15\";
-}
-pin (\"D\") {
-direction : \"input\";
-}
-pin (\"Q\") {
-direction : \"output\";
-function : \"IQ\";
-}
-"
+    b"latch (\"IQ\", \"IQN\") {\ndata_in : \"D\";\nenable : \"EN\";\n}\n\
+        pin (\"EN\") {\ndirection : \"input\";\nmin_pulse_width_high : \"15\";\n}\n\
+        pin (\"D\") {\ndirection : \"input\";\n}\n\
+        pin (\"Q\") {\ndirection : \"output\";\nfunction : \"IQ\";\n}\n"
 }
 
 /// The statements of a cell with a clock gate by a state table.
 fn clock_gate() -> &'static [u8]
     ensures { result.now ≡ items_text clock_gate_items }
 {
-    b"statetable (\"CK E SE\", \"IQ\") {
-table : \"L L L : - : L, L L H : - : H, L H L : - : H, L H H : - : H, H - - : - : N\";
-}
-pin (\"CK\") {
-direction : \"input\";
-}
-pin (\"E\") {
-direction : \"input\";
-}
-pin (\"SE\") {
-direction : \"input\";
-}
-pin (\"IQ\") {
-direction : \"internal\";
-internal_node : \"IQ\";
-}
-pin (\"GCK\") {
-direction : \"output\";
-state_function : \"CK * IQ\";
-}
-"
+    b"statetable (\"CK E SE\", \"IQ\") {\n\
+        table : \"L L L : - : L, L L H : - : H, L H L : - : H, L H H : - : H, H - - : - : N\";\n}\n\
+        pin (\"CK\") {\ndirection : \"input\";\n}\n\
+        pin (\"E\") {\ndirection : \"input\";\n}\n\
+        pin (\"SE\") {\ndirection : \"input\";\n}\n\
+        pin (\"IQ\") {\ndirection : \"internal\";\ninternal_node : \"IQ\";\n}\n\
+        pin (\"GCK\") {\ndirection : \"output\";\nstate_function : \"CK * IQ\";\n}\n"
 }
 
 /// What stands before the function of a cell with a function of three inputs.
-const BEFORE_FUNCTION: &[u8] = b"pin (\"A\") {
-direction : \"input\";
-}
-pin (\"B\") {
-direction : \"input\";
-}
-pin (\"C\") {
-direction : \"input\";
-}
-pin (\"Y\") {
-direction : \"output\";
-function : \"";
+const BEFORE_FUNCTION: &[u8] = b"pin (\"A\") {\ndirection : \"input\";\n}\n\
+    pin (\"B\") {\ndirection : \"input\";\n}\n\
+    pin (\"C\") {\ndirection : \"input\";\n}\n\
+    pin (\"Y\") {\ndirection : \"output\";\nfunction : \"";
 
 /// The function text that is drawn from a cell's number.
 fn drawn_function(alloc: Global, number: u64) -> Result<Vec<u8>, AllocError>
@@ -138,16 +74,11 @@ fn push_function(alloc: Global, text: &mut Vec<u8>, number: u64) -> Result<(), A
     Ok(())
 }
 
-/// Appends the statements of a cell whose number has this remainder.
-fn push_statements(
-    alloc: Global,
-    text: &mut Vec<u8>,
-    kind: u64,
-    number: u64,
-) -> Result<(), AllocError>
-    ensures { OnOk result (text.new.items ≡ text.old.items ++ items_text (items_by kind number)) }
+/// Appends the statements of the cell with a number.
+fn push_statements(alloc: Global, text: &mut Vec<u8>, number: u64) -> Result<(), AllocError>
+    ensures { OnOk result (text.new.items ≡ text.old.items ++ items_text (items_by (number % 4) number)) }
 {
-    match kind {
+    match number % 4 {
         0 => push_function(alloc, text, number)?,
         1 => text.extend_from_slice(flip_flop())?,
         2 => text.extend_from_slice(latch())?,
@@ -165,7 +96,7 @@ pub(crate) fn cell_text(alloc: Global, number: u64) -> Result<Vec<u8>, AllocErro
     let mut text = Vec::from_slice(alloc, b"cell (\"G")?;
     text.extend_from_slice(buffer.format(number).as_bytes())?;
     text.extend_from_slice(b"\") {\n")?;
-    push_statements(alloc, &mut text, number % 4, number)?;
+    push_statements(alloc, &mut text, number)?;
     text.extend_from_slice(b"}\n")?;
     Ok(text)
 }

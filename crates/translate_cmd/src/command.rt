@@ -1,17 +1,12 @@
 //! The top call: the words' command, over any desk.
 
 ghost use Rattle.std.specs.Prelude.{◌≡◌, ◌≤◌, ◌↔◌, IsTrue, if◌then◌else◌};
-ghost use Rattle.text_io.specs.Desk.{HasCause, Rose};
-ghost use Rattle.text_io.specs.Gate.{failures};
-ghost use Rattle.text_io.specs.Sure.{sure_state};
+ghost use Rattle.text_io.specs.{Desk.HasCause, Desk.Rose, Gate.failures, Sure.sure_state};
 ghost use Rattle.run_outcome.specs.Status.{is_decided, is_unfailed};
 ghost use Rattle.command_words.specs.declared.commands.Command.TheVariants as command;
 ghost use Rattle.command_words.specs.Reading.{reading};
-ghost use Rattle.translate_cmd.specs.Runs.{Runs};
-ghost use Rattle.translate_cmd.specs.Complete.{Completes};
-ghost use Rattle.translate_cmd.specs.Selftests.{SelftestsEnd};
-ghost use Rattle.translate_cmd.specs.AgreementRuns.{OwnModelsEndInAgreement};
-ghost use Rattle.translate_cmd.specs.AuditRuns.{DoneWhereAllMatch};
+ghost use Rattle.translate_cmd.specs.{Runs.Runs, Complete.Completes, Selftests.SelftestsEnd};
+ghost use Rattle.translate_cmd.specs.{AgreementRuns.OwnModelsEndInAgreement, AuditRuns.DoneWhereAllMatch};
 
 use crate::commands::{selftest, work_on_files};
 use crate::laws::audited_cells_agree;

@@ -1,9 +1,9 @@
 //! Theorems on the definitions. The functions do nothing of their own.
 
-ghost use Rattle.translate_cmd.specs.TranslatedLaws.{ModulesAreWellFormed, EntitiesAreWellFormed, VerilogIsOfModules};
-ghost use Rattle.translate_cmd.specs.TranslatedLaws.{VitalIsOfEntities, LibrariesReadBack};
-ghost use Rattle.translate_cmd.specs.Agreement.{OwnModelsAgree};
-ghost use Rattle.translate_cmd.specs.Audits.{AuditedCellsAgree, OwnModulesAuditWell};
+ghost use Rattle.translate_cmd.specs.{TranslatedLaws.ModulesAreWellFormed, TranslatedLaws.EntitiesAreWellFormed};
+ghost use Rattle.translate_cmd.specs.{TranslatedLaws.VerilogIsOfModules, TranslatedLaws.VitalIsOfEntities};
+ghost use Rattle.translate_cmd.specs.{TranslatedLaws.LibrariesReadBack, Agreement.OwnModelsAgree, Audits.AuditedCellsAgree};
+ghost use Rattle.translate_cmd.specs.Audits.{OwnModulesAuditWell};
 
 use audited_modules::{generated_modules_match, matching_modules_fit};
 use library_audit::{done_is_match, same_line_is_match};

@@ -13,7 +13,9 @@ pub(crate) use desks::{
     words_of,
 };
 pub(crate) use fronts::{Whole, done, leaves_fronts, leaves_fronts_in_pieces, leaves_nothing};
-pub(crate) use libraries::{CLOCK_GATE, CLOCK_GATE_WITHOUT_KEEP, FLIP_FLOP, TIE};
+pub(crate) use libraries::{
+    CLOCK_GATE, CLOCK_GATE_WITHOUT_KEEP, FLIP_FLOP, REGISTER, REGISTER_WITH_WIDE_OUTPUT, TIE,
+};
 pub(crate) use texts::entity_text;
 pub(crate) use three_cells::{
     CORE_ENTITY, DRIVER_ENTITY, FIRST_ENTITY, FIRST_MODULE, NO_MODULE, SECOND_MODULES,

@@ -1,6 +1,6 @@
 //! A scan flip-flop as libraries have it, with tables of seven by seven entries and groups that are skipped: the end of its
 //! module and the line on its test cell.
-use super::translations::TranslationEnd;
+use super::translations::{TranslationEnd, ends_with};
 use crate::tests::runs::Status;
 use std::test::Fail;
 use table_tests::all_hold;
@@ -128,34 +128,10 @@ endmodule
 ";
 
 const TRANSLATIONS: [TranslationEnd; 4] = [
-    TranslationEnd {
-        library: SCAN_FLIP_FLOP,
-        status: Status::Done,
-        report: SAME,
-        verilog: SCAN_FLIP_FLOP_MODULE,
-        vital: "end vital;\n",
-    },
-    TranslationEnd {
-        library: OTHER_NEXT,
-        status: Status::Done,
-        report: DIFFERS,
-        verilog: "endmodule\n",
-        vital: "end vital;\n",
-    },
-    TranslationEnd {
-        library: INVERTED,
-        status: Status::Done,
-        report: SAME,
-        verilog: "endmodule\n",
-        vital: "end vital;\n",
-    },
-    TranslationEnd {
-        library: NO_ENABLE,
-        status: Status::Done,
-        report: LEFT_OUT,
-        verilog: "endmodule\n",
-        vital: "end vital;\n",
-    },
+    ends_with!(SCAN_FLIP_FLOP, SAME, SCAN_FLIP_FLOP_MODULE),
+    ends_with!(OTHER_NEXT, DIFFERS, "endmodule\n"),
+    ends_with!(INVERTED, SAME, "endmodule\n"),
+    ends_with!(NO_ENABLE, LEFT_OUT, "endmodule\n"),
 ];
 
 #[test]

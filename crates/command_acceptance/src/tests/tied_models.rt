@@ -64,18 +64,15 @@ pub(crate) const TIE_ENTITY: &str = tied_entity!(
     "    Y <= z_1;\n"
 );
 
-/// An output alone: the process responds to no signal.
-pub(crate) const LONE_TIE_ENTITY: &str = tied_entity!(
-    "TIE",
-    "Y : out std_ulogic",
-    "",
-    "    Y <= z_1;\n    wait;\n"
-);
+/// An output alone, of an entity of this name: the process responds to no signal.
+macro_rules! lone_tie_entity {
+    ($name:literal) => {
+        tied_entity!($name, "Y : out std_ulogic", "", "    Y <= z_1;\n    wait;\n")
+    };
+}
+
+/// An output alone.
+pub(crate) const LONE_TIE_ENTITY: &str = lone_tie_entity!("TIE");
 
 /// An output alone, of a second cell that VHDL does not tell from the first by its name.
-pub(crate) const SECOND_TIE_ENTITY: &str = tied_entity!(
-    "cell2",
-    "Y : out std_ulogic",
-    "",
-    "    Y <= z_1;\n    wait;\n"
-);
+pub(crate) const SECOND_TIE_ENTITY: &str = lone_tie_entity!("cell2");

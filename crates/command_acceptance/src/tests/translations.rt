@@ -4,9 +4,9 @@ use super::tied_models::{
     TIE_MODULE,
 };
 use crate::tests::runs::{
-    CLOCK_GATE, FLIP_FLOP, Left, NO_MODULE, Status, THREE_CELLS, THREE_ENTITIES, THREE_LINES,
-    THREE_MODULES, TIE, TIMED_FLIP_FLOP, TIMED_FLIP_FLOP_ENTITY, TIMED_FLIP_FLOP_MODULE, Whole,
-    translated,
+    CLOCK_GATE, FLIP_FLOP, Left, NO_MODULE, REGISTER_WITH_WIDE_OUTPUT, Status, THREE_CELLS,
+    THREE_ENTITIES, THREE_LINES, THREE_MODULES, TIE, TIMED_FLIP_FLOP, TIMED_FLIP_FLOP_ENTITY,
+    TIMED_FLIP_FLOP_MODULE, Whole, translated,
 };
 use std::alloc::Global;
 use std::test::Fail;
@@ -51,6 +51,21 @@ impl Row for TranslationEnd {
         }
     }
 }
+
+/// A library of cells that are accepted, its report, and the last model of its Verilog file.
+macro_rules! ends_with {
+    ($library:expr, $report:expr, $verilog:expr) => {
+        TranslationEnd {
+            library: $library,
+            status: Status::Done,
+            report: $report,
+            verilog: $verilog,
+            vital: "end vital;\n",
+        }
+    };
+}
+
+pub(crate) use ends_with;
 
 /// A library of cells that are accepted, its report, and the files of its models.
 macro_rules! accepted {
@@ -107,13 +122,7 @@ primitive lib_1_1 (q, i1, i2);
   endtable
 endprimitive
 primitive lib_1_2 (q, i1);
-  output q;
-  input i1;
-  table
-    1 : 1;
-    0 : 0;
-  endtable
-endprimitive
+  output q;\n  input i1;\n  table\n    1 : 1;\n    0 : 0;\n  endtable\nendprimitive
 module DFF (CK, D, Q);
   input CK;
   input D;
@@ -177,19 +186,6 @@ cell (INV) { pin (A) { direction : input; } pin (Y) { direction : output; functi
 }
 ";
 
-/// A register of two bits with an output of three.
-const OUTPUT_TOO_WIDE: &str = "library (L) {
-type (B) { bit_from : 1; bit_to : 0; }
-type (C) { bit_from : 2; bit_to : 0; }
-cell (REG2) {
-bus (D) { bus_type : B; direction : input; }
-pin (CK) { direction : input; }
-bus (Q) { bus_type : C; direction : output; function : \"IQ\"; }
-ff_bank (IQ, IQN, 2) { next_state : \"D\"; clocked_on : \"CK\"; }
-}
-}
-";
-
 /// The module of the inverter, which is the second cell.
 const SECOND_INVERTER: &str = "module INV (A, Y);
   input A;
@@ -223,7 +219,7 @@ const TRANSLATIONS: [Translation; 7] = [
     accepted!(UNIT_ALONE, "accepted 0 refused 0\n", &[NO_MODULE], &[]),
     // a bit that a bank has not refuses its cell
     Translation(
-        OUTPUT_TOO_WIDE,
+        REGISTER_WITH_WIDE_OUTPUT,
         Whole {
             status: Status::Cells,
             verilog: &[NO_MODULE],
@@ -298,27 +294,21 @@ const TRANSLATION_ENDS: [TranslationEnd; 6] = [
         verilog: SECOND_INVERTER,
         vital: "end vital;\n",
     },
-    TranslationEnd {
-        library: FLIP_FLOP,
-        status: Status::Done,
-        report: "cell 1 DFF ok\naccepted 1 refused 0\n",
-        verilog: FLIP_FLOP_FILE,
-        vital: "end vital;\n",
-    },
-    TranslationEnd {
-        library: CLOCK_GATE,
-        status: Status::Done,
-        report: "cell 1 GATE ok\naccepted 1 refused 0\n",
-        verilog: CLOCK_GATE_MODULE,
-        vital: "end vital;\n",
-    },
-    TranslationEnd {
-        library: PERIODS,
-        status: Status::Done,
-        report: "cell 1 BUFP ok\naccepted 1 refused 0\n",
-        verilog: PERIODS_MODULE,
-        vital: "end vital;\n",
-    },
+    ends_with!(
+        FLIP_FLOP,
+        "cell 1 DFF ok\naccepted 1 refused 0\n",
+        FLIP_FLOP_FILE
+    ),
+    ends_with!(
+        CLOCK_GATE,
+        "cell 1 GATE ok\naccepted 1 refused 0\n",
+        CLOCK_GATE_MODULE
+    ),
+    ends_with!(
+        PERIODS,
+        "cell 1 BUFP ok\naccepted 1 refused 0\n",
+        PERIODS_MODULE
+    ),
     TranslationEnd {
         library: TWO_TIES,
         status: Status::Done,
@@ -326,13 +316,7 @@ const TRANSLATION_ENDS: [TranslationEnd; 6] = [
         verilog: "endmodule\n",
         vital: SECOND_TIE_ENTITY,
     },
-    TranslationEnd {
-        library: LEFT_OUT,
-        status: Status::Done,
-        report: LEFT_OUT_LINES,
-        verilog: "endmodule\n",
-        vital: "end vital;\n",
-    },
+    ends_with!(LEFT_OUT, LEFT_OUT_LINES, "endmodule\n"),
 ];
 
 #[test]

@@ -30,3 +30,22 @@ pub(crate) const CLOCK_GATE: &str = clock_gate!(", H - - : - : N");
 
 /// One without a row for a high clock.
 pub(crate) const CLOCK_GATE_WITHOUT_KEEP: &str = clock_gate!("");
+
+/// A register of two bits, with buses for its data and its outputs, of which the bus of the outputs begins at this bit.
+macro_rules! register {
+    ($first:literal) => {
+        concat!(
+            "library (L) {\ntype (B) { bit_from : 1; bit_to : 0; }\ntype (C) { bit_from : ",
+            $first,
+            "; bit_to : 0; }\ncell (REG2) {\nbus (D) { bus_type : B; direction : input; }\npin (CK) { direction : input; }\n",
+            "bus (Q) { bus_type : C; direction : output; function : \"IQ\"; }\n",
+            "ff_bank (IQ, IQN, 2) { next_state : \"D\"; clocked_on : \"CK\"; }\n}\n}\n"
+        )
+    };
+}
+
+/// A register with two outputs.
+pub(crate) const REGISTER: &str = register!("1");
+
+/// One with three outputs.
+pub(crate) const REGISTER_WITH_WIDE_OUTPUT: &str = register!("2");

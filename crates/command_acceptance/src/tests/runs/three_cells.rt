@@ -24,25 +24,11 @@ pub(crate) const FIRST_MODULE: &str = gate_module!(
 
 /// What the second cell adds to it: its core, and its driver.
 pub(crate) const SECOND_MODULES: &str = "primitive lib_2_1 (q, i1);
-  output q;
-  input i1;
-  table
-    1 : 1;
-    0 : 0;
-  endtable
-endprimitive
+  output q;\n  input i1;\n  table\n    1 : 1;\n    0 : 0;\n  endtable\nendprimitive
 primitive lib_2_2 (q, i1);
-  output q;
-  input i1;
-  table
-    0 : 1;
-    1 : 0;
-  endtable
-endprimitive
+  output q;\n  input i1;\n  table\n    0 : 1;\n    1 : 0;\n  endtable\nendprimitive
 module cell2 (A, Y, pin3);
-  input A;
-  output Y;
-  output pin3;
+  input A;\n  output Y;\n  output pin3;
   lib_2_1 (Y, A);
   lib_2_2 (pin3, A);
 endmodule

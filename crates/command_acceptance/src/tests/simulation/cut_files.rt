@@ -48,6 +48,28 @@ impl Row for CutFile {
     }
 }
 
+/// What the fronts of the Verilog file come to: this without the module, and this where it is whole.
+macro_rules! cut_verilog {
+    ($words:expr; $without:expr, $whole:expr) => {
+        CutFile(
+            &$words,
+            File::Verilog,
+            &[(18, NO_VERILOG), (20, $without), (193, NO_VERILOG), (usize::MAX, $whole)],
+        )
+    };
+}
+
+/// What the fronts of the stimulus come to: this without the change, and this where it is whole.
+macro_rules! cut_stimulus {
+    ($words:expr; $without:expr, $whole:expr) => {
+        CutFile(
+            &$words,
+            File::Stimulus,
+            &[(1, NO_LINE), (6, CUT_HEAD), (8, NO_CELL), (10, $without), (14, CUT_CHANGE), (usize::MAX, $whole)],
+        )
+    };
+}
+
 /// A library is refused, unless only its last line feed is cut off. The first line of a Verilog file is a whole file without a
 /// module, and no byte is a whole VHDL file without an entity. A stimulus is read as far as it goes.
 const CUT_FILES: [CutFile; 7] = [
@@ -56,55 +78,15 @@ const CUT_FILES: [CutFile; 7] = [
         File::Library,
         &[(110, NO_LIBRARY), (usize::MAX, SIMULATED)],
     ),
-    CutFile(
-        &SIMULATE,
-        File::Verilog,
-        &[
-            (18, NO_VERILOG),
-            (20, NO_MODULE),
-            (193, NO_VERILOG),
-            (usize::MAX, SIMULATED),
-        ],
-    ),
+    cut_verilog!(SIMULATE; NO_MODULE, SIMULATED),
     CutFile(
         &SIMULATE,
         File::Vital,
         &[(1, NO_ENTITY), (448, NO_VITAL), (usize::MAX, SIMULATED)],
     ),
-    CutFile(
-        &SIMULATE,
-        File::Stimulus,
-        &[
-            (1, NO_LINE),
-            (6, CUT_HEAD),
-            (8, NO_CELL),
-            (10, NO_CHANGE),
-            (14, CUT_CHANGE),
-            (usize::MAX, SIMULATED),
-        ],
-    ),
-    CutFile(
-        &REPLAY_VERILOG,
-        File::Verilog,
-        &[
-            (18, NO_VERILOG),
-            (20, NO_CELL),
-            (193, NO_VERILOG),
-            (usize::MAX, MODULE_RUN),
-        ],
-    ),
-    CutFile(
-        &REPLAY_VERILOG,
-        File::Stimulus,
-        &[
-            (1, NO_LINE),
-            (6, CUT_HEAD),
-            (8, NO_CELL),
-            (10, MODULE_START),
-            (14, CUT_CHANGE),
-            (usize::MAX, MODULE_RUN),
-        ],
-    ),
+    cut_stimulus!(SIMULATE; NO_CHANGE, SIMULATED),
+    cut_verilog!(REPLAY_VERILOG; NO_CELL, MODULE_RUN),
+    cut_stimulus!(REPLAY_VERILOG; MODULE_START, MODULE_RUN),
     CutFile(
         &REPLAY_VITAL,
         File::Vital,

@@ -10,18 +10,6 @@ cell (PAD) { pin (A) { direction : inout; } }
 }
 ";
 
-/// A register of two bits, with buses for its data and its outputs.
-pub(crate) const REGISTER: &str = "library (L) {
-type (B) { bit_from : 1; bit_to : 0; }
-cell (REG2) {
-bus (D) { bus_type : B; direction : input; }
-pin (CK) { direction : input; }
-bus (Q) { bus_type : B; direction : output; function : \"IQ\"; }
-ff_bank (IQ, IQN, 2) { next_state : \"D\"; clocked_on : \"CK\"; }
-}
-}
-";
-
 /// A buffer that is driven while its enable is 1, with a delay from its input and one from its enable.
 pub(crate) const BUFFER_WITH_ENABLE: &str = "library (L) {
 time_unit : \"1ps\";

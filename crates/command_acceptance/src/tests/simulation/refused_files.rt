@@ -38,41 +38,35 @@ macro_rules! ended {
     };
 }
 
-const REFUSED_FILES: [Simulation; 3] = [
+/// One of the inverter.
+macro_rules! inverter {
+    ($verilog:ident, $vital:ident; $stimulus:literal => $status:ident $faults:literal) => {
+        ended![INVERTER; $verilog, $vital; $stimulus => $status $faults]
+    };
+}
+
+/// The first file that is refused is told. Models of another order of the ports count as none, which is told where the stimulus
+/// names their cell. Behind whole files the first bad line of the stimulus is told.
+const ENDED: [Simulation; 14] = [
     ended![""; NOTHING, NO_MODELS; "cell INV" => Library "library refused at 0: not a library\n"],
-    ended![INVERTER; NOTHING, NO_MODELS; "cell INV" => Model "verilog refused at 0: syntax\n"],
-    ended![INVERTER; OWN, NO_MODELS; "cell INV" => Model "vital refused at 0: syntax\n"],
-];
-
-#[test]
-fn the_first_file_that_is_refused_is_told(rt: HostRuntime) -> Result<(), Fail> {
-    all_hold(rt.alloc(), &REFUSED_FILES)
-}
-
-/// Models of another order of the ports count as none, and they count for nothing where the stimulus names no cell.
-const MODELS_WANTING: [Simulation; 5] = [
-    ended![INVERTER; OWN, NOTHING; "cell INV" => Model "vital ports: INV\n"],
-    ended![INVERTER; OWN, OTHERS; "cell INV" => Model "vital ports: INV\n"],
-    ended![INVERTER; OTHERS, NOTHING; "cell INV" => Model "verilog ports: INV\n"],
+    inverter![NOTHING, NO_MODELS; "cell INV" => Model "verilog refused at 0: syntax\n"],
+    inverter![OWN, NO_MODELS; "cell INV" => Model "vital refused at 0: syntax\n"],
+    // a cell without its models
+    inverter![OWN, NOTHING; "cell INV" => Model "vital ports: INV\n"],
+    inverter![OWN, OTHERS; "cell INV" => Model "vital ports: INV\n"],
+    inverter![OTHERS, NOTHING; "cell INV" => Model "verilog ports: INV\n"],
     ended![FLIP_FLOP; FLIP_FLOPS, NOTHING; "cell DFF" => Model "vital ports: DFF\n"],
-    ended![INVERTER; OTHERS, NOTHING; "" => Done ""],
-];
-
-#[test]
-fn a_cell_without_its_models_is_told_where_it_is_named(rt: HostRuntime) -> Result<(), Fail> {
-    all_hold(rt.alloc(), &MODELS_WANTING)
-}
-
-const BAD_LINES: [Simulation; 6] = [
-    ended![INVERTER; OWN, OWN; "cell INV\n5 A 1\n5 A 0\n" => Stimulus "stimulus line 3: time\n"],
-    ended![INVERTER; OWN, OWN; "cell INV\ncell PAD\n" => Cells "cell PAD refused 1 direction at 412\n"],
-    ended![INVERTER; OWN, OWN; "cell NONE\n" => Stimulus "stimulus line 1: unknown cell\n"],
+    inverter![OTHERS, NOTHING; "" => Done ""],
+    // a bad line
+    inverter![OWN, OWN; "cell INV\n5 A 1\n5 A 0\n" => Stimulus "stimulus line 3: time\n"],
+    inverter![OWN, OWN; "cell INV\ncell PAD\n" => Cells "cell PAD refused 1 direction at 412\n"],
+    inverter![OWN, OWN; "cell NONE\n" => Stimulus "stimulus line 1: unknown cell\n"],
     ended![FLIP_FLOP; FLIP_FLOPS, FLIP_FLOPS; "cell DFF\n417 D 0\n# c\n437 CK1\r" => Stimulus "stimulus line 4: form\n"],
     ended![FLIP_FLOP; FLIP_FLOPS, FLIP_FLOPS; "cell DFF\n4 Q 2" => Stimulus "stimulus line 2: output pin\n"],
     ended![FLIP_FLOP; FLIP_FLOPS, FLIP_FLOPS; "cell DFF\n4 QN 1" => Stimulus "stimulus line 2: unknown pin\n"],
 ];
 
 #[test]
-fn the_first_bad_line_is_told(rt: HostRuntime) -> Result<(), Fail> {
-    all_hold(rt.alloc(), &BAD_LINES)
+fn the_first_fault_of_the_files_of_a_simulation_is_told(rt: HostRuntime) -> Result<(), Fail> {
+    all_hold(rt.alloc(), &ENDED)
 }

@@ -129,32 +129,24 @@ macro_rules! shown {
     };
 }
 
+/// A replay of such a section with the model of such a flip-flop.
+macro_rules! risen {
+    ($words:expr, $model:expr; $name:literal, $tag:literal, $clock:literal) => {
+        shown!(
+            $words,
+            &[$model],
+            rises!($name, $clock),
+            rises_report!($name, $tag, $clock)
+        )
+    };
+}
+
 const SHOWN: [Replay; 5] = [
     shown!(REPLAY_VERILOG, MODELS, STIMULUS, REPORT),
-    shown!(
-        REPLAY_VERILOG,
-        &[TIMED_FLIP_FLOP_MODULE],
-        rises!("DFFT", "CK"),
-        rises_report!("DFFT", "V", "CK")
-    ),
-    shown!(
-        REPLAY_VERILOG,
-        &[LAID_OUT],
-        rises!("FD1", "CP"),
-        rises_report!("FD1", "V", "CP")
-    ),
-    shown!(
-        REPLAY_VITAL,
-        &[TIMED_FLIP_FLOP_ENTITY],
-        rises!("DFFT", "CK"),
-        rises_report!("DFFT", "H", "CK")
-    ),
-    shown!(
-        REPLAY_VITAL,
-        &[PLAIN_FLIP_FLOP_ENTITY],
-        rises!("DFFT", "CK"),
-        rises_report!("DFFT", "H", "CK")
-    ),
+    risen!(REPLAY_VERILOG, TIMED_FLIP_FLOP_MODULE; "DFFT", "V", "CK"),
+    risen!(REPLAY_VERILOG, LAID_OUT; "FD1", "V", "CP"),
+    risen!(REPLAY_VITAL, TIMED_FLIP_FLOP_ENTITY; "DFFT", "H", "CK"),
+    risen!(REPLAY_VITAL, PLAIN_FLIP_FLOP_ENTITY; "DFFT", "H", "CK"),
 ];
 
 #[test]
@@ -178,22 +170,11 @@ macro_rules! ended {
 
 /// A row with two changes, the second at offset 106.
 const TWO_CHANGES: &str = "`timescale 1ps/1ps
-primitive p (q, i1, i2);
-  output q;
-  reg q;
-  input i1;
-  input i2;
-  table
+primitive p (q, i1, i2);\n  output q;\n  reg q;\n  input i1;\n  input i2;\n  table
     (01) (01) : ? : 1;
-  endtable
-endprimitive
-module M (A, B, Y);
-  input A;
-  input B;
-  output Y;
-  wire s;
-  p (s, A, B);
-  buf (Y, 1'b1);
+  endtable\nendprimitive
+module M (A, B, Y);\n  input A;\n  input B;\n  output Y;\n  wire s;
+  p (s, A, B);\n  buf (Y, 1'b1);
 endmodule
 ";
 

@@ -2,10 +2,11 @@
 use super::libraries::{
     BUFFER_WITH_ENABLE, CLEARED, CLEARED_AND_CHECKED, CLEARED_AND_PRESET,
     CLEARED_AND_PRESET_AND_TIMED, CLEARED_LATCH, CLEARED_SCAN_FLIP_FLOP, INVERTER, LATCH, PERIODIC,
-    PERIODIC_CLOCK_GATE, REGISTER, TIMED_SCAN_FLIP_FLOP, TOGGLE, TWO_FLIP_FLOPS,
+    PERIODIC_CLOCK_GATE, TIMED_SCAN_FLIP_FLOP, TOGGLE, TWO_FLIP_FLOPS,
 };
 use crate::tests::runs::{
-    CLOCK_GATE, CLOCK_GATE_WITHOUT_KEEP, FLIP_FLOP, GUARDED_FLIP_FLOP, TIE, TIMED_FLIP_FLOP,
+    CLOCK_GATE, CLOCK_GATE_WITHOUT_KEEP, FLIP_FLOP, GUARDED_FLIP_FLOP, REGISTER, TIE,
+    TIMED_FLIP_FLOP,
 };
 
 /// A section: the cell, the lines of the stimulus, and what each of the three shows at the start and behind each of them.
@@ -15,6 +16,23 @@ pub(crate) struct Section<'a> {
     pub cell: &'a str,
     pub start: &'a str,
     pub lines: &'a [(&'a str, &'a str)],
+}
+
+/// A section of a clock gate, which takes its enable while its clock is low: the lines behind this.
+macro_rules! gated {
+    ($library:expr; $($line:expr),*) => {
+        Section {
+            library: $library,
+            cell: "GATE",
+            start: "GCK=x",
+            lines: &[
+                ("10 CK 0", "GCK=0@0"),
+                ("20 SE 0", "GCK=0"),
+                ("30 E 1", "GCK=0"),
+                $($line),*
+            ],
+        }
+    };
 }
 
 /// The sections.
@@ -149,31 +167,17 @@ pub(crate) const SECTIONS: [Section<'static>; 23] = [
             ("149 CK 1", "Q=1@100"),
         ],
     },
-    Section {
-        library: CLOCK_GATE,
-        cell: "GATE",
-        start: "GCK=x",
-        lines: &[
-            ("10 CK 0", "GCK=0@0"),
-            ("20 SE 0", "GCK=0"),
-            ("30 E 1", "GCK=0"),
-            ("40 CK 1", "GCK=1@0"),
-            ("50 E 0", "GCK=1"),
-            ("60 CK 0", "GCK=0@0"),
-            ("70 CK 1", "GCK=0"),
-        ],
-    },
-    Section {
-        library: CLOCK_GATE_WITHOUT_KEEP,
-        cell: "GATE",
-        start: "GCK=x",
-        lines: &[
-            ("10 CK 0", "GCK=0@0"),
-            ("20 SE 0", "GCK=0"),
-            ("30 E 1", "GCK=0"),
-            ("40 CK 1", "GCK=x@0"),
-        ],
-    },
+    gated!(
+        CLOCK_GATE;
+        ("40 CK 1", "GCK=1@0"),
+        ("50 E 0", "GCK=1"),
+        ("60 CK 0", "GCK=0@0"),
+        ("70 CK 1", "GCK=0")
+    ),
+    gated!(
+        CLOCK_GATE_WITHOUT_KEEP;
+        ("40 CK 1", "GCK=x@0")
+    ),
     Section {
         library: TOGGLE,
         cell: "TOGGLE",
@@ -313,22 +317,15 @@ pub(crate) const SECTIONS: [Section<'static>; 23] = [
             ("960 CK 1", "Q=1"),
         ],
     },
-    Section {
-        library: PERIODIC_CLOCK_GATE,
-        cell: "GATE",
-        start: "GCK=x",
-        lines: &[
-            ("10 CK 0", "GCK=0@0"),
-            ("20 SE 0", "GCK=0"),
-            ("30 E 1", "GCK=0"),
-            ("40 CK 1", "GCK=1@0"),
-            ("50 E 0", "GCK=1"),
-            ("110 CK 0", "GCK=0@0"),
-            ("120 E x", "GCK=0"),
-            ("139 CK 1", "GCK=x@0 !1"),
-            ("150 E 0", "GCK=x"),
-            ("240 CK 0", "GCK=0@0"),
-            ("250 CK 1", "GCK=0"),
-        ],
-    },
+    gated!(
+        PERIODIC_CLOCK_GATE;
+        ("40 CK 1", "GCK=1@0"),
+        ("50 E 0", "GCK=1"),
+        ("110 CK 0", "GCK=0@0"),
+        ("120 E x", "GCK=0"),
+        ("139 CK 1", "GCK=x@0 !1"),
+        ("150 E 0", "GCK=x"),
+        ("240 CK 0", "GCK=0@0"),
+        ("250 CK 1", "GCK=0")
+    ),
 ];

@@ -1,8 +1,7 @@
-use Rattle.std.proofs.Common.{◌≡◌, ◌||◌, refl, sym, ap, ◌∙◌}
+use Rattle.std.proofs.Common.{refl, sym, ◌∙◌}
 use Rattle.text_io.proofs.Wrote.{wrote-nil, wrote_item_as}
 use Rattle.library_audit.proofs.PrintedCells.{cell_text, lines_whole, lines_part, differs_more, differs_whole}
 use Rattle.library_audit.proofs.audits.write_cells.Goals as goal
-use Rattle.library_audit.proofs.audits.write_cells.Goals.{then-some_differ, else-some_differ}
 
 pub loop-cell-init : goal.loop-cell-init
 loop-cell-init g c = record { written = sym (wrote-nil _ _); differ = refl; kept = refl }
@@ -19,14 +18,9 @@ loop-cell-preserved g c =
     let files = c.args.files.now in
     let within = rw c.as_slice-cell-items.ensures at c.loop-cell-test.true in
     let is = rw c.as_slice-cell-items.ensures at c.cell-item.is in
-    let here = c.in_ok-cell_differs.cell_differs in
-    let joined : c.if-some_differ.some_differ ≡ (c.loop-cell.some_differ || here) = elim c.if-some_differ.branch [
-      | then-some_differ w ↦ w.some_differ-is ∙ w.if-some_differ.true ∙ sym (ap (λ b. b || here) w.if-some_differ.true)
-      | else-some_differ w ↦ w.some_differ-is ∙ sym (ap (λ b. b || here) w.if-some_differ.false)
-    ] in
     record {
       written = wrote_item_as (cell_text files.named.models) files.cells c.loop-cell.cell-index _ _ _ _ _ within is c.loop-cell.invariant.written c.in_ok-cell_differs.ensures.text.whole;
-      differ = joined ∙ differs_more files.named.models files.cells c.loop-cell.cell-index _ _ _ within is c.loop-cell.invariant.differ c.in_ok-cell_differs.ensures.differs;
+      differ = differs_more files.named.models files.cells c.loop-cell.cell-index _ _ _ within is c.loop-cell.invariant.differ c.in_ok-cell_differs.ensures.differs;
       kept = c.in_ok-cell_differs.ensures.cause.kept ∙ c.loop-cell.invariant.kept;
     }
 

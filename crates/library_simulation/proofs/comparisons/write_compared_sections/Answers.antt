@@ -1,4 +1,4 @@
-use Rattle.std.proofs.Common.{◌≡◌, ◌||◌, refl, sym, ap, subst, length, None, ◌∙◌}
+use Rattle.std.proofs.Common.{refl, sym, ap, subst, length, None, ◌∙◌}
 use Rattle.std.proofs.lemmas.List.{length-replicate}
 use Rattle.text_io.specs.declared.slots.OutSlot.TheVariants.{Report}
 use Rattle.text_io.proofs.Wrote.{wrote-nil, wrote_item_as, wrote_items}
@@ -10,7 +10,6 @@ use Rattle.library_simulation.specs.Comparisons.{section_text, sections_text}
 use Rattle.library_simulation.specs.Sections.{CanBeCompared}
 use Rattle.library_simulation.proofs.BesideLemmas.{part_cause, differs_more, differs_whole}
 use Rattle.library_simulation.proofs.comparisons.write_compared_sections.Goals as goal
-use Rattle.library_simulation.proofs.comparisons.write_compared_sections.Goals.{then-some_differ, else-some_differ}
 
 pub loop-section-init : goal.loop-section-init
 loop-section-init g c =
@@ -54,14 +53,9 @@ loop-section-preserved g c =
     let sections = c.args.simulation.now.sections in
     let within = rw c.as_slice-section-items.ensures at c.loop-section-test.true in
     let is = rw c.as_slice-section-items.ensures at c.section-item.is in
-    let here = c.in_ok-section_differs.section_differs in
-    let joined : c.if-some_differ.some_differ ≡ (c.loop-section.some_differ || here) = elim c.if-some_differ.branch [
-      | then-some_differ w ↦ w.some_differ-is ∙ w.if-some_differ.true ∙ sym (ap (λ b. b || here) w.if-some_differ.true)
-      | else-some_differ w ↦ w.some_differ-is ∙ sym (ap (λ b. b || here) w.if-some_differ.false)
-    ] in
     record {
       written = wrote_item_as (section_text (all_described read.cells) read.modules read.entities) sections c.loop-section.section-index _ _ _ _ _ within is c.loop-section.invariant.written c.in_ok-section_differs.ensures.text.whole;
-      differ = joined ∙ differs_more (all_described read.cells) read.modules read.entities sections c.loop-section.section-index _ _ _ within is c.loop-section.invariant.differ c.in_ok-section_differs.ensures.differs;
+      differ = differs_more (all_described read.cells) read.modules read.entities sections c.loop-section.section-index _ _ _ within is c.loop-section.invariant.differ c.in_ok-section_differs.ensures.differs;
       known = c.in_ok-section_differs.ensures.known;
       each = c.in_ok-section_differs.ensures.each ∙ c.loop-section.invariant.each;
       kept = c.in_ok-section_differs.ensures.cause.kept ∙ c.loop-section.invariant.kept;

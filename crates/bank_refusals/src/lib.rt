@@ -18,7 +18,7 @@ mod widths;
 pub use alike::{are_alike, stays};
 pub use faults::Place;
 pub use fixed::are_fixed;
-pub use members::{Member, all_items, any_names, is_shared};
+pub use members::{Member, all_items, is_shared};
 pub use pins_by_name::{InnerPins, indexed_pins, member_places, named_items};
 pub use refusal::{BankReason, BankRefusal};
 pub use refusals::{bank_refusal, has_many, is_pins};

@@ -3,7 +3,6 @@ use Rattle.std.proofs.Common.{◌≡◌, ℕ, ◌+◌, ◌-◌, ◌<◌, ◌≤�
 use Rattle.std.proofs.Common.{List, [], ◌∷◌, ◌++◌, map, take, length, get_or, Option, Some, None, slice_get, refl, sym, ap, subst, ◌∙◌}
 use Rattle.std.proofs.Common.{arith, codes, length-append, nat_eq}
 use Rattle.std.specs.Prelude.{flat_map, filter, option_map, option_to_list, bytes_eq, Result, Ok, Err, IfOk}
-use Rattle.std.specs.List.{list_any}
 use Rattle.std.proofs.lemmas.List.{append-nil, take_more, length-map, length-take-le, take-map}
 use Rattle.std.proofs.lemmas.List.Folds.{list_any-append}
 use Rattle.std.proofs.lemmas.Option.{slice_get-map, slice_get_read, slice_get-get_or}

@@ -1,3 +1,4 @@
 pub mod AlikeLemmas
 pub mod FixedLemmas
 pub mod SharedLemmas
+pub mod PlaceLemmas

@@ -1,7 +1,7 @@
 -- The pins of a bus or bundle, of which neighbours with the same statements are one pin group with all their names (Liberty
 -- Reference Manual, `pin` group: one with several names makes a pin for each).
 use Rattle.std.specs.Prelude.{◌≡◌, ℕ, ◌+◌, Bool, true, not, ◌&&◌, ◌||◌, List, [], ◌∷◌, ◌++◌, map, flat_map, codes, Some}
-use Rattle.std.specs.Prelude.{if◌then◌else◌}
+use Rattle.std.specs.Prelude.{slice_get, unwrap_or, if◌then◌else◌}
 use Rattle.std.specs.List.{list_any, list_all}
 use Rattle.liberty_groups.specs.declared.tree.Value.{Value}
 use Rattle.liberty_groups.specs.declared.tree.Item.{Item}
@@ -10,8 +10,9 @@ use Rattle.liberty_groups.specs.declared.tree.Group.{Group, roll-Group}
 use Rattle.bus_texts.specs.declared.vectors.Vector.{Vector}
 use Rattle.bank_refusals.specs.declared.members.Member.{Member as HeldMember}
 use Rattle.bank_refusals.specs.Members.{is_shared, names_member, inner_pins, member_items}
+use Rattle.bank_refusals.specs.InnerPins.{pin_places}
 use Rattle.bank_refusals.specs.Alike.{stays}
-use Rattle.bank_cells.specs.declared.inner_pins.InnerPin.{InnerPin as HeldInnerPin}
+use Rattle.bank_cells.specs.declared.runs.Placed.{Placed}
 use Rattle.bank_cells.specs.declared.runs.Run.{Run as HeldRun}
 use Rattle.bank_cells.specs.declared.runs.Statements.{Statements}
 use Rattle.bank_cells.specs.Expanded.{pin_item}
@@ -47,11 +48,11 @@ pub record InnerPin : Type 0 where
   pub group : Group
   pub stays : Bool
 
-abbrev pub shown_inner : HeldInnerPin → InnerPin
-shown_inner pin = record { group = pin.group.now; stays = pin.stays }
+abbrev pub pin_stays : List Vector → Group → Bool
+pin_stays vectors group = list_all (stays vectors) group.items
 
 abbrev pub inner_pin : List Vector → Group → InnerPin
-inner_pin vectors group = record { group = group; stays = list_all (stays vectors) group.items }
+inner_pin vectors group = record { group = group; stays = pin_stays vectors group }
 
 abbrev pub judged_pins : List Vector → List Item → List InnerPin
 judged_pins vectors items = map (inner_pin vectors) (inner_pins items)
@@ -73,7 +74,16 @@ pub record AreOfOneGroup (statements : Statements) : Type 0 where
   pub shared : map shown_shared statements.shared.items ≡ shared_items statements.vectors.now statements.group.now.items
   pub stay : statements.stay ≡ list_all (shared_stays statements.vectors.now) statements.group.now.items
   pub pins : statements.pins ≡ inner_pins statements.group.now.items
-  pub inner : map shown_inner statements.inner.items ≡ judged_pins statements.vectors.now statements.group.now.items
+  pub pins_stay : statements.pins_stay.items ≡ map (pin_stays statements.vectors.now) (inner_pins statements.group.now.items)
+
+-- The inner pin at a place becomes the same at each position.
+abbrev pub stays_at : List Bool → ℕ → Bool
+stays_at stays place = unwrap_or (slice_get stays place) true
+
+-- With a member are held the places of the inner pins of its bus or bundle that name it.
+abbrev pub IsPlaced : Group → Placed → Type 0
+IsPlaced group placed =
+    placed.places.items ≡ pin_places placed.member.vector.now placed.member.at placed.member.name.now (inner_pins group.items)
 
 -- Neighbours with the same statements: the first of them, and the names of all.
 pub record Run : Type 0 where
@@ -81,7 +91,7 @@ pub record Run : Type 0 where
   pub names : List Value
 
 abbrev pub shown_run : HeldRun → Run
-shown_run run = record { first = shown_member run.first; names = run.names }
+shown_run run = record { first = shown_member run.first.member; names = run.names }
 
 abbrev pub name_of : Member → Value
 name_of member = record { bytes = member.name; quoted = true }

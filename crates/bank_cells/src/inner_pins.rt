@@ -1,62 +1,56 @@
-//! The inner pins of a bus or bundle, and whether what its members have becomes the same at each position.
-ghost use Rattle.std.specs.Prelude.{◌≡◌, IfOk, map};
+//! Whether what the members of a bus or bundle have becomes the same at each position.
+ghost use Rattle.std.specs.Prelude.{◌≡◌, ◌&&◌, bytes_eq, IfOk, map};
 ghost use Rattle.std.specs.List.{list_all};
 ghost use Rattle.bank_cells.specs.Runs as spec;
 
-use bank_refusals::{Member, any_names, are_alike, is_shared, stays};
+use bank_refusals::{are_alike, is_shared, stays};
 use bus_texts::Vectors;
 use liberty_groups::{Group, Item};
 use std::alloc::{AllocError, Global};
 
-/// An inner pin of a bus or bundle.
-#[derive(Drop)]
-pub(crate) struct InnerPin<'a> {
-    pub(crate) group: &'a Group,
-    /// Its statements become the same at each position.
-    pub(crate) stays: bool,
-}
-
-/// These inner pins, with that.
-pub(crate) fn judged_pins<'a>(
+/// Of each of these inner pins, whether its statements become the same at each position.
+pub(crate) fn judged_pins(
     alloc: Global,
     vectors: &Vectors,
-    pins: &[&'a Group],
-) -> Result<Vec<InnerPin<'a>>, AllocError>
-    ensures { IfOk result
-        (λ found. map spec.shown_inner found.items ≡ map (spec.inner_pin vectors.now) (map (λ pin. pin.now) pins.now)) }
+    pins: &[&Group],
+) -> Result<Vec<bool>, AllocError>
+    ensures { IfOk result (λ found. found.items ≡ map (spec.pin_stays vectors.now) (map (λ pin. pin.now) pins.now)) }
 {
     let mut found = Vec::new(alloc);
     for group in pins {
-        let stays = are_alike(alloc, vectors, group)?;
-        found.push(InnerPin { group, stays })?;
+        found.push(are_alike(alloc, vectors, group)?)?;
     }
     Ok(found)
 }
 
-/// Whether two members have the same of an inner pin.
-fn same_of(one: Member<'_>, other: Member<'_>, pin: &InnerPin<'_>) -> bool
-    ensures { result ≡ spec.same_of (spec.shown_member one.entry) (spec.shown_member other.entry) (spec.shown_inner pin.now) }
+/// Whether the inner pin at a place becomes the same at each position.
+fn stays_at(stays: &[bool], place: usize) -> bool
+    ensures { result ≡ spec.stays_at stays.now place }
 {
-    let names = pin.group.arguments.as_slice();
-    if any_names(one, names) {
-        any_names(other, names) && pin.stays
-    } else {
-        !any_names(other, names)
+    match stays.get(place) {
+        Some(stays) => *stays,
+        None => true,
     }
 }
 
-/// Whether two members have the same of all these inner pins.
-pub(crate) fn same_of_all(one: Member<'_>, other: Member<'_>, pins: &[InnerPin<'_>]) -> bool
-    ensures { result
-        ≡ list_all (spec.same_of (spec.shown_member one.entry) (spec.shown_member other.entry))
-        (map spec.shown_inner pins.now) }
+/// Whether the inner pins at these places become the same at each position.
+fn all_stay(stays: &[bool], places: &[usize]) -> bool
+    ensures { result ≡ list_all (spec.stays_at stays.now) places.now }
 {
-    for pin in pins {
-        if !same_of(one, other, pin) {
+    for place in places {
+        if !stays_at(stays, *place) {
             return false;
         }
     }
     true
+}
+
+/// Whether two members have the same statements, which the inner pins at these places name: `stay` tells whether what each member
+/// has becomes the same at each position, and `stays` tells it of each inner pin.
+pub(crate) fn same_places(stay: bool, stays: &[bool], one: &[usize], other: &[usize]) -> bool
+    ensures { result ≡ (stay && (bytes_eq one.now other.now && list_all (spec.stays_at stays.now) one.now)) }
+{
+    stay && one == other && all_stay(stays, one)
 }
 
 /// Whether a statement of a bus or bundle becomes the same at each position, if each member has it.

@@ -1,13 +1,13 @@
 //! The pin groups of a bus or bundle, of which neighbouring members with the same statements have one together.
-ghost use Rattle.std.specs.Prelude.{◌≡◌, ◌++◌, IfOk, OnOk, map};
+ghost use Rattle.std.specs.Prelude.{◌≡◌, ◌++◌, ◌∷◌, [], IfOk, OnOk, map};
 ghost use Rattle.std.specs.List.{fold};
 ghost use Rattle.bank_cells.specs.Runs as spec;
 
-use crate::inner_pins::{InnerPin, all_shared_stay, judged_pins, same_of_all};
+use crate::inner_pins::{all_shared_stay, judged_pins, same_places};
 use crate::pins::member_pin_items;
 use crate::shared::{Shared, shared_items};
 use crate::sink::ItemSink;
-use bank_refusals::{InnerPins, Member, indexed_pins};
+use bank_refusals::{InnerPins, Member, indexed_pins, member_places};
 use bus_texts::{Vector, Vectors};
 use liberty_groups::{Group, Item, Value, Values, copy_arguments, copy_text};
 use std::alloc::{AllocError, Global};
@@ -35,10 +35,17 @@ fn members_of(alloc: Global, several: &[Vector]) -> Result<Vec<Member<'_>>, Allo
     Ok(found)
 }
 
+/// A member, with the places of the inner pins that name it.
+#[derive(Drop)]
+struct Placed<'a> {
+    member: Member<'a>,
+    places: Vec<usize>,
+}
+
 /// Neighbouring members with the same statements: the first of them, and the names of all.
 #[derive(Drop)]
 struct Run<'a> {
-    first: Member<'a>,
+    first: Placed<'a>,
     names: Values,
 }
 
@@ -52,20 +59,20 @@ fn name_of(alloc: Global, member: Member<'_>) -> Result<Value, AllocError>
 }
 
 /// The run of one member.
-fn run_of<'a>(alloc: Global, first: Member<'a>) -> Result<Run<'a>, AllocError>
-    ensures { IfOk result (λ run. spec.shown_run run ≡ spec.run_of (spec.shown_member first.entry)) }
+fn run_of<'a>(alloc: Global, first: Placed<'a>) -> Result<Run<'a>, AllocError>
+    ensures first { IfOk result (λ run. run.first ≡ first.entry) }
+    ensures run { IfOk result (λ run. spec.shown_run run ≡ spec.run_of (spec.shown_member first.entry.member)) }
 {
-    let names = Values::one(name_of(alloc, first)?);
+    let names = Values::one(name_of(alloc, first.member)?);
     Ok(Run { first, names })
 }
 
-/// Adds a member with the same statements.
-fn add_name(alloc: Global, run: &mut Run<'_>, member: Member<'_>) -> Result<(), AllocError>
-    ensures { OnOk result
-        (spec.shown_run run.new ≡ spec.run_and (spec.shown_run run.old) (spec.shown_member member.entry)) }
+/// Adds the name of a member.
+fn add_name(alloc: Global, names: &mut Values, member: Member<'_>) -> Result<(), AllocError>
+    ensures { OnOk result (names.new ≡ names.old ++ spec.name_of (spec.shown_member member.entry) ∷ []) }
 {
     let name = name_of(alloc, member)?;
-    run.names.push(alloc, name)
+    names.push(alloc, name)
 }
 
 /// What the pins of a bus or bundle are made of.
@@ -77,8 +84,8 @@ struct Statements<'a> {
     /// The shared ones become the same at each position.
     stay: bool,
     pins: InnerPins<'a>,
-    /// The inner pins, with whether their statements become the same at each position.
-    inner: Vec<InnerPin<'a>>,
+    /// Of each inner pin, whether its statements become the same at each position.
+    pins_stay: Vec<bool>,
 }
 
 impl<'a> Statements<'a> {
@@ -96,24 +103,36 @@ impl<'a> Statements<'a> {
         let shared = shared_items(alloc, vectors, items)?;
         let stay = all_shared_stay(alloc, vectors, items)?;
         let pins = indexed_pins(alloc, items)?;
-        let inner = judged_pins(alloc, vectors, pins.groups())?;
+        let pins_stay = judged_pins(alloc, vectors, pins.groups())?;
         Ok(Statements {
             vectors,
             group,
             shared,
             stay,
             pins,
-            inner,
+            pins_stay,
         })
     }
 
-    /// Whether two members have the same statements.
-    fn have_same(&self, one: Member<'_>, other: Member<'_>) -> bool
+    /// A member, with the places of the inner pins that name it.
+    fn placed(&self, alloc: Global, member: Member<'a>) -> Result<Placed<'a>, AllocError>
         requires { spec.AreOfOneGroup self.now }
-        ensures { result ≡ spec.have_same self.now.vectors.now self.now.group.now (spec.shown_member one.entry)
-            (spec.shown_member other.entry) }
+        ensures member { IfOk result (λ placed. spec.shown_member placed.member ≡ spec.shown_member member.entry) }
+        ensures places { IfOk result (spec.IsPlaced self.now.group.now) }
     {
-        self.stay && same_of_all(one, other, &self.inner)
+        let places = member_places(alloc, &self.pins, member)?;
+        Ok(Placed { member, places })
+    }
+
+    /// Whether two members have the same statements.
+    fn have_same(&self, one: &Placed<'_>, other: &Placed<'_>) -> bool
+        requires group { spec.AreOfOneGroup self.now }
+        requires first { spec.IsPlaced self.now.group.now one.now }
+        requires second { spec.IsPlaced self.now.group.now other.now }
+        ensures { result ≡ spec.have_same self.now.vectors.now self.now.group.now (spec.shown_member one.now.member)
+            (spec.shown_member other.now.member) }
+    {
+        same_places(self.stay, &self.pins_stay, &one.places, &other.places)
     }
 
     /// The pin group of neighbours with the same statements.
@@ -128,7 +147,7 @@ impl<'a> Statements<'a> {
             self.group,
             pins,
             &self.shared,
-            run.first,
+            run.first.member,
         )?;
         Ok(Group {
             name: copy_text(alloc, b"pin")?,
@@ -161,7 +180,8 @@ impl<'a> Statements<'a> {
         run: &mut Run<'a>,
         member: Member<'a>,
     ) -> Result<(), AllocError>
-        requires { spec.AreOfOneGroup self.now }
+        requires group { spec.AreOfOneGroup self.now }
+        requires placed { spec.IsPlaced self.now.group.now run.old.first }
         ensures found { OnOk result
             (found.new
             ≡ fold S.after found.old
@@ -169,12 +189,14 @@ impl<'a> Statements<'a> {
         ensures run { OnOk result
             (spec.shown_run run.new
             ≡ spec.run_after self.now.vectors.now self.now.group.now (spec.shown_run run.old) (spec.shown_member member.entry)) }
+        ensures placed { OnOk result (spec.IsPlaced self.now.group.now run.new.first) }
     {
-        if self.have_same(run.first, member) {
-            return add_name(alloc, run, member);
+        let next = self.placed(alloc, member)?;
+        if self.have_same(&run.first, &next) {
+            return add_name(alloc, &mut run.names, member);
         }
         self.add_run(alloc, found, run)?;
-        *run = run_of(alloc, member)?;
+        *run = run_of(alloc, next)?;
         Ok(())
     }
 
@@ -186,7 +208,8 @@ impl<'a> Statements<'a> {
         run: &mut Run<'a>,
         rest: &[Member<'a>],
     ) -> Result<(), AllocError>
-        requires { spec.AreOfOneGroup self.now }
+        requires group { spec.AreOfOneGroup self.now }
+        requires placed { spec.IsPlaced self.now.group.now run.old.first }
         ensures { OnOk result
             (found.new
             ≡ fold S.after found.old
@@ -213,7 +236,7 @@ impl<'a> Statements<'a> {
         match members.split_first() {
             None => Ok(()),
             Some((first, rest)) => {
-                let mut run = run_of(alloc, *first)?;
+                let mut run = run_of(alloc, self.placed(alloc, *first)?)?;
                 self.add_rest(alloc, found, &mut run, rest)
             }
         }

@@ -3,7 +3,6 @@ use Rattle.std.proofs.Common.{◌≡◌, ℕ, ◌+◌, ◌-◌, ◌<◌, ◌≤�
 use Rattle.std.proofs.Common.{List, [], ◌∷◌, ◌++◌, map, take, length, get_or, Option, Some, None, slice_get, refl, sym, ap, subst, ◌∙◌}
 use Rattle.std.proofs.Common.{arith, codes, length-append, nat_eq}
 use Rattle.std.specs.Prelude.{flat_map, filter, option_map, option_to_list, bytes_eq, Result, Ok, Err, IfOk}
-use Rattle.std.specs.List.{list_any}
 use Rattle.std.proofs.lemmas.List.{append-nil, take_more, length-map, length-take-le, take-map}
 use Rattle.std.proofs.lemmas.List.Folds.{list_any-append}
 use Rattle.std.proofs.lemmas.Option.{slice_get-map, slice_get_read, slice_get-get_or}
@@ -17,9 +16,10 @@ use Rattle.bus_texts.proofs.NamedLemmas.{same_either_way}
 use Rattle.cell_machine.specs.Places.{places_from, entries_at, AreBelow}
 use Rattle.cell_machine.proofs.EntryPlaces.{places-more, places-below, entries-pass}
 use Rattle.first_names.specs.declared.all_places.AllPlaces.{AllPlaces}
-use Rattle.first_names.specs.AllPlaces.{end_with, with_place, places_of, PutsPlace}
-use Rattle.bank_refusals.specs.Members.{names_bit_or, inner_pin_items}
-use Rattle.bank_refusals.specs.InnerPins.{has_name, PutsPin, AreFound, statements_of, statements_at}
+use Rattle.first_names.specs.PutOnce.{end_with, with_place}
+use Rattle.first_names.specs.AllPlaces.{places_of, PutsPlace}
+use Rattle.bank_refusals.specs.Members.{inner_pin_items}
+use Rattle.bank_refusals.specs.InnerPins.{has_name, PutsPin, AreFound, pin_names, pin_places, statements_of, statements_at}
 
 -- a place is put behind others once
 get_behind : (xs : List ℕ) (x : ℕ) → slice_get (xs ++ x ∷ []) (length xs) ≡ Some x
@@ -55,7 +55,6 @@ put_more old new next arguments k argument at h e p q =
     let longer : take (k + 1) arguments ≡ take k arguments ++ argument ∷ [] =
     take_more arguments k argument h ∙ ap (λ u. take k arguments ++ u ∷ []) (sym e) in
     record {
-      same_length = q.same_length;
       stands = λ name.
           q.stands name
           ∙ (λ i. if same_either_way name argument.bytes i then with_place (p.stands name i) at else p.stands name i)
@@ -94,7 +93,6 @@ found_more v old new pins i pin h e f p =
     slice_get-map v pins i ∙ ap (option_map v) (slice_get_read pins (length pins) i pin refl h e) in
     let size : length (take i pins) ≡ i = length-take-le i pins (omega (arith, h)) in
     record {
-      same_length = p.same_length;
       found = λ name.
           let passes : Group → Bool = λ g. has_name name g.arguments in
           let was : places_of old name ≡ places_from passes 0 (map v (take i pins)) = f.found name in
@@ -118,7 +116,7 @@ at_entries pins (place ∷ places) = by (slice_get pins place) (at_entries pins 
     by None e = e
     by (Some pin) e = ap (λ l. statements_of (Some pin) ++ l) e
 
-module _ (vector : Vector) (at : ℕ) (member : List ℕ) (no_bit : slice_get vector.bits at ≡ None) where
+module _ (vector : Vector) (at : ℕ) (member : List ℕ) where
   own_first : (pin : Group) (b c : Bool) (rest : List Item)
       → (if c then (if b then pin.items else []) ++ rest else rest) ≡ (if b && c then pin.items else []) ++ rest
   own_first pin true true rest = refl
@@ -127,34 +125,29 @@ module _ (vector : Vector) (at : ℕ) (member : List ℕ) (no_bit : slice_get ve
   own_first pin false false rest = refl
 
   by_name : (pins : List Group)
-      → flat_map (λ pin. statements_of (Some pin)) (filter (λ pin. has_name member pin.arguments) pins)
-      ≡ flat_map (λ pin. if is_called (codes "pin") pin && has_name member pin.arguments then pin.items else []) pins
+      → flat_map (λ pin. statements_of (Some pin)) (filter (pin_names vector at member) pins)
+      ≡ flat_map (inner_pin_items vector at member) pins
   by_name [] = refl
   by_name (pin ∷ pins) =
-      one (has_name member pin.arguments)
-      ∙ ap (λ l. if has_name member pin.arguments then statements_of (Some pin) ++ l else l) (by_name pins)
-      ∙ own_first pin (is_called (codes "pin") pin) (has_name member pin.arguments) (flat_map
-      (λ pin. if is_called (codes "pin") pin && has_name member pin.arguments then pin.items else []) pins)
+      one (pin_names vector at member pin)
+      ∙ ap (λ l. if pin_names vector at member pin then statements_of (Some pin) ++ l else l) (by_name pins)
+      ∙ own_first pin (is_called (codes "pin") pin) (pin_names vector at member pin) (flat_map
+      (inner_pin_items vector at member) pins)
     where
       one : (b : Bool)
           → flat_map (λ pin. statements_of (Some pin))
-          (cond b (pin ∷ filter (λ pin. has_name member pin.arguments) pins) (filter (λ pin. has_name member pin.arguments) pins))
-          ≡ (if b then statements_of (Some pin)
-          ++ flat_map (λ pin. statements_of (Some pin)) (filter (λ pin. has_name member pin.arguments) pins)
-          else flat_map (λ pin. statements_of (Some pin)) (filter (λ pin. has_name member pin.arguments) pins))
+          (cond b (pin ∷ filter (pin_names vector at member) pins) (filter (pin_names vector at member) pins))
+          ≡ (if b then statements_of (Some pin) ++ flat_map (λ pin. statements_of (Some pin)) (filter (pin_names vector at member) pins)
+          else flat_map (λ pin. statements_of (Some pin)) (filter (pin_names vector at member) pins))
       one true = refl
       one false = refl
 
-  pub own_found : (places : AllPlaces) (pins : List Group) → AreFound places pins
-      → flat_map (statements_at pins) (places_of places member) ≡ flat_map (inner_pin_items vector at member) pins
-  own_found places pins f =
-      ap (flat_map (statements_at pins)) (f.found member)
-      ∙ at_entries pins (places_from (λ pin. has_name member pin.arguments) 0 pins)
-      ∙ ap (flat_map (λ pin. statements_of (Some pin))) (entries-pass (λ pin. has_name member pin.arguments) pins)
+  pub own_found : (pins : List Group)
+      → flat_map (statements_at pins) (pin_places vector at member pins) ≡ flat_map (inner_pin_items vector at member) pins
+  own_found pins =
+      at_entries pins (pin_places vector at member pins)
+      ∙ ap (flat_map (λ pin. statements_of (Some pin))) (entries-pass (pin_names vector at member) pins)
       ∙ by_name pins
-      ∙ ap (λ bit. flat_map (λ pin. if is_called (codes "pin") pin
-      && list_any (λ argument. names_bit_or vector.name member bit argument.bytes) pin.arguments then pin.items else []) pins)
-      (sym no_bit)
 
 -- what a fact of a call that went well comes to
 pub if_went : {X E : Type 0} (result : Result X E) (P Q : X → Type 0) → ((x : X) → P x → Q x) → IfOk result P → IfOk result Q

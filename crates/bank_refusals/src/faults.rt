@@ -37,21 +37,6 @@ pub(crate) fn add_at_if(found: &mut Vec<usize>, fails: bool, at: usize) -> Resul
     Ok(())
 }
 
-/// Adds the offset of a text that cannot become what it has to.
-fn add_fault(
-    alloc: Global,
-    found: &mut Vec<usize>,
-    place: Place<'_>,
-    text: Attribute<'_>,
-) -> Result<(), AllocError>
-    ensures { OnOk result
-        (found.new.items
-        ≡ found.old.items ++ spec.fault_of place.entry.vectors.now place.entry.position (Some (shown text.entry))) }
-{
-    let fails = text_fails(alloc, place.vectors, place.position, text.text)?;
-    add_at_if(found, fails, text.at)
-}
-
 /// Adds the offset of the text of this name, if it cannot become what it has to.
 pub(crate) fn add_named(
     alloc: Global,
@@ -65,10 +50,11 @@ pub(crate) fn add_named(
         ≡ found.old.items
         ++ spec.fault_named place.entry.vectors.now place.entry.position (map (λ item. item.now) items.now) name.now) }
 {
-    match last_named(items, name) {
-        None => Ok(()),
-        Some(text) => add_fault(alloc, found, place, text),
-    }
+    let Some(text) = last_named(items, name) else {
+        return Ok(());
+    };
+    let fails = text_fails(alloc, place.vectors, place.position, text.text)?;
+    add_at_if(found, fails, text.at)
 }
 
 /// Adds the offsets of the texts of these names that cannot become what they have to.

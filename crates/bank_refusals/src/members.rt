@@ -31,7 +31,7 @@ fn names_member(member: Member<'_>, argument: &Value) -> bool
 }
 
 /// Whether one of the arguments of an inner pin names a member.
-pub fn any_names(member: Member<'_>, arguments: &[Value]) -> bool
+pub(crate) fn any_names(member: Member<'_>, arguments: &[Value]) -> bool
     ensures { result ≡ list_any (spec.names_member member.entry.vector.now member.entry.at member.entry.name.now) arguments.now }
 {
     for argument in arguments {

@@ -7,7 +7,7 @@ use crate::alike::are_alike;
 use crate::faults::{Place, add_texts};
 use crate::members::Member;
 use crate::pins_by_name::{InnerPins, indexed_pins, named_items};
-use crate::related::add_all_timing_faults;
+use crate::related::add_item_faults;
 use crate::shared::{joined, varying_items};
 use crate::text_names::pin_texts;
 use bus_texts::{Vector, Vectors};
@@ -26,7 +26,10 @@ pub(crate) fn add_pin_faults(
         ≡ found.old.items ++ pin_faults place.entry.vectors.now place.entry.position (map (λ item. item.now) items.now)) }
 {
     add_texts(alloc, found, place, items, pin_texts())?;
-    add_all_timing_faults(alloc, found, place, items)
+    for item in items {
+        add_item_faults(alloc, found, place, item)?;
+    }
+    Ok(())
 }
 
 /// What the pins of a bus or bundle are made of.

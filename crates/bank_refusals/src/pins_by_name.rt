@@ -1,7 +1,7 @@
 //! The inner pins of a bus or bundle, and what its members have of them.
-ghost use Rattle.std.specs.Prelude.{◌≡◌, ◌++◌, length, IfOk, OnOk, map, flat_map};
+ghost use Rattle.std.specs.Prelude.{◌≡◌, IfOk, OnOk, map, flat_map};
 ghost use Rattle.bank_refusals.specs.Members as spec;
-ghost use Rattle.bank_refusals.specs.InnerPins.{PutsPin, AreFound, statements_at as statements_at_of};
+ghost use Rattle.bank_refusals.specs.InnerPins.{PutsPin, AreFound, pin_places, statements_at as statements_at_of};
 
 use crate::members::{Member, add_all, any_names};
 use bus_texts::is_called;
@@ -66,7 +66,6 @@ fn put_names(
     arguments: &[Value],
     at: usize,
 ) -> Result<(), AllocError>
-    requires { length places.old.places.items ≡ length places.old.names }
     ensures { OnOk result (PutsPin places.old arguments.now at places.new) }
 {
     for argument in arguments {
@@ -95,41 +94,41 @@ pub fn indexed_pins<'a>(alloc: Global, items: &'a [Item]) -> Result<InnerPins<'a
     Ok(InnerPins { groups, places })
 }
 
-/// Adds the statements of an inner pin that names a member.
-fn add_inner<'a>(
-    found: &mut Vec<&'a Item>,
-    member: Member<'_>,
-    pin: &'a Group,
-) -> Result<(), AllocError>
-    ensures { OnOk result
-        (map (λ item. item.now) found.new.items
-        ≡ map (λ item. item.now) found.old.items
-        ++ spec.inner_pin_items member.entry.vector.now member.entry.at member.entry.name.now pin.now) }
-{
-    if is_called(pin, b"pin") && any_names(member, pin.arguments.as_slice()) {
-        add_all(found, pin.items.as_slice())
-    } else {
-        Ok(())
-    }
-}
-
-/// The statements of those of these inner pins that name a member, each of which is asked.
-fn own_items<'a>(
+/// The places of those of these inner pins that name a member, each of which is asked.
+fn asked_places(
     alloc: Global,
-    pins: &[&'a Group],
+    pins: &[&Group],
     member: Member<'_>,
-) -> Result<Vec<&'a Item>, AllocError>
+) -> Result<Vec<usize>, AllocError>
     ensures { IfOk result
-        (λ items.
-        map (λ item. item.now) items.items
-        ≡ flat_map (spec.inner_pin_items member.entry.vector.now member.entry.at member.entry.name.now)
-        (map (λ pin. pin.now) pins.now)) }
+        (λ places.
+        places.items
+        ≡ pin_places member.entry.vector.now member.entry.at member.entry.name.now (map (λ pin. pin.now) pins.now)) }
 {
     let mut found = Vec::new(alloc);
-    for pin in pins {
-        add_inner(&mut found, member, pin)?;
+    for (at, pin) in pins.iter().enumerate() {
+        if any_names(member, pin.arguments.as_slice()) {
+            found.push(at)?;
+        }
     }
     Ok(found)
+}
+
+/// The places of those inner pins that name a member, ascending: of a bundle in the time of one look-up, where of a bus each pin
+/// is asked. `AllocError` comes only where memory is wanting.
+pub fn member_places(
+    alloc: Global,
+    pins: &InnerPins<'_>,
+    member: Member<'_>,
+) -> Result<Vec<usize>, AllocError>
+    ensures { IfOk result
+        (λ places.
+        places.items ≡ pin_places member.entry.vector.now member.entry.at member.entry.name.now pins.now) }
+{
+    match member.vector.bits.get(member.at) {
+        None => Vec::from_slice(alloc, pins.places.of(member.name)),
+        Some(_) => asked_places(alloc, &pins.groups, member),
+    }
 }
 
 /// The statements of the pin at a place.
@@ -159,8 +158,7 @@ fn items_at<'a>(
     Ok(found)
 }
 
-/// The statements of those inner pins that name a member: of a bundle in the time of one look-up, where of a bus each pin is
-/// asked.
+/// The statements of those inner pins that name a member.
 pub fn named_items<'a>(
     alloc: Global,
     pins: &InnerPins<'a>,
@@ -171,8 +169,6 @@ pub fn named_items<'a>(
         map (λ item. item.now) items.items
         ≡ flat_map (spec.inner_pin_items member.entry.vector.now member.entry.at member.entry.name.now) pins.now) }
 {
-    match member.vector.bits.get(member.at) {
-        None => items_at(alloc, &pins.groups, pins.places.of(member.name)),
-        Some(_) => own_items(alloc, &pins.groups, member),
-    }
+    let places = member_places(alloc, pins, member)?;
+    items_at(alloc, pins.groups(), &places)
 }

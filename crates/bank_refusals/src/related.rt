@@ -1,5 +1,5 @@
 //! The pins to which timing groups relate, where these are named by buses and bundles.
-ghost use Rattle.std.specs.Prelude.{◌≡◌, ◌++◌, IfOk, OnOk, map, option_map, flat_map};
+ghost use Rattle.std.specs.Prelude.{◌≡◌, ◌++◌, IfOk, OnOk, map, option_map};
 ghost use Rattle.std.specs.List.{list_any};
 ghost use Rattle.std.specs.Option.{option_copied};
 ghost use Rattle.liberty_groups.specs.declared.tree.Item.{out-Item};
@@ -110,39 +110,6 @@ pub fn related_words(alloc: Global, text: &[u8]) -> Result<Vec<&[u8]>, AllocErro
         .collect(alloc)
 }
 
-/// Adds the offset of a text with a name that cannot become a pin.
-fn add_related(
-    alloc: Global,
-    found: &mut Vec<usize>,
-    place: Place<'_>,
-    text: Attribute<'_>,
-) -> Result<(), AllocError>
-    ensures { OnOk result
-        (found.new.items
-        ≡ found.old.items ++ spec.related_fault place.entry.vectors.now place.entry.position (Some (shown text.entry))) }
-{
-    let words = related_words(alloc, text.text)?;
-    add_at_if(found, any_fails(place, &words), text.at)
-}
-
-/// Adds the offset of the text that tells the related pins, if it has a name that cannot become a pin.
-fn add_last_related(
-    alloc: Global,
-    found: &mut Vec<usize>,
-    place: Place<'_>,
-    items: &[&Item],
-) -> Result<(), AllocError>
-    ensures { OnOk result
-        (found.new.items
-        ≡ found.old.items
-        ++ spec.related_fault place.entry.vectors.now place.entry.position (spec.related_text (map (λ item. item.now) items.now))) }
-{
-    match related_text(items) {
-        None => Ok(()),
-        Some(text) => add_related(alloc, found, place, text),
-    }
-}
-
 /// Adds the faults of a timing group.
 fn add_timing_faults(
     alloc: Global,
@@ -155,11 +122,15 @@ fn add_timing_faults(
 {
     let items = all_items(alloc, group.items.as_slice())?;
     add_named(alloc, found, place, &items, b"when")?;
-    add_last_related(alloc, found, place, &items)
+    let Some(text) = related_text(&items) else {
+        return Ok(());
+    };
+    let words = related_words(alloc, text.text)?;
+    add_at_if(found, any_fails(place, &words), text.at)
 }
 
 /// Adds the faults of the timing group that a statement of a pin is, if it is one.
-fn add_item_faults(
+pub(crate) fn add_item_faults(
     alloc: Global,
     found: &mut Vec<usize>,
     place: Place<'_>,
@@ -174,22 +145,4 @@ fn add_item_faults(
         }
         _ => Ok(()),
     }
-}
-
-/// Adds the faults of all timing groups of a pin.
-pub(crate) fn add_all_timing_faults(
-    alloc: Global,
-    found: &mut Vec<usize>,
-    place: Place<'_>,
-    items: &[&Item],
-) -> Result<(), AllocError>
-    ensures { OnOk result
-        (found.new.items
-        ≡ found.old.items
-        ++ flat_map (spec.timing_faults_in place.entry.vectors.now place.entry.position) (map (λ item. item.now) items.now)) }
-{
-    for item in items {
-        add_item_faults(alloc, found, place, item)?;
-    }
-    Ok(())
 }

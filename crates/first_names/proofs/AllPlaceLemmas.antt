@@ -1,29 +1,30 @@
 -- Places that are put behind those of a name.
 use Rattle.std.proofs.Common.{◌≡◌, ◌<◌, ℕ, ◌+◌, Bool, true, false, if◌then◌else◌, List, [], ◌∷◌, ◌++◌, get_or, length}
-use Rattle.std.proofs.Common.{Option, Some, None, refl, sym, ap, subst, ◌∙◌, length-append}
+use Rattle.std.proofs.Common.{Option, Some, None, refl, sym, ap, subst, ◌∙◌}
 use Rattle.std.specs.Prelude.{slice_get, slice_set, unwrap_or, Result, Ok, Err, OnOk}
 use Rattle.std.specs.Option.{option_and_then}
 use Rattle.std.specs.Str.{bytes_eq}
-use Rattle.std.proofs.lemmas.List.{length-set}
 use Rattle.std.proofs.lemmas.Option.{slice_get-get_or}
 use Rattle.std.proofs.lemmas.Slice.Eq.{bytes_eq-Decides}
 use Rattle.bool_functions.specs.NameList.{number_of}
 use Rattle.first_names.specs.declared.all_places.AllPlaces.{AllPlaces}
-use Rattle.first_names.specs.AllPlaces.{with_place, places_of, PutsPlace}
+use Rattle.first_names.specs.PutOnce.{with_place}
+use Rattle.first_names.specs.AllPlaces.{places_of, PutsPlace}
 use Rattle.first_names.proofs.PlaceLemmas.{or_last, added_new, set_at, number_within}
 
 -- a name that has a number stands for one place more
-pub put_old : (old new : AllPlaces) (name : List ℕ) (place k : ℕ) (d : List ℕ) → length old.places.items ≡ length old.names
-    → number_of old.names name ≡ Some k
+pub put_old : (old new : AllPlaces) (name : List ℕ) (place k : ℕ) (d : List ℕ) → number_of old.names name ≡ Some k
     → new.names ≡ old.names → new.places.items ≡ slice_set old.places.items k (with_place (get_or old.places.items k d) place)
     → PutsPlace old name place new
-put_old old new name place k d same e n p =
+put_old old new name place k d e n p =
     record {
-      same_length = ap length p ∙ length-set lists k more ∙ same ∙ sym (ap length n);
       stands = λ other. rw (n, p) (ap (λ o. unwrap_or o []) (set_at old.names lists name other k more same e)
           ∙ last other (bytes_eq other name) refl);
     }
   where
+    same : length old.places.items ≡ length old.names
+    same = old.same_length
+
     lists : List (List ℕ)
     lists = old.places.items
 
@@ -43,14 +44,11 @@ put_old old new name place k d same e n p =
     last other false b = refl
 
 -- and one that has none stands for its first
-pub put_new : (old new : AllPlaces) (name : List ℕ) (place : ℕ) → length old.places.items ≡ length old.names
-    → number_of old.names name ≡ None
+pub put_new : (old new : AllPlaces) (name : List ℕ) (place : ℕ) → number_of old.names name ≡ None
     → new.names ≡ old.names ++ name ∷ [] → new.places.items ≡ old.places.items ++ (place ∷ []) ∷ [] → PutsPlace old name place new
-put_new old new name place same e n p =
+put_new old new name place e n p =
     record {
-      same_length = ap length p ∙ length-append old.places.items ((place ∷ []) ∷ []) ∙ ap (λ k. k + 1) same
-          ∙ sym (length-append old.names (name ∷ [])) ∙ sym (ap length n);
-      stands = λ other. rw (n, p) (ap (λ o. unwrap_or o []) (added_new old.names old.places.items name other (place ∷ []) same)
+      stands = λ other. rw (n, p) (ap (λ o. unwrap_or o []) (added_new old.names old.places.items name other (place ∷ []) old.same_length)
           ∙ last other (bytes_eq other name) refl);
     }
   where

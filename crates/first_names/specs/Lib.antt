@@ -1,2 +1,3 @@
 pub mod AllPlaces
 pub mod Places
+pub mod PutOnce

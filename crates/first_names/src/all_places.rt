@@ -1,7 +1,7 @@
 //! All places of things by their names.
 ghost use Rattle.std.specs.Prelude.{◌≡◌, ◌∷◌, [], ◌++◌, None, length, OnOk};
 ghost use Rattle.bool_functions.specs.NameList.{number_of};
-ghost use Rattle.first_names.specs.AllPlaces as spec;
+ghost use Rattle.first_names.specs.PutOnce as spec;
 
 use bool_functions::Names;
 use sqlite_items::Items;
@@ -12,9 +12,12 @@ use std::alloc::{AllocError, Global};
 pub struct AllPlaces {
     pub names: Names,
     pub places: Vec<Items<usize>>,
+    ghost same_length: { length places.items ≡ length names },
 }
 
 impl AllPlaces {
+    ghost use Rattle.first_names.specs.AllPlaces.{places_of, PutsPlace};
+
     /// No names.
     pub fn new(alloc: Global) -> AllPlaces
         ensures names { result.names ≡ [] }
@@ -28,7 +31,7 @@ impl AllPlaces {
 
     /// The places that stand for a name, in the time of one look-up.
     pub fn of(&self, name: &[u8]) -> &[usize]
-        ensures { result.now ≡ spec.places_of self.now name.now }
+        ensures { result.now ≡ places_of self.now name.now }
     {
         match self.names.number(name) {
             Some(number) => match self.places.get(number) {
@@ -42,8 +45,7 @@ impl AllPlaces {
     /// Puts the thing at this place behind those that have its name, where it is not the last of them already. `AllocError` comes
     /// only where memory is wanting.
     pub fn put(&mut self, alloc: Global, name: &[u8], place: usize) -> Result<(), AllocError>
-        requires { length self.old.places.items ≡ length self.old.names }
-        ensures { OnOk result (spec.PutsPlace self.old name.now place self.new) }
+        ensures { OnOk result (PutsPlace self.old name.now place self.new) }
     {
         match self.names.number(name) {
             Some(number) => put_once(&mut self.places[number], place),
@@ -59,8 +61,14 @@ impl AllPlaces {
     {
         let mut places = Items::new(alloc);
         places.push(place)?;
-        self.names.add(name)?;
-        Ok(self.places.push(places)?)
+        self.places.push(places)?;
+        match self.names.add(name) {
+            Ok(_) => Ok(()),
+            Err(wanting) => {
+                self.places.pop();
+                Err(wanting)
+            }
+        }
     }
 }
 

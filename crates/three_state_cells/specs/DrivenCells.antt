@@ -1,5 +1,5 @@
 -- A cell as it is read where its outputs may float: a core without Z, and what drives its three-state outputs.
-use Rattle.std.specs.Prelude.{ℕ, Bool, List, [], ◌∷◌, ◌++◌, length, nat_lt, codes, decimal, Option}
+use Rattle.std.specs.Prelude.{◌≡◌, ℕ, Bool, List, [], ◌∷◌, ◌++◌, length, nat_lt, codes, decimal, Option}
 use Rattle.liberty_text.specs.declared.time.Unit.{Unit}
 use Rattle.liberty_groups.specs.declared.tree.Group.{Group}
 use Rattle.cell_machine.specs.CellData.{CellData, data_of}
@@ -57,6 +57,10 @@ floating_of unit number core outputs =
       left_out =
           in_pin_order 0 (pins_of core) (left_out_of (subject_of unit core) core) (all_left_out (subject_of unit core) outputs);
     }
+
+-- A driven cell is that of such a core.
+abbrev pub IsOfCore : Option Unit → ℕ → Group → List ThreeStateOutput → DrivenCell → Type 0
+IsOfCore unit number core outputs cell = driven_data_of cell ≡ floating_of unit number core outputs
 
 -- A cell that is its own core, with what it leaves out.
 abbrev pub plain_of : CellData → List LeftOut → DrivenData

@@ -12,7 +12,7 @@ ghost use Rattle.three_state_cells.specs.Drivers.{IsDriverOf};
 ghost use Rattle.three_state_cells.specs.Timing.{in_pin_order as in_pin_order_of};
 ghost use Rattle.three_state_cells.specs.Refusals.{first_of_two, driver_refusal as driver_refusal_of, floating_refusal};
 ghost use Rattle.three_state_cells.specs.Refusals.{driven_refusal, IsRefusedCore};
-ghost use Rattle.three_state_cells.specs.DrivenCells.{driven_data, driven_data_of, core_name, plain_of, floating_of};
+ghost use Rattle.three_state_cells.specs.DrivenCells.{driven_data, driven_data_of, core_name, plain_of, IsOfCore};
 ghost use Rattle.three_state_cells.specs.CoreReadings.{AreDrivers, IsFloating, IsCoreOfPins, IsReadCore};
 
 use crate::driven_cell::DrivenCell;
@@ -199,8 +199,7 @@ fn with_drivers(
 ) -> Result<DrivenCell, AllocError>
     requires { IsReadCore core.unit core.group.now core.pins.now number read }
     ensures { IfOk result
-        (λ driven. driven_data_of driven
-        ≡ floating_of core.entry.unit number core.entry.group.now (outputs_shown core.entry.pins.now)) }
+        (IsOfCore core.entry.unit number core.entry.group.now (outputs_shown core.entry.pins.now)) }
 {
     let drivers = core_drivers(alloc, core);
     let (read, drivers) = held_with(read, drivers)?;
@@ -216,8 +215,7 @@ fn unless_wrong(
 ) -> Result<DrivenCell, CellFault>
     requires { IsReadCore core.unit core.group.now core.pins.now number read }
     ensures cell { IfOk result
-        (λ driven. driven_data_of driven
-        ≡ floating_of core.entry.unit number core.entry.group.now (outputs_shown core.entry.pins.now)) }
+        (IsOfCore core.entry.unit number core.entry.group.now (outputs_shown core.entry.pins.now)) }
     ensures accepted { IfOk result
         (λ _. driver_refusal_of (subject_of_cell core.entry.unit core.entry.group.now) (groups_shown core.entry.pins.now)
         ≡ None) }
@@ -257,8 +255,7 @@ fn read_core(
 ) -> Result<DrivenCell, CellFault>
     requires { IsCoreOfPins core.group.now core.pins.now }
     ensures cell { IfOk result
-        (λ driven. driven_data_of driven
-        ≡ floating_of core.entry.unit number core.entry.group.now (outputs_shown core.entry.pins.now)) }
+        (IsOfCore core.entry.unit number core.entry.group.now (outputs_shown core.entry.pins.now)) }
     ensures accepted { IfOk result
         (λ _. floating_refusal core.entry.unit earlier.now core.entry.group.now (groups_shown core.entry.pins.now) ≡ None) }
     ensures refused { IfErr result

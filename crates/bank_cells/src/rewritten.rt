@@ -25,8 +25,8 @@ fn values_at(alloc: Global, place: Place<'_>, values: &[Value]) -> Result<Values
     let [value] = values else {
         return copy_values(alloc, values);
     };
-    let bytes = text_for(alloc, place.vectors, place.position, value.bytes.as_slice())?;
-    one_value(alloc, bytes, value.quoted)
+    let bytes = text_for(alloc, place.vectors, place.position, value.bytes())?;
+    one_value(alloc, bytes, value.is_quoted())
 }
 
 /// The values of a statement, which are a text over positions or not.

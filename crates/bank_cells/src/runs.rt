@@ -9,7 +9,7 @@ use crate::shared::{Shared, shared_items};
 use crate::sink::ItemSink;
 use bank_refusals::{InnerPins, Member, indexed_pins, member_places};
 use bus_texts::{Vector, Vectors};
-use liberty_groups::{Group, Item, Value, Values, copy_arguments, copy_text};
+use liberty_groups::{Group, Item, SmallList, Value, Values, copy_arguments, copy_text};
 use std::alloc::{AllocError, Global};
 
 /// Adds the members of a bus or bundle of one name.
@@ -54,8 +54,7 @@ fn name_of(alloc: Global, member: Member<'_>) -> Result<Value, AllocError>
     ensures { IfOk result (λ value. value ≡ spec.name_of (spec.shown_member member.entry)) }
 {
     let bytes = copy_text(alloc, member.name)?;
-    let quoted = true;
-    Ok(Value { bytes, quoted })
+    Ok(Value::new(bytes, true))
 }
 
 /// The run of one member.
@@ -152,7 +151,7 @@ impl<'a> Statements<'a> {
         Ok(Group {
             name: copy_text(alloc, b"pin")?,
             arguments: copy_arguments(alloc, run.names.as_slice())?,
-            items,
+            items: SmallList::from_items(alloc, items)?,
             at: self.group.at,
         })
     }

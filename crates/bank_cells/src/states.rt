@@ -8,7 +8,7 @@ use crate::rewritten::state_items;
 use crate::sink::ItemSink;
 use bank_refusals::Place;
 use bus_texts::{Bank, Vectors, is_called, member_name, positions};
-use liberty_groups::{Arguments, Group, Item, Value, Values, copy_text, value_of};
+use liberty_groups::{Arguments, Group, Item, SmallList, Value, Values, copy_text, value_of};
 use small_bytes::SmallBytes;
 use std::alloc::{AllocError, Global};
 
@@ -55,7 +55,10 @@ fn bank_state(
     Ok(Group {
         name: state_name(alloc, group)?,
         arguments: variables(alloc, bank, bit)?,
-        items: state_items(alloc, Place { vectors, position }, group)?,
+        items: SmallList::from_items(
+            alloc,
+            state_items(alloc, Place { vectors, position }, group)?,
+        )?,
         at: group.at,
     })
 }

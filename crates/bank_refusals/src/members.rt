@@ -21,12 +21,8 @@ fn names_member(member: Member<'_>, argument: &Value) -> bool
     ensures { result ≡ spec.names_member member.entry.vector.now member.entry.at member.entry.name.now argument.now }
 {
     match member.vector.bits.get(member.at) {
-        None => argument.bytes.as_slice() == member.name,
-        Some(bit) => names_bit(
-            member.vector.name.as_slice(),
-            *bit,
-            argument.bytes.as_slice(),
-        ),
+        None => argument.bytes() == member.name,
+        Some(bit) => names_bit(member.vector.name.as_slice(), *bit, argument.bytes()),
     }
 }
 

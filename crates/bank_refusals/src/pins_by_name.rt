@@ -69,7 +69,7 @@ fn put_names(
     ensures { OnOk result (PutsPin places.old arguments.now at places.new) }
 {
     for argument in arguments {
-        places.put(alloc, argument.bytes.as_slice(), at)?;
+        places.put(alloc, argument.bytes(), at)?;
     }
     Ok(())
 }

@@ -48,7 +48,7 @@ pub fn bus_type(alloc: Global, group: &Group) -> Result<Option<BusType>, AllocEr
     let Some(to) = bit(group, b"bit_to") else {
         return Ok(None);
     };
-    let name = copy_bytes(alloc, name.bytes.as_slice())?;
+    let name = copy_bytes(alloc, name.bytes())?;
     Ok(Some(BusType { name, from, to }))
 }
 

@@ -129,7 +129,7 @@ fn add_buses_of(
     ensures { OnOk result (found.new ≡ found.old ++ map (spec.bus_named bits.now) names.now) }
 {
     for name in names {
-        found.push(bit_vector(alloc, name.bytes.as_slice(), VectorKind::Bus, bits)?)?;
+        found.push(bit_vector(alloc, name.bytes(), VectorKind::Bus, bits)?)?;
     }
     Ok(())
 }
@@ -171,7 +171,7 @@ fn add_names(
     ensures { OnOk result (found.new ≡ found.old ++ map (λ value. value.bytes) values.now) }
 {
     for value in values {
-        found.push(copy_bytes(alloc, value.bytes.as_slice())?)?;
+        found.push(copy_bytes(alloc, value.bytes())?)?;
     }
     Ok(())
 }
@@ -222,7 +222,7 @@ fn add_bundles_of(
     ensures { OnOk result (found.new ≡ found.old ++ map (spec.bundle_named members.now) names.now) }
 {
     for name in names {
-        found.push(bundle_vector(alloc, members, name.bytes.as_slice())?)?;
+        found.push(bundle_vector(alloc, members, name.bytes())?)?;
     }
     Ok(())
 }
@@ -265,11 +265,11 @@ pub fn bank_of(group: &Group) -> Option<Bank<'_>>
     let [first, second, width] = group.arguments.as_slice() else {
         return None;
     };
-    let width = digits_number(width.bytes.as_slice())?;
+    let width = digits_number(width.bytes())?;
     if 1 <= width && width <= 16 {
         Some(Bank {
-            first: first.bytes.as_slice(),
-            second: second.bytes.as_slice(),
+            first: first.bytes(),
+            second: second.bytes(),
             width,
         })
     } else {

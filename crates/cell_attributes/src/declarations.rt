@@ -58,7 +58,7 @@ fn declare_pins<'a>(declared: &mut Vec<Declared<'a>>, group: &'a Group) -> Resul
         ++ map (declared_pin group.now) group.now.arguments) }
 {
     for value in group.arguments.as_slice() {
-        let name = value.bytes.as_slice();
+        let name = value.bytes();
         let role = if bears(group, name) {
             Role::Bearer
         } else {

@@ -51,7 +51,7 @@ pub fn cell_name(cell: &Group) -> &[u8]
 {
     match cell.arguments.as_slice().split_first() {
         None => &[],
-        Some((first, _)) => first.bytes.as_slice(),
+        Some((first, _)) => first.bytes(),
     }
 }
 

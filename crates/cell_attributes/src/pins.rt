@@ -40,7 +40,7 @@ fn pins_of_group(alloc: Global, group: &Group) -> Result<Items<Pin>, AllocError>
     let direction = direction_of(group).unwrap_or(Direction::Input);
     let mut pins = Items::new(alloc);
     for name in group.arguments.as_slice() {
-        let name = Items::from_slice(alloc, name.bytes.as_slice())?;
+        let name = Items::from_slice(alloc, name.bytes())?;
         pins.push(Pin { name, direction })?;
     }
     Ok(pins)

@@ -31,8 +31,8 @@ pub fn arguments_of(group: &Group) -> Option<Arguments<'_>>
 {
     match group.arguments.as_slice() {
         [first, second] => Some(Arguments {
-            first: first.bytes.as_slice(),
-            second: second.bytes.as_slice(),
+            first: first.bytes(),
+            second: second.bytes(),
         }),
         _ => None,
     }
@@ -92,12 +92,12 @@ pub fn states_in(alloc: Global, group: &Group) -> Result<Vec<StateName<'_>>, All
     };
     if !is_table(group) {
         states.push(StateName {
-            first: first.bytes.as_slice(),
-            second: Some(second.bytes.as_slice()),
+            first: first.bytes(),
+            second: Some(second.bytes()),
         })?;
         return Ok(states);
     }
-    nodes_in(alloc, second.bytes.as_slice())
+    nodes_in(alloc, second.bytes())
 }
 
 /// The states of some groups, in order.

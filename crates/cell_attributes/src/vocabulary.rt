@@ -126,7 +126,7 @@ fn add_pins<'a>(
         ++ pin_entries (map shown_state states.now) group.now) }
 {
     for value in group.arguments.as_slice() {
-        let name = value.bytes.as_slice();
+        let name = value.bytes();
         let class = pin_class(states, group, name);
         let target = target_as(group, name, class);
         entries.push(Entry {

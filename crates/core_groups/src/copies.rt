@@ -2,7 +2,7 @@
 ghost use Rattle.std.specs.Prelude.{◌≡◌, IfOk};
 ghost use Rattle.core_groups.specs.Copies.{with_statements};
 
-use liberty_groups::{Group, Item, copy_arguments, copy_text};
+use liberty_groups::{Group, Item, SmallList, copy_arguments, copy_text};
 use sqlite_items::Items;
 use std::alloc::{AllocError, Global};
 
@@ -13,7 +13,7 @@ pub fn with_items(alloc: Global, like: &Group, items: Items<Item>) -> Result<Gro
     Ok(Group {
         name: copy_text(alloc, like.name.as_slice())?,
         arguments: copy_arguments(alloc, like.arguments.as_slice())?,
-        items,
+        items: SmallList::from_items(alloc, items)?,
         at: like.at,
     })
 }

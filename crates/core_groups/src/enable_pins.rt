@@ -10,7 +10,8 @@ ghost use Rattle.core_groups.specs.CoreGroups.{enable_pins};
 use crate::outputs::ThreeStateOutput;
 use bool_functions::{FunctionFault, read_free};
 use liberty_groups::{
-    Arguments, Attribute, Group, Item, Values, copy_bytes, copy_text, last_attribute, value_of,
+    Arguments, Attribute, Group, Item, SmallList, Values, copy_bytes, copy_text, last_attribute,
+    value_of,
 };
 use sqlite_items::Items;
 use std::alloc::{AllocError, Global};
@@ -79,7 +80,7 @@ fn enable_pin(alloc: Global, number: usize, floats: Attribute<'_>) -> Result<Ite
     Ok(Item::Inner(Group {
         name: copy_text(alloc, b"pin")?,
         arguments: Arguments::from_values(alloc, one_value(alloc, name)?)?,
-        items: enable_statements(alloc, floats)?,
+        items: SmallList::from_items(alloc, enable_statements(alloc, floats)?)?,
         at: floats.at,
     }))
 }

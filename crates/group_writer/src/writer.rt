@@ -12,7 +12,7 @@ fn push_value(out: &mut Vec<u8>, value: &Value) -> Result<(), AllocError>
     ensures { OnOk result (out.new.items ≡ out.old.items ++ value_text value.now) }
 {
     out.push(b'"')?;
-    for byte in value.bytes.as_slice() {
+    for byte in value.bytes() {
         if *byte == b'"' {
             out.push(b'\\')?;
         }

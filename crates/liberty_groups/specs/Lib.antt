@@ -9,3 +9,4 @@ pub mod Library
 pub mod Outline
 pub mod Values
 pub mod Writing
+pub mod Text

@@ -20,7 +20,7 @@ fn text(values: &[Value]) -> &[u8]
     ensures { result.now ≡ text_of values.now }
 {
     match values {
-        [value] => value.bytes.as_slice(),
+        [value] => value.bytes(),
         _ => &[],
     }
 }

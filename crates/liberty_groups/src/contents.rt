@@ -4,7 +4,7 @@ ghost use Rattle.std.specs.Prelude.{◌≡◌, OnOk, OnErr, IfOk};
 ghost use Rattle.liberty_groups.specs.Library.{nothing_found, found_of, one_text, counted, with_named};
 
 use crate::fault::Stop;
-use crate::tree::{Group, Item, Value};
+use crate::tree::{Group, Item};
 use crate::values::Values;
 use small_bytes::SmallBytes;
 use std::alloc::Global;
@@ -30,11 +30,11 @@ pub struct Contents {
 pub fn one_text(mut values: Values) -> SmallBytes
     ensures { result ≡ one_text values }
 {
-    let Some(Value { bytes, .. }) = values.pop() else {
+    let Some(value) = values.pop() else {
         return SmallBytes::new();
     };
     if values.as_slice().is_empty() {
-        bytes
+        value.into_bytes()
     } else {
         SmallBytes::new()
     }

@@ -4,6 +4,7 @@ ghost use Rattle.std.specs.Prelude.{◌≡◌, IfOk};
 use crate::tree::{Group, Item, Value};
 use crate::values::{Arguments, Values};
 use small_bytes::SmallBytes;
+use small_lists::SmallList;
 use sqlite_items::Items;
 use std::alloc::{AllocError, Global};
 
@@ -27,7 +28,7 @@ pub fn value_of(alloc: Global, bytes: Items<u8>, quoted: bool) -> Result<Value, 
     ensures quoted { IfOk result (λ value. value.quoted ≡ quoted) }
 {
     let bytes = SmallBytes::from_items(alloc, bytes)?;
-    Ok(Value { bytes, quoted })
+    Ok(Value::new(bytes, quoted))
 }
 
 /// A copy of some values. An `Err` comes only where memory is wanting.
@@ -36,9 +37,8 @@ pub fn copy_values(alloc: Global, values: &[Value]) -> Result<Values, AllocError
 {
     let mut copy = Values::with_capacity(alloc, values.len())?;
     for value in values {
-        let bytes = copy_text(alloc, value.bytes.as_slice())?;
-        let quoted = value.quoted;
-        copy.push(alloc, Value { bytes, quoted })?;
+        let bytes = copy_text(alloc, value.bytes())?;
+        copy.push(alloc, Value::new(bytes, value.is_quoted()))?;
     }
     Ok(copy)
 }
@@ -94,7 +94,7 @@ pub fn copy_group(alloc: Global, group: &Group) -> Result<Group, AllocError>
     Ok(Group {
         name: copy_text(alloc, group.name.as_slice())?,
         arguments: copy_arguments(alloc, group.arguments.as_slice())?,
-        items: copy_items(alloc, group.items.as_slice())?,
+        items: SmallList::from_items(alloc, copy_items(alloc, group.items.as_slice())?)?,
         at: group.at,
     })
 }

@@ -12,6 +12,7 @@ use crate::reader::{Mark, Place, Start};
 use crate::tree::{Group, Item, Value};
 use crate::values::{Arguments, Values};
 use small_bytes::SmallBytes;
+use small_lists::SmallList;
 use sqlite_items::Items;
 use std::alloc::{AllocError, Global};
 
@@ -19,30 +20,11 @@ use std::alloc::{AllocError, Global};
 /// at hand for the next list.
 const FIRST: usize = 14;
 
-/// A list of at most so many statements is moved to exactly the room that it needs, since it grows by doubling. A longer one keeps
-/// its room, of which the system has given no memory yet for most of what is not used.
-const FEW: usize = 1024;
-
 /// No statements yet. An `Err` comes only where memory is wanting.
 fn first_room(alloc: Global) -> Result<Items<Item>, AllocError>
     ensures { IfOk result (λ items. items ≡ []) }
 {
     Ok(Items::from_vec(Vec::with_capacity(alloc, FIRST)?))
-}
-
-/// The same statements, in no more room than they need where they are not many. An `Err` comes only where memory is wanting.
-fn fitted(alloc: Global, items: Items<Item>) -> Result<Items<Item>, AllocError>
-    ensures { IfOk result (λ same. same ≡ items) }
-{
-    if items.is_empty() {
-        return Ok(Items::new(alloc));
-    }
-    if items.len() > FEW {
-        return Ok(items);
-    }
-    let mut same = Items::from_vec(Vec::with_capacity(alloc, items.len())?);
-    same.append(items)?;
-    Ok(same)
 }
 
 impl Cursor<'_> {
@@ -131,12 +113,12 @@ impl Cursor<'_> {
 
     /// The statements of a group up to its closing brace, and the brace.
     #[cycle(nest)]
-    fn statements(&mut self, alloc: Global, levels: usize) -> Result<Items<Item>, Stop>
+    fn statements(&mut self, alloc: Global, levels: usize) -> Result<SmallList<Item>, Stop>
         ensures { Reads (read (spec.statements (spec.statement levels)) self.old) result self.new }
     {
         let items = self.some_statements(alloc, levels)?;
         self.expect(Mark::End, Expected::Statement)?;
-        Ok(fitted(alloc, items)?)
+        Ok(SmallList::from_items(alloc, items)?)
     }
 
     /// The statements from here on.

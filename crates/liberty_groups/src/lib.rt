@@ -26,6 +26,7 @@ pub use library::LEVELS_INSIDE;
 pub use outline::{Standing, next_standing};
 pub use read::{End, Halt, Reading, fault_of, faults_are_first, one_reading, read_library};
 pub use reader::{Mark, Place, Start, goes_on};
+pub use small_lists::SmallList;
 pub use tree::{Group, Item, Value};
 pub use values::{Arguments, Values};
 pub use writing::{writable_parts, writing_reads_back};

@@ -190,13 +190,11 @@ impl Cursor<'_> {
         match token.kind {
             TokenKind::Word => {
                 let bytes = SmallBytes::from_slice(alloc, self.bytes())?;
-                let quoted = false;
-                found.push(alloc, Value { bytes, quoted })?;
+                found.push(alloc, Value::new(bytes, false))?;
             }
             TokenKind::Text => {
                 let bytes = text_bytes(alloc, between_quotes(self.bytes()))?;
-                let quoted = true;
-                found.push(alloc, Value { bytes, quoted })?;
+                found.push(alloc, Value::new(bytes, true))?;
             }
             _ => {}
         }

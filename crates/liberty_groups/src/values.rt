@@ -1,7 +1,7 @@
 //! The values of a statement, of which one stands in place.
 
 ghost use Rattle.std.specs.Prelude.{◌≡◌, ◌↔◌, ◌++◌, ◌∷◌, [], length, IsTrue, IfOk, OnOk, MatchOption};
-ghost use Rattle.liberty_groups.specs.Values.{held_values, held_arguments};
+ghost use Rattle.liberty_groups.specs.Values.{held_values};
 
 use crate::tree::Value;
 use sqlite_items::{Boxed, Items};
@@ -15,10 +15,11 @@ use std::slice::from_ref;
 enum HeldValues {
     Nothing,
     One(Value),
-    Several(Items<Value>),
+    Two(Boxed<[Value; 2]>),
+    Several(Box<Items<Value>>),
 }
 
-/// Some values, of which a single one needs no list. Contracts see the list of them.
+/// Some values, of which a single one stands in place and two in a block. Contracts see the list of them.
 #[derive(Drop)]
 pub struct Values {
     held: HeldValues,
@@ -35,21 +36,56 @@ impl Model for Values {
     ghost view = { λ values. held_values values.held };
 }
 
+/// The two values of a block.
+fn two_of(block: Boxed<[Value; 2]>) -> (Value, Value)
+    ensures { result.0 ∷ result.1 ∷ [] ≡ block }
+{
+    let [first, second] = block.into_inner();
+    (first, second)
+}
+
+/// Three values, with room for no more.
+fn three(alloc: Global, block: Boxed<[Value; 2]>, value: Value) -> Result<HeldValues, AllocError>
+    ensures { IfOk result (λ more. held_values more ≡ block ++ value ∷ []) }
+{
+    let (first, second) = two_of(block);
+    let mut several = Items::from_vec(Vec::with_capacity(alloc, 3)?);
+    several.push(first)?;
+    several.push(second)?;
+    several.push(value)?;
+    Ok(HeldValues::Several(Box::new(alloc, several)?))
+}
+
 /// The same list with one more value.
 fn with_more(alloc: Global, held: HeldValues, value: Value) -> Result<HeldValues, AllocError>
     ensures { IfOk result (λ more. held_values more ≡ held_values held ++ value ∷ []) }
 {
     match held {
         HeldValues::Nothing => Ok(HeldValues::One(value)),
-        HeldValues::One(first) => {
-            let mut several = Items::from_vec(Vec::with_capacity(alloc, 2)?);
-            several.push(first)?;
-            several.push(value)?;
-            Ok(HeldValues::Several(several))
-        }
+        HeldValues::One(first) => Ok(HeldValues::Two(Boxed::new(alloc, [first, value])?)),
+        HeldValues::Two(block) => three(alloc, block, value),
         HeldValues::Several(mut several) => {
             several.push(value)?;
             Ok(HeldValues::Several(several))
+        }
+    }
+}
+
+/// The same list without its last value, and that value.
+fn without_last(held: HeldValues) -> (HeldValues, Option<Value>)
+    ensures { MatchOption result.1 ((held_values held ≡ []) × (held_values result.0 ≡ []))
+        (λ last. held_values held ≡ held_values result.0 ++ last ∷ []) }
+{
+    match held {
+        HeldValues::Nothing => (HeldValues::Nothing, None),
+        HeldValues::One(last) => (HeldValues::Nothing, Some(last)),
+        HeldValues::Two(block) => {
+            let (first, last) = two_of(block);
+            (HeldValues::One(first), Some(last))
+        }
+        HeldValues::Several(mut several) => {
+            let last = several.pop();
+            (HeldValues::Several(several), last)
         }
     }
 }
@@ -77,12 +113,12 @@ impl Values {
     pub fn with_capacity(alloc: Global, count: usize) -> Result<Values, AllocError>
         ensures { IfOk result (λ values. values ≡ []) }
     {
-        if count <= 1 {
+        if count <= 2 {
             return Ok(Values::new());
         }
         let several = Items::from_vec(Vec::with_capacity(alloc, count)?);
         Ok(Values {
-            held: HeldValues::Several(several),
+            held: HeldValues::Several(Box::new(alloc, several)?),
         })
     }
 
@@ -108,13 +144,9 @@ impl Values {
     pub fn pop(&mut self) -> Option<Value>
         ensures { MatchOption result ((self.old ≡ []) × (self.new ≡ [])) (λ last. self.old ≡ self.new ++ last ∷ []) }
     {
-        if let HeldValues::Several(several) = &mut self.held {
-            return several.pop();
-        }
-        match replace(&mut self.held, HeldValues::Nothing) {
-            HeldValues::One(last) => Some(last),
-            _ => None,
-        }
+        let (held, last) = without_last(replace(&mut self.held, HeldValues::Nothing));
+        self.held = held;
+        last
     }
 
     /// The values.
@@ -124,43 +156,16 @@ impl Values {
         match &self.held {
             HeldValues::Nothing => &[],
             HeldValues::One(value) => from_ref(value),
+            HeldValues::Two(block) => block.get(),
             HeldValues::Several(several) => several.as_slice(),
         }
     }
 }
 
-/// What stands in the place of some arguments.
-#[derive(Drop)]
-enum HeldArguments {
-    Nothing,
-    One(Boxed<Value>),
-    Two(Boxed<[Value; 2]>),
-    Several(Boxed<Items<Value>>),
-}
-
-/// These values, of which one or two need no list.
-fn several_arguments(alloc: Global, mut several: Items<Value>) -> Result<HeldArguments, AllocError>
-    ensures { IfOk result (λ same. held_arguments same ≡ several) }
-{
-    let Some(last) = several.pop() else {
-        return Ok(HeldArguments::Nothing);
-    };
-    let Some(first) = several.pop() else {
-        return Ok(HeldArguments::One(Boxed::new(alloc, last)?));
-    };
-    if several.is_empty() {
-        return Ok(HeldArguments::Two(Boxed::new(alloc, [first, last])?));
-    }
-    several.push(first)?;
-    several.push(last)?;
-    Ok(HeldArguments::Several(Boxed::new(alloc, several)?))
-}
-
-/// The arguments of a group, which mostly has none or few beside what stands in it: they stand behind a box. Contracts see the
-/// list of them.
+/// The arguments of a group, behind a box. Contracts see the list of them.
 #[derive(Drop)]
 pub struct Arguments {
-    held: HeldArguments,
+    values: Boxed<Values>,
 }
 
 impl Model for Arguments {
@@ -169,9 +174,7 @@ impl Model for Arguments {
 
     ghost Value = { List OneValue };
 
-    ghost use Rattle.liberty_groups.specs.Values.{held_arguments};
-
-    ghost view = { λ arguments. held_arguments arguments.held };
+    ghost view = { λ arguments. arguments.values };
 }
 
 impl Arguments {
@@ -179,25 +182,16 @@ impl Arguments {
     pub fn from_values(alloc: Global, values: Values) -> Result<Arguments, AllocError>
         ensures { IfOk result (λ same. same ≡ values) }
     {
-        let Values { held } = values;
-        let held = match held {
-            HeldValues::Nothing => HeldArguments::Nothing,
-            HeldValues::One(value) => HeldArguments::One(Boxed::new(alloc, value)?),
-            HeldValues::Several(several) => several_arguments(alloc, several)?,
-        };
-        Ok(Arguments { held })
+        Ok(Arguments {
+            values: Boxed::new(alloc, values)?,
+        })
     }
 
     /// The values.
     pub fn as_slice(&self) -> &[Value]
         ensures { result.now ≡ self.now }
     {
-        match &self.held {
-            HeldArguments::Nothing => &[],
-            HeldArguments::One(value) => from_ref(value.get()),
-            HeldArguments::Two(values) => values.get(),
-            HeldArguments::Several(several) => several.get().as_slice(),
-        }
+        self.values.get().as_slice()
     }
 
     /// How many values there are.

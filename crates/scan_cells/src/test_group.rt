@@ -9,7 +9,8 @@ ghost use Rattle.cell_attributes.specs.Groups.{inner_groups as inner_groups_of};
 
 use cell_attributes::groups::inner_groups;
 use liberty_groups::{
-    Arguments, Group, Item, Value, Values, copy_arguments, copy_item, copy_text, inner_group,
+    Arguments, Group, Item, SmallList, Value, Values, copy_arguments, copy_item, copy_text,
+    inner_group,
 };
 use sqlite_items::Items;
 use std::alloc::{AllocError, Global};
@@ -66,7 +67,7 @@ fn untimed(alloc: Global, group: &Group) -> Result<Group, AllocError>
     Ok(Group {
         name: copy_text(alloc, group.name.as_slice())?,
         arguments: copy_arguments(alloc, group.arguments.as_slice())?,
-        items: copy_kept(alloc, group.items.as_slice())?,
+        items: SmallList::from_items(alloc, copy_kept(alloc, group.items.as_slice())?)?,
         at: group.at,
     })
 }
@@ -95,8 +96,7 @@ fn name_arguments(alloc: Global, name: &[u8]) -> Result<Arguments, AllocError>
     ensures { IfOk result (λ arguments. arguments ≡ name_value_of name.now ∷ []) }
 {
     let bytes = copy_text(alloc, name)?;
-    let quoted = true;
-    Arguments::from_values(alloc, Values::one(Value { bytes, quoted }))
+    Arguments::from_values(alloc, Values::one(Value::new(bytes, true)))
 }
 
 /// A test cell as the group of a cell with this name.
@@ -106,7 +106,7 @@ pub fn view_group(alloc: Global, name: &[u8], test: &Group) -> Result<Group, All
     Ok(Group {
         name: copy_text(alloc, b"cell")?,
         arguments: name_arguments(alloc, name)?,
-        items: view_items(alloc, test)?,
+        items: SmallList::from_items(alloc, view_items(alloc, test)?)?,
         at: test.at,
     })
 }

@@ -1,7 +1,7 @@
 //! Bytes, of which few stand in place.
 
-ghost use Rattle.std.specs.Prelude.{◌≡◌, ◌≤◌, [], length, IfOk};
-ghost use Rattle.small_bytes.specs.Bytes.{held_bytes};
+ghost use Rattle.std.specs.Prelude.{◌≡◌, ◌≤◌, [], length, false, IfOk, IsTrue};
+ghost use Rattle.small_bytes.specs.Bytes.{held_bytes, is_marked};
 
 use crate::room::Room;
 use sqlite_items::{Boxed, Items};
@@ -9,19 +9,21 @@ use std::alloc::{AllocError, Global};
 use std::marker::Model;
 use std::mem::size_of;
 
-/// What stands in the place of some bytes. A block has room for all that an allocator gives beside its own eight bytes in a
-/// multiple of sixteen.
+/// What stands in the place of some bytes and a mark. A block has room for all that an allocator gives beside its own eight bytes
+/// in a multiple of sixteen.
 #[derive(Drop)]
 enum HeldBytes {
     InPlace(Room<14>),
     /// Exactly 15.
     Full([u8; 15]),
+    MarkedInPlace(Room<14>),
+    MarkedFull([u8; 15]),
     /// A name, or a few numbers.
-    Name(Boxed<Room<39>>),
+    Name(bool, Boxed<Room<39>>),
     /// A row of a table.
-    Row(Boxed<Room<71>>),
-    WideRow(Boxed<Room<103>>),
-    Long(Boxed<Items<u8>>),
+    Row(bool, Boxed<Room<71>>),
+    WideRow(bool, Boxed<Room<103>>),
+    Long(bool, Boxed<Items<u8>>),
 }
 
 /// Some bytes, in 16: at most 15 stand in place, at most 103 in one block, and more in a list behind a box. Contracts see the
@@ -79,12 +81,61 @@ fn few(alloc: Global, bytes: &[u8]) -> Result<HeldBytes, AllocError>
         return Ok(full(bytes));
     }
     if bytes.len() <= NAME {
-        return Ok(HeldBytes::Name(Boxed::new(alloc, Room::filled(bytes))?));
+        return Ok(HeldBytes::Name(false, Boxed::new(alloc, Room::filled(bytes))?));
     }
     if bytes.len() <= ROW {
-        return Ok(HeldBytes::Row(Boxed::new(alloc, Room::filled(bytes))?));
+        return Ok(HeldBytes::Row(false, Boxed::new(alloc, Room::filled(bytes))?));
     }
-    Ok(HeldBytes::WideRow(Boxed::new(alloc, Room::filled(bytes))?))
+    Ok(HeldBytes::WideRow(false, Boxed::new(alloc, Room::filled(bytes))?))
+}
+
+/// The bytes that are held.
+#[inline(always)]
+fn bytes_of(held: &HeldBytes) -> &[u8]
+    ensures { result.now ≡ held_bytes held.now }
+{
+    match held {
+        HeldBytes::InPlace(room) => room.as_slice(),
+        HeldBytes::Full(bytes) => bytes,
+        HeldBytes::MarkedInPlace(room) => room.as_slice(),
+        HeldBytes::MarkedFull(bytes) => bytes,
+        HeldBytes::Name(_, block) => block.get().as_slice(),
+        HeldBytes::Row(_, block) => block.get().as_slice(),
+        HeldBytes::WideRow(_, block) => block.get().as_slice(),
+        HeldBytes::Long(_, bytes) => bytes.get().as_slice(),
+    }
+}
+
+/// The same bytes with a mark.
+fn marked(held: HeldBytes) -> HeldBytes
+    ensures bytes { held_bytes result ≡ held_bytes held }
+    ensures mark { IsTrue (is_marked result) }
+{
+    match held {
+        HeldBytes::InPlace(room) => HeldBytes::MarkedInPlace(room),
+        HeldBytes::Full(bytes) => HeldBytes::MarkedFull(bytes),
+        HeldBytes::Name(_, block) => HeldBytes::Name(true, block),
+        HeldBytes::Row(_, block) => HeldBytes::Row(true, block),
+        HeldBytes::WideRow(_, block) => HeldBytes::WideRow(true, block),
+        HeldBytes::Long(_, bytes) => HeldBytes::Long(true, bytes),
+        held => held,
+    }
+}
+
+/// The same bytes without a mark.
+fn unmarked(held: HeldBytes) -> HeldBytes
+    ensures bytes { held_bytes result ≡ held_bytes held }
+    ensures mark { is_marked result ≡ false }
+{
+    match held {
+        HeldBytes::MarkedInPlace(room) => HeldBytes::InPlace(room),
+        HeldBytes::MarkedFull(bytes) => HeldBytes::Full(bytes),
+        HeldBytes::Name(_, block) => HeldBytes::Name(false, block),
+        HeldBytes::Row(_, block) => HeldBytes::Row(false, block),
+        HeldBytes::WideRow(_, block) => HeldBytes::WideRow(false, block),
+        HeldBytes::Long(_, bytes) => HeldBytes::Long(false, bytes),
+        held => held,
+    }
 }
 
 impl SmallBytes {
@@ -105,7 +156,7 @@ impl SmallBytes {
         let held = if bytes.len() <= WIDE_ROW {
             few(alloc, bytes)?
         } else {
-            HeldBytes::Long(Boxed::new(alloc, Items::from_slice(alloc, bytes)?)?)
+            HeldBytes::Long(false, Boxed::new(alloc, Items::from_slice(alloc, bytes)?)?)
         };
         Ok(SmallBytes { held })
     }
@@ -117,7 +168,7 @@ impl SmallBytes {
         let held = if bytes.len() <= WIDE_ROW {
             few(alloc, bytes.as_slice())?
         } else {
-            HeldBytes::Long(Boxed::new(alloc, bytes)?)
+            HeldBytes::Long(false, Boxed::new(alloc, bytes)?)
         };
         Ok(SmallBytes { held })
     }
@@ -127,13 +178,69 @@ impl SmallBytes {
     pub fn as_slice(&self) -> &[u8]
         ensures { result.now ≡ self.now }
     {
+        bytes_of(&self.held)
+    }
+}
+
+/// Some bytes and a mark, in 16. Contracts see both.
+#[derive(Drop)]
+pub struct MarkedBytes {
+    held: HeldBytes,
+}
+
+const _: () = prove!(size_of::<MarkedBytes>() == 16);
+
+impl Model for MarkedBytes {
+    ghost use Rattle.small_bytes.specs.Marked.{Marked};
+
+    ghost Value = { Marked };
+
+    ghost use Rattle.small_bytes.specs.Bytes.{held_bytes, is_marked};
+
+    ghost view = { λ b. record { bytes = held_bytes b.held; is_marked = is_marked b.held } };
+}
+
+impl MarkedBytes {
+    /// These bytes with a mark or without one.
+    pub fn new(bytes: SmallBytes, is_marked: bool) -> MarkedBytes
+        ensures { result ≡ record { bytes = bytes; is_marked = is_marked } }
+    {
+        let SmallBytes { held } = bytes;
+        let held = if is_marked {
+            marked(held)
+        } else {
+            unmarked(held)
+        };
+        MarkedBytes { held }
+    }
+
+    /// The bytes.
+    #[inline(always)]
+    pub fn as_slice(&self) -> &[u8]
+        ensures { result.now ≡ self.now.bytes }
+    {
+        bytes_of(&self.held)
+    }
+
+    /// Whether they have a mark.
+    pub fn is_marked(&self) -> bool
+        ensures { result ≡ self.now.is_marked }
+    {
         match &self.held {
-            HeldBytes::InPlace(room) => room.as_slice(),
-            HeldBytes::Full(bytes) => bytes,
-            HeldBytes::Name(block) => block.get().as_slice(),
-            HeldBytes::Row(block) => block.get().as_slice(),
-            HeldBytes::WideRow(block) => block.get().as_slice(),
-            HeldBytes::Long(bytes) => bytes.get().as_slice(),
+            HeldBytes::InPlace(_) | HeldBytes::Full(_) => false,
+            HeldBytes::MarkedInPlace(_) | HeldBytes::MarkedFull(_) => true,
+            HeldBytes::Name(mark, _)
+            | HeldBytes::Row(mark, _)
+            | HeldBytes::WideRow(mark, _)
+            | HeldBytes::Long(mark, _) => *mark,
         }
+    }
+
+    /// The bytes, without the mark.
+    pub fn into_bytes(self) -> SmallBytes
+        ensures { result ≡ self.bytes }
+    {
+        let MarkedBytes { held } = self;
+        SmallBytes { held }
     }
 }

@@ -4,4 +4,4 @@
 mod bytes;
 mod room;
 
-pub use bytes::SmallBytes;
+pub use bytes::{MarkedBytes, SmallBytes};

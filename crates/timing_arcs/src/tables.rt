@@ -139,7 +139,7 @@ impl Sum {
         ensures { self.new ≡ with_arguments unit at self.old arguments.now }
     {
         for value in arguments {
-            self.add_text(unit, at, value.bytes.as_slice());
+            self.add_text(unit, at, value.bytes());
         }
     }
 

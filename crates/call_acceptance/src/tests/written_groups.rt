@@ -4,7 +4,7 @@ ghost use Rattle.std.specs.Prelude.{IfOk, IsTrue};
 ghost use Rattle.liberty_groups.specs.Writing.{is_writable};
 
 use group_writer::write_group;
-use liberty_groups::{Arguments, Group, Item, Value, Values, copy_text};
+use liberty_groups::{Arguments, Group, Item, SmallList, Value, Values, copy_text};
 use sqlite_items::Items;
 use std::alloc::{AllocError, Global};
 use std::test::Fail;
@@ -13,24 +13,18 @@ use std::test::Fail;
 fn cell(alloc: Global) -> Result<Group, AllocError>
     ensures { IfOk result (λ group. IsTrue (is_writable 32 group)) }
 {
-    let value = Values::one(Value {
-        bytes: copy_text(alloc, b"1.5")?,
-        quoted: false,
-    });
+    let value = Values::one(Value::new(copy_text(alloc, b"1.5")?, false));
     let mut items = Items::new(alloc);
     items.push(Item::Simple {
         name: copy_text(alloc, b"area")?,
         value,
         at: 0,
     })?;
-    let arguments = Values::one(Value {
-        bytes: copy_text(alloc, b"A\"B")?,
-        quoted: true,
-    });
+    let arguments = Values::one(Value::new(copy_text(alloc, b"A\"B")?, true));
     Ok(Group {
         name: copy_text(alloc, b"cell")?,
         arguments: Arguments::from_values(alloc, arguments)?,
-        items,
+        items: SmallList::from_items(alloc, items)?,
         at: 0,
     })
 }

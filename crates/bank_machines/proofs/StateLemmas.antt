@@ -121,7 +121,7 @@ module _
   one_group : is_table single ≡ false → groups_in numbers single reading ≡ state_with (kind_of_texts numbers single reading) ∷ []
   one_group table =
       ap (groups_with numbers single reading) two_arguments
-      ∙ ap (λ b. if b then table_groups single reading arguments else state_with (kind_of_texts numbers single reading) ∷ [])
+      ∙ ap (λ b. if b then table_groups reading arguments else state_with (kind_of_texts numbers single reading) ∷ [])
       table
 
   read_texts : is_table single ≡ false → state_reading v (length pins) single ≡ reading

@@ -62,8 +62,8 @@ module _
       let same : state_reading v (length pins) group ≡ reading_of_table v (length pins) group = rw t refl in
       let u : IsUnrefused (reading_of_table v (length pins) group) = subst (λ r. IsUnrefused r) same h in
       let made : groups_with to group (reading_of_table v (length pins) group) (Some a)
-      ≡ table_groups group (reading_of_table v (length pins) group) a =
-      ap (λ b. if b then table_groups group (reading_of_table v (length pins) group) a
+      ≡ table_groups (reading_of_table v (length pins) group) a =
+      ap (λ b. if b then table_groups (reading_of_table v (length pins) group) a
       else record {
         kind = kind_of_texts to group (reading_of_table v (length pins) group);
         support =
@@ -80,7 +80,7 @@ module _
         support = (reading_of_texts v (length pins) group).support;
       } in
       let made : groups_with to group (reading_of_texts v (length pins) group) (Some a) ≡ one ∷ [] =
-      ap (λ b. if b then table_groups group (reading_of_texts v (length pins) group) a else one ∷ []) t in
+      ap (λ b. if b then table_groups (reading_of_texts v (length pins) group) a else one ∷ []) t in
       subst (λ r. IsTrue (are_groups_from pins n (groups_with to group r (Some a)))) (sym same)
       (subst (λ gs. IsTrue (are_groups_from pins n gs)) (sym made)
       (and_from (is_group pins n one) true

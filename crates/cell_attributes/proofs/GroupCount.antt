@@ -1,18 +1,17 @@
 -- A cell has as many state groups as it declares states.
 use Rattle.std.proofs.Common.{◌≡◌, ℕ, suc, ◌+◌, false, List, [], ◌∷◌, length, map, refl, sym, ◌∙◌, ap, Option, Some, None}
 use Rattle.std.proofs.Common.{length-append}
-use Rattle.std.specs.Prelude.{flat_map, codes}
+use Rattle.std.specs.Prelude.{flat_map}
 use Rattle.std.proofs.lemmas.Bool.{cases_Bool}
 use Rattle.std.proofs.Common.{inl, inr}
 use Rattle.liberty_groups.specs.declared.tree.Group.{Group}
 use Rattle.cell_machine.specs.declared.groups.StateGroup.{StateGroup}
 use Rattle.statetables.specs.declared.table.StateTable.{StateTable}
-use Rattle.liberty_groups.specs.Attributes.{attribute_of}
 use Rattle.cell_attributes.specs.declared.state_readings.StateReading.{StateReading}
 use Rattle.cell_attributes.specs.Groups.{names_in}
 use Rattle.cell_attributes.specs.States.{StateName, Arguments, states_with, states_in, arguments_of, is_table, node_named}
 use Rattle.cell_attributes.specs.StateReadings.{is_ff}
-use Rattle.cell_attributes.specs.Building.{node_groups, table_in, groups_with, groups_in, groups_from}
+use Rattle.cell_attributes.specs.Building.{node_groups, groups_with, groups_in, groups_from}
 use Rattle.cell_attributes.specs.Limits.{place_of_state, state_at}
 use Rattle.cell_attributes.proofs.Turns.{count_shown}
 use Rattle.cell_attributes.proofs.Numbering.{state_flags}
@@ -32,9 +31,7 @@ flags_with to group r (Some arguments) =
     elim (cases_Bool (is_table group)) [
       | inl e ↦
           rw e
-          (node_flags
-          (table_in (length (names_in arguments.first)) (length (names_in arguments.second)) (attribute_of group (codes "table")))
-          r 0 (names_in arguments.second))
+          (node_flags r.table r 0 (names_in arguments.second))
       | inr e ↦ elim (cases_Bool (is_ff group)) [ inl f ↦ rw (e, f) refl | inr f ↦ rw (e, f) refl ]
     ]
 

@@ -31,9 +31,9 @@ use Rattle.cell_attributes.specs.States.{Arguments, StateName, arguments_of, is_
 use Rattle.cell_attributes.specs.Vocabulary.{Vocabulary}
 use Rattle.cell_attributes.specs.Texts.{control_use, class_at, is_unknown, is_coupled, malformed_at, coupled_at}
 use Rattle.cell_attributes.specs.StateReadings.{word_use, input_words, has_unknown_word, has_coupled_word, is_uncoupled}
-use Rattle.cell_attributes.specs.StateReadings.{table_judged, table_text, table_with, number_in, numbers_of, reading_of_table}
+use Rattle.cell_attributes.specs.StateReadings.{table_judged, table_or, table_in, table_found, table_text, table_with, number_in, numbers_of, reading_of_table}
 use Rattle.cell_attributes.specs.Limits.{no_support_in, wide_support_in}
-use Rattle.cell_attributes.specs.Building.{table_or, table_in, node_groups, table_groups}
+use Rattle.cell_attributes.specs.Building.{node_groups, table_groups}
 use Rattle.cell_attributes.proofs.Members.{stand_in, in_itself}
 use Rattle.cell_attributes.proofs.Numbering.{NumberIs}
 use Rattle.cell_attributes.proofs.TextNames.{is_allowed, allowed_use}
@@ -194,15 +194,19 @@ module _
       ∙ ap (λ o. not (length (states_with true o) == 0)) e
       ∙ some_nodes (names_in a.second) some
 
+  same_table : (reading_of_table v (length pins) group).table
+      ≡ table_in (length (names_in a.first)) (length (names_in a.second)) (attribute_of group (codes "table"))
+  same_table = ap (λ (o : Option Arguments). table_found o (attribute_of group (codes "table"))) e
+
   pub table_groups_hold :
       no_support_in (reading_of_table v (length pins) group) ≡ [] → wide_support_in (reading_of_table v (length pins) group) ≡ []
-      → IsTrue (are_groups_from pins n (table_groups group (reading_of_table v (length pins) group) a))
+      → IsTrue (are_groups_from pins n (table_groups (reading_of_table v (length pins) group) a))
   table_groups_hold some few =
       let inputs_count : ℕ = length (names_in a.first) in
       let nodes_count : ℕ = length (names_in a.second) in
       let attribute : Option Attribute = attribute_of group (codes "table") in
       elim (cases_Bool (length (names_in a.second) == 0)) [
-        | inl empty ↦ no_nodes pins n (table_in inputs_count nodes_count attribute) (reading_of_table v (length pins) group)
+        | inl empty ↦ no_nodes pins n (reading_of_table v (length pins) group).table (reading_of_table v (length pins) group)
             (names_in a.second) empty
         | inr full ↦
             let held = holds full in
@@ -210,9 +214,11 @@ module _
             subst (λ (o : Option Arguments). malformed_at (table_with o attribute) ≡ []) e sound.of_data.well_formed in
             let apart : coupled_at (table_text inputs_count nodes_count attribute) ≡ [] =
             subst (λ (o : Option Arguments). coupled_at (table_with o attribute) ≡ []) e sound.of_data.apart in
-            let table = table_in_is inputs_count nodes_count attribute some_table well apart in
+            let table : TableIs inputs_count nodes_count (reading_of_table v (length pins) group).table =
+            subst (λ t. TableIs inputs_count nodes_count t) (sym same_table)
+            (table_in_is inputs_count nodes_count attribute some_table well apart) in
             let all_inputs : List ℕ = (reading_of_table v (length pins) group).inputs in
-            nodes_hold pins n (table_in inputs_count nodes_count attribute) (reading_of_table v (length pins) group) 0
+            nodes_hold pins n (reading_of_table v (length pins) group).table (reading_of_table v (length pins) group) 0
             (names_in a.second)
             (is_support_from pins all_inputs (some_support (reading_of_table v (length pins) group) held some)
             (narrow_support (reading_of_table v (length pins) group) held few)

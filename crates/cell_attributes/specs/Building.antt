@@ -1,15 +1,13 @@
 -- The states and outputs of a cell, over its numbered names (this project's rules). They are told of every cell. What
 -- stands in the place of a part that refuses the cell does not matter.
-use Rattle.std.specs.Prelude.{ℕ, ◌+◌, ◌-◌, ◌/◌, ◌≤◌, ⊤, Bool, false, nat_eq, nat_lt, List, [], ◌∷◌, ◌++◌, length, map, flat_map}
-use Rattle.std.specs.Prelude.{codes, bytes_eq, Option, Some, None, unwrap_or, Result, Ok, Err, if◌then◌else◌}
+use Rattle.std.specs.Prelude.{ℕ, ◌+◌, ◌-◌, ◌/◌, ◌≤◌, ⊤, Bool, false, nat_eq, nat_lt, List, [], ◌∷◌, ◌++◌, map, flat_map}
+use Rattle.std.specs.Prelude.{bytes_eq, Option, Some, None, unwrap_or, if◌then◌else◌}
 use Rattle.liberty_groups.specs.declared.tree.Group.{Group}
 use Rattle.bool_functions.specs.declared.tree.Node.{Node}
 use Rattle.bool_functions.specs.declared.tree.Node.TheVariants as tree
 use Rattle.bool_functions.specs.Tree.{renamed_by, name_bound}
 use Rattle.bool_functions.specs.Support.{insert_all, support_of}
-use Rattle.statetables.specs.declared.fault.TableFault.{TableFault}
 use Rattle.statetables.specs.declared.table.StateTable.{StateTable}
-use Rattle.statetables.specs.Reading.{table_of}
 use Rattle.cell_machine.specs.declared.groups.Both.TheVariants as both
 use Rattle.cell_machine.specs.declared.groups.Clocked.{Clocked}
 use Rattle.cell_machine.specs.declared.groups.Gated.{Gated}
@@ -19,7 +17,6 @@ use Rattle.cell_machine.specs.declared.groups.StateGroup.{StateGroup}
 use Rattle.cell_machine.specs.declared.outputs.Source.{Source}
 use Rattle.cell_machine.specs.declared.outputs.Source.TheVariants as source
 use Rattle.cell_machine.specs.declared.outputs.OutputPin.{OutputPin}
-use Rattle.liberty_groups.specs.Attributes.{Attribute, attribute_of}
 use Rattle.cell_attributes.specs.declared.vocabulary.Class.{Class}
 use Rattle.cell_attributes.specs.declared.vocabulary.Class.TheVariants.{Input, Driven}
 use Rattle.cell_attributes.specs.declared.texts.Text.{Text}
@@ -103,31 +100,19 @@ gated to group r = record {
 abbrev pub kind_of_texts : List ℕ → Group → StateReading → GroupKind
 kind_of_texts to group r = if is_ff group then kind.Ff (clocked to group r) else kind.Latch (gated to group r)
 
--- the table of a text over so many inputs and nodes
-abbrev pub table_or : ℕ → ℕ → Result StateTable TableFault → StateTable
-table_or inputs nodes (Ok table) = table
-table_or inputs nodes (Err e) = record { inputs = inputs; nodes = nodes; rows = [] }
-
-abbrev pub table_in : ℕ → ℕ → Option Attribute → StateTable
-table_in inputs nodes None = record { inputs = inputs; nodes = nodes; rows = [] }
-table_in inputs nodes (Some attribute) = table_or inputs nodes (table_of attribute.text inputs nodes)
-
 -- a state group for each node of a table, of which so many come from this one on
 abbrev pub node_groups : StateTable → StateReading → ℕ → List (List ℕ) → List StateGroup
 node_groups table r node [] = []
 node_groups table r node (name ∷ names) =
     record { kind = kind.Table table node r.inputs; support = r.support } ∷ node_groups table r (node + 1) names
 
-abbrev pub table_groups : Group → StateReading → Arguments → List StateGroup
-table_groups group r arguments =
-    node_groups
-    (table_in (length (names_in arguments.first)) (length (names_in arguments.second)) (attribute_of group (codes "table")))
-    r 0 (names_in arguments.second)
+abbrev pub table_groups : StateReading → Arguments → List StateGroup
+table_groups r arguments = node_groups r.table r 0 (names_in arguments.second)
 
 abbrev pub groups_with : List ℕ → Group → StateReading → Option Arguments → List StateGroup
 groups_with to group r None = []
 groups_with to group r (Some arguments) =
-    if is_table group then table_groups group r arguments
+    if is_table group then table_groups r arguments
     else record { kind = kind_of_texts to group r; support = r.support } ∷ []
 
 abbrev pub groups_in : List ℕ → Group → StateReading → List StateGroup

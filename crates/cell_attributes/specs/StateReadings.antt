@@ -102,6 +102,24 @@ table_with None attribute = text.Absent
 table_with (Some arguments) attribute =
     table_text (length (names_in arguments.first)) (length (names_in arguments.second)) attribute
 
+-- the table of a text over so many inputs and nodes
+abbrev pub table_or : ℕ → ℕ → Result StateTable TableFault → StateTable
+table_or inputs nodes (Ok table) = table
+table_or inputs nodes (Err e) = record { inputs = inputs; nodes = nodes; rows = [] }
+
+abbrev pub table_in : ℕ → ℕ → Option Attribute → StateTable
+table_in inputs nodes None = record { inputs = inputs; nodes = nodes; rows = [] }
+table_in inputs nodes (Some attribute) = table_or inputs nodes (table_of attribute.text inputs nodes)
+
+-- Without its two arguments a table has no widths, and no rows.
+abbrev pub no_table : StateTable
+no_table = record { inputs = 0; nodes = 0; rows = [] }
+
+abbrev pub table_found : Option Arguments → Option Attribute → StateTable
+table_found None attribute = no_table
+table_found (Some arguments) attribute =
+    table_in (length (names_in arguments.first)) (length (names_in arguments.second)) attribute
+
 -- The support of a group: the input pins that its texts name, ascending. Pins have the first numbers.
 abbrev pub pins_among : ℕ → List ℕ → List ℕ
 pins_among pins names = insert_all [] (filter (λ i. nat_lt i pins) names)
@@ -123,6 +141,7 @@ reading_with pins group data_ control clear preset = record {
   clear = clear;
   preset = preset;
   inputs = [];
+  table = no_table;
   support = pins_among pins (names_read data_ control clear preset);
 }
 
@@ -140,7 +159,7 @@ number_in v word = number_of v.names word
 abbrev pub numbers_of : Vocabulary → List (List ℕ) → List ℕ
 numbers_of v words = filter_map (number_in v) words
 
--- What a `statetable` says. Of its text only what is wrong is told.
+-- What a `statetable` says.
 abbrev pub reading_of_table : Vocabulary → ℕ → Group → StateReading
 reading_of_table v pins group = record {
   at = group.at;
@@ -153,6 +172,7 @@ reading_of_table v pins group = record {
   clear = text.Absent;
   preset = text.Absent;
   inputs = numbers_of v (input_words (arguments_of group));
+  table = table_found (arguments_of group) (attribute_of group (codes "table"));
   support = pins_among pins (numbers_of v (input_words (arguments_of group)));
 }
 

@@ -13,11 +13,13 @@ use crate::held::{both_made, held_with};
 use crate::states::{arguments_of, is_table, states_in};
 use crate::supports::{pins_among, support_of};
 use crate::table_inputs::table_inputs;
-use crate::table_texts::table_with;
+use crate::table_texts::{no_table, table_with};
 use crate::texts::Text;
 use crate::vocabulary::Vocabulary;
+use cell_machine::Shared;
 use liberty_groups::{Group, last_attribute};
 use sqlite_items::Items;
+use statetables::StateTable;
 use std::alloc::{AllocError, Global};
 
 /// What a group that holds states says.
@@ -41,6 +43,8 @@ pub struct StateReading {
     pub preset: Text,
     /// The numbers of the inputs of a table.
     pub inputs: Items<usize>,
+    /// The table, without rows where the group is none or its text is no table.
+    pub table: Shared<StateTable>,
     /// The numbers of the input pins that the texts name, ascending.
     pub support: Items<usize>,
 }
@@ -136,7 +140,8 @@ impl Readings<'_, '_> {
             &texts.clear,
             &texts.preset,
         );
-        let (texts, support) = held_with(texts, support)?;
+        let (texts, made) = held_with(texts, both_made(support, no_table(self.alloc)))?;
+        let (support, table) = made;
         Ok(StateReading {
             at: group.at,
             holds,
@@ -148,6 +153,7 @@ impl Readings<'_, '_> {
             clear: texts.clear,
             preset: texts.preset,
             inputs: Items::new(self.alloc),
+            table,
             support,
         })
     }
@@ -161,20 +167,21 @@ impl Readings<'_, '_> {
         let arguments = arguments_of(group);
         let inputs = table_inputs(self.alloc, self.vocabulary, arguments)?;
         let support = pins_among(self.alloc, self.pins, &inputs.numbers);
-        let data_text = table_with(self.alloc, arguments, last_attribute(group, b"table"));
-        let (inputs, made) = held_with(inputs, both_made(support, data_text))?;
-        let (support, data_text) = made;
+        let read = table_with(self.alloc, arguments, last_attribute(group, b"table"));
+        let (inputs, made) = held_with(inputs, both_made(support, read))?;
+        let (support, read) = made;
         Ok(StateReading {
             at: group.at,
             holds,
             malformed: group_malformed(group),
             unknown: place_if(inputs.unknown, group.at),
             coupled: place_if(inputs.coupled, group.at),
-            data_text,
+            data_text: read.text,
             control: Text::Absent,
             clear: Text::Absent,
             preset: Text::Absent,
             inputs: Items::from_vec(inputs.numbers),
+            table: read.table,
             support,
         })
     }

@@ -1,7 +1,6 @@
 //! The state groups of a cell.
-ghost use Rattle.std.specs.Prelude.{◌≡◌, IfOk, length, map, codes, All};
-ghost use Rattle.liberty_groups.specs.Attributes.{attribute_of};
-ghost use Rattle.cell_attributes.specs.Building.{table_in as table_in_of, table_groups as table_groups_of};
+ghost use Rattle.std.specs.Prelude.{◌≡◌, IfOk, length, map, All};
+ghost use Rattle.cell_attributes.specs.Building.{table_groups as table_groups_of};
 ghost use Rattle.cell_attributes.specs.Building.{groups_in as groups_in_of, node_groups, groups_from as groups_from_of};
 ghost use Rattle.cell_attributes.specs.Building.{FitsReading};
 ghost use Rattle.cell_machine.specs.declared.groups.GroupKind.TheVariants as kind_of;
@@ -10,52 +9,20 @@ ghost use Rattle.cell_attributes.specs.Shown.{shown_arguments};
 use crate::text_kinds::Numbering;
 use cell_attributes::state_readings::StateReading;
 use cell_attributes::states::{Arguments, arguments_of, is_table, names_in};
-use cell_machine::{GroupKind, Shared, StateGroup};
-use liberty_groups::{Group, last_attribute};
+use cell_machine::{GroupKind, StateGroup};
+use liberty_groups::Group;
 use sqlite_items::Items;
-use statetables::{StateTable, TableFault, read_table};
 use std::alloc::{AllocError, Global};
 
-/// The table of a group over so many inputs and nodes.
-fn table_in(
-    alloc: Global,
-    inputs: usize,
-    nodes: usize,
-    group: &Group,
-) -> Result<StateTable, AllocError>
-    ensures { IfOk result (λ table. table ≡ table_in_of inputs nodes (attribute_of group.now (codes "table"))) }
-{
-    let rows = Items::new(alloc);
-    let none = StateTable {
-        inputs,
-        nodes,
-        rows,
-    };
-    let Some(attribute) = last_attribute(group, b"table") else {
-        return Ok(none);
-    };
-    match read_table(alloc, attribute.text, inputs, nodes) {
-        Ok(table) => Ok(table),
-        Err(TableFault::RowWidth(_)) => Ok(none),
-        Err(TableFault::BadSymbol { .. }) => Ok(none),
-        Err(TableFault::Memory) => Err(AllocError),
-    }
-}
-
 /// The state of a node of a table.
-fn node_group(
-    alloc: Global,
-    table: &Shared<StateTable>,
-    node: usize,
-    reading: &StateReading,
-) -> Result<StateGroup, AllocError>
+fn node_group(alloc: Global, node: usize, reading: &StateReading) -> Result<StateGroup, AllocError>
     ensures { IfOk result (λ g. g ≡ record {
-      kind = kind_of.Table table.now node reading.now.inputs;
+      kind = kind_of.Table reading.now.table node reading.now.inputs;
       support =
           reading.now.support;
     }) }
 {
-    let table = table.again()?;
+    let table = reading.table.again()?;
     let inputs = Items::from_slice(alloc, reading.inputs.as_slice())?;
     let support = Items::from_slice(alloc, reading.support.as_slice())?;
     let kind = GroupKind::Table {
@@ -69,33 +36,28 @@ fn node_group(
 /// The states of these nodes of a table.
 fn node_groups_of(
     alloc: Global,
-    table: &Shared<StateTable>,
     nodes: &[&[u8]],
     reading: &StateReading,
 ) -> Result<Items<StateGroup>, AllocError>
-    ensures { IfOk result (λ groups. groups ≡ node_groups table.now reading.now 0 (map (λ name. name.now) nodes.now)) }
+    ensures { IfOk result (λ groups. groups ≡ node_groups reading.now.table reading.now 0 (map (λ name. name.now) nodes.now)) }
 {
     let mut groups = Items::new(alloc);
     for (node, _name) in nodes.iter().enumerate() {
-        groups.push(node_group(alloc, table, node, reading)?)?;
+        groups.push(node_group(alloc, node, reading)?)?;
     }
     Ok(groups)
 }
 
 /// The states of the nodes of a table.
-#[tactic(auto, using(cell_attributes::proofs::Turns::count_shown))]
 fn table_groups(
     alloc: Global,
-    group: &Group,
     reading: &StateReading,
     arguments: Arguments<'_>,
 ) -> Result<Items<StateGroup>, AllocError>
-    ensures { IfOk result (λ groups. groups ≡ table_groups_of group.now reading.now (shown_arguments arguments.entry)) }
+    ensures { IfOk result (λ groups. groups ≡ table_groups_of reading.now (shown_arguments arguments.entry)) }
 {
-    let inputs = names_in(alloc, arguments.first)?;
     let nodes = names_in(alloc, arguments.second)?;
-    let table = Shared::new(alloc, table_in(alloc, inputs.len(), nodes.len(), group)?)?;
-    node_groups_of(alloc, &table, &nodes, reading)
+    node_groups_of(alloc, &nodes, reading)
 }
 
 /// The states of a group.
@@ -113,7 +75,7 @@ fn groups_in(
         return Ok(groups);
     };
     if is_table(group) {
-        return table_groups(alloc, group, reading, arguments);
+        return table_groups(alloc, reading, arguments);
     }
     groups.push(Numbering { alloc, to }.group(group, reading)?)?;
     Ok(groups)

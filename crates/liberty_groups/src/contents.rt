@@ -1,11 +1,11 @@
 //! What is kept of a library.
 
 ghost use Rattle.std.specs.Prelude.{◌≡◌, OnOk, OnErr, IfOk};
-ghost use Rattle.liberty_groups.specs.Library.{nothing_found, found_of, one_text, counted, with_named};
+ghost use Rattle.liberty_groups.specs.Library.{nothing_found, found_of, counted, with_named};
 
 use crate::fault::Stop;
 use crate::tree::{Group, Item};
-use crate::values::Values;
+use crate::values::{Values, one_text};
 use small_bytes::SmallBytes;
 use std::alloc::Global;
 
@@ -24,20 +24,6 @@ pub struct Contents {
     pub units: Vec<UnitLine>,
     pub left_out: Vec<usize>,
     pub types: Vec<Group>,
-}
-
-/// The text of a simple attribute with these values.
-pub fn one_text(mut values: Values) -> SmallBytes
-    ensures { result ≡ one_text values }
-{
-    let Some(value) = values.pop() else {
-        return SmallBytes::new();
-    };
-    if values.as_slice().is_empty() {
-        value.into_bytes()
-    } else {
-        SmallBytes::new()
-    }
 }
 
 impl Contents {

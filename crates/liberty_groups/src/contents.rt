@@ -17,12 +17,16 @@ pub struct UnitLine {
     pub at: usize,
 }
 
-/// The cells, the time units, the offsets of `include_file` statements, and the types.
+/// What is kept of a library, each kind in order.
 #[derive(Drop)]
 pub struct Contents {
+    /// Its groups `cell`.
     pub cells: Vec<Group>,
+    /// Its simple attributes `time_unit`.
     pub units: Vec<UnitLine>,
+    /// The offsets of its statements `include_file`.
     pub left_out: Vec<usize>,
+    /// Its groups `type`.
     pub types: Vec<Group>,
 }
 

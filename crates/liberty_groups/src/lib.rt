@@ -16,7 +16,7 @@ mod values;
 mod writing;
 
 pub use attributes::{Attribute, inner_group, last_attribute, simple_attribute};
-pub use contents::UnitLine;
+pub use contents::{Contents, UnitLine};
 pub use copies::{
     copy_arguments, copy_bytes, copy_group, copy_item, copy_items, copy_text, copy_values, value_of,
 };

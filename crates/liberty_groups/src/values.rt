@@ -64,13 +64,25 @@ fn three(alloc: Global, block: Boxed<[Value; 2]>, value: Value) -> Result<HeldVa
     Ok(HeldValues::Three(Boxed::new(alloc, [first, second, value])?))
 }
 
-/// Four values, with room for no more.
-fn four(alloc: Global, block: Boxed<[Value; 3]>, value: Value) -> Result<HeldValues, AllocError>
+/// A list of four, with room for no more. It is of any type, since what is let go where memory is wanting is then let go by one
+/// call each.
+fn four<T: Drop>(alloc: Global, a: T, b: T, c: T, d: T) -> Result<Box<Vec<T>>, AllocError>
+    ensures { IfOk result (λ list. list.value.items ≡ a ∷ b ∷ c ∷ d ∷ []) }
+{
+    let mut list = Vec::with_capacity(alloc, 4)?;
+    list.push(a)?;
+    list.push(b)?;
+    list.push(c)?;
+    list.push(d)?;
+    Ok(Box::new(alloc, list)?)
+}
+
+/// Four values.
+fn several(alloc: Global, block: Boxed<[Value; 3]>, value: Value) -> Result<HeldValues, AllocError>
     ensures { IfOk result (λ more. held_values more ≡ block ++ value ∷ []) }
 {
     let (first, second, third) = three_of(block);
-    let several = Vec::from_array(alloc, [first, second, third, value])?;
-    Ok(HeldValues::Several(Box::new(alloc, several)?))
+    Ok(HeldValues::Several(four(alloc, first, second, third, value)?))
 }
 
 /// The same list with one more value.
@@ -81,7 +93,7 @@ fn with_more(alloc: Global, held: HeldValues, value: Value) -> Result<HeldValues
         HeldValues::Nothing => Ok(HeldValues::One(value)),
         HeldValues::One(first) => Ok(HeldValues::Two(Boxed::new(alloc, [first, value])?)),
         HeldValues::Two(block) => three(alloc, block, value),
-        HeldValues::Three(block) => four(alloc, block, value),
+        HeldValues::Three(block) => several(alloc, block, value),
         HeldValues::Several(mut several) => {
             several.push(value)?;
             Ok(HeldValues::Several(several))

@@ -19,7 +19,7 @@ use Rattle.liberty_groups.specs.declared.read.Halt.TheVariants as halt
 use Rattle.liberty_groups.specs.declared.read.Reading.{Reading}
 use Rattle.liberty_groups.specs.Lexeme.{Lexeme, lexemes_of}
 use Rattle.liberty_groups.specs.Fault.{fault_at, lexical_fault}
-use Rattle.liberty_groups.specs.Library.{Found, library, is_word}
+use Rattle.liberty_groups.specs.Library.{Found, found_of, library, is_word}
 use Rattle.liberty_groups.specs.Outline.{has_outline}
 
 -- The bytes are a library text: they are tokens, without a fault, that the grammar takes.
@@ -65,13 +65,9 @@ pub record IsReading (bytes : List ℕ) (whole : Bool) (found : Found) (end : En
   pub gathers : GathersFirst (lexemes_of bytes tokens) found
   pub ends : EndsSo bytes whole (lexemes_of bytes tokens) stop end
 
--- what was found in a reading of the code
-abbrev pub found_in_reading : Reading → Found
-found_in_reading r = record { cells = r.cells.items; units = r.units.items; left_out = r.left_out.items; types = r.types.items }
-
 -- a reading of the code is this one
 pub record Is (r : Reading) (found : Found) (end : End) : Type 0 where
-  pub same_found : found_in_reading r ≡ found
+  pub same_found : found_of r.found ≡ found
   pub same_end : r.end ≡ end
 
 -- Below: the same as a function of the bytes.

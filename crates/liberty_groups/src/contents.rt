@@ -1,11 +1,11 @@
 //! What is kept of a library.
 
 ghost use Rattle.std.specs.Prelude.{◌≡◌, OnOk, OnErr, IfOk};
-ghost use Rattle.liberty_groups.specs.Library.{nothing_found, found_of, one_text, counted, with_named};
+ghost use Rattle.liberty_groups.specs.Library.{nothing_found, found_of, counted, with_named};
 
 use crate::fault::Stop;
 use crate::tree::{Group, Item};
-use crate::values::Values;
+use crate::values::{Values, one_text};
 use small_bytes::SmallBytes;
 use std::alloc::Global;
 
@@ -17,27 +17,17 @@ pub struct UnitLine {
     pub at: usize,
 }
 
-/// The cells, the time units, the offsets of `include_file` statements, and the types.
+/// What is kept of a library, each kind in order.
 #[derive(Drop)]
 pub struct Contents {
+    /// Its groups `cell`.
     pub cells: Vec<Group>,
+    /// Its simple attributes `time_unit`.
     pub units: Vec<UnitLine>,
+    /// The offsets of its statements `include_file`.
     pub left_out: Vec<usize>,
+    /// Its groups `type`.
     pub types: Vec<Group>,
-}
-
-/// The text of a simple attribute with these values.
-pub fn one_text(mut values: Values) -> SmallBytes
-    ensures { result ≡ one_text values }
-{
-    let Some(value) = values.pop() else {
-        return SmallBytes::new();
-    };
-    if values.as_slice().is_empty() {
-        value.into_bytes()
-    } else {
-        SmallBytes::new()
-    }
 }
 
 impl Contents {

@@ -31,14 +31,21 @@ pub fn value_of(alloc: Global, bytes: Items<u8>, quoted: bool) -> Result<Value, 
     Ok(Value::new(bytes, quoted))
 }
 
+/// A copy of a value. An `Err` comes only where memory is wanting.
+fn copy_value(alloc: Global, value: &Value) -> Result<Value, AllocError>
+    ensures { IfOk result (λ copy. copy ≡ value.now) }
+{
+    let bytes = copy_text(alloc, value.bytes())?;
+    Ok(Value::new(bytes, value.is_quoted()))
+}
+
 /// A copy of some values. An `Err` comes only where memory is wanting.
 pub fn copy_values(alloc: Global, values: &[Value]) -> Result<Values, AllocError>
     ensures { IfOk result (λ copy. copy ≡ values.now) }
 {
     let mut copy = Values::with_capacity(alloc, values.len())?;
     for value in values {
-        let bytes = copy_text(alloc, value.bytes())?;
-        copy.push(alloc, Value::new(bytes, value.is_quoted()))?;
+        copy.push(alloc, copy_value(alloc, value)?)?;
     }
     Ok(copy)
 }

@@ -5,6 +5,7 @@ ghost use Rattle.liberty_groups.specs.Lexeme.{lexemes_of, lexemes_behind, LieIns
 ghost use Rattle.liberty_groups.specs.Answer.{is_last};
 
 use crate::reader::is_argument;
+use crate::values::{Arguments, Values};
 use liberty_text::{Kept, Token, TokenKind, Unread};
 use std::alloc::{AllocError, Global};
 use std::marker::Model;
@@ -17,6 +18,10 @@ pub struct Cursor<'a> {
     left: Unread,
     /// How many bytes stand before the part.
     before: usize,
+    /// No arguments, once a group has none.
+    no_arguments: Option<Arguments>,
+    /// The arguments of the group with some that ended last.
+    last_arguments: Option<Arguments>,
 }
 
 impl<'a> Model for Cursor<'a> {
@@ -42,6 +47,8 @@ impl<'a> Cursor<'a> {
             text,
             left: Unread::new(tokens),
             before: 0,
+            no_arguments: None,
+            last_arguments: None,
         }
     }
 
@@ -55,6 +62,8 @@ impl<'a> Cursor<'a> {
             text,
             left: Unread::new(tokens),
             before,
+            no_arguments: None,
+            last_arguments: None,
         }
     }
 
@@ -66,6 +75,8 @@ impl<'a> Cursor<'a> {
             text: self.text,
             left: self.left.again(alloc)?,
             before: self.before,
+            no_arguments: None,
+            last_arguments: None,
         })
     }
 
@@ -82,6 +93,21 @@ impl<'a> Cursor<'a> {
         ensures { self.new ≡ self.old }
     {
         self.left.give_back();
+    }
+
+    /// The arguments of a group with these values. An `Err` comes only where memory is wanting.
+    pub(crate) fn group_arguments(
+        &mut self,
+        alloc: Global,
+        values: Values,
+    ) -> Result<Arguments, AllocError>
+        ensures same { IfOk result (λ same. same ≡ values) }
+        ensures left { self.new ≡ self.old }
+    {
+        if values.as_slice().is_empty() {
+            return Arguments::shared(alloc, &mut self.no_arguments, values);
+        }
+        Arguments::shared(alloc, &mut self.last_arguments, values)
     }
 
     /// How many tokens are left.

@@ -10,7 +10,7 @@ use crate::cursor::Cursor;
 use crate::fault::{Expected, Refusal, Stop};
 use crate::reader::{Mark, Place, Start};
 use crate::tree::{Group, Item, Value};
-use crate::values::{Arguments, Values};
+use crate::values::Values;
 use small_bytes::SmallBytes;
 use small_lists::SmallList;
 use sqlite_items::Items;
@@ -18,7 +18,7 @@ use std::alloc::{AllocError, Global};
 
 /// A list of statements begins with so many places, which most groups do not fill: one kilobyte, the most that an allocator keeps
 /// at hand for the next list.
-const FIRST: usize = 14;
+const FIRST: usize = 18;
 
 /// No statements yet. An `Err` comes only where memory is wanting.
 fn first_room(alloc: Global) -> Result<Items<Item>, AllocError>
@@ -102,7 +102,7 @@ impl Cursor<'_> {
         }
         self.skip();
         let items = self.statements(alloc, levels - 1)?;
-        let arguments = Arguments::from_values(alloc, arguments)?;
+        let arguments = self.group_arguments(alloc, arguments)?;
         Ok(Item::Inner(Group {
             name,
             arguments,

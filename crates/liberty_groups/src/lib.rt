@@ -16,7 +16,7 @@ mod values;
 mod writing;
 
 pub use attributes::{Attribute, inner_group, last_attribute, simple_attribute};
-pub use contents::{UnitLine, one_text};
+pub use contents::{Contents, UnitLine};
 pub use copies::{
     copy_arguments, copy_bytes, copy_group, copy_item, copy_items, copy_text, copy_values, value_of,
 };
@@ -28,5 +28,5 @@ pub use read::{End, Halt, Reading, fault_of, faults_are_first, one_reading, read
 pub use reader::{Mark, Place, Start, goes_on};
 pub use small_lists::SmallList;
 pub use tree::{Group, Item, Value};
-pub use values::{Arguments, Values};
+pub use values::{Arguments, Values, one_text};
 pub use writing::{writable_parts, writing_reads_back};

@@ -6,29 +6,22 @@ ghost use Rattle.grammar_rules.specs.Reading.{read};
 ghost use Rattle.liberty_text.specs.Scanner.{scan_of};
 ghost use Rattle.liberty_groups.specs.Lexeme.{lexemes_of, LieInside};
 ghost use Rattle.liberty_groups.specs.Library.{Found, nothing_found, found_of, library};
-ghost use Rattle.liberty_groups.specs.Answer.{found_in_reading, found_of_bytes, end_of_bytes, halt_of, found_in, outcome_of};
+ghost use Rattle.liberty_groups.specs.Answer.{found_of_bytes, end_of_bytes, halt_of, found_in, outcome_of};
 ghost use Rattle.liberty_groups.specs.Answer.{may_become_other, closed_has_outline, goes_on_after, may_go_on, fault_of, is_last};
 ghost use Rattle.liberty_groups.specs.Answer.{is_unfinished, end_of, IsReading, Is, HasOneReading};
 ghost use Rattle.liberty_groups.specs.FirstMisfit.{FaultsAreFirst};
 
-use crate::contents::{Contents, UnitLine};
+use crate::contents::Contents;
 use crate::cursor::Cursor;
 use crate::fault::{LibraryFault, Refusal, Stop, fault_at, lexical_fault};
-use crate::tree::Group;
 use liberty_text::{Kept, KeptScan, Stop as TextStop, TokenKind, scan_kept};
 use std::alloc::{AllocError, Global};
 
-/// What is kept of a library text.
+/// What is kept of a library text, and how its reading ended.
 #[derive(Drop)]
 pub struct Reading {
-    /// The groups `cell` of the library that ended before the place of the fault, in order.
-    pub cells: Vec<Group>,
-    /// The simple attributes `time_unit` of the library, in order.
-    pub units: Vec<UnitLine>,
-    /// The offsets of the statements `include_file` of the library, in order.
-    pub left_out: Vec<usize>,
-    /// The groups `type` of the library that ended before the place of the fault, in order.
-    pub types: Vec<Group>,
+    /// What ended before the place of the fault.
+    pub found: Contents,
     pub end: End,
 }
 
@@ -186,26 +179,14 @@ fn end_of(
 /// `read_library`, step by step.
 #[tactic(auto, unfolding(crate::specs::Answer::outcome_of))]
 fn read_exactly(alloc: Global, bytes: &[u8], whole: bool) -> Result<Reading, AllocError>
-    ensures found { IfOk result (λ r. found_in_reading r ≡ found_of_bytes bytes.now) }
+    ensures found { IfOk result (λ r. found_of r.found ≡ found_of_bytes bytes.now) }
     ensures end { IfOk result (λ r. r.end ≡ end_of_bytes bytes.now whole) }
 {
-    let mut contents = Contents::new(alloc);
+    let mut found = Contents::new(alloc);
     let KeptScan { tokens, stop } = tokens_of(alloc, bytes)?;
-    let halt = read_tokens(alloc, bytes, tokens, &mut contents)?;
+    let halt = read_tokens(alloc, bytes, tokens, &mut found)?;
     let end = end_of(alloc, bytes, whole, halt, stop)?;
-    let Contents {
-        cells,
-        units,
-        left_out,
-        types,
-    } = contents;
-    Ok(Reading {
-        cells,
-        units,
-        left_out,
-        types,
-        end,
-    })
+    Ok(Reading { found, end })
 }
 
 /// The groups of a Liberty text (Liberty Reference Manual, general syntax of a library file). With
@@ -215,11 +196,11 @@ fn read_exactly(alloc: Global, bytes: &[u8], whole: bool) -> Result<Reading, All
 /// stops the tokens, or the end of the bytes, whichever comes first.
 pub fn read_library(alloc: Global, bytes: &[u8], whole: bool) -> Result<Reading, AllocError>
     // What is answered is what the definition relates to the bytes.
-    ensures reading { IfOk result (λ r. IsReading bytes.now whole (found_in_reading r) r.end) }
+    ensures reading { IfOk result (λ r. IsReading bytes.now whole (found_of r.found) r.end) }
     // What the definition relates to the bytes is answered, unless memory runs out.
     ensures only { (found : Found) (end : End) → IsReading bytes.now whole found end → IfOk result (λ r. Is r found end) }
     // The same as a function of the bytes.
-    ensures found { IfOk result (λ r. found_in_reading r ≡ found_of_bytes bytes.now) }
+    ensures found { IfOk result (λ r. found_of r.found ≡ found_of_bytes bytes.now) }
     ensures end { IfOk result (λ r. r.end ≡ end_of_bytes bytes.now whole) }
 {
     read_exactly(alloc, bytes, whole)

@@ -247,7 +247,8 @@ impl Cursor<'_> {
             Some(token) if goes_on(Place::ValueStart, token) => {
                 let mut found = Values::new();
                 self.add_part(alloc, &mut found)?;
-                let found = self.parts(alloc, Place::Value, found)?;
+                let mut found = self.parts(alloc, Place::Value, found)?;
+                found.give_back();
                 self.value_end(Place::Value)?;
                 Ok(found)
             }

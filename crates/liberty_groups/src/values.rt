@@ -1,13 +1,16 @@
 //! The values of a statement, of which one stands in place.
 
-ghost use Rattle.std.specs.Prelude.{◌≡◌, ◌↔◌, ◌++◌, ◌∷◌, [], length, IsTrue, IfOk, OnOk, MatchOption};
+ghost use Rattle.std.specs.Prelude.{◌≡◌, ◌↔◌, ◌++◌, ◌∷◌, [], length, IsTrue, IfOk, OnOk};
+ghost use Rattle.liberty_groups.specs.Library.{one_text};
 ghost use Rattle.liberty_groups.specs.Values.{held_values};
 
 use crate::tree::Value;
-use sqlite_items::{Boxed, Items};
+use small_bytes::SmallBytes;
+use sqlite_items::Boxed;
 use std::alloc::{AllocError, Global};
 use std::marker::Model;
 use std::mem::replace;
+use std::rc::Rc;
 use std::slice::from_ref;
 
 /// What stands in the place of some values.
@@ -16,10 +19,11 @@ enum HeldValues {
     Nothing,
     One(Value),
     Two(Boxed<[Value; 2]>),
-    Several(Box<Items<Value>>),
+    Three(Boxed<[Value; 3]>),
+    Several(Box<Vec<Value>>),
 }
 
-/// Some values, of which a single one stands in place and two in a block. Contracts see the list of them.
+/// Some values, of which a single one stands in place and two or three in a block. Contracts see the list of them.
 #[derive(Drop)]
 pub struct Values {
     held: HeldValues,
@@ -44,16 +48,41 @@ fn two_of(block: Boxed<[Value; 2]>) -> (Value, Value)
     (first, second)
 }
 
-/// Three values, with room for no more.
+/// The three values of a block.
+fn three_of(block: Boxed<[Value; 3]>) -> (Value, Value, Value)
+    ensures { result.0 ∷ result.1 ∷ result.2 ∷ [] ≡ block }
+{
+    let [first, second, third] = block.into_inner();
+    (first, second, third)
+}
+
+/// A block of three values.
 fn three(alloc: Global, block: Boxed<[Value; 2]>, value: Value) -> Result<HeldValues, AllocError>
     ensures { IfOk result (λ more. held_values more ≡ block ++ value ∷ []) }
 {
     let (first, second) = two_of(block);
-    let mut several = Items::from_vec(Vec::with_capacity(alloc, 3)?);
-    several.push(first)?;
-    several.push(second)?;
-    several.push(value)?;
-    Ok(HeldValues::Several(Box::new(alloc, several)?))
+    Ok(HeldValues::Three(Boxed::new(alloc, [first, second, value])?))
+}
+
+/// A list of four, with room for no more. It is of any type, since what is let go where memory is wanting is then let go by one
+/// call each.
+fn four<T: Drop>(alloc: Global, a: T, b: T, c: T, d: T) -> Result<Box<Vec<T>>, AllocError>
+    ensures { IfOk result (λ list. list.value.items ≡ a ∷ b ∷ c ∷ d ∷ []) }
+{
+    let mut list = Vec::with_capacity(alloc, 4)?;
+    list.push(a)?;
+    list.push(b)?;
+    list.push(c)?;
+    list.push(d)?;
+    Ok(Box::new(alloc, list)?)
+}
+
+/// Four values.
+fn several(alloc: Global, block: Boxed<[Value; 3]>, value: Value) -> Result<HeldValues, AllocError>
+    ensures { IfOk result (λ more. held_values more ≡ block ++ value ∷ []) }
+{
+    let (first, second, third) = three_of(block);
+    Ok(HeldValues::Several(four(alloc, first, second, third, value)?))
 }
 
 /// The same list with one more value.
@@ -64,6 +93,7 @@ fn with_more(alloc: Global, held: HeldValues, value: Value) -> Result<HeldValues
         HeldValues::Nothing => Ok(HeldValues::One(value)),
         HeldValues::One(first) => Ok(HeldValues::Two(Boxed::new(alloc, [first, value])?)),
         HeldValues::Two(block) => three(alloc, block, value),
+        HeldValues::Three(block) => several(alloc, block, value),
         HeldValues::Several(mut several) => {
             several.push(value)?;
             Ok(HeldValues::Several(several))
@@ -71,24 +101,43 @@ fn with_more(alloc: Global, held: HeldValues, value: Value) -> Result<HeldValues
     }
 }
 
-/// The same list without its last value, and that value.
-fn without_last(held: HeldValues) -> (HeldValues, Option<Value>)
-    ensures { MatchOption result.1 ((held_values held ≡ []) × (held_values result.0 ≡ []))
-        (λ last. held_values held ≡ held_values result.0 ++ last ∷ []) }
+/// The bytes of the one value of a list, or none where it has not exactly one.
+fn text_of_several(mut several: Box<Vec<Value>>) -> SmallBytes
+    ensures { result ≡ one_text several.value.items }
 {
-    match held {
-        HeldValues::Nothing => (HeldValues::Nothing, None),
-        HeldValues::One(last) => (HeldValues::Nothing, Some(last)),
-        HeldValues::Two(block) => {
-            let (first, last) = two_of(block);
-            (HeldValues::One(first), Some(last))
-        }
-        HeldValues::Several(mut several) => {
-            let last = several.pop();
-            (HeldValues::Several(several), last)
-        }
+    let Some(value) = several.pop() else {
+        return SmallBytes::new();
+    };
+    if several.is_empty() {
+        value.into_bytes()
+    } else {
+        SmallBytes::new()
     }
 }
+
+/// The text of a simple attribute with these values.
+pub fn one_text(values: Values) -> SmallBytes
+    ensures { result ≡ one_text values }
+{
+    let Values { held } = values;
+    match held {
+        HeldValues::Nothing => SmallBytes::new(),
+        HeldValues::One(value) => value.into_bytes(),
+        HeldValues::Two(block) => {
+            let _values = two_of(block);
+            SmallBytes::new()
+        }
+        HeldValues::Three(block) => {
+            let _values = three_of(block);
+            SmallBytes::new()
+        }
+        HeldValues::Several(several) => text_of_several(several),
+    }
+}
+
+/// A list of at most so many values is moved to exactly the room that it needs, since it grows by doubling. Of the room of a longer
+/// one the system has given no memory yet for most of what is not used.
+const FEW: usize = 1024;
 
 impl Values {
     /// No values.
@@ -113,10 +162,10 @@ impl Values {
     pub fn with_capacity(alloc: Global, count: usize) -> Result<Values, AllocError>
         ensures { IfOk result (λ values. values ≡ []) }
     {
-        if count <= 2 {
+        if count <= 3 {
             return Ok(Values::new());
         }
-        let several = Items::from_vec(Vec::with_capacity(alloc, count)?);
+        let several = Vec::with_capacity(alloc, count)?;
         Ok(Values {
             held: HeldValues::Several(Box::new(alloc, several)?),
         })
@@ -140,13 +189,16 @@ impl Values {
         Ok(())
     }
 
-    /// Takes the last value.
-    pub fn pop(&mut self) -> Option<Value>
-        ensures { MatchOption result ((self.old ≡ []) × (self.new ≡ [])) (λ last. self.old ≡ self.new ++ last ∷ []) }
+    /// Gives back room that is not used, where there are not too many values.
+    #[inline(always)]
+    pub(crate) fn give_back(&mut self)
+        ensures { self.new ≡ self.old }
     {
-        let (held, last) = without_last(replace(&mut self.held, HeldValues::Nothing));
-        self.held = held;
-        last
+        if let HeldValues::Several(several) = &mut self.held {
+            if several.len() <= FEW {
+                several.shrink_to_fit();
+            }
+        }
     }
 
     /// The values.
@@ -157,15 +209,41 @@ impl Values {
             HeldValues::Nothing => &[],
             HeldValues::One(value) => from_ref(value),
             HeldValues::Two(block) => block.get(),
+            HeldValues::Three(block) => block.get(),
             HeldValues::Several(several) => several.as_slice(),
         }
     }
 }
 
-/// The arguments of a group, behind a box. Contracts see the list of them.
+/// Whether two values are the same.
+fn are_one(one: &Value, other: &Value) -> bool
+    ensures { IsTrue result → one.now ≡ other.now }
+{
+    one.is_quoted() == other.is_quoted() && one.bytes() == other.bytes()
+}
+
+/// Whether two lists of at most two values are seen to be the same.
+fn are_same(values: &[Value], others: &[Value]) -> bool
+    ensures { IsTrue result → values.now ≡ others.now }
+{
+    match values {
+        [] => others.is_empty(),
+        [first] => match others {
+            [other] => are_one(first, other),
+            _ => false,
+        },
+        [first, second] => match others {
+            [other, next] => are_one(first, other) && are_one(second, next),
+            _ => false,
+        },
+        _ => false,
+    }
+}
+
+/// The arguments of a group, which groups may share. Contracts see the list of them.
 #[derive(Drop)]
 pub struct Arguments {
-    values: Boxed<Values>,
+    values: Rc<Values>,
 }
 
 impl Model for Arguments {
@@ -174,7 +252,7 @@ impl Model for Arguments {
 
     ghost Value = { List OneValue };
 
-    ghost view = { λ arguments. arguments.values };
+    ghost view = { λ arguments. arguments.values.value };
 }
 
 impl Arguments {
@@ -183,15 +261,43 @@ impl Arguments {
         ensures { IfOk result (λ same. same ≡ values) }
     {
         Ok(Arguments {
-            values: Boxed::new(alloc, values)?,
+            values: Rc::new(alloc, values)?,
         })
+    }
+
+    /// The same arguments, in the same place. An `Err` comes only where too many groups have them.
+    fn again(&self) -> Result<Arguments, AllocError>
+        ensures { IfOk result (λ same. same ≡ self.now) }
+    {
+        Ok(Arguments {
+            values: self.values.clone()?,
+        })
+    }
+
+    /// The same values, which share the place of the arguments that were `last` where they are seen to be the same. An `Err` comes
+    /// only where memory is wanting.
+    pub(crate) fn shared(
+        alloc: Global,
+        last: &mut Option<Arguments>,
+        values: Values,
+    ) -> Result<Arguments, AllocError>
+        ensures { IfOk result (λ same. same ≡ values) }
+    {
+        if let Some(last) = last {
+            if are_same(last.as_slice(), values.as_slice()) {
+                return last.again();
+            }
+        }
+        let arguments = Arguments::from_values(alloc, values)?;
+        *last = Some(arguments.again()?);
+        Ok(arguments)
     }
 
     /// The values.
     pub fn as_slice(&self) -> &[Value]
         ensures { result.now ≡ self.now }
     {
-        self.values.get().as_slice()
+        self.values.as_ref().as_slice()
     }
 
     /// How many values there are.

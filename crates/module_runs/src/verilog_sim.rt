@@ -9,16 +9,14 @@ ghost use Rattle.module_runs.specs.ModuleIndexed.{IsModuleIndex};
 ghost use Rattle.module_runs.specs.ModuleStarts.{IsModuleStart};
 
 use crate::gates::either;
-use crate::module_run::{ModuleState, start_run};
+use crate::module_run::ModuleState;
 use crate::module_shown::show_all;
 use crate::module_start::ModuleStart;
 use crate::module_tables::ModuleTables;
 use crate::module_values::ModuleValues;
-use crate::wiring::most_nets;
 use cell_machine::{CellSim, Change, Shared, Sizes};
-use run_parts::{KeptDelays, ShownPort, no_reports, unknown_values};
+use run_parts::ModelLine;
 use specify_blocks::VModule;
-use sqlite_items::Items;
 use std::alloc::{AllocError, Global};
 use trit_cubes::Trit;
 
@@ -28,13 +26,11 @@ pub struct VerilogSim<'a> {
     model: &'a VModule,
     known: Shared<ModuleStart>,
     state: ModuleState,
-    delays: KeptDelays,
-    reports: Items<bool>,
-    shown: Items<ShownPort>,
+    line: ModelLine,
     ghost indexed: { IsModuleIndex model.now known.index },
-    ghost ready: { IsReady model.now state reports },
-    ghost delays_kept: { AreKept (output_paths model.now state.run.inputs state.run.states) delays },
-    ghost each_output: { length shown ≡ length (output_ports model.now.ports) },
+    ghost ready: { IsReady model.now state line.reports },
+    ghost delays_kept: { AreKept (output_paths model.now state.run.inputs state.run.states) line.delays },
+    ghost each_output: { length line.shown ≡ length (output_ports model.now.ports) },
 }
 
 impl<'a> VerilogSim<'a> {
@@ -50,19 +46,15 @@ impl<'a> VerilogSim<'a> {
         ensures machine { IfOk result (λ sim. ⟦<VerilogSim<'a> as CellSim>⟧.machine sim ≡ module_machine model.now) }
         ensures stands { IfOk result (λ sim. ⟦<VerilogSim<'a> as CellSim>⟧.stands sim []) }
     {
-        let room = unknown_values(alloc, most_nets(model))?;
-        let run = start_run(alloc, model)?;
-        let kept = Items::from_slice(alloc, known.get().kept.as_slice())?;
-        let delays = KeptDelays::none(alloc, known.get().index.places.as_slice())?;
-        let reports = no_reports(alloc, model.checks.len())?;
-        let shown = Items::from_slice(alloc, known.get().shown.as_slice())?;
+        let start = known.get();
+        let places = start.index.paths.places.as_slice();
+        let line = ModelLine::first(alloc, start.shown.as_slice(), model.checks.len(), places)?;
+        let state = ModuleState::at_start(alloc, model, start.kept.as_slice())?;
         Ok(VerilogSim {
             model,
             known: known.again()?,
-            state: ModuleState { kept, room, run },
-            delays,
-            reports,
-            shown,
+            state,
+            line,
         })
     }
 
@@ -80,13 +72,13 @@ impl<'a> VerilogSim<'a> {
 impl<'a> CellSim for VerilogSim<'a> {
     ghost machine = { λ s. module_machine s.model.now };
 
-    ghost stands = { λ s h. Stands s.model.now s.state.run s.reports s.shown h };
+    ghost stands = { λ s h. Stands s.model.now s.state.run s.line.reports s.line.shown h };
 
     fn sizes(&self) -> Sizes {
         Sizes {
             inputs: self.state.run.inputs.len(),
-            outputs: self.shown.len(),
-            checks: self.reports.len(),
+            outputs: self.line.shown.len(),
+            checks: self.line.reports.len(),
         }
     }
 
@@ -97,24 +89,24 @@ impl<'a> CellSim for VerilogSim<'a> {
         };
         let changed = self
             .state
-            .step(&tables, Change { at, pin, to }, &mut self.reports);
+            .step(&tables, Change { at, pin, to }, &mut self.line.reports);
         let stateful = tables.index.gates.stateful;
-        self.delays.forget_where(either(changed, stateful));
+        self.line.delays.forget_where(either(changed, stateful));
         let values = ModuleValues {
             tables,
             inputs: self.state.run.inputs.as_slice(),
             states: self.state.run.states.as_slice(),
             kept: self.state.kept.as_slice(),
         };
-        show_all(&values, pin, &mut self.shown, &mut self.delays);
+        show_all(&values, pin, &mut self.line.shown, &mut self.line.delays);
     }
 
     fn shown(&self, place: usize) -> cell_machine::Shown {
-        self.shown.as_slice()[place].alone()
+        self.line.shown.as_slice()[place].alone()
     }
 
     fn reported(&self, check: usize) -> bool {
-        self.reports.as_slice()[check]
+        self.line.reports.as_slice()[check]
     }
 
     ghost sized = { λ s. module_sized s.model.now };

@@ -2,8 +2,7 @@
 //! has place for the values of the nets that feed one instance.
 ghost use Rattle.std.specs.Prelude.{◌≡◌, ◌<◌, All, false, length, map, take, IsTrue, IfOk};
 ghost use Rattle.specify_blocks.specs.Sound.{IsSound};
-ghost use Rattle.module_runs.specs.Wiring.{is_wired};
-ghost use Rattle.module_runs.specs.Gates.{gate_zeros};
+ghost use Rattle.module_runs.specs.{Wiring.is_wired, Gates.gate_zeros};
 ghost use Rattle.module_runs.specs.KeptValues.{kept_value, kept_values};
 ghost use Rattle.run_parts.specs.Places.{FindsAnew};
 

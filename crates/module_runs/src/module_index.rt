@@ -4,6 +4,7 @@ use crate::fed_instances::FedInstances;
 use crate::gates::Gates;
 use crate::module_rows::ModuleRows;
 use crate::output_paths::OutputPaths;
+use cell_tables::all_made;
 use run_parts::{Ports, input_numbers};
 use specify_blocks::VModule;
 use sqlite_items::Items;
@@ -34,16 +35,17 @@ impl ModuleIndex {
     pub(crate) fn of(alloc: Global, model: &VModule) -> Result<ModuleIndex, AllocError>
         ensures { IfOk result (λ index. IsModuleIndex model.now index) }
     {
+        let drivers = Drivers::of(alloc, model)?;
+        let gates = Gates::of(alloc, model, &drivers)?;
         let numbers = input_numbers(alloc, model.ports.as_slice())?;
         let ports = Ports {
             list: model.ports.as_slice(),
             numbers: numbers.as_slice(),
         };
-        let fed = FedInstances::of(alloc, &ports, model.instances.as_slice())?;
-        let drivers = Drivers::of(alloc, model)?;
-        let gates = Gates::of(alloc, model, &drivers)?;
-        let paths = OutputPaths::of(alloc, model)?;
-        let rows = ModuleRows::of(alloc, model.udps.as_slice())?;
+        let fed = FedInstances::of(alloc, &ports, model.instances.as_slice());
+        let paths = OutputPaths::of(alloc, model);
+        let rows = ModuleRows::of(alloc, model.udps.as_slice());
+        let (fed, (paths, rows)) = all_made(fed, all_made(paths, rows))?;
         Ok(ModuleIndex {
             rows,
             numbers,

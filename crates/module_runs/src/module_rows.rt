@@ -41,10 +41,7 @@ fn keys_of_all(alloc: Global, udps: &[Udp]) -> Result<Items<Items<RowKey>>, Allo
 }
 
 /// The masks of each primitive's rows.
-fn masks_of_all(
-    alloc: Global,
-    udps: &[Udp],
-) -> Result<Items<Items<RowMasks>>, AllocError>
+fn masks_of_all(alloc: Global, udps: &[Udp]) -> Result<Items<Items<RowMasks>>, AllocError>
     ensures { IfOk result (λ masks. masks ≡ map udp_masks udps.now) }
 {
     let mut all = Items::new(alloc);

@@ -1,10 +1,8 @@
 //! A module before any change.
 ghost use Rattle.std.specs.Prelude.{◌≡◌, [], map, IfOk};
 ghost use Rattle.specify_blocks.specs.Sound.{IsSound};
-ghost use Rattle.model_traces.specs.ModuleRun.{start_run};
-ghost use Rattle.model_traces.specs.PortNumbers.{output_ports};
-ghost use Rattle.module_runs.specs.KeptValues.{kept_values};
-ghost use Rattle.module_runs.specs.ModuleStands.{shown_after};
+ghost use Rattle.model_traces.specs.{ModuleRun.start_run, PortNumbers.output_ports};
+ghost use Rattle.module_runs.specs.{KeptValues.kept_values, ModuleStands.shown_after, ShownPorts.shown_first};
 
 use crate::kept_values::first_kept;
 use crate::module_index::ModuleIndex;
@@ -69,8 +67,21 @@ fn first_values(alloc: Global, tables: &ModuleTables) -> Result<FirstValues, All
         (output_ports tables.now.model.now.ports)) }
 {
     let run = start_run(alloc, tables.model)?;
-    let inputs = run.inputs.as_slice();
-    let states = run.states.as_slice();
+    values_at(alloc, tables, run.inputs.as_slice(), run.states.as_slice())
+}
+
+/// The values of a module where its inputs and its states have these, and no output has a delay.
+fn values_at(
+    alloc: Global,
+    tables: &ModuleTables,
+    inputs: &[Trit],
+    states: &[Trit],
+) -> Result<FirstValues, AllocError>
+    requires { IsSound tables.now.model.now }
+    ensures kept { IfOk result (λ first. first.kept ≡ kept_values tables.now.model.now inputs.now states.now) }
+    ensures shown { IfOk result (λ first. first.shown ≡ map (shown_first tables.now.model.now inputs.now states.now)
+        (output_ports tables.now.model.now.ports)) }
+{
     let kept = first_kept(alloc, tables, inputs, states)?;
     let shown = first_shown(alloc, tables, inputs, states, kept.as_slice())?;
     Ok(FirstValues { kept, shown })

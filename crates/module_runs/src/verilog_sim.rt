@@ -15,8 +15,9 @@ use crate::module_start::ModuleStart;
 use crate::module_tables::ModuleTables;
 use crate::module_values::ModuleValues;
 use cell_machine::{CellSim, Change, Shared, Sizes};
-use run_parts::ModelLine;
+use run_parts::{KeptDelays, ShownPort, no_reports};
 use specify_blocks::VModule;
+use sqlite_items::Items;
 use std::alloc::{AllocError, Global};
 use trit_cubes::Trit;
 
@@ -26,11 +27,13 @@ pub struct VerilogSim<'a> {
     model: &'a VModule,
     known: Shared<ModuleStart>,
     state: ModuleState,
-    line: ModelLine,
+    delays: KeptDelays,
+    reports: Items<bool>,
+    shown: Items<ShownPort>,
     ghost indexed: { IsModuleIndex model.now known.index },
-    ghost ready: { IsReady model.now state line.reports },
-    ghost delays_kept: { AreKept (output_paths model.now state.run.inputs state.run.states) line.delays },
-    ghost each_output: { length line.shown ≡ length (output_ports model.now.ports) },
+    ghost ready: { IsReady model.now state reports },
+    ghost delays_kept: { AreKept (output_paths model.now state.run.inputs state.run.states) delays },
+    ghost each_output: { length shown ≡ length (output_ports model.now.ports) },
 }
 
 impl<'a> VerilogSim<'a> {
@@ -47,14 +50,17 @@ impl<'a> VerilogSim<'a> {
         ensures stands { IfOk result (λ sim. ⟦<VerilogSim<'a> as CellSim>⟧.stands sim []) }
     {
         let start = known.get();
-        let places = start.index.paths.places.as_slice();
-        let line = ModelLine::first(alloc, start.shown.as_slice(), model.checks.len(), places)?;
+        let reports = no_reports(alloc, model.checks.len())?;
+        let shown = Items::from_slice(alloc, start.shown.as_slice())?;
+        let delays = KeptDelays::none(alloc, start.index.paths.places.as_slice())?;
         let state = ModuleState::at_start(alloc, model, start.kept.as_slice())?;
         Ok(VerilogSim {
             model,
             known: known.again()?,
             state,
-            line,
+            delays,
+            reports,
+            shown,
         })
     }
 
@@ -72,13 +78,13 @@ impl<'a> VerilogSim<'a> {
 impl<'a> CellSim for VerilogSim<'a> {
     ghost machine = { λ s. module_machine s.model.now };
 
-    ghost stands = { λ s h. Stands s.model.now s.state.run s.line.reports s.line.shown h };
+    ghost stands = { λ s h. Stands s.model.now s.state.run s.reports s.shown h };
 
     fn sizes(&self) -> Sizes {
         Sizes {
             inputs: self.state.run.inputs.len(),
-            outputs: self.line.shown.len(),
-            checks: self.line.reports.len(),
+            outputs: self.shown.len(),
+            checks: self.reports.len(),
         }
     }
 
@@ -89,24 +95,24 @@ impl<'a> CellSim for VerilogSim<'a> {
         };
         let changed = self
             .state
-            .step(&tables, Change { at, pin, to }, &mut self.line.reports);
+            .step(&tables, Change { at, pin, to }, &mut self.reports);
         let stateful = tables.index.gates.stateful;
-        self.line.delays.forget_where(either(changed, stateful));
+        self.delays.forget_where(either(changed, stateful));
         let values = ModuleValues {
             tables,
             inputs: self.state.run.inputs.as_slice(),
             states: self.state.run.states.as_slice(),
             kept: self.state.kept.as_slice(),
         };
-        show_all(&values, pin, &mut self.line.shown, &mut self.line.delays);
+        show_all(&values, pin, &mut self.shown, &mut self.delays);
     }
 
     fn shown(&self, place: usize) -> cell_machine::Shown {
-        self.line.shown.as_slice()[place].alone()
+        self.shown.as_slice()[place].alone()
     }
 
     fn reported(&self, check: usize) -> bool {
-        self.line.reports.as_slice()[check]
+        self.reports.as_slice()[check]
     }
 
     ghost sized = { λ s. module_sized s.model.now };

@@ -13,7 +13,7 @@ pub returns-clause-stands : goal.returns-clause-stands
 returns-clause-stands c = λ h st.
     let sim = c.args.self.now in
     let shown = rw (c.as_slice.ensures, c.as_slice-2.ensures) at c.show_all.ensures.stepped in
-    change-stands sim.model.now sim.state.run sim.line.reports sim.line.shown h (record { at = c.args.at; pin = c.args.pin; to = c.args.to })
+    change-stands sim.model.now sim.state.run sim.reports sim.shown h (record { at = c.args.at; pin = c.args.pin; to = c.args.to })
     c.step-changed.new.self.run c.step-changed.new.reports c.show_all.new.shown st c.step-changed.ensures.stepped c.step-changed.ensures.reports shown
 
 pub show_all-requires : goal.show_all-requires

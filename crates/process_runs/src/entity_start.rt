@@ -2,7 +2,8 @@
 ghost use Rattle.std.specs.Prelude.{◌≡◌, [], length, map, IfOk};
 ghost use Rattle.model_traces.specs.PortNumbers.{input_count};
 ghost use Rattle.process_runs.specs.{EntityIndexed.IsEntityIndex, EntityRooms.IsSound, EntityRooms.HasRoom};
-ghost use Rattle.process_runs.specs.EntitySteps.{HasParts, start_state, output_shown};
+ghost use Rattle.process_runs.specs.EntitySteps.{HasParts, start_state, output_first, output_shown};
+ghost use Rattle.process_runs.specs.EntityStarts.{IsEntityStart};
 ghost use Rattle.process_runs.specs.KeptConditions.{condition_values};
 
 use crate::entity_index::EntityIndex;
@@ -29,8 +30,6 @@ pub struct EntityStart {
 }
 
 impl EntityStart {
-    ghost use Rattle.process_runs.specs.EntityStarts.{IsEntityStart};
-
     /// What is known of a sound entity before any change: all inputs and states are unknown. `AllocError` comes only where memory
     /// is wanted and not there.
     pub fn of(alloc: Global, model: &VEntity) -> Result<EntityStart, AllocError>
@@ -82,11 +81,24 @@ fn first_values(
 {
     let tables = EntityTables { model, index };
     let run = start_state(alloc, model)?;
-    let inputs = run.inputs.as_slice();
-    let states = run.states.as_slice();
-    let mut room = unknown_values(alloc, most_columns(model))?;
-    let conditions = first_conditions(alloc, &tables, inputs, &mut room)?;
+    values_at(alloc, &tables, run.inputs.as_slice(), run.states.as_slice())
+}
+
+/// The values of an entity's conditions where its inputs and its states have these, and what its outputs show there.
+fn values_at(
+    alloc: Global,
+    tables: &EntityTables,
+    inputs: &[Trit],
+    states: &[Trit],
+) -> Result<(Items<Trit>, Items<ShownPort>), AllocError>
+    requires { IsSound tables.now.model.now }
+    ensures conditions { IfOk result (λ first. first.0 ≡ condition_values tables.now.model.now inputs.now) }
+    ensures shown { IfOk result (λ first. first.1 ≡ map (output_first tables.now.model.now inputs.now states.now)
+        tables.now.model.now.outputs) }
+{
+    let mut room = unknown_values(alloc, most_columns(tables.model))?;
+    let conditions = first_conditions(alloc, tables, inputs, &mut room)?;
     let known = conditions.as_slice();
-    let shown = first_shown(alloc, &tables, known, inputs, states, &mut room)?;
+    let shown = first_shown(alloc, tables, known, inputs, states, &mut room)?;
     Ok((conditions, shown))
 }

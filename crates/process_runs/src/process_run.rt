@@ -60,10 +60,10 @@ pub(crate) fn start_state(alloc: Global, model: &VEntity) -> Result<ProcessState
 /// A run of an entity, with the values of its conditions.
 #[derive(Drop)]
 pub struct EntityState {
-    /// The run.
-    pub run: ProcessState,
     /// The value of each condition.
     pub conditions: Items<Trit>,
+    /// The run.
+    pub run: ProcessState,
     /// Place for the columns of any table at the last event.
     pub earlier: Items<Trit>,
     /// Place for the columns of any table.

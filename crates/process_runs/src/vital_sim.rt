@@ -5,7 +5,8 @@ ghost use Rattle.process_runs.specs.EntityProps.{value_prop};
 ghost use Rattle.process_runs.specs.EntityIndexed.{IsEntityIndex};
 ghost use Rattle.process_runs.specs.EntityStarts.{IsEntityStart};
 ghost use Rattle.run_parts.specs.KeptDelays.{AreKept};
-ghost use Rattle.process_runs.specs.EntitySteps.{IsReady, EntityStands, entity_machine, entity_sized};
+ghost use Rattle.process_runs.specs.EntityStates.{IsStateReady};
+ghost use Rattle.process_runs.specs.EntitySteps.{EntityStands, entity_machine, entity_sized};
 ghost use Rattle.process_runs.specs.NumberedPaths.{numbered_paths};
 ghost use Rattle.process_runs.specs.EntityRooms.{IsSound};
 
@@ -31,8 +32,7 @@ pub struct VitalSim<'a> {
     reports: Items<bool>,
     shown: Items<ShownPort>,
     ghost indexed: { IsEntityIndex model.now known.index },
-    ghost ready: { IsReady model.now state.run state.conditions reports (length state.earlier) (length state.room) }
-        by { Prim.hlevel (props, value_prop) },
+    ghost ready: { IsStateReady model.now state reports } by { Prim.hlevel (props, value_prop) },
     ghost kept: { AreKept (numbered_paths model.now state.run.inputs) delays },
     ghost each_output: { length shown ≡ length model.now.outputs },
 }

@@ -50,13 +50,14 @@ impl<'a> VerilogSim<'a> {
         ensures stands { IfOk result (λ sim. ⟦<VerilogSim<'a> as CellSim>⟧.stands sim []) }
     {
         let start = known.get();
+        let known = known.again()?;
         let reports = no_reports(alloc, model.checks.len())?;
         let shown = Items::from_slice(alloc, start.shown.as_slice())?;
         let delays = KeptDelays::none(alloc, start.index.paths.places.as_slice())?;
         let state = ModuleState::at_start(alloc, model, start.kept.as_slice())?;
         Ok(VerilogSim {
             model,
-            known: known.again()?,
+            known,
             state,
             delays,
             reports,

@@ -51,13 +51,14 @@ impl<'a> VitalSim<'a> {
         ensures stands { IfOk result (λ sim. ⟦<VitalSim<'a> as CellSim>⟧.stands sim []) }
     {
         let start = known.get();
+        let known = known.again()?;
         let reports = no_reports(alloc, model.checks.len())?;
         let shown = Items::from_slice(alloc, start.shown.as_slice())?;
         let delays = KeptDelays::none(alloc, start.index.places.as_slice())?;
         let state = start.state(alloc, model)?;
         Ok(VitalSim {
             model,
-            known: known.again()?,
+            known,
             state,
             delays,
             reports,

@@ -11,7 +11,7 @@ use Rattle.model_traces.specs.declared.module_run.ModuleRun.{ModuleRun}
 use Rattle.run_parts.specs.declared.shown.ShownPort.{ShownPort}
 use Rattle.model_traces.specs.PortNumbers.{output_by, outputs_from, output_ports}
 use Rattle.model_traces.specs.ModuleRun.{start_run, shaken, run_step, step_reports, run_after}
-use Rattle.module_runs.specs.ShownPorts.{shown_first, shown_step}
+use Rattle.module_runs.specs.ShownPorts.{shown_step}
 use Rattle.module_runs.specs.ModuleStands.{shown_after, Stands}
 
 -- the first of the reports and then the others
@@ -45,14 +45,6 @@ outputs-step f ports i port old new e is =
     ∙ append_assoc old (map f (output_by i port.input)) (map f rest)
     ∙ ap (λ r. old ++ r) (sym (map-append f (output_by i port.input) rest))
     ∙ ap (λ ps. old ++ map f (outputs_from i ps)) (sym front)
-
--- What the outputs show before any change.
-pub start-shown :
-    (m : VModule) (run : ModuleRun) (shown : List ShownPort)
-    → run ≡ start_run m
-    → shown ≡ map (shown_first m run.inputs run.states) (output_ports m.ports)
-    → shown ≡ map (shown_after m []) (output_ports m.ports)
-start-shown m run shown s o = o ∙ (λ j. map (shown_first m (s j).inputs (s j).states) (output_ports m.ports))
 
 -- Before any change.
 pub start-stands :

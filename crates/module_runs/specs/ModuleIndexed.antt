@@ -13,10 +13,10 @@ use Rattle.module_runs.specs.Gates.{AreGates}
 -- these are the keys and the masks of its tables, the numbers of its ports among the inputs, the drivers of its nets, the paths to its ports,
 -- the instances that changes feed and the gates of its paths
 pub record IsModuleIndex (m : VModule) (index : ModuleIndex) : Type 0 where
-  pub keyed : index.keys ≡ map udp_keys m.udps
-  pub masked : index.masks ≡ map udp_masks m.udps
+  pub keyed : index.rows.keys ≡ map udp_keys m.udps
+  pub masked : index.rows.masks ≡ map udp_masks m.udps
   pub numbered : index.numbers ≡ input_numbers m.ports
   pub driven : AreDrivers m.instances index.drivers
-  pub by_output : AreByOutput m.paths index.paths
+  pub by_output : AreByOutput m.paths index.paths.lists
   pub feeding : AreFed m.ports m.instances index.fed
   pub gated : AreGates m index.gates

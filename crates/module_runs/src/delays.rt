@@ -139,7 +139,7 @@ fn least_delay(values: &ModuleValues, change: OutputChange, kept: &mut KeptDelay
         (paths_between values.now.tables.model.now values.now.inputs.now values.now.states.now change.input change.port) }
     ensures kept { AreKept (output_paths values.now.tables.model.now values.now.inputs.now values.now.states.now) kept.new }
 {
-    let places = values.tables.index.places.as_slice();
+    let places = values.tables.index.paths.places.as_slice();
     let place = delay_place(places, change.port, change.input);
     if let Some(delay) = kept.known(place, change.port, change) {
         return delay;

@@ -1,8 +1,8 @@
 //! What the instances without a state drive, kept from one change to the next and found anew where a change feeds them. `room`
 //! has place for the values of the nets that feed one instance.
 ghost use Rattle.std.specs.Prelude.{◌≡◌, ◌<◌, All, false, length, map, take, IsTrue, IfOk};
-ghost use Rattle.module_runs.specs.Wiring.{is_wired};
-ghost use Rattle.module_runs.specs.Gates.{gate_zeros};
+ghost use Rattle.specify_blocks.specs.Sound.{IsSound};
+ghost use Rattle.module_runs.specs.{Wiring.is_wired, Gates.gate_zeros};
 ghost use Rattle.module_runs.specs.KeptValues.{kept_value, kept_values};
 ghost use Rattle.run_parts.specs.Places.{FindsAnew};
 
@@ -10,7 +10,8 @@ use crate::gates::is_gate_changed_at;
 use crate::module_states::ModuleStates;
 use crate::module_tables::ModuleTables;
 use crate::net_values::instance_value;
-use crate::wiring::instance_at;
+use crate::wiring::{instance_at, most_nets};
+use run_parts::unknown_values;
 use sqlite_items::Items;
 use std::alloc::{AllocError, Global};
 use trit_cubes::Trit;
@@ -34,15 +35,15 @@ fn find_all(
     Ok(kept)
 }
 
-/// What each instance drives before any change, X where it has a state. The inputs and the states have these values.
+/// What each instance of a sound module drives before any change, X where it has a state. The inputs and the states have these
+/// values.
 pub(crate) fn first_kept(
     alloc: Global,
     tables: &ModuleTables,
     inputs: &[Trit],
     states: &[Trit],
-    room: &mut Items<Trit>,
 ) -> Result<Items<Trit>, AllocError>
-    requires { IsTrue (is_wired (length room.old) tables.now.model.now) }
+    requires { IsSound tables.now.model.now }
     ensures { IfOk result (λ kept. kept ≡ kept_values tables.now.model.now inputs.now states.now) }
 {
     let values = ModuleStates {
@@ -50,7 +51,8 @@ pub(crate) fn first_kept(
         inputs,
         states,
     };
-    find_all(alloc, &values, room)
+    let mut room = unknown_values(alloc, most_nets(tables.model))?;
+    find_all(alloc, &values, &mut room)
 }
 
 /// Finds anew what the instances at these places drive. It answers whether a gate changed between 0 and not 0.

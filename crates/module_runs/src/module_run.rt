@@ -1,5 +1,6 @@
 //! How a change of an input takes the run of a module on.
 ghost use Rattle.std.specs.Prelude.{◌≡◌, ◌<◌, false, All, List, [], ◌∷◌, length, slice_set, IsTrue, IfOk};
+ghost use Rattle.specify_blocks.specs.Sound.{IsSound};
 ghost use Rattle.module_runs.specs.Wiring.{is_wired};
 ghost use Rattle.module_runs.specs.Gates.{gate_zeros};
 ghost use Rattle.trit_cubes.specs.declared.trits.Trit.{Trit};
@@ -18,6 +19,7 @@ use crate::module_states::ModuleStates;
 use crate::module_tables::ModuleTables;
 use crate::module_values::ModuleValues;
 use crate::primitives::step_states;
+use crate::wiring::most_nets;
 use cell_machine::Change;
 use model_traces::{ModuleRun, Turn, Turned};
 use run_parts::{
@@ -69,6 +71,24 @@ pub struct ModuleState {
 }
 
 impl ModuleState {
+    /// The state of a sound module before any change, where its instances drive this.
+    pub(crate) fn at_start(
+        alloc: Global,
+        model: &VModule,
+        kept: &[Trit],
+    ) -> Result<ModuleState, AllocError>
+        requires sound { IsSound model.now }
+        requires kept { kept.now ≡ kept_values model.now (start_run model.now).inputs (start_run model.now).states }
+        ensures run { IfOk result (λ state. state.run ≡ start_run model.now) }
+        ensures current { IfOk result (λ state. IsCurrent model.now state) }
+        ensures each_input { IfOk result (λ state. length state.run.inputs ≡ input_count model.now.ports) }
+    {
+        let run = start_run(alloc, model)?;
+        let room = unknown_values(alloc, most_nets(model))?;
+        let kept = Items::from_slice(alloc, kept)?;
+        Ok(ModuleState { kept, room, run })
+    }
+
     /// The primitives that see a change take their next states. It answers whether some state changed.
     fn turn_states(&mut self, tables: &ModuleTables, turn: Turn) -> bool
         requires wired { IsTrue (is_wired (length self.old.room) tables.now.model.now) }

@@ -39,7 +39,7 @@ impl<'a> ModuleTables<'a> {
     fn keys_at(&self, number: usize) -> &[RowKey]
         ensures { (udp : UdpOf) → slice_get self.now.model.now.udps number ≡ Some udp → AreKept row_key result.now udp.rows }
     {
-        let all = self.index.keys.as_slice();
+        let all = self.index.rows.keys.as_slice();
         match at(all, number) {
             Some(keys) => keys.as_slice(),
             None => &[],
@@ -51,7 +51,7 @@ impl<'a> ModuleTables<'a> {
         ensures { (udp : UdpOf) → slice_get self.now.model.now.udps number ≡ Some udp
             → AreMasks udp_passes (length udp.inputs) udp.rows result.now }
     {
-        masks_at(self.index.masks.as_slice(), number)
+        masks_at(self.index.rows.masks.as_slice(), number)
     }
 
     /// What is known of the rows of this primitive, which has this number.
@@ -80,7 +80,7 @@ impl<'a> ModuleTables<'a> {
     pub(crate) fn paths_to(&self, port: usize) -> &[VPath]
         ensures { filter (leads_to port) result.now ≡ filter (leads_to port) self.now.model.now.paths }
     {
-        let all = self.index.paths.as_slice();
+        let all = self.index.paths.lists.as_slice();
         match at(all, port) {
             Some(paths) => paths.as_slice(),
             None => self.model.paths.as_slice(),

@@ -9,14 +9,13 @@ ghost use Rattle.module_runs.specs.ModuleIndexed.{IsModuleIndex};
 ghost use Rattle.module_runs.specs.ModuleStarts.{IsModuleStart};
 
 use crate::gates::either;
-use crate::module_run::{ModuleState, start_run};
+use crate::module_run::ModuleState;
 use crate::module_shown::show_all;
 use crate::module_start::ModuleStart;
 use crate::module_tables::ModuleTables;
 use crate::module_values::ModuleValues;
-use crate::wiring::most_nets;
 use cell_machine::{CellSim, Change, Shared, Sizes};
-use run_parts::{KeptDelays, ShownPort, no_reports, unknown_values};
+use run_parts::{KeptDelays, ShownPort, no_reports};
 use specify_blocks::VModule;
 use sqlite_items::Items;
 use std::alloc::{AllocError, Global};
@@ -50,16 +49,16 @@ impl<'a> VerilogSim<'a> {
         ensures machine { IfOk result (λ sim. ⟦<VerilogSim<'a> as CellSim>⟧.machine sim ≡ module_machine model.now) }
         ensures stands { IfOk result (λ sim. ⟦<VerilogSim<'a> as CellSim>⟧.stands sim []) }
     {
-        let room = unknown_values(alloc, most_nets(model))?;
-        let run = start_run(alloc, model)?;
-        let kept = Items::from_slice(alloc, known.get().kept.as_slice())?;
-        let delays = KeptDelays::none(alloc, known.get().index.places.as_slice())?;
+        let start = known.get();
+        let known = known.again()?;
         let reports = no_reports(alloc, model.checks.len())?;
-        let shown = Items::from_slice(alloc, known.get().shown.as_slice())?;
+        let shown = Items::from_slice(alloc, start.shown.as_slice())?;
+        let delays = KeptDelays::none(alloc, start.index.paths.places.as_slice())?;
+        let state = ModuleState::at_start(alloc, model, start.kept.as_slice())?;
         Ok(VerilogSim {
             model,
-            known: known.again()?,
-            state: ModuleState { kept, room, run },
+            known,
+            state,
             delays,
             reports,
             shown,

@@ -23,7 +23,7 @@ use Rattle.model_traces.proofs.ProcessLemmas.{looked-each, process-inputs, proce
 use Rattle.run_parts.specs.declared.shown.ShownPort.{ShownPort}
 use Rattle.process_runs.specs.declared.process_run.ProcessState.{ProcessState}
 use Rattle.process_runs.specs.EntitySteps.{start_state, next_by, event_reports, event_step, state_step, change_reports}
-use Rattle.process_runs.specs.EntitySteps.{output_step, output_first, output_shown, IsTied, EntityStands}
+use Rattle.process_runs.specs.EntitySteps.{output_step, output_shown, IsTied, EntityStands}
 
 -- a check with the events of its kind reports as the process says
 report-same :
@@ -47,14 +47,6 @@ reports-same e n h inputs a c (k ∷ ks) are =
     λ i.
     report-same e n h inputs a c k (are 0 k (omega arith)) i
     ∷ reports-same e n h inputs a c ks (λ j d within. are (suc j) d (omega arith)) i
-
--- What the outputs show before any change.
-pub entity-start-shown :
-    (e : VEntity) (run : ProcessState) (shown : List ShownPort)
-    → run ≡ start_state e
-    → shown ≡ map (output_first e run.inputs run.states) e.outputs
-    → shown ≡ map (output_shown e []) e.outputs
-entity-start-shown e run shown s o = o ∙ (λ j. map (output_first e (s j).inputs (s j).states) e.outputs)
 
 -- Before any change.
 pub entity-starts :

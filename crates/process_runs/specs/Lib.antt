@@ -1,4 +1,5 @@
 pub mod EntityStarts
+pub mod EntityStates
 pub mod EntityProps
 pub mod EntitySized
 pub mod EntitySteps

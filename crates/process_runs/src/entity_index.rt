@@ -28,7 +28,6 @@ impl EntityIndex {
     pub(crate) fn of(alloc: Global, model: &VEntity) -> Result<EntityIndex, AllocError>
         ensures { IfOk result (λ index. IsEntityIndex model.now index) }
     {
-        let rows = entity_rows(alloc, model)?;
         let numbers = input_numbers(alloc, model.ports.as_slice())?;
         let ports = Ports {
             list: model.ports.as_slice(),
@@ -36,6 +35,7 @@ impl EntityIndex {
         };
         let fed = fed_by_inputs::<Conditions>(alloc, &ports, model.conditions.as_slice())?;
         let places = delay_places(alloc, model)?;
+        let rows = entity_rows(alloc, model)?;
         Ok(EntityIndex {
             rows,
             numbers,

@@ -57,6 +57,19 @@ pub(crate) fn start_state(alloc: Global, model: &VEntity) -> Result<ProcessState
     })
 }
 
+/// A run of an entity, with the values of its conditions.
+#[derive(Drop)]
+pub struct EntityState {
+    /// The value of each condition.
+    pub conditions: Items<Trit>,
+    /// The run.
+    pub run: ProcessState,
+    /// Place for the columns of any table at the last event.
+    pub earlier: Items<Trit>,
+    /// Place for the columns of any table.
+    pub room: Items<Trit>,
+}
+
 /// Whether some check reported.
 fn any_true(reports: &[bool]) -> bool
     ensures { result ≡ any_true reports.now }

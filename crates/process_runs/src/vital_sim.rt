@@ -5,18 +5,18 @@ ghost use Rattle.process_runs.specs.EntityProps.{value_prop};
 ghost use Rattle.process_runs.specs.EntityIndexed.{IsEntityIndex};
 ghost use Rattle.process_runs.specs.EntityStarts.{IsEntityStart};
 ghost use Rattle.run_parts.specs.KeptDelays.{AreKept};
-ghost use Rattle.process_runs.specs.EntitySteps.{IsReady, EntityStands, entity_machine, entity_sized};
+ghost use Rattle.process_runs.specs.EntityStates.{IsStateReady};
+ghost use Rattle.process_runs.specs.EntitySteps.{EntityStands, entity_machine, entity_sized};
 ghost use Rattle.process_runs.specs.NumberedPaths.{numbered_paths};
 ghost use Rattle.process_runs.specs.EntityRooms.{IsSound};
 
 use crate::entity_start::EntityStart;
 use crate::entity_tables::EntityTables;
 use crate::entity_values::EntityValues;
-use crate::process_rooms::most_columns;
-use crate::process_run::{ProcessState, start_state, step_run};
+use crate::process_run::{EntityState, step_run};
 use crate::process_shown::show_entity;
 use cell_machine::{CellSim, Change, Shared, Sizes};
-use run_parts::{KeptDelays, ShownPort, no_reports, unknown_values};
+use run_parts::{KeptDelays, ShownPort, no_reports};
 use sqlite_items::Items;
 use std::alloc::{AllocError, Global};
 use trit_cubes::Trit;
@@ -27,16 +27,13 @@ use vital_models::VEntity;
 pub struct VitalSim<'a> {
     model: &'a VEntity,
     known: Shared<EntityStart>,
-    run: ProcessState,
-    conditions: Items<Trit>,
+    state: EntityState,
     delays: KeptDelays,
     reports: Items<bool>,
     shown: Items<ShownPort>,
-    earlier: Items<Trit>,
-    room: Items<Trit>,
     ghost indexed: { IsEntityIndex model.now known.index },
-    ghost ready: { IsReady model.now run conditions reports (length earlier) (length room) } by { Prim.hlevel (props, value_prop) },
-    ghost kept: { AreKept (numbered_paths model.now run.inputs) delays },
+    ghost ready: { IsStateReady model.now state reports } by { Prim.hlevel (props, value_prop) },
+    ghost kept: { AreKept (numbered_paths model.now state.run.inputs) delays },
     ghost each_output: { length shown ≡ length model.now.outputs },
 }
 
@@ -53,24 +50,19 @@ impl<'a> VitalSim<'a> {
         ensures machine { IfOk result (λ sim. ⟦<VitalSim<'a> as CellSim>⟧.machine sim ≡ entity_machine model.now) }
         ensures stands { IfOk result (λ sim. ⟦<VitalSim<'a> as CellSim>⟧.stands sim []) }
     {
-        let most = most_columns(model);
-        let earlier = unknown_values(alloc, most)?;
-        let room = unknown_values(alloc, most)?;
-        let run = start_state(alloc, model)?;
-        let conditions = Items::from_slice(alloc, known.get().conditions.as_slice())?;
-        let delays = KeptDelays::none(alloc, known.get().index.places.as_slice())?;
+        let start = known.get();
+        let known = known.again()?;
         let reports = no_reports(alloc, model.checks.len())?;
-        let shown = Items::from_slice(alloc, known.get().shown.as_slice())?;
+        let shown = Items::from_slice(alloc, start.shown.as_slice())?;
+        let delays = KeptDelays::none(alloc, start.index.places.as_slice())?;
+        let state = start.state(alloc, model)?;
         Ok(VitalSim {
             model,
-            known: known.again()?,
-            run,
-            conditions,
+            known,
+            state,
             delays,
             reports,
             shown,
-            earlier,
-            room,
         })
     }
 
@@ -88,11 +80,11 @@ impl<'a> VitalSim<'a> {
 impl<'a> CellSim for VitalSim<'a> {
     ghost machine = { λ s. entity_machine s.model.now };
 
-    ghost stands = { λ s h. EntityStands s.model.now s.run s.reports s.shown h };
+    ghost stands = { λ s h. EntityStands s.model.now s.state.run s.reports s.shown h };
 
     fn sizes(&self) -> Sizes {
         Sizes {
-            inputs: self.run.inputs.len(),
+            inputs: self.state.run.inputs.len(),
             outputs: self.shown.len(),
             checks: self.reports.len(),
         }
@@ -104,27 +96,27 @@ impl<'a> CellSim for VitalSim<'a> {
             index: &self.known.get().index,
         };
         let changed = step_run(
-            &mut self.run,
-            &mut self.conditions,
+            &mut self.state.run,
+            &mut self.state.conditions,
             &tables,
             Change { at, pin, to },
             &mut self.reports,
-            &mut self.earlier,
-            &mut self.room,
+            &mut self.state.earlier,
+            &mut self.state.room,
         );
         self.delays.forget_where(changed);
         let values = EntityValues {
             tables,
-            inputs: self.run.inputs.as_slice(),
-            states: self.run.states.as_slice(),
-            conditions: self.conditions.as_slice(),
+            inputs: self.state.run.inputs.as_slice(),
+            states: self.state.run.states.as_slice(),
+            conditions: self.state.conditions.as_slice(),
         };
         show_entity(
             &values,
             pin,
             &mut self.shown,
             &mut self.delays,
-            &mut self.room,
+            &mut self.state.room,
         );
     }
 

@@ -9,5 +9,5 @@ returns-in-Some c =
     let tables = c.args.self.now in
     let port = c.args.port in
     ap (filter (leads_to port)) c.as_slice.ensures
-    ∙ paths-found tables.model.now.paths tables.index.now.paths port c.in-Some.paths.now tables.indexed.by_output
+    ∙ paths-found tables.model.now.paths tables.index.now.paths.lists port c.in-Some.paths.now tables.indexed.by_output
     (ap (λ (xs : List (List VPath)). slice_get xs port) (sym c.as_slice-all.ensures) ∙ sym c.in-Some.ensures)

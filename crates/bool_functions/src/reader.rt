@@ -2,6 +2,7 @@
 ghost use Rattle.std.specs.Prelude.{◌≡◌, ◌≤◌, ◌↔◌, [], ◌∷◌, Ok, None, Some, IsTrue, IfOk, OnOk, MatchOption, MatchBool};
 ghost use Rattle.bool_functions.specs.Machine.{held, binds, binding, waiting, joined, settled, begin, closed, go_on, step};
 ghost use Rattle.bool_functions.specs.Machine.{finished, run, start, Gives, Steps, Holds, IsClosed};
+ghost use Rattle.bool_functions.specs.declared.tree.Pair.TheVariants as pair;
 
 use crate::symbol::Symbol;
 use crate::tree::{Node, Pair};
@@ -183,14 +184,13 @@ impl Reader {
         ensures { IfOk result (λ fits. Steps (begin self.old.pile symbol) fits (state_of self.new)) }
     {
         match symbol {
-            Symbol::Name(i) => self.put(Node::Name(i))?,
-            Symbol::Zero => self.put(Node::Zero)?,
-            Symbol::One => self.put(Node::One)?,
-            Symbol::Bang => self.pile.push(Pending::Not)?,
-            Symbol::Open => self.pile.push(Pending::Group)?,
-            _ => return Ok(false),
+            Symbol::Name(i) => self.put(Node::Name(i)),
+            Symbol::Zero => self.put(Node::Zero),
+            Symbol::One => self.put(Node::One),
+            Symbol::Bang => self.wait(Pending::Not),
+            Symbol::Open => self.wait(Pending::Group),
+            _ => Ok(false),
         }
-        Ok(true)
     }
 
     /// Goes on after an operand, where the symbol can.
@@ -199,27 +199,41 @@ impl Reader {
         ensures { IfOk result (λ fits. Steps (go_on self.old.pile operand symbol) fits (state_of self.new)) }
     {
         match symbol {
-            Symbol::Quote => self.put(Node::Not(operand))?,
-            Symbol::Caret => self.hold(Pair::Xor, operand)?,
-            Symbol::Times => self.hold(Pair::And, operand)?,
-            Symbol::Plus => self.hold(Pair::Or, operand)?,
-            Symbol::Close => return self.close(operand),
-            Symbol::Stray => return Ok(false),
-            _ => {
-                self.hold(Pair::And, operand)?;
-                return self.begin(symbol);
-            }
+            Symbol::Quote => self.put(Node::Not(operand)),
+            Symbol::Caret => self.join(Pair::Xor, operand),
+            Symbol::Times => self.join(Pair::And, operand),
+            Symbol::Plus => self.join(Pair::Or, operand),
+            Symbol::Close => self.close(operand),
+            Symbol::Stray => Ok(false),
+            _ => self.multiply(operand, symbol),
         }
+    }
+
+    /// Begins the second operand of an `*` that is not written.
+    fn multiply(&mut self, operand: Boxed<Node>, symbol: Symbol) -> Result<bool, AllocError>
+        requires { self.old.operand ≡ None }
+        ensures { IfOk result (λ fits. Steps (begin (held (waiting pair.And) (settled 2 self.old.pile operand)) symbol) fits
+            (state_of self.new)) }
+    {
+        self.hold(Pair::And, operand)?;
+        self.begin(symbol)
+    }
+
+    /// Lets a tree be the operand, which always fits.
+    fn put(&mut self, tree: Node) -> Result<bool, AllocError>
+        ensures { IfOk result (λ fits. Steps (Some (self.old.pile, Some tree)) fits (state_of self.new)) }
+    {
+        self.operand = Some(Boxed::new(self.alloc, tree)?);
         Ok(true)
     }
 
-    /// Lets a tree be the operand.
-    fn put(&mut self, tree: Node) -> Result<(), AllocError>
-        ensures operand { OnOk result (self.new.operand ≡ Some tree) }
-        ensures pile { self.new.pile ≡ self.old.pile }
+    /// Lets something wait for its right side, which always fits.
+    fn wait(&mut self, pending: Pending) -> Result<bool, AllocError>
+        requires { self.old.operand ≡ None }
+        ensures { IfOk result (λ fits. Steps (Some (pending ∷ self.old.pile, None)) fits (state_of self.new)) }
     {
-        self.operand = Some(Boxed::new(self.alloc, tree)?);
-        Ok(())
+        self.pile.push(pending)?;
+        Ok(true)
     }
 
     /// Lets the operand wait as the left side of an operator.
@@ -229,6 +243,16 @@ impl Reader {
     {
         let left = self.pile.settle(self.alloc, binding(pair), operand)?;
         self.pile.push(waiting(pair, left))
+    }
+
+    /// The same, which always fits.
+    fn join(&mut self, pair: Pair, operand: Boxed<Node>) -> Result<bool, AllocError>
+        requires { self.old.operand ≡ None }
+        ensures { IfOk result (λ fits. Steps (Some (held (waiting pair) (settled (binding pair) self.old.pile operand), None)) fits
+            (state_of self.new)) }
+    {
+        self.hold(pair, operand)?;
+        Ok(true)
     }
 
     /// Closes the innermost open group, where one is open.

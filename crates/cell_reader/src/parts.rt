@@ -123,12 +123,12 @@ fn read_names<'a>(
 #[derive(Drop)]
 pub struct Said {
     pub pins: Items<Pin>,
+    /// The timing of the pins, as far as it decides or is wanted.
+    pub timing: CellTiming,
     /// What each of the groups that hold states says.
     pub readings: Items<StateReading>,
     /// The text of each of the pin groups.
     pub texts: Items<Text>,
-    /// The timing of the pins, as far as it decides or is wanted.
-    pub timing: CellTiming,
 }
 
 /// The pins that these groups make, and what the texts and the timing of these groups say, in a cell whose texts may name these.
@@ -156,9 +156,9 @@ fn read_said(
     let timed = read_timings(alloc, unit, pins, pin_groups)?;
     Ok(Said {
         pins: timed.pins,
+        timing: timed.timing,
         readings,
         texts,
-        timing: timed.timing,
     })
 }
 

@@ -122,9 +122,9 @@ fn read_names<'a>(
 /// The pins of a cell, and what its texts and its timing say.
 #[derive(Drop)]
 pub struct Said {
-    pub pins: Items<Pin>,
     /// The timing of the pins, as far as it decides or is wanted.
     pub timing: CellTiming,
+    pub pins: Items<Pin>,
     /// What each of the groups that hold states says.
     pub readings: Items<StateReading>,
     /// The text of each of the pin groups.

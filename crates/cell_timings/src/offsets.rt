@@ -5,15 +5,6 @@ ghost use Rattle.cell_timings.specs.CellTimings.{lesser_offsets, offsets_in};
 use cell_machine::least::lesser;
 use timing_arcs::{PinTiming, TimingFault};
 
-/// The least offset at which the timing of some pins names what it may not.
-#[derive(Drop)]
-pub struct NameOffsets {
-    /// Where a related pin or a condition names what is not there.
-    pub unknown: Option<usize>,
-    /// Where a condition names its own pin.
-    pub own: Option<usize>,
-}
-
 /// The least offset at which the timing of some pins is wrong, for each way in which it may be.
 #[derive(Drop)]
 pub struct LeastOffsets {
@@ -45,4 +36,13 @@ impl LeastOffsets {
             Err(TimingFault::Number(at)) => self.number = lesser(self.number, Some(*at)),
         }
     }
+}
+
+/// The least offset at which the timing of some pins names what it may not.
+#[derive(Drop)]
+pub struct NameOffsets {
+    /// Where a related pin or a condition names what is not there.
+    pub unknown: Option<usize>,
+    /// Where a condition names its own pin.
+    pub own: Option<usize>,
 }

@@ -10,15 +10,6 @@ use sqlite_items::Items;
 use std::alloc::{AllocError, Global};
 use timing_arcs::{PinTiming, TimingFault};
 
-/// Where checks and arcs are made.
-#[derive(Drop)]
-pub struct MadeAt {
-    /// For each check the offset of what first makes it.
-    pub checks: Items<usize>,
-    /// For each arc the offset of what first makes it.
-    pub arcs: Items<usize>,
-}
-
 /// The timing of the pins of a cell, in their order. No more is kept of what reading the timing of a pin answers.
 #[derive(Drop)]
 pub struct CellTiming {
@@ -30,6 +21,15 @@ pub struct CellTiming {
     pub left_out: Items<LeftOut>,
     /// Where the timing is wrong.
     pub least: LeastOffsets,
+}
+
+/// Where checks and arcs are made.
+#[derive(Drop)]
+pub struct MadeAt {
+    /// For each check the offset of what first makes it.
+    pub checks: Items<usize>,
+    /// For each arc the offset of what first makes it.
+    pub arcs: Items<usize>,
 }
 
 impl CellTiming {

@@ -21,11 +21,7 @@ fn insert_all(found: &mut Vec<usize>, numbers: &[usize]) -> Result<(), AllocErro
 }
 
 /// Puts the names of a function into an ascending list.
-fn insert_support(
-    alloc: Global,
-    found: &mut Vec<usize>,
-    function: &Function,
-) -> Result<(), AllocError>
+fn add_names(alloc: Global, found: &mut Vec<usize>, function: &Function) -> Result<(), AllocError>
     ensures { OnOk result (found.new.items ≡ insert_all found.old.items (support_of function.now)) }
 {
     let support = function.support(alloc)?;
@@ -48,8 +44,8 @@ fn insert_both(
     let Some(preset) = preset else {
         return Ok(());
     };
-    insert_support(alloc, found, clear)?;
-    insert_support(alloc, found, preset)
+    add_names(alloc, found, clear)?;
+    add_names(alloc, found, preset)
 }
 
 /// Puts what a second variable stands for into an ascending list, where its state has this number.

@@ -17,9 +17,10 @@ use Rattle.bool_functions.specs.NameList.{number_of}
 use Rattle.bool_functions.specs.Tree.{name_bound}
 use Rattle.bool_functions.specs.Token.{is_word_byte, digit_of, mark_of, symbol_of, symbols, spans, bytes_at, offset_of}
 use Rattle.bool_functions.specs.Grammar.{IsText, IsFront, IsFault}
-use Rattle.bool_functions.specs.Machine.{run, start}
+use Rattle.bool_functions.specs.Machine.{run, start, Gives}
 use Rattle.bool_functions.specs.FunctionText.{FunctionText, MalformedAt, HasFault, unknown_in, free_names, reading, reading_of}
 use Rattle.bool_functions.specs.FunctionText.{TreeOf, OrMemory, OrMemoryFree, FaultOrMemory, Answers, AnswersFree}
+use Rattle.bool_functions.specs.FunctionText.{placed_in, known, StandsBeside}
 use Rattle.bool_functions.proofs.Complete.{text_read}
 use Rattle.bool_functions.proofs.Sound.{read_text}
 use Rattle.bool_functions.proofs.Fronts.{stop_is_fault, stop_splits}
@@ -182,17 +183,56 @@ module _ (names : List (List ℕ)) (text : List ℕ) where
       fitting names text le ∙ ap (reading text (unknown_in names text)) e ∙ ap (λ m. Err (Malformed (offset_of text m))) k
       ∙ ap (λ o. Err (Malformed o)) off
 
+  -- what reading the symbols answers, with the offset of a fault
+  pub of_run : (s : List Symbol) (read made : Result Node ℕ) → s ≡ symbols names text → Gives read s (run start s)
+      → made ≡ placed_in text read → TreeOf names text made
+  of_run s (Ok f) made is g e = subst (TreeOf names text) (sym e) (ap (run start) (sym is) ∙ g)
+  of_run s (Err n) made is g e =
+      let within : n ≤ length (symbols names text) = subst (λ (u : List Symbol). n ≤ length u) is g.1 in
+      let stops = subst (λ (u : List Symbol). run start u ≡ Err (drop n u)) is g.0 in
+      subst (TreeOf names text) (sym e) (n, within, stops, refl)
+
+  judges : (r : Result Node ℕ) → length text ≤ MAX_LEN → TreeOf names text r
+      → reading_of names text ≡ known (unknown_in names text) r
+  judges (Ok f) le t = fitting names text le ∙ ap (reading text (unknown_in names text)) t ∙ as_known (unknown_in names text)
+    where
+      as_known : (u : Option ℕ) → reading text u (Ok f) ≡ known u (Ok f)
+      as_known None = refl
+      as_known (Some at) = refl
+  judges (Err at) le (n, within, e, off) = placed n at le within e off
+
+  -- a tree that was read is the text's, where all names are known
+  pub over_read : (r : Result Node ℕ) (made : Result Node FunctionFault) → length text ≤ MAX_LEN → TreeOf names text r
+      → made ≡ known (unknown_in names text) r → OrMemory made (reading_of names text)
+  over_read r made le t e = as_wanted made (e ∙ sym (judges r le t))
+    where
+      as_wanted : (answer : Result Node FunctionFault) → answer ≡ reading_of names text → OrMemory answer (reading_of names text)
+      as_wanted (Ok f) is = sym is
+      as_wanted (Err TooLong) is = sym is
+      as_wanted (Err (Malformed at)) is = sym is
+      as_wanted (Err (UnknownName at)) is = sym is
+      as_wanted (Err Memory) is = tt
+
   -- over a text's own names
-  pub own_fault : (at : ℕ) → names ≡ free_names text → length text ≤ MAX_LEN → TreeOf names text (Err at)
+  own_fault : (at : ℕ) → names ≡ free_names text → length text ≤ MAX_LEN → TreeOf names text (Err at)
       → OrMemoryFree (Err (Malformed at)) text
   own_fault at own le (n, within, e, off) = ap (λ l. reading_of l text) (sym own) ∙ placed n at le within e off
 
-  pub own_tree : (f : Node) → names ≡ free_names text → length text ≤ MAX_LEN → run start (symbols names text) ≡ Ok f
+  own_tree : (f : Node) → names ≡ free_names text → length text ≤ MAX_LEN → run start (symbols names text) ≡ Ok f
       → reading_of (free_names text) text ≡ Ok f
   own_tree f own le e =
       ap (λ l. reading_of l text) (sym own) ∙ fitting names text le
       ∙ ap (λ u. reading text u (run start (symbols names text))) (ap (λ l. unknown_in l text) own ∙ own_names_known text)
       ∙ ap (reading text None) e
+
+  pub own_read : {E : Type 0} (read : Result (Result Node ℕ) E) (made : Result (Result (Node × List (List ℕ)) FunctionFault) E)
+      → names ≡ free_names text → length text ≤ MAX_LEN → IfOk read (TreeOf names text) → IfOk made (StandsBeside read names)
+      → IfOk made (λ r. OrMemoryFree r text)
+  own_read (Ok (Ok f)) (Ok (Ok both)) own le t h = (h.1 ∙ own, own_tree f own le t ∙ ap Ok (sym h.0))
+  own_read (Ok (Ok f)) (Ok (Err fault)) own le t h = absurd h
+  own_read (Ok (Err at)) (Ok r) own le t h = subst (λ a. OrMemoryFree a text) (sym h) (own_fault at own le t)
+  own_read (Err e) (Ok r) own le t h = absurd h
+  own_read read (Err e) own le t h = tt
 
   -- what an answer says, where it is that of the text or memory was wanted
   pub tree_clause : (r : Result Node FunctionFault) → OrMemory r (reading_of names text) → IfOk r (FunctionText names text)

@@ -73,6 +73,24 @@ TreeOf names text (Err at) =
     (n : ℕ) × (n ≤ length (symbols names text)) × (run start (symbols names text) ≡ Err (drop n (symbols names text)))
     × (offset_of text n ≡ at)
 
+-- a tree that was read, or the offset of the token with this number
+abbrev pub placed_in : List ℕ → Result Node ℕ → Result Node ℕ
+placed_in text (Ok f) = Ok f
+placed_in text (Err n) = Err (offset_of text n)
+
+-- what was read, where the text has no name that is not in the list, or what is wrong
+abbrev pub known : {A : Type 0} → Option ℕ → Result A ℕ → Result A FunctionFault
+known unknown (Err at) = Err (Malformed at)
+known None (Ok f) = Ok f
+known (Some at) (Ok f) = Err (UnknownName at)
+
+-- a value that was read stands beside the names, or the text is malformed where it was not read
+abbrev pub StandsBeside : {A B E : Type 0} → Result (Result A ℕ) E → B → Result (A × B) FunctionFault → Type 0
+StandsBeside (Ok (Ok a)) names (Ok both) = (both.0 ≡ a) × (both.1 ≡ names)
+StandsBeside (Ok (Ok a)) names (Err fault) = ⊥
+StandsBeside (Ok (Err at)) names made = made ≡ Err (Malformed at)
+StandsBeside (Err e) names made = ⊥
+
 -- an answer is what is wanted, or memory was
 abbrev pub OrMemory : Result Node FunctionFault → Result Node FunctionFault → Type 0
 OrMemory (Ok f) wanted = wanted ≡ Ok f

@@ -1,66 +1,44 @@
 //! The trees that codes stand for, made without recursion.
-ghost use Rattle.std.specs.Prelude.{◌≡◌, [], ◌∷◌, IfOk, OnOk, MatchOption, map, slice_index};
+ghost use Rattle.std.specs.Prelude.{◌≡◌, [], ◌∷◌, IfOk, OnOk, map, slice_index};
 ghost use Rattle.bool_functions.specs.Pair.{node_of};
 ghost use Rattle.bool_functions.specs.Code.{inverted, joined, read_code, renamed_code, innermost, tree_of};
 
 use crate::codes::Code;
+use crate::pile::Pile;
 use crate::tree::{Node, Pair, over};
 use sqlite_items::Boxed;
 use std::alloc::{AllocError, Global};
-use std::marker::Model;
 
-/// The trees that were made of the codes so far, the innermost last. Contracts see the innermost first.
+/// The trees that were made of the codes so far.
 #[derive(Drop)]
 struct Trees {
     alloc: Global,
-    items: Vec<Boxed<Node>>,
-}
-
-impl Model for Trees {
-    ghost use Rattle.std.specs.Prelude.{List, reverse};
-    ghost use Rattle.std.specs.Coded.{codes};
-    ghost use Rattle.bool_functions.specs.declared.tree.Node.{Node};
-
-    ghost Value = { List Node };
-
-    ghost use Rattle.bool_functions.specs.contracts.tree.Node as nodes;
-
-    ghost coded = { Prim.hlevel (codes, nodes.the_row.coded) };
-
-    ghost view = { λ t. reverse t.items.items };
+    pile: Pile<Boxed<Node>>,
 }
 
 impl Trees {
     /// Before the first code.
     fn new(alloc: Global) -> Trees
-        ensures { result ≡ [] }
+        ensures { result.pile ≡ [] }
     {
         Trees {
             alloc,
-            items: Vec::new(alloc),
+            pile: Pile::new(alloc),
         }
     }
 
     /// Adds the innermost.
     fn push(&mut self, tree: Node) -> Result<(), AllocError>
-        ensures { OnOk result (self.new ≡ tree ∷ self.old) }
+        ensures { OnOk result (self.new.pile ≡ tree ∷ self.old.pile) }
     {
-        self.items.push(Boxed::new(self.alloc, tree)?)?;
-        Ok(())
-    }
-
-    /// Takes the innermost.
-    fn pop(&mut self) -> Option<Boxed<Node>>
-        ensures { MatchOption result ((self.old ≡ []) × (self.new ≡ [])) (λ top. self.old ≡ top ∷ self.new) }
-    {
-        self.items.pop()
+        self.pile.push(Boxed::new(self.alloc, tree)?)
     }
 
     /// Inverts the innermost.
     fn invert(&mut self) -> Result<(), AllocError>
-        ensures { OnOk result (self.new ≡ inverted self.old) }
+        ensures { OnOk result (self.new.pile ≡ inverted self.old.pile) }
     {
-        match self.pop() {
+        match self.pile.pop() {
             Some(part) => self.push(Node::Not(part)),
             None => Ok(()),
         }
@@ -68,12 +46,12 @@ impl Trees {
 
     /// Joins the two innermost by an operator.
     fn join(&mut self, pair: Pair) -> Result<(), AllocError>
-        ensures { OnOk result (self.new ≡ joined (node_of pair) self.old) }
+        ensures { OnOk result (self.new.pile ≡ joined (node_of pair) self.old.pile) }
     {
-        let Some(right) = self.pop() else {
+        let Some(right) = self.pile.pop() else {
             return Ok(());
         };
-        match self.pop() {
+        match self.pile.pop() {
             Some(left) => self.push(over(pair, left, right)),
             None => Ok(()),
         }
@@ -81,7 +59,7 @@ impl Trees {
 
     /// Takes the next code.
     fn read(&mut self, code: Code) -> Result<(), AllocError>
-        ensures { OnOk result (self.new ≡ read_code self.old code) }
+        ensures { OnOk result (self.new.pile ≡ read_code self.old.pile code) }
     {
         match code {
             Code::Zero => self.push(Node::Zero),
@@ -96,7 +74,7 @@ impl Trees {
 
     /// Takes the next code, where other numbers stand for those of names.
     fn read_renamed(&mut self, code: Code, to: &[usize]) -> Result<(), AllocError>
-        ensures { OnOk result (self.new ≡ read_code self.old (renamed_code to.now code)) }
+        ensures { OnOk result (self.new.pile ≡ read_code self.old.pile (renamed_code to.now code)) }
     {
         match code {
             Code::Name(i) => self.push(Node::Name(number_at(to, usize::from(i)))),
@@ -106,9 +84,9 @@ impl Trees {
 
     /// The innermost.
     fn finish(mut self) -> Node
-        ensures { result ≡ innermost self }
+        ensures { result ≡ innermost self.pile }
     {
-        match self.pop() {
+        match self.pile.pop() {
             Some(tree) => tree.into_inner(),
             None => Node::Zero,
         }

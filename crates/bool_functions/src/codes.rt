@@ -1,12 +1,10 @@
 //! Trees as lists of codes, which take about an eighth of a tree's memory.
-ghost use Rattle.std.specs.Prelude.{◌≡◌, ◌≤◌, ◌-◌, false, true, nat_lt, [], length, IfOk, OnOk, MatchOption};
+ghost use Rattle.std.specs.Prelude.{◌≡◌, ◌≤◌, ◌-◌, false, true, nat_lt, length, IfOk, MatchOption};
 ghost use Rattle.std.specs.List.{list_any};
 ghost use Rattle.bool_functions.specs.declared.codes.Code.TheVariants as code;
-ghost use Rattle.bool_functions.specs.Support.{insert_all};
-ghost use Rattle.bool_functions.specs.Code.{code_names, code_of, is_name_code, is_small, same_code, same_codes, AreHalves};
+ghost use Rattle.bool_functions.specs.Code.{code_of, is_name_code, is_small, same_code, same_codes, AreHalves};
 ghost use Rattle.bool_functions.specs.Code.{IsValue, Adds, AddsCode, Closes};
 
-use crate::ascending::insert;
 use crate::kept_values::bit_at;
 use crate::tree::{Node, Pair};
 use std::alloc::{AllocError, Global};
@@ -207,25 +205,4 @@ pub(crate) fn has(codes: &[Code], i: usize) -> bool
     ensures { result ≡ list_any (is_name_code i) codes.now }
 {
     codes.iter().any(|code| is_name(*code, i))
-}
-
-/// The numbers of the names among codes, each once, in ascending order.
-pub(crate) fn support(codes: &[Code], alloc: Global) -> Result<Vec<usize>, AllocError>
-    ensures { IfOk result (λ v. v.items ≡ insert_all [] (code_names codes.now)) }
-{
-    let mut found = Vec::new(alloc);
-    collect(codes, &mut found)?;
-    Ok(found)
-}
-
-/// Puts the names among codes into an ascending list.
-fn collect(codes: &[Code], found: &mut Vec<usize>) -> Result<(), AllocError>
-    ensures { OnOk result (found.new.items ≡ insert_all found.old.items (code_names codes.now)) }
-{
-    for code in codes {
-        if let Code::Name(i) = code {
-            insert(found, usize::from(*i))?;
-        }
-    }
-    Ok(())
 }

@@ -11,6 +11,7 @@ mod kept_values;
 mod keys;
 mod laws;
 mod name_list;
+mod pile;
 mod postfix;
 mod reader;
 mod symbol;

@@ -6,9 +6,10 @@ ghost use Rattle.bool_functions.specs.Point.{entry_of};
 ghost use Rattle.bool_functions.specs.Support.{support_of};
 ghost use Rattle.bool_functions.specs.Code.{fits};
 
+use crate::ascending::support;
 use crate::blocks::table;
 use crate::code_trees::{renamed, tree};
-use crate::codes::{Code, add_codes, has, same, support, value};
+use crate::codes::{Code, add_codes, has, same, value};
 use crate::kept_values::{KeptValues, copied};
 use crate::tree::Node;
 use std::alloc::{AllocError, Global};
@@ -125,6 +126,14 @@ impl Postfix {
         if let Some(kept) = &self.kept {
             return Ok(Vec::from_slice(alloc, &kept.names)?);
         }
-        support(self.spelled.as_slice(), alloc)
+        self.written_names(alloc)
+    }
+
+    /// The same of the tree itself.
+    fn written_names(&self, alloc: Global) -> Result<Vec<usize>, AllocError>
+        ensures { IfOk result (λ v. v.items ≡ support_of self.now) }
+    {
+        let node = self.tree(alloc)?;
+        support(&node, alloc)
     }
 }

@@ -1,13 +1,14 @@
 //! The tree of a list of symbols, read from left to right with a pile in place of recursion.
-ghost use Rattle.std.specs.Prelude.{◌≡◌, ◌≤◌, ◌↔◌, [], ◌∷◌, Ok, None, Some, IsTrue, IfOk, OnOk, MatchOption, MatchBool};
+ghost use Rattle.std.specs.Prelude.{◌≡◌, ◌≤◌, [], ◌∷◌, Ok, None, Some, IfOk, OnOk, MatchOption, MatchBool};
 ghost use Rattle.bool_functions.specs.Machine.{held, binds, binding, waiting, joined, settled, begin, closed, go_on, step};
 ghost use Rattle.bool_functions.specs.Machine.{finished, run, start, Gives, Steps, Holds, IsClosed};
+ghost use Rattle.bool_functions.specs.declared.tree.Pair.TheVariants as pair;
 
+use crate::pile::Pile;
 use crate::symbol::Symbol;
 use crate::tree::{Node, Pair};
 use sqlite_items::Boxed;
 use std::alloc::{AllocError, Global};
-use std::marker::Model;
 
 /// How tightly an operator binds: the tighter, the greater. An open group holds all that is outside it.
 const GROUP: u8 = 0;
@@ -34,76 +35,39 @@ pub(crate) enum Pending {
     Not,
 }
 
-/// What waits, the innermost last. Contracts see it with the innermost first.
-#[derive(Drop)]
-struct Pile {
-    items: Vec<Pending>,
+/// Takes the innermost that waits, where it binds at least so tightly.
+fn pop_from(pile: &mut Pile<Pending>, least: u8) -> Option<Pending>
+    ensures { MatchOption result (Holds least pile.old × (pile.new ≡ pile.old)) (λ top. (pile.old ≡ top ∷ pile.new)
+        × (least ≤ binds top)) }
+{
+    let top = pile.top()?;
+    if top.binds() < least {
+        return None;
+    }
+    pile.pop()
 }
 
-impl Model for Pile {
-    ghost use Rattle.std.specs.Prelude.{List, reverse};
-    ghost use Rattle.std.specs.Coded.{codes};
-    ghost use Rattle.bool_functions.specs.declared.reader.Pending.{Pending};
-
-    ghost Value = { List Pending };
-
-    ghost use Rattle.bool_functions.specs.contracts.tree.Node as tree;
-
-    ghost coded = { Prim.hlevel (codes, tree.the_row.coded) };
-
-    ghost view = { λ p. reverse p.items.items };
+/// Gives the operand to all that binds at least so tightly, for its right side.
+fn settle(
+    pile: &mut Pile<Pending>,
+    alloc: Global,
+    least: u8,
+    operand: Boxed<Node>,
+) -> Result<Boxed<Node>, AllocError>
+    ensures { IfOk result (λ whole. settled least pile.old operand ≡ (pile.new, whole)) }
+{
+    let mut whole = operand;
+    while let Some(top) = pop_from(pile, least) {
+        whole = Boxed::new(alloc, top.joined(whole))?;
+    }
+    Ok(whole)
 }
 
-impl Pile {
-    /// Adds the innermost.
-    fn push(&mut self, pending: Pending) -> Result<(), AllocError>
-        ensures { OnOk result (self.new ≡ pending ∷ self.old) }
-    {
-        self.items.push(pending)?;
-        Ok(())
-    }
-
-    /// Takes the innermost that waits, where it binds at least so tightly.
-    fn pop_from(&mut self, least: u8) -> Option<Pending>
-        ensures { MatchOption result (Holds least self.old × (self.new ≡ self.old)) (λ top. (self.old ≡ top ∷ self.new)
-            × (least ≤ binds top)) }
-    {
-        let top = self.items.last()?;
-        if top.binds() < least {
-            return None;
-        }
-        self.items.pop()
-    }
-
-    /// Gives the operand to all that binds at least so tightly, for its right side.
-    fn settle(
-        &mut self,
-        alloc: Global,
-        least: u8,
-        operand: Boxed<Node>,
-    ) -> Result<Boxed<Node>, AllocError>
-        ensures { IfOk result (λ whole. settled least self.old operand ≡ (self.new, whole)) }
-    {
-        let mut whole = operand;
-        while let Some(top) = self.pop_from(least) {
-            whole = Boxed::new(alloc, top.joined(whole))?;
-        }
-        Ok(whole)
-    }
-
-    /// Closes the innermost open group, where nothing waits inside it.
-    fn close(&mut self) -> bool
-        ensures { MatchBool result (IsClosed self.old self.new) (self.old ≡ []) }
-    {
-        self.items.pop().is_some()
-    }
-
-    /// Whether nothing waits.
-    fn is_empty(&self) -> bool
-        ensures { IsTrue result ↔ (self.now ≡ []) }
-    {
-        self.items.is_empty()
-    }
+/// Closes the innermost open group, where nothing waits inside it.
+fn close(pile: &mut Pile<Pending>) -> bool
+    ensures { MatchBool result (IsClosed pile.old pile.new) (pile.old ≡ []) }
+{
+    pile.pop().is_some()
 }
 
 impl Pending {
@@ -160,7 +124,7 @@ fn waiting(pair: Pair, left: Boxed<Node>) -> Pending
 #[derive(Drop)]
 struct Reader {
     alloc: Global,
-    pile: Pile,
+    pile: Pile<Pending>,
     operand: Option<Boxed<Node>>,
 }
 
@@ -183,14 +147,13 @@ impl Reader {
         ensures { IfOk result (λ fits. Steps (begin self.old.pile symbol) fits (state_of self.new)) }
     {
         match symbol {
-            Symbol::Name(i) => self.put(Node::Name(i))?,
-            Symbol::Zero => self.put(Node::Zero)?,
-            Symbol::One => self.put(Node::One)?,
-            Symbol::Bang => self.pile.push(Pending::Not)?,
-            Symbol::Open => self.pile.push(Pending::Group)?,
-            _ => return Ok(false),
+            Symbol::Name(i) => self.put(Node::Name(i)),
+            Symbol::Zero => self.put(Node::Zero),
+            Symbol::One => self.put(Node::One),
+            Symbol::Bang => self.wait(Pending::Not),
+            Symbol::Open => self.wait(Pending::Group),
+            _ => Ok(false),
         }
-        Ok(true)
     }
 
     /// Goes on after an operand, where the symbol can.
@@ -199,27 +162,41 @@ impl Reader {
         ensures { IfOk result (λ fits. Steps (go_on self.old.pile operand symbol) fits (state_of self.new)) }
     {
         match symbol {
-            Symbol::Quote => self.put(Node::Not(operand))?,
-            Symbol::Caret => self.hold(Pair::Xor, operand)?,
-            Symbol::Times => self.hold(Pair::And, operand)?,
-            Symbol::Plus => self.hold(Pair::Or, operand)?,
-            Symbol::Close => return self.close(operand),
-            Symbol::Stray => return Ok(false),
-            _ => {
-                self.hold(Pair::And, operand)?;
-                return self.begin(symbol);
-            }
+            Symbol::Quote => self.put(Node::Not(operand)),
+            Symbol::Caret => self.join(Pair::Xor, operand),
+            Symbol::Times => self.join(Pair::And, operand),
+            Symbol::Plus => self.join(Pair::Or, operand),
+            Symbol::Close => self.close(operand),
+            Symbol::Stray => Ok(false),
+            _ => self.multiply(operand, symbol),
         }
+    }
+
+    /// Begins the second operand of an `*` that is not written.
+    fn multiply(&mut self, operand: Boxed<Node>, symbol: Symbol) -> Result<bool, AllocError>
+        requires { self.old.operand ≡ None }
+        ensures { IfOk result (λ fits. Steps (begin (held (waiting pair.And) (settled 2 self.old.pile operand)) symbol) fits
+            (state_of self.new)) }
+    {
+        self.hold(Pair::And, operand)?;
+        self.begin(symbol)
+    }
+
+    /// Lets a tree be the operand, which always fits.
+    fn put(&mut self, tree: Node) -> Result<bool, AllocError>
+        ensures { IfOk result (λ fits. Steps (Some (self.old.pile, Some tree)) fits (state_of self.new)) }
+    {
+        self.operand = Some(Boxed::new(self.alloc, tree)?);
         Ok(true)
     }
 
-    /// Lets a tree be the operand.
-    fn put(&mut self, tree: Node) -> Result<(), AllocError>
-        ensures operand { OnOk result (self.new.operand ≡ Some tree) }
-        ensures pile { self.new.pile ≡ self.old.pile }
+    /// Lets something wait for its right side, which always fits.
+    fn wait(&mut self, pending: Pending) -> Result<bool, AllocError>
+        requires { self.old.operand ≡ None }
+        ensures { IfOk result (λ fits. Steps (Some (pending ∷ self.old.pile, None)) fits (state_of self.new)) }
     {
-        self.operand = Some(Boxed::new(self.alloc, tree)?);
-        Ok(())
+        self.pile.push(pending)?;
+        Ok(true)
     }
 
     /// Lets the operand wait as the left side of an operator.
@@ -227,8 +204,18 @@ impl Reader {
         ensures held { OnOk result (self.new.pile ≡ held (waiting pair) (settled (binding pair) self.old.pile operand)) }
         ensures operand { self.new.operand ≡ self.old.operand }
     {
-        let left = self.pile.settle(self.alloc, binding(pair), operand)?;
+        let left = settle(&mut self.pile, self.alloc, binding(pair), operand)?;
         self.pile.push(waiting(pair, left))
+    }
+
+    /// The same, which always fits.
+    fn join(&mut self, pair: Pair, operand: Boxed<Node>) -> Result<bool, AllocError>
+        requires { self.old.operand ≡ None }
+        ensures { IfOk result (λ fits. Steps (Some (held (waiting pair) (settled (binding pair) self.old.pile operand), None)) fits
+            (state_of self.new)) }
+    {
+        self.hold(pair, operand)?;
+        Ok(true)
     }
 
     /// Closes the innermost open group, where one is open.
@@ -236,8 +223,8 @@ impl Reader {
         requires { self.old.operand ≡ None }
         ensures { IfOk result (λ fits. Steps (closed (settled 1 self.old.pile operand)) fits (state_of self.new)) }
     {
-        let inner = self.pile.settle(self.alloc, OR, operand)?;
-        let is_open = self.pile.close();
+        let inner = settle(&mut self.pile, self.alloc, OR, operand)?;
+        let is_open = close(&mut self.pile);
         if is_open {
             self.operand = Some(inner);
         }
@@ -256,7 +243,7 @@ impl Reader {
         let Some(operand) = operand else {
             return Ok(None);
         };
-        let whole = pile.settle(alloc, OR, operand)?;
+        let whole = settle(&mut pile, alloc, OR, operand)?;
         if pile.is_empty() {
             Ok(Some(whole))
         } else {
@@ -274,9 +261,7 @@ pub(crate) fn run(
 {
     let mut reader = Reader {
         alloc,
-        pile: Pile {
-            items: Vec::new(alloc),
-        },
+        pile: Pile::new(alloc),
         operand: None,
     };
     for (at, symbol) in symbols.iter().enumerate() {

@@ -4,7 +4,7 @@ ghost use Rattle.bool_functions.specs.Tree.{name_bound};
 ghost use Rattle.bool_functions.specs.Token.{bytes_at, spans, symbol_of, symbols, offset_of, LieIn};
 ghost use Rattle.bool_functions.specs.Machine.{run, start};
 ghost use Rattle.bool_functions.specs.FunctionText.{FunctionText, HasFault, free_names, reading_of, OrMemory, OrMemoryFree};
-ghost use Rattle.bool_functions.specs.FunctionText.{FaultOrMemory, TreeOf, Answers, AnswersFree};
+ghost use Rattle.bool_functions.specs.FunctionText.{FaultOrMemory, TreeOf, Answers, AnswersFree, known, placed_in, StandsBeside};
 
 use crate::faults::FunctionFault;
 use crate::functions::Function;
@@ -63,13 +63,21 @@ fn read_over(
         return Ok(Err(FunctionFault::TooLong));
     }
     let tokens = spans(alloc, text)?;
-    let tree = match read_tree(alloc, text, &tokens, names)? {
-        Ok(tree) => tree,
-        Err(at) => return Ok(Err(FunctionFault::Malformed(at))),
-    };
-    match first_unknown(text, &tokens, names) {
-        Some(at) => Ok(Err(FunctionFault::UnknownName(at))),
-        None => Ok(Ok(Function::new(alloc, tree.into_inner())?)),
+    let read = read_tree(alloc, text, &tokens, names)?;
+    Ok(known(read, first_unknown(text, &tokens, names)))
+}
+
+/// What reading a text answers, where this is its first name that is not in the list. It is a function of any type, so that what
+/// was read is let go at one place.
+fn known<T: Drop>(read: Result<T, usize>, unknown: Option<usize>) -> Result<T, FunctionFault>
+    ensures { result ≡ known unknown read }
+{
+    match read {
+        Ok(function) => match unknown {
+            Some(at) => Err(FunctionFault::UnknownName(at)),
+            None => Ok(function),
+        },
+        Err(at) => Err(FunctionFault::Malformed(at)),
     }
 }
 
@@ -85,29 +93,52 @@ fn read_own(
     }
     let tokens = spans(alloc, text)?;
     let names = names_in(alloc, text, &tokens)?;
-    match read_tree(alloc, text, &tokens, &names)? {
-        Ok(tree) => {
-            let function = Function::new(alloc, tree.into_inner())?;
-            Ok(Ok((function, names)))
-        }
+    let read = read_tree(alloc, text, &tokens, &names);
+    beside(read, names)
+}
+
+/// What was read beside its names, where no token is a fault. It is a function of any types, so that the names are let go at
+/// one place where nothing was read.
+fn beside<T: Drop, N: Drop>(
+    read: Result<Result<T, usize>, AllocError>,
+    names: N,
+) -> Result<Result<(T, N), FunctionFault>, AllocError>
+    ensures { IfOk result (StandsBeside read names) }
+{
+    match read? {
+        Ok(function) => Ok(Ok((function, names))),
         Err(at) => Ok(Err(FunctionFault::Malformed(at))),
     }
 }
 
-/// The tree of a text's tokens, where a name that is not in the list has the list's length for its number, or the offset of
+/// The function of a text's tokens, where a name that is not in the list has the list's length for its number, or the offset of
 /// the first token with which no function text goes on.
 fn read_tree(
     alloc: Global,
     text: &[u8],
     tokens: &[Span],
     names: &Names,
-) -> Result<Result<Boxed<Node>, usize>, AllocError>
+) -> Result<Result<Function, usize>, AllocError>
     requires { tokens.now ≡ spans text.now }
     ensures { IfOk result (λ read. TreeOf names.now text.now read) }
 {
     let symbols = symbols(alloc, text, tokens, names)?;
-    match run(alloc, &symbols)? {
-        Ok(tree) => Ok(Ok(tree)),
+    let read = run(alloc, &symbols)?;
+    function_of(alloc, text, tokens, read)
+}
+
+/// The function of a tree, or the offset of the token with this number.
+fn function_of(
+    alloc: Global,
+    text: &[u8],
+    tokens: &[Span],
+    read: Result<Boxed<Node>, usize>,
+) -> Result<Result<Function, usize>, AllocError>
+    requires { tokens.now ≡ spans text.now }
+    ensures { IfOk result (λ placed. placed ≡ placed_in text.now read) }
+{
+    match read {
+        Ok(tree) => Ok(Ok(Function::new(alloc, tree.into_inner())?)),
         Err(n) => Ok(Err(offset_of(text, tokens, n))),
     }
 }

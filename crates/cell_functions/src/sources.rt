@@ -1,6 +1,6 @@
 //! What the functions of outputs depend on.
-ghost use Rattle.std.specs.Prelude.{◌≡◌, ◌≤◌, ◌<◌, [], OnOk, IfOk, length, flat_map};
-ghost use Rattle.bool_functions.specs.Support.{insert_all};
+ghost use Rattle.std.specs.Prelude.{◌≡◌, ◌≤◌, ◌<◌, [], OnOk, IfOk, length, map, flat_map};
+ghost use Rattle.bool_functions.specs.Support.{insert_all, support_of};
 ghost use Rattle.cell_attributes.specs.Building.{supports_of_both, second_support, stands_for, source_of as source_of_number};
 ghost use Rattle.cell_attributes.specs.Building.{sources_of as sources_of_function};
 
@@ -20,6 +20,14 @@ fn insert_all(found: &mut Vec<usize>, numbers: &[usize]) -> Result<(), AllocErro
     Ok(())
 }
 
+/// Puts the names of a function into an ascending list.
+fn add_names(alloc: Global, found: &mut Vec<usize>, function: &Function) -> Result<(), AllocError>
+    ensures { OnOk result (found.new.items ≡ insert_all found.old.items (support_of function.now)) }
+{
+    let support = function.support(alloc)?;
+    insert_all(found, &support)
+}
+
 /// Puts the names of two functions into an ascending list, where both are there.
 #[tactic(auto, using(bool_functions::proofs::Trees::insert_all_append))]
 fn insert_both(
@@ -36,10 +44,8 @@ fn insert_both(
     let Some(preset) = preset else {
         return Ok(());
     };
-    let clear = clear.support(alloc)?;
-    let preset = preset.support(alloc)?;
-    insert_all(found, &clear)?;
-    insert_all(found, &preset)
+    add_names(alloc, found, clear)?;
+    add_names(alloc, found, preset)
 }
 
 /// Puts what a second variable stands for into an ascending list, where its state has this number.
@@ -97,6 +103,17 @@ fn source_of(pins: usize, i: usize) -> Source
     }
 }
 
+/// The sources of some numbers.
+fn sources_at(alloc: Global, pins: usize, numbers: &[usize]) -> Result<Items<Source>, AllocError>
+    ensures { IfOk result (λ sources. sources ≡ map (source_of_number pins) numbers.now) }
+{
+    let mut sources = Items::new(alloc);
+    for i in numbers {
+        sources.push(source_of(pins, *i))?;
+    }
+    Ok(sources)
+}
+
 /// What some names stand for, ascending.
 #[tactic(auto, using(bool_functions::proofs::Trees::insert_all_append))]
 fn behind(
@@ -129,9 +146,5 @@ pub(crate) fn sources_of(
 {
     let names = function.support(alloc)?;
     let numbers = behind(alloc, pins, groups, &names)?;
-    let mut sources = Items::new(alloc);
-    for i in &numbers {
-        sources.push(source_of(pins, *i))?;
-    }
-    Ok(sources)
+    sources_at(alloc, pins, &numbers)
 }

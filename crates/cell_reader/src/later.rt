@@ -49,11 +49,11 @@ fn limits(alloc: Global, parts: &Parts<'_>) -> Result<Option<usize>, AllocError>
     let names = bad_names(parts);
     let pins = first_group_past(MOST_PINS, &parts.named.owners);
     let states = state_offsets(alloc, &parts.groups.states)?;
-    let made = &parts.said.timing;
+    let made_at = &parts.said.timing.made_at;
     let supports = least_among(&WrongSupport::Empty, parts.said.readings.as_slice());
     let timing = lesser(
-        first_past(MOST_CHECKS, made.check_at.as_slice()),
-        lesser(first_past(MOST_ARCS, made.arc_at.as_slice()), supports),
+        first_past(MOST_CHECKS, made_at.checks.as_slice()),
+        lesser(first_past(MOST_ARCS, made_at.arcs.as_slice()), supports),
     );
     let counts = lesser(pins, lesser(first_past(MOST_STATES, &states), timing));
     Ok(lesser(names, counts))
@@ -70,12 +70,12 @@ fn told_refusal(alloc: Global, parts: &Parts<'_>) -> Result<Option<Refusal>, All
     let later = refused_or(Reason::Limit, over, None);
     let least = &parts.said.timing.least;
     let later = refused_or(Reason::Number, least.number, later);
-    let later = refused_or(Reason::OwnCondition, least.own_condition, later);
+    let later = refused_or(Reason::OwnCondition, least.names.own, later);
     let no_function = least_among_held(&NoFunctions, &parts.groups.pins);
     let later = refused_or(Reason::NoFunction, no_function, later);
     let coupled = least_among(&WrongText::Coupled, parts.said.readings.as_slice());
     let later = refused_or(Reason::Coupled, coupled, later);
-    let unknown = wrong_texts(parts, WrongText::Unknown, least.unknown_name);
+    let unknown = wrong_texts(parts, WrongText::Unknown, least.names.unknown);
     let later = refused_or(Reason::UnknownName, unknown, later);
     let malformed = wrong_texts(parts, WrongText::Malformed, least.malformed);
     Ok(refused_or(Reason::Malformed, malformed, later))

@@ -122,13 +122,13 @@ fn read_names<'a>(
 /// The pins of a cell, and what its texts and its timing say.
 #[derive(Drop)]
 pub struct Said {
+    /// The timing of the pins, as far as it decides or is wanted.
+    pub timing: CellTiming,
     pub pins: Items<Pin>,
     /// What each of the groups that hold states says.
     pub readings: Items<StateReading>,
     /// The text of each of the pin groups.
     pub texts: Items<Text>,
-    /// The timing of the pins, as far as it decides or is wanted.
-    pub timing: CellTiming,
 }
 
 /// The pins that these groups make, and what the texts and the timing of these groups say, in a cell whose texts may name these.
@@ -156,9 +156,9 @@ fn read_said(
     let timed = read_timings(alloc, unit, pins, pin_groups)?;
     Ok(Said {
         pins: timed.pins,
+        timing: timed.timing,
         readings,
         texts,
-        timing: timed.timing,
     })
 }
 

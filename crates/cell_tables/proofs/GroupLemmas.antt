@@ -6,26 +6,25 @@ use Rattle.trit_cubes.specs.declared.trits.Trit.{Trit}
 use Rattle.trit_cubes.specs.Filling.{trit_of}
 use Rattle.trit_cubes.specs.Resolution.{res}
 use Rattle.bool_functions.specs.declared.tree.Node.{Node}
-use Rattle.cell_machine.specs.declared.arcs.Arc.{Arc}
 use Rattle.cell_machine.specs.Machine.{insert}
 use Rattle.step_tables.specs.Turned.{turned}
-use Rattle.udp_tables.specs.Conditions.{arc_conditions, added, added_all}
+use Rattle.udp_tables.specs.Conditions.{added, added_all}
 
 -- conditions of two lists, one after the other
 pub added_all-append : (trees fs gs : List Node) → added_all trees (fs ++ gs) ≡ added_all (added_all trees fs) gs
 added_all-append trees [] gs = refl
 added_all-append trees (f ∷ fs) gs = added_all-append (added trees f) fs gs
 
-pub arc-added :
-    (trees more : List Node) (arcs : List Arc) (i : ℕ) (arc : Arc)
-    → i < length arcs → arc ≡ get_or arcs i arc → more ≡ added_all trees (arc_conditions arcs arc)
-    → added_all more (flat_map (arc_conditions arcs) (drop (i + 1) arcs))
-    ≡ added_all trees (flat_map (arc_conditions arcs) (drop i arcs))
-arc-added trees more arcs i arc l is e =
-    let rest : drop i arcs ≡ arc ∷ drop (i + 1) arcs = drop_more arcs i arc l ∙ ap (λ x. x ∷ drop (i + 1) arcs) (sym is) in
-    ap (λ ts. added_all ts (flat_map (arc_conditions arcs) (drop (i + 1) arcs))) e
-    ∙ sym (added_all-append trees (arc_conditions arcs arc) (flat_map (arc_conditions arcs) (drop (i + 1) arcs)))
-    ∙ ap (λ rows. added_all trees (flat_map (arc_conditions arcs) rows)) (sym rest)
+-- those of one more item of a list
+pub next-added :
+    {X : Type 0} (used : X → List Node) (trees more : List Node) (items : List X) (i : ℕ) (item : X)
+    → i < length items → item ≡ get_or items i item → more ≡ added_all trees (used item)
+    → added_all more (flat_map used (drop (i + 1) items)) ≡ added_all trees (flat_map used (drop i items))
+next-added used trees more items i item l is e =
+    let rest : drop i items ≡ item ∷ drop (i + 1) items = drop_more items i item l ∙ ap (λ x. x ∷ drop (i + 1) items) (sym is) in
+    ap (λ ts. added_all ts (flat_map used (drop (i + 1) items))) e
+    ∙ sym (added_all-append trees (used item) (flat_map used (drop (i + 1) items)))
+    ∙ ap (λ rows. added_all trees (flat_map used rows)) (sym rest)
 
 pub added-twice :
     (none some all fs gs : List Node)

@@ -3,6 +3,7 @@ pub mod GroupPlaces
 pub mod EdgeNumbers
 pub mod TableLemmas
 pub mod GenerationLemmas
+mod NamedPrimitives
 pub mod ConditionLemmas
 pub mod ChangeColumns
 pub mod RowForms

@@ -13,6 +13,7 @@ use bool_functions::Function;
 use cell_machine::Cell;
 use sqlite_items::Items;
 use std::alloc::{AllocError, Global};
+use step_tables::StepTable;
 
 /// The cubes of a cell, which has these conditions.
 pub(crate) fn cell_cubes(
@@ -36,7 +37,8 @@ fn groups_of(alloc: Global, cell: &Cell) -> Result<Items<GroupCubes>, AllocError
 {
     let mut cubes = Items::new(alloc);
     for group in 0..cell.groups.len() {
-        cubes.push(group_cubes(alloc, cell, group)?)?;
+        let steps = StepTable::of(cell, group);
+        cubes.push(group_cubes(alloc, &steps)?)?;
     }
     Ok(cubes)
 }

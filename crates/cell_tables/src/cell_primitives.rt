@@ -10,7 +10,7 @@ ghost use Rattle.cell_tables.specs.PartNumbers.{part_number};
 
 use crate::level_rows::{or_free_row, part_rows};
 use crate::model_source::ModelSource;
-use crate::port_names::{input_names, output_name, primitive_name};
+use crate::port_names::{named_primitive, primitive_name};
 use crate::step_rows::group_rows;
 use bool_functions::Function;
 use cell_machine::{Cell, OutputPin};
@@ -25,13 +25,9 @@ pub fn sequential_udp(from: &ModelSource, group: usize) -> Result<Udp, AllocErro
     ensures { IfOk result (λ udp. udp ≡ group_primitive (data_of from.now.cell.now) group) }
 {
     let ModelSource { alloc, cell, .. } = *from;
-    Ok(Udp {
-        name: primitive_name(alloc, cell.number, group + 1)?,
-        output: output_name(alloc)?,
-        inputs: input_names(alloc, group_inputs(cell, group))?,
-        sequential: true,
-        rows: sequential_rows(from, group)?,
-    })
+    let name = primitive_name(alloc, cell.number, group + 1)?;
+    let rows = sequential_rows(from, group)?;
+    named_primitive(alloc, name, group_inputs(cell, group), true, rows)
 }
 
 /// The rows of the primitive of a group: those that decide, or one that gives x where there is none.
@@ -71,13 +67,10 @@ pub fn part_udp(from: &ModelSource, part: Part) -> Result<Udp, AllocError>
     requires { IsPart (data_of from.now.cell.now) part }
     ensures { IfOk result (λ udp. udp ≡ part_primitive (data_of from.now.cell.now) part) }
 {
-    Ok(Udp {
-        name: primitive_name(from.alloc, from.cell.number, part_number(from, part))?,
-        output: output_name(from.alloc)?,
-        inputs: input_names(from.alloc, from.part_cubes(part).free.len())?,
-        sequential: false,
-        rows: part_rows(from, part, UdpRows { notifier: false })?,
-    })
+    let name = primitive_name(from.alloc, from.cell.number, part_number(from, part))?;
+    let rows = part_rows(from, part, UdpRows { notifier: false })?;
+    let inputs = from.part_cubes(part).free.len();
+    named_primitive(from.alloc, name, inputs, false, rows)
 }
 
 /// The number of the primitive of a part.

@@ -6,7 +6,7 @@ ghost use Rattle.udp_tables.specs.Generated.{function_primitive, function_rows, 
 
 use crate::function_cubes::table_cubes;
 use crate::level_rows::rows_of_function;
-use crate::port_names::{input_names, output_name};
+use crate::port_names::named_primitive;
 use bool_functions::Function;
 use sqlite_items::Items;
 use std::alloc::{AllocError, Global};
@@ -26,13 +26,9 @@ pub fn function_udp(
     requires numbered { (i : ℕ) → Has function.now i → i < names }
     ensures { IfOk result (λ udp. udp ≡ function_primitive name.now function.now names) }
 {
-    Ok(Udp {
-        name: SmallBytes::from_slice(alloc, name)?,
-        output: output_name(alloc)?,
-        inputs: input_names(alloc, names)?,
-        sequential: false,
-        rows: function_rows(alloc, function, names)?,
-    })
+    let name = SmallBytes::from_slice(alloc, name)?;
+    let rows = function_rows(alloc, function, names)?;
+    named_primitive(alloc, name, names, false, rows)
 }
 
 /// The rows of the function over its first names.

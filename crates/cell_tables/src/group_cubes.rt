@@ -1,5 +1,5 @@
 //! The cubes of a group's step.
-ghost use Rattle.std.specs.Prelude.{◌≡◌, ◌<◌, length, IfOk};
+ghost use Rattle.std.specs.Prelude.{◌≡◌, length, IfOk};
 ghost use Rattle.trit_cubes.specs.Sets.{AreValuesOf};
 ghost use Rattle.cell_machine.specs.Machine.{forced_at};
 ghost use Rattle.cell_machine.specs.CellData.{data_of};
@@ -9,28 +9,13 @@ ghost use Rattle.cell_tables.specs.Cubes.{function_cubes, change_cubes, cubes_of
 use crate::change_cubes::add_cubes_of_input;
 use crate::cubes::{ChangeCube, FunctionCubes, GroupCubes};
 use crate::function_cubes::function_cubes;
-use cell_machine::Cell;
 use sqlite_items::Items;
 use std::alloc::{AllocError, Global};
 use step_tables::{StepTable, point_count};
 use trit_cubes::Trit;
 
-/// The cubes of a group.
-pub(crate) fn group_cubes(
-    alloc: Global,
-    cell: &Cell,
-    group: usize,
-) -> Result<GroupCubes, AllocError>
-    requires { group < length cell.now.groups }
-    ensures { IfOk result (λ cubes. cubes ≡ cubes_of_group (data_of cell.now) group) }
-{
-    let steps = StepTable::of(cell, group);
-    let cubes = cubes_of_steps(alloc, &steps)?;
-    Ok(cubes)
-}
-
-/// The cubes of a group by its steps.
-fn cubes_of_steps(alloc: Global, steps: &StepTable<'_>) -> Result<GroupCubes, AllocError>
+/// The cubes of a group, whose steps these are.
+pub(crate) fn group_cubes(alloc: Global, steps: &StepTable<'_>) -> Result<GroupCubes, AllocError>
     ensures { IfOk result (λ cubes. cubes ≡ cubes_of_group (data_of steps.now.cell.now) steps.now.group) }
 {
     Ok(GroupCubes {

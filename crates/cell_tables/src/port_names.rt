@@ -6,17 +6,17 @@ ghost use Rattle.udp_tables.specs.CellPrimitives.{primitive_name};
 use itoa::Buffer;
 use sqlite_items::Items;
 use std::alloc::{AllocError, Global};
-use udp_tables::SmallBytes;
+use udp_tables::{SmallBytes, Udp, UdpRow};
 
 /// The name of the output.
-pub(crate) fn output_name(alloc: Global) -> Result<SmallBytes, AllocError>
+fn output_name(alloc: Global) -> Result<SmallBytes, AllocError>
     ensures { IfOk result (λ name. name ≡ output_name) }
 {
     Ok(SmallBytes::from_slice(alloc, b"q")?)
 }
 
 /// The names of the first inputs.
-pub(crate) fn input_names(alloc: Global, count: usize) -> Result<Items<SmallBytes>, AllocError>
+fn input_names(alloc: Global, count: usize) -> Result<Items<SmallBytes>, AllocError>
     ensures { IfOk result (λ names. names ≡ input_names count) }
 {
     let mut names = Items::new(alloc);
@@ -24,6 +24,32 @@ pub(crate) fn input_names(alloc: Global, count: usize) -> Result<Items<SmallByte
         names.push(input_name(alloc, k + 1)?)?;
     }
     Ok(names)
+}
+
+/// The primitive of this name with so many inputs and these rows, whose ports have their names.
+pub(crate) fn named_primitive(
+    alloc: Global,
+    name: SmallBytes,
+    inputs: usize,
+    sequential: bool,
+    rows: Items<UdpRow>,
+) -> Result<Udp, AllocError>
+    ensures { IfOk result (λ udp. udp ≡ record {
+      name = name;
+      output = output_name;
+      inputs = input_names inputs;
+      sequential = sequential;
+      rows =
+          rows;
+    }) }
+{
+    Ok(Udp {
+        name,
+        output: output_name(alloc)?,
+        inputs: input_names(alloc, inputs)?,
+        sequential,
+        rows,
+    })
 }
 
 /// The name of the input with this number from 1.

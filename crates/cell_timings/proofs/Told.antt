@@ -41,13 +41,11 @@ and_nothing : (timing : CellTiming) (pin : ℕ) → timing_and timing (timing_to
 and_nothing timing pin = λ i. record {
   checks = append-nil timing.checks i;
   arcs = append-nil timing.arcs i;
-  check_at = append-nil timing.check_at i;
-  arc_at = append-nil timing.arc_at i;
+  made_at = record { checks = append-nil timing.made_at.checks i; arcs = append-nil timing.made_at.arcs i };
   left_out = append-nil timing.left_out i;
   least = record {
     malformed = lesser_none timing.least.malformed i;
-    unknown_name = lesser_none timing.least.unknown_name i;
-    own_condition = lesser_none timing.least.own_condition i;
+    names = record { unknown = lesser_none timing.least.names.unknown i; own = lesser_none timing.least.names.own i };
     number = lesser_none timing.least.number i;
     wide = lesser_none timing.least.wide i;
   };
@@ -71,13 +69,17 @@ and_next timing pin owner answer owners answers =
     λ i. record {
       checks = append_assoc timing.checks here.checks rest.checks i;
       arcs = append_assoc timing.arcs here.arcs rest.arcs i;
-      check_at = append_assoc timing.check_at here.check_at rest.check_at i;
-      arc_at = append_assoc timing.arc_at here.arc_at rest.arc_at i;
+      made_at = record {
+        checks = append_assoc timing.made_at.checks here.made_at.checks rest.made_at.checks i;
+        arcs = append_assoc timing.made_at.arcs here.made_at.arcs rest.made_at.arcs i;
+      };
       left_out = append_assoc timing.left_out here.left_out rest.left_out i;
       least = record {
         malformed = least_of_next malformed_timing timing.least.malformed answer answers i;
-        unknown_name = least_of_next unknown_timing timing.least.unknown_name answer answers i;
-        own_condition = least_of_next own_timing timing.least.own_condition answer answers i;
+        names = record {
+          unknown = least_of_next unknown_timing timing.least.names.unknown answer answers i;
+          own = least_of_next own_timing timing.least.names.own answer answers i;
+        };
         number = least_of_next number_timing timing.least.number answer answers i;
         wide = least_of_next wide_in timing.least.wide answer answers i;
       };

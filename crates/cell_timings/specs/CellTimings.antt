@@ -17,13 +17,11 @@ abbrev pub timing_told : ℕ → List Group → List Answer → CellTiming
 timing_told pin owners answers = record {
   checks = flat_map checks_in answers;
   arcs = flat_map arcs_in answers;
-  check_at = flat_map check_at_in answers;
-  arc_at = flat_map arc_at_in answers;
+  made_at = record { checks = flat_map check_at_in answers; arcs = flat_map arc_at_in answers };
   left_out = left_out_from pin owners answers;
   least = record {
     malformed = least (flat_map malformed_timing answers);
-    unknown_name = least (flat_map unknown_timing answers);
-    own_condition = least (flat_map own_timing answers);
+    names = record { unknown = least (flat_map unknown_timing answers); own = least (flat_map own_timing answers) };
     number = least (flat_map number_timing answers);
     wide = least (flat_map wide_in answers);
   };
@@ -33,8 +31,7 @@ timing_told pin owners answers = record {
 abbrev pub offsets_in : Answer → LeastOffsets
 offsets_in answer = record {
   malformed = least (malformed_timing answer);
-  unknown_name = least (unknown_timing answer);
-  own_condition = least (own_timing answer);
+  names = record { unknown = least (unknown_timing answer); own = least (own_timing answer) };
   number = least (number_timing answer);
   wide = least (wide_in answer);
 }
@@ -43,8 +40,7 @@ offsets_in answer = record {
 abbrev pub lesser_offsets : LeastOffsets → LeastOffsets → LeastOffsets
 lesser_offsets first rest = record {
   malformed = lesser first.malformed rest.malformed;
-  unknown_name = lesser first.unknown_name rest.unknown_name;
-  own_condition = lesser first.own_condition rest.own_condition;
+  names = record { unknown = lesser first.names.unknown rest.names.unknown; own = lesser first.names.own rest.names.own };
   number = lesser first.number rest.number;
   wide = lesser first.wide rest.wide;
 }
@@ -54,8 +50,10 @@ abbrev pub timing_and : CellTiming → CellTiming → CellTiming
 timing_and first rest = record {
   checks = first.checks ++ rest.checks;
   arcs = first.arcs ++ rest.arcs;
-  check_at = first.check_at ++ rest.check_at;
-  arc_at = first.arc_at ++ rest.arc_at;
+  made_at = record {
+    checks = first.made_at.checks ++ rest.made_at.checks;
+    arcs = first.made_at.arcs ++ rest.made_at.arcs;
+  };
   left_out = first.left_out ++ rest.left_out;
   least = lesser_offsets first.least rest.least;
 }
@@ -65,8 +63,7 @@ abbrev pub pin_told : ℕ → Group → Answer → CellTiming
 pin_told pin owner answer = record {
   checks = checks_in answer;
   arcs = arcs_in answer;
-  check_at = check_at_in answer;
-  arc_at = arc_at_in answer;
+  made_at = record { checks = check_at_in answer; arcs = arc_at_in answer };
   left_out = left_out_in pin owner answer;
   least = offsets_in answer;
 }
@@ -86,12 +83,12 @@ timing_held room cell owners = timing_told 0 owners (held_from room cell 0 owner
 -- What is held decides as all does, and is all where no limit is passed.
 pub record IsHeld (subject : Subject) (owners : List Group) (timing : CellTiming) : Type 0 where
   pub malformed : timing.least.malformed ≡ least (flat_map malformed_timing (answers_from subject 0 owners))
-  pub unknown_name : timing.least.unknown_name ≡ least (flat_map unknown_timing (answers_from subject 0 owners))
-  pub own_condition : timing.least.own_condition ≡ least (flat_map own_timing (answers_from subject 0 owners))
+  pub unknown_name : timing.least.names.unknown ≡ least (flat_map unknown_timing (answers_from subject 0 owners))
+  pub own_condition : timing.least.names.own ≡ least (flat_map own_timing (answers_from subject 0 owners))
   pub number : timing.least.number ≡ least (flat_map number_timing (answers_from subject 0 owners))
   pub wide : timing.least.wide ≡ least (flat_map wide_in (answers_from subject 0 owners))
-  pub check_at : first_past 256 timing.check_at ≡ first_past 256 (flat_map check_at_in (answers_from subject 0 owners))
-  pub arc_at : first_past 1024 timing.arc_at ≡ first_past 1024 (flat_map arc_at_in (answers_from subject 0 owners))
+  pub check_at : first_past 256 timing.made_at.checks ≡ first_past 256 (flat_map check_at_in (answers_from subject 0 owners))
+  pub arc_at : first_past 1024 timing.made_at.arcs ≡ first_past 1024 (flat_map arc_at_in (answers_from subject 0 owners))
   pub checks : first_past 256 (flat_map check_at_in (answers_from subject 0 owners)) ≡ []
       → timing.checks ≡ flat_map checks_in (answers_from subject 0 owners)
   pub arcs : first_past 1024 (flat_map arc_at_in (answers_from subject 0 owners)) ≡ []

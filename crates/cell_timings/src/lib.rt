@@ -9,5 +9,5 @@ mod timings;
 
 pub use answers::cell_timing;
 pub use left_out::{LeftOut, shared_kind, type_text};
-pub use offsets::LeastOffsets;
-pub use timings::CellTiming;
+pub use offsets::{LeastOffsets, NameOffsets};
+pub use timings::{CellTiming, MadeAt};

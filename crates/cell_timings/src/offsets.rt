@@ -10,10 +10,8 @@ use timing_arcs::{PinTiming, TimingFault};
 pub struct LeastOffsets {
     /// Where the text of a condition is malformed.
     pub malformed: Option<usize>,
-    /// Where a related pin or a condition names what is not there.
-    pub unknown_name: Option<usize>,
-    /// Where a condition names its own pin.
-    pub own_condition: Option<usize>,
+    /// Where a name is wrong.
+    pub names: NameOffsets,
     /// Where a time is none.
     pub number: Option<usize>,
     /// Where a condition has more than 10 names.
@@ -30,12 +28,21 @@ impl LeastOffsets {
             Ok(timing) => self.wide = lesser(self.wide, timing.wide),
             Err(TimingFault::Malformed(at)) => self.malformed = lesser(self.malformed, Some(*at)),
             Err(TimingFault::UnknownName(at)) => {
-                self.unknown_name = lesser(self.unknown_name, Some(*at));
+                self.names.unknown = lesser(self.names.unknown, Some(*at));
             }
             Err(TimingFault::OwnCondition(at)) => {
-                self.own_condition = lesser(self.own_condition, Some(*at));
+                self.names.own = lesser(self.names.own, Some(*at));
             }
             Err(TimingFault::Number(at)) => self.number = lesser(self.number, Some(*at)),
         }
     }
+}
+
+/// The least offset at which the timing of some pins names what it may not.
+#[derive(Drop)]
+pub struct NameOffsets {
+    /// Where a related pin or a condition names what is not there.
+    pub unknown: Option<usize>,
+    /// Where a condition names its own pin.
+    pub own: Option<usize>,
 }

@@ -40,6 +40,10 @@ pub record MovesByClock (cell : CellData) (i : ℕ) : Type 0 where
 abbrev pub steps_between : CellData → ℕ → List Bool → List Bool → StateSteps
 steps_between cell i before after = record { «zero» = step_at cell i before after false; one = step_at cell i before after true }
 
+-- the same between the points with these numbers, of so many places
+abbrev pub numbered_steps : CellData → ℕ → ℕ → ℕ → ℕ → StateSteps
+numbered_steps cell i places before after = steps_between cell i (point_of places before) (point_of places after)
+
 -- What group i does at changes to a point: where its clock does not rise it does what it does where nothing changes, where it
 -- rises what it does from a point at which the clock is 0.
 abbrev pub point_at : CellData → ℕ → List Bool → List Bool → GroupPoint

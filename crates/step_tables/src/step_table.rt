@@ -6,7 +6,7 @@ ghost use Rattle.cell_machine.specs.Machine.{forced_at};
 ghost use Rattle.cell_machine.specs.CellData.{data_of};
 ghost use Rattle.cell_machine.specs.CellTrace.{support_at, step_at};
 ghost use Rattle.step_tables.specs.Turned.{turned as turned_point, both_steps};
-ghost use Rattle.step_tables.specs.GroupPoints.{steps_between as steps_between_points, ArePoints};
+ghost use Rattle.step_tables.specs.GroupPoints.{steps_between as steps_between_points, numbered_steps, ArePoints};
 ghost use Rattle.step_tables.specs.Kept.{TellSteps, IsKept};
 
 use crate::changes::{CHANGES, ChangeWords, change_words};
@@ -99,8 +99,7 @@ impl<'a> StepTable<'a> {
         requires points { ArePoints (data_of self.now.cell.now) self.now.group self.now.places points.now }
         requires before { before < 2 ^ self.now.places }
         requires after { after < 2 ^ self.now.places }
-        ensures { result ≡ steps_between_points (data_of self.now.cell.now) self.now.group (point_with self.now.places before)
-            (point_with self.now.places after) }
+        ensures { result ≡ numbered_steps (data_of self.now.cell.now) self.now.group self.now.places before after }
     {
         points[after].steps_from(points[before])
     }
@@ -120,8 +119,7 @@ impl<'a> StepTable<'a> {
 
     /// The steps of the group, which its texts or its table give.
     fn stepped(&self, before: usize, after: usize) -> StateSteps
-        ensures { result ≡ steps_between_points (data_of self.now.cell.now) self.now.group (point_with self.now.places before)
-            (point_with self.now.places after) }
+        ensures { result ≡ numbered_steps (data_of self.now.cell.now) self.now.group self.now.places before after }
     {
         let before = point_of::<MOST_PLACES>(self.places, before);
         let after = point_of::<MOST_PLACES>(self.places, after);
@@ -133,8 +131,7 @@ impl<'a> StepTable<'a> {
         requires words { TellSteps (data_of self.now.cell.now) self.now.group self.now.places words.now }
         requires before { before < 2 ^ self.now.places }
         requires after { after < 2 ^ self.now.places }
-        ensures { result ≡ steps_between_points (data_of self.now.cell.now) self.now.group (point_with self.now.places before)
-            (point_with self.now.places after) }
+        ensures { result ≡ numbered_steps (data_of self.now.cell.now) self.now.group self.now.places before after }
     {
         match changed_place(self.places, before, after) {
             Some(place) => StateSteps {

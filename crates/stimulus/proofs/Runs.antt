@@ -12,7 +12,7 @@ use Rattle.text_io.specs.Line.{Gathers, StopsWithin, PutsText}
 use Rattle.text_io.proofs.Wrote.{wrote-nil, wrote_more, IsPrefix-append, IsPrefix-front, flat_map-split}
 use Rattle.text_io.proofs.LineLaws.{Gathers-Gathers, Gathers-stops, StopsWithin-more, flushes}
 use Rattle.cell_machine.specs.declared.changes.Change.{Change}
-use Rattle.cell_machine.specs.History.{IsProperFrom}
+use Rattle.cell_machine.specs.History.{IsProperFrom, ComesAfter}
 use Rattle.stimulus.specs.declared.ports.Ports.{Ports}
 use Rattle.stimulus.specs.DriveLines.{DriveLine, lines_after, lines_along}
 use Rattle.stimulus.specs.TraceLine.{drive_line_text}
@@ -54,6 +54,13 @@ begins stands shown n s now held changes whole start proper put same =
 
 next_is : (xs : List Change) (i : ℕ) (x : Change) → i < length xs → x ≡ get_or xs i x → drop i xs ≡ x ∷ drop (i + 1) xs
 next_is xs i x below is = drop_more xs i x below ∙ ap (λ y. y ∷ drop (i + 1) xs) (sym is)
+
+-- it is of an input, and its time comes after the changes so far
+pub next_proper : (n : ℕ) (h xs : List Change) (i : ℕ) (x : Change) → i < length xs → x ≡ get_or xs i x
+    → IsProperFrom n h (drop i xs) → (x.pin < n) × ComesAfter x.at h
+next_proper n h xs i x below is proper =
+    let here : IsProperFrom n h (x ∷ drop (i + 1) xs) = subst (IsProperFrom n h) (next_is xs i x below is) proper in
+    (here.0, here.1)
 
 -- the next change was given, and its text put
 pub goes_on : (stands later : List Change → Type 0) (shown : List Change → List ℕ) (n : ℕ) (s now next : DeskState)

@@ -1,6 +1,6 @@
 -- The parts of a line of a trace.
 use Rattle.std.proofs.Common.{◌≡◌, ℕ, suc, ◌+◌, ◌<◌, List, [], ◌∷◌, ◌++◌, length, drop, get_or, sym, ap, ◌∙◌, add-one, arith}
-use Rattle.std.proofs.Common.{drop-cons, append_assoc}
+use Rattle.std.proofs.Common.{drop-cons, append_assoc, Bool, false}
 use Rattle.std.proofs.lemmas.List.{append-nil}
 use Rattle.std.specs.Prelude.{Option, Some, None, slice_get}
 use Rattle.std.proofs.lemmas.Option.{get_or_from_slice_get}
@@ -10,7 +10,7 @@ use Rattle.stimulus.specs.declared.drives.Drive.TheVariants.{Unknown}
 use Rattle.stimulus.specs.declared.ports.Ports.{Ports}
 use Rattle.stimulus.specs.DriveLines.{DriveLine}
 use Rattle.stimulus.specs.Comparison.{tagged_thrice, lines_text, all_show}
-use Rattle.stimulus.specs.TraceLine.{head_text, output_text, outputs_text, reports_text, shown_text, drive_line_text}
+use Rattle.stimulus.specs.TraceLine.{head_text, output_text, outputs_text, report_text, reports_text, shown_text, drive_line_text}
 
 -- an entry and those behind it
 drop_at : {A : Type 0} (xs : List A) (place : ℕ) (x d : A) → place < length xs → x ≡ get_or xs place d
@@ -32,6 +32,12 @@ outputs_at names values delays place name value delay h lv ld n v d =
     let ev : drop place values ≡ value ∷ drop (place + 1) values = drop_at values place value Unknown hv v in
     let ed : drop place delays ≡ delay ∷ drop (place + 1) delays = drop_at delays place delay None hd d in
     λ i. outputs_text (en i) (ev i) (ed i)
+
+-- the reports from a check on: its own, and those behind it
+pub reports_at : (reports : List Bool) (check : ℕ) (reported : Bool) → check < length reports → reported ≡ get_or reports check false
+    → reports_text (check + 1) (drop check reports)
+    ≡ report_text (check + 1) reported ++ reports_text (check + 1 + 1) (drop (check + 1) reports)
+reports_at reports check reported below is = ap (reports_text (check + 1)) (drop_at reports check reported false below is)
 
 -- a text that grows by the first of what is left
 pub grown : (text more piece rest all whole : List ℕ) → more ≡ text ++ piece → all ≡ piece ++ rest → text ++ all ≡ whole

@@ -14,6 +14,14 @@ const ROOM: usize = 16_384;
 /// Bytes of a report that wait to be written.
 pub(crate) type Waiting = Few<u8, ROOM>;
 
+/// A line: a tag, and behind it a text, mostly empty, and pieces.
+#[derive(Clone, Copy)]
+struct Line<'a> {
+    tag: u8,
+    text: &'a [u8],
+    pieces: &'a Pieces,
+}
+
 /// Puts a line with this tag behind the bytes that wait. Its rest is a text, mostly empty, and pieces behind it. It takes no
 /// memory.
 #[inline(always)]
@@ -28,53 +36,48 @@ pub(crate) fn put_tagged<D: Desk>(
         result }
     ensures cause { HasCause (D.faults desk.old) (D.faults desk.new) result }
 {
-    if has_room(waiting, text, pieces) {
-        put_behind(waiting, tag, text, pieces);
+    let line = Line { tag, text, pieces };
+    if has_room(waiting, &line) {
+        put_behind(waiting, &line);
         return Ok(());
     }
-    write_first(desk, waiting, tag, text, pieces)
+    write_first(desk, waiting, &line)
 }
 
-/// Whether there is room for a line whose rest is a text and pieces, behind a tag.
+/// Whether there is room for a line.
 #[inline(always)]
-fn has_room(waiting: &Waiting, text: &[u8], pieces: &Pieces) -> bool
-    ensures { result ≡ true → length waiting.now + length text.now + length pieces.now < 16384 }
+fn has_room(waiting: &Waiting, line: &Line<'_>) -> bool
+    ensures { result ≡ true → length waiting.now + length line.now.text.now + length line.now.pieces.now < 16384 }
 {
-    let before = waiting.as_slice().len() + text.len();
-    before < ROOM && before + pieces.as_slice().len() < ROOM
+    let before = waiting.as_slice().len() + line.text.len();
+    before < ROOM && before + line.pieces.as_slice().len() < ROOM
 }
 
-/// Puts a tag, a text and pieces behind the bytes that wait.
+/// Puts a line behind the bytes that wait.
 #[inline(always)]
-fn put_behind(waiting: &mut Waiting, tag: u8, text: &[u8], pieces: &Pieces)
-    requires { length waiting.old + length text.now + length pieces.now < 16384 }
-    ensures { waiting.new ≡ waiting.old ++ tag ∷ (text.now ++ pieces.now) }
+fn put_behind(waiting: &mut Waiting, line: &Line<'_>)
+    requires { length waiting.old + length line.now.text.now + length line.now.pieces.now < 16384 }
+    ensures { waiting.new ≡ waiting.old ++ line.now.tag ∷ (line.now.text.now ++ line.now.pieces.now) }
 {
-    waiting.push(tag);
-    if !text.is_empty() {
-        waiting.append(text);
+    waiting.push(line.tag);
+    if !line.text.is_empty() {
+        waiting.append(line.text);
     }
-    waiting.append(pieces.as_slice());
+    waiting.append(line.pieces.as_slice());
 }
 
 /// Writes the bytes that wait, and puts a line behind them.
-fn write_first<D: Desk>(
-    desk: &mut D,
-    waiting: &mut Waiting,
-    tag: u8,
-    text: &[u8],
-    pieces: &Pieces,
-) -> Result<(), Failed>
-    ensures text { PutsText (D.state desk.old) (D.state desk.new) Report waiting.old (tag ∷ (text.now ++ pieces.now)) waiting.new
-        result }
+fn write_first<D: Desk>(desk: &mut D, waiting: &mut Waiting, line: &Line<'_>) -> Result<(), Failed>
+    ensures text { PutsText (D.state desk.old) (D.state desk.new) Report waiting.old
+        (line.now.tag ∷ (line.now.text.now ++ line.now.pieces.now)) waiting.new result }
     ensures cause { HasCause (D.faults desk.old) (D.faults desk.new) result }
 {
     write_waiting(desk, waiting)?;
-    if has_room(waiting, text, pieces) {
-        put_behind(waiting, tag, text, pieces);
+    if has_room(waiting, line) {
+        put_behind(waiting, line);
         return Ok(());
     }
-    write_line(desk, tag, text, pieces.as_slice())
+    write_line(desk, line.tag, line.text, line.pieces.as_slice())
 }
 
 /// Writes the bytes that wait.

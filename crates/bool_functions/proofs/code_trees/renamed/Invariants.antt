@@ -3,4 +3,4 @@ use Rattle.bool_functions.specs.Code.{read_codes, renamed_code}
 use Rattle.bool_functions.proofs.code_trees.renamed.Given as goal
 
 abbrev pub invariant-loop-code : goal.invariant-loop-code
-invariant-loop-code l = read_codes l.trees (map (renamed_code l.to) (drop l.code-index l.codes)) ≡ read_codes [] (map (renamed_code l.to) l.codes)
+invariant-loop-code l = read_codes l.trees.pile (map (renamed_code l.to) (drop l.code-index l.codes)) ≡ read_codes [] (map (renamed_code l.to) l.codes)

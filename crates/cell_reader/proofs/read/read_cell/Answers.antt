@@ -1,7 +1,7 @@
-use Rattle.std.proofs.Common.{◌≡◌, ◌∙◌, ℕ, List, Option, sym, subst, ap, None, rules}
-use Rattle.std.proofs.lemmas.Result.{IfErr-weaker as lift_err, IfOk-weaker as lift_ok}
+use Rattle.std.proofs.Common.{◌≡◌, ◌∙◌, ℕ, List, Option, IfErr, IfOk, sym, subst, ap, None}
 use Rattle.liberty_text.specs.declared.time.Unit.{Unit}
 use Rattle.liberty_groups.specs.declared.tree.Group.{Group}
+use Rattle.cell_refusals.specs.declared.refusal.Refusal.{Refusal}
 use Rattle.cell_reader.specs.CellTexts.{subject_of, Tells}
 use Rattle.cell_reader.specs.Refusals.{first_refusal, early_reasons, later_reasons, refusal_of}
 use Rattle.cell_reader.proofs.Reading.{names_are_distinct, early_decides, later_decide}
@@ -9,7 +9,7 @@ use Rattle.cell_reader.proofs.read.read_cell.Goals as goal
 
 pub read_parts-requires-clause-distinct : goal.read_parts-requires-clause-distinct
 read_parts-requires-clause-distinct c =
-    let early : first_refusal (early_reasons c.args.earlier.now c.args.cell.now) ≡ None = search rules in
+    let early : first_refusal (early_reasons c.args.earlier.now c.args.cell.now) ≡ None = sym c.in_ok-refusal.ensures ∙ c.in_default.is in
     names_are_distinct c.args.earlier.now c.args.cell.now early
 
 -- the reasons that are tried later decide of what is held of a cell as all do of the cell
@@ -27,13 +27,15 @@ returns-in-Some-clause-refused c =
 pub returns-clause-accepted : goal.returns-clause-accepted
 returns-clause-accepted c =
     let parts = c.in_ok-parts.parts in
-    let early : first_refusal (early_reasons c.args.earlier.now c.args.cell.now) ≡ None = search rules in
+    let early : first_refusal (early_reasons c.args.earlier.now c.args.cell.now) ≡ None = sym c.in_ok-refusal.ensures ∙ c.in_default.is in
     let told = later_of_parts c.args.unit parts.unit c.args.earlier.now c.args.cell.now parts.cell.now c.in_ok-parts.ensures.unit c.in_ok-parts.ensures.cell early in
-    lift_ok c.read_later.result _ _ (λ x h. sym told ∙ h) c.read_later.ensures.unmet
+    let P : Option Refusal → Type 0 = λ refusal. IfOk c.read_later.result (λ _. refusal ≡ None) in
+    subst P told c.read_later.ensures.unmet
 
 pub returns-clause-refused : goal.returns-clause-refused
 returns-clause-refused c =
     let parts = c.in_ok-parts.parts in
-    let early : first_refusal (early_reasons c.args.earlier.now c.args.cell.now) ≡ None = search rules in
+    let early : first_refusal (early_reasons c.args.earlier.now c.args.cell.now) ≡ None = sym c.in_ok-refusal.ensures ∙ c.in_default.is in
     let told = later_of_parts c.args.unit parts.unit c.args.earlier.now c.args.cell.now parts.cell.now c.in_ok-parts.ensures.unit c.in_ok-parts.ensures.cell early in
-    lift_err c.read_later.result _ _ (λ e h. subst (λ o. Tells o e) told h) c.read_later.ensures.refused
+    let P : Option Refusal → Type 0 = λ refusal. IfErr c.read_later.result (Tells refusal) in
+    subst P told c.read_later.ensures.refused

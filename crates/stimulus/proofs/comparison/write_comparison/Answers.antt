@@ -2,7 +2,7 @@ use Rattle.std.proofs.Common.{[], ◌∙◌, refl, arith}
 use Rattle.std.proofs.lemmas.List.{get_or_default}
 use Rattle.stimulus.specs.Comparison.{three_lines}
 use Rattle.stimulus.proofs.Runs.{Stand, three_shown, stops_in, flushed, written_part, compares_first, compares, three_put}
-use Rattle.stimulus.proofs.Runs.{three_alike}
+use Rattle.stimulus.proofs.Runs.{three_alike, next_proper}
 use Rattle.stimulus.proofs.comparison.write_comparison.Goals as goal
 
 pub loop-change-init : goal.loop-change-init
@@ -55,3 +55,9 @@ returns-clause-text g c = record {
   whole = (flushed _ (three_shown c.args.ports.now (three_lines (g.L.TraceSim.machine c.args.three.now.liberty) (g.V.TraceSim.machine c.args.three.now.verilog) (g.H.TraceSim.machine c.args.three.now.vital))) _ _ _ _ _ _ _ _ _ c.loop-change-test.false c.loop-change.invariant.comparing.going (rw c.as_slice.ensures at c.in_ok-write_whole.ensures.text)).whole;
   part = tt;
 }
+
+pub step-requires-clause-time : goal.step-requires-clause-time
+step-requires-clause-time g c =
+    let going = c.loop-change.invariant.comparing.going in
+    let next = next_proper _ going.history c.args.changes.now c.loop-change.change-index _ c.loop-change-test.true (get_or_default _ _ _ _ c.loop-change-test.true) going.proper in
+    (going.history, (going.standing.of_liberty, (going.standing.of_verilog, (going.standing.of_vital, next.1))))

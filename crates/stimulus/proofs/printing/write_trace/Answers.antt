@@ -1,6 +1,6 @@
 use Rattle.std.proofs.Common.{[], ◌∙◌, ap, refl}
 use Rattle.std.proofs.lemmas.List.{get_or_default}
-use Rattle.stimulus.proofs.Runs.{one_shown, begins, goes_on, one_put, stops_in, flushed, written_part, trace_text-is}
+use Rattle.stimulus.proofs.Runs.{next_proper, one_shown, begins, goes_on, one_put, stops_in, flushed, written_part, trace_text-is}
 use Rattle.stimulus.proofs.printing.write_trace.Goals as goal
 
 pub loop-change-init : goal.loop-change-init
@@ -35,3 +35,9 @@ returns-clause-text g c = record {
   whole = (flushed _ (one_shown c.args.tag c.args.ports.now (g.S.TraceSim.machine c.args.sim.now).line) _ _ _ _ _ _ _ _ _ c.loop-change-test.false c.loop-change.invariant.going (rw c.as_slice.ensures at c.in_ok-write_whole.ensures.text)).whole;
   part = tt;
 }
+
+pub step-requires-clause-time : goal.step-requires-clause-time
+step-requires-clause-time g c =
+    let going = c.loop-change.invariant.going in
+    let next = next_proper _ going.history c.args.changes.now c.loop-change.change-index _ c.loop-change-test.true (get_or_default _ _ _ _ c.loop-change-test.true) going.proper in
+    (going.history, (going.standing, next.1))

@@ -1,7 +1,7 @@
 //! The calls of the paths of driven outputs, by recursive descent. (IEEE 1076.4-2000, VitalPathDelay01.)
 
 ghost use Rattle.std.specs.Prelude.{◌≡◌, ◌<◌, ◌^◌, length};
-ghost use Rattle.grammar_reader.specs.Reading.{read, Reads};
+ghost use Rattle.grammar_reader.specs.Reading.{read, Reads, ReadsAs};
 ghost use Rattle.vhdl_grammar.specs.VhdlRules.{this_number};
 ghost use Rattle.vhdl_drivers.specs.DriverSections as spec;
 
@@ -82,7 +82,8 @@ fn path_call_start(cursor: &mut Cursor, number: usize, name: &[u8]) -> Read<()>
     expect_all(cursor, &[b",", b"Paths", b"=>", b"("])
 }
 
-/// The call of the paths from these ports to the driven output with this number, from 0, and this name: these paths, and its own.
+/// The call of the paths from these ports to the driven output with this number, from 0, and this name. They stand behind the
+/// paths that were found before then.
 #[tactic(auto, unfolding(crate::specs::DriverSections::path_call, crate::specs::DriverSections::drive_paths))]
 pub(crate) fn path_call(
     cursor: &mut Cursor,
@@ -90,10 +91,10 @@ pub(crate) fn path_call(
     ports: &[VPort],
     number: usize,
     name: &[u8],
-    mut found: Items<DrivePath>,
-) -> Read<Items<DrivePath>>
+    found: &mut Items<DrivePath>,
+) -> Read<()>
     requires { number < 2 ^ 63 }
-    ensures { Reads (read (spec.path_call ports.now number name.now found) cursor.old) result cursor.new }
+    ensures { ReadsAs (λ _. found.new) (read (spec.path_call ports.now number name.now found.old) cursor.old) result cursor.new }
 {
     cursor.this_name(b"VitalPathDelay01")?;
     path_call_start(cursor, number, name)?;
@@ -107,5 +108,5 @@ pub(crate) fn path_call(
         &[b")", b",", b"Mode", b"=>", b"VitalTransport", b")", b";"],
     )?;
     found.append(own)?;
-    Ok(found)
+    Ok(())
 }

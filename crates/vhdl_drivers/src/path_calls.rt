@@ -1,8 +1,7 @@
 //! The calls of the paths of driven outputs, by recursive descent. (IEEE 1076.4-2000, VitalPathDelay01.)
 
-ghost use Rattle.std.specs.Prelude.{◌≡◌, ◌<◌, ◌^◌, length};
+ghost use Rattle.std.specs.Prelude.{◌<◌, ◌^◌};
 ghost use Rattle.grammar_reader.specs.Reading.{read, Reads, ReadsAs};
-ghost use Rattle.vhdl_grammar.specs.VhdlRules.{this_number};
 ghost use Rattle.vhdl_drivers.specs.DriverSections as spec;
 
 use crate::buffers::numbered_word;
@@ -15,13 +14,6 @@ use udp_tables::VPort;
 use vhdl_grammar::{Cursor, Vhdl, expect_all, this_number};
 use vhdl_outputs_reader::delays;
 use vhdl_tokens::is_quoted;
-
-/// The number of the path behind these.
-fn path_number(cursor: &mut Cursor, paths: &[DrivePath]) -> Read<()>
-    ensures { Reads (read (this_number (length paths.now)) cursor.old) result cursor.new }
-{
-    this_number(cursor, paths.len())
-}
 
 /// A path from one of these ports to the driven output with this number, from 0.
 #[derive(Drop)]
@@ -37,7 +29,7 @@ impl RepeatedPart<Vhdl> for NextPath<'_> {
 
     #[tactic(auto, unfolding(crate::specs::DriverSections::drive_path))]
     fn next(&self, cursor: &mut Cursor<'_>, mut paths: Items<DrivePath>) -> Read<Items<DrivePath>> {
-        path_number(cursor, paths.as_slice())?;
+        this_number(cursor, paths.len())?;
         expect_all(cursor, &[b"=>", b"("])?;
         let from = path_from(cursor, self.ports)?;
         expect_all(cursor, &[b"'", b"last_event", b","])?;

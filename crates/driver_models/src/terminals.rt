@@ -215,11 +215,22 @@ impl<L: DriverLanguage> Wired<L> {
         cursor.skip();
         Err(Stop::Refused(cursor.no_name()))
     }
+
+    /// The terminals of a core, by the ports of its driver.
+    #[tactic(auto, unfolding(crate::specs::Terminals::core_terminals))]
+    fn terminals(&self, cursor: &mut Cursor<'_, L::Spelling>, ports: &[VPort]) -> Read<Items<usize>>
+        ensures { Reads (read (spec.core_terminals L.Spelling.is_name L.Spelling.is_same L.value L.enable self.now.count ports.now)
+            cursor.old) result cursor.new }
+    {
+        let Terminals { drives, .. } = self.port_terminals(cursor, ports)?;
+        self.enables(cursor, drives.len() == self.count)?;
+        self.no_terminal(cursor)?;
+        Ok(drives)
+    }
 }
 
 /// The terminals of a core, behind "(", by the ports of its driver and the number of wires to inputs of buffers, each of which
 /// stands at one: the places among the outputs that are driven, ascending.
-#[tactic(auto, unfolding(crate::specs::Terminals::core_terminals))]
 pub fn core_terminals<L: DriverLanguage>(
     cursor: &mut Cursor<'_, L::Spelling>,
     alloc: Global,
@@ -230,8 +241,5 @@ pub fn core_terminals<L: DriverLanguage>(
         result cursor.new }
 {
     let wired = Wired::<L>::new(alloc, count)?;
-    let Terminals { drives, .. } = wired.port_terminals(cursor, ports)?;
-    wired.enables(cursor, drives.len() == count)?;
-    wired.no_terminal(cursor)?;
-    Ok(drives)
+    wired.terminals(cursor, ports)
 }

@@ -128,8 +128,9 @@ impl<'a, L: DriverLanguage> Cores<'a, L> {
 
     /// The ports of the first core of a name, in the time of one look-up. An `Err` comes only where memory is wanting.
     pub fn ports(&self, name: &[u8]) -> Result<Option<&'a [VPort]>, AllocError>
-        requires { L.is_name name.now ≡ true }
-        ensures { IfOk result (λ found. option_map (λ ports. ports.now) found ≡ spec.core_ports L.is_same self.now name.now) }
+        requires { L.Spelling.is_name name.now ≡ true }
+        ensures { IfOk result (λ found. option_map (λ ports. ports.now) found ≡ spec.core_ports L.Spelling.is_same self.now
+            name.now) }
     {
         let folded = L::folded(self.alloc, name)?;
         let Some(number) = self.folded.number(&folded) else {
@@ -144,8 +145,8 @@ impl<'a, L: DriverLanguage> Cores<'a, L> {
     /// Whether a core of this name fits a driver with these ports and so many driven outputs. An `Err` comes only where memory is
     /// wanting.
     fn fits(&self, name: &[u8], ports: &[VPort], driven: usize) -> Result<bool, AllocError>
-        requires { L.is_name name.now ≡ true }
-        ensures { IfOk result (λ good. good ≡ spec.fits ports.now driven (spec.core_ports L.is_same self.now name.now)) }
+        requires { L.Spelling.is_name name.now ≡ true }
+        ensures { IfOk result (λ good. good ≡ spec.fits ports.now driven (spec.core_ports L.Spelling.is_same self.now name.now)) }
     {
         match self.ports(name)? {
             None => Ok(false),
@@ -177,13 +178,14 @@ fn are_core_ports(ports: &[VPort], driven: usize, core: &[VPort]) -> bool
 
 /// The name of the core of a driver with these ports and so many driven outputs: the name of a model that may be it.
 pub fn core_name<L: DriverLanguage>(
-    cursor: &mut Cursor<'_, L>,
+    cursor: &mut Cursor<'_, L::Spelling>,
     alloc: Global,
     cores: &Cores<'_, L>,
     ports: &[VPort],
     driven: usize,
 ) -> Read<Items<u8>>
-    ensures { Reads (read (known L.is_name (spec.core_name L.is_same cores.now ports.now driven)) cursor.old) result cursor.new }
+    ensures { Reads (read (known L.Spelling.is_name (spec.core_name L.Spelling.is_same cores.now ports.now driven)) cursor.old)
+        result cursor.new }
 {
     if !cursor.is_next_name() {
         return Err(Stop::Refused(Refusal::Syntax));

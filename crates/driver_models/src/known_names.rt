@@ -45,8 +45,8 @@ impl<L: DriverLanguage> KnownNames<L> {
 
     /// Whether a name is one of these, in the time of one look-up. An `Err` comes only where memory is wanting.
     pub fn has(&self, name: &[u8]) -> Result<bool, AllocError>
-        requires { L.is_name name.now ≡ true }
-        ensures { IfOk result (λ taken. taken ≡ is_among L.is_same self.now name.now) }
+        requires { L.Spelling.is_name name.now ≡ true }
+        ensures { IfOk result (λ taken. taken ≡ is_among L.Spelling.is_same self.now name.now) }
     {
         let folded = L::folded(self.alloc, name)?;
         Ok(self.folded.number(&folded).is_some())

@@ -5,10 +5,13 @@ ghost use Rattle.std.specs.Str.{bytes_eq};
 use grammar_reader::Language;
 use std::alloc::{AllocError, Global};
 
-/// A language of drivers: the words of which the names of wires are made, and what names are folded to, so that two are the same
-/// where that is.
-pub trait DriverLanguage: Language {
+/// A language of drivers: its spelling, the words of which the names of wires are made, and what names are folded to, so that two
+/// are the same where that is.
+pub trait DriverLanguage {
     ghost use Rattle.std.specs.Prelude.{List, ℕ};
+
+    /// How the language spells names and words.
+    type Spelling: Language;
 
     ghost value: { List ℕ };
 
@@ -29,6 +32,6 @@ pub trait DriverLanguage: Language {
         ensures { IfOk result (λ folded. folded.items ≡ fold name.now) };
 
     /// A name is the same as another exactly where both are folded to the same.
-    ghost same: { (name other : List ℕ) → Self.is_name name ≡ true
-        → Self.is_same name other ≡ bytes_eq (fold name) (fold other) };
+    ghost same: { (name other : List ℕ) → Self.Spelling.is_name name ≡ true
+        → Self.Spelling.is_same name other ≡ bytes_eq (fold name) (fold other) };
 }

@@ -8,7 +8,7 @@ ghost use Rattle.driver_models.specs.Wires.{numbered};
 use crate::known_names::KnownNames;
 use crate::language::DriverLanguage;
 use crate::wires::{is_numbered, number_behind};
-use grammar_reader::{Cursor, Read, Refusal, Stop};
+use grammar_reader::{Cursor, Language, Read, Refusal, Stop};
 use sqlite_items::Items;
 use std::alloc::{AllocError, Global};
 use udp_tables::VPort;
@@ -66,23 +66,27 @@ impl<L: DriverLanguage> Wired<L> {
         before: usize,
         name: &[u8],
     ) -> Result<Option<bool>, AllocError>
-        requires { L.is_name name.now ≡ true }
-        ensures { IfOk result (λ driven. driven ≡ spec.is_driven_by L.is_name L.is_same L.value L.enable self.now.count own.now
-            before name.now) }
+        requires { L.Spelling.is_name name.now ≡ true }
+        ensures { IfOk result (λ driven. driven ≡ spec.is_driven_by L.Spelling.is_name L.Spelling.is_same L.value L.enable
+            self.now.count own.now before name.now) }
     {
         if self.values.has(name)? {
             let number = number_behind(before)?;
-            let next = is_numbered::<L>(self.alloc, name, L::value_word(), number)?;
+            let next = is_numbered::<L::Spelling>(self.alloc, name, L::value_word(), number)?;
             return Ok(next.then_some(true));
         }
-        Ok(L::is_same(name, own).then_some(false))
+        Ok(L::Spelling::is_same(name, own).then_some(false))
     }
 
     /// The name at the terminal of an output of this name, where so many are driven before it: whether it is driven.
-    fn output_name(&self, cursor: &mut Cursor<'_, L>, own: &[u8], before: usize) -> Read<bool>
-        ensures { Reads (read (known L.is_name
-            (spec.is_driven_by L.is_name L.is_same L.value L.enable self.now.count own.now before)) cursor.old) result
-            cursor.new }
+    fn output_name(
+        &self,
+        cursor: &mut Cursor<'_, L::Spelling>,
+        own: &[u8],
+        before: usize,
+    ) -> Read<bool>
+        ensures { Reads (read (known L.Spelling.is_name (spec.is_driven_by L.Spelling.is_name L.Spelling.is_same L.value L.enable
+            self.now.count own.now before)) cursor.old) result cursor.new }
     {
         if !cursor.is_next_name() {
             return Err(Stop::Refused(Refusal::Syntax));
@@ -95,12 +99,12 @@ impl<L: DriverLanguage> Wired<L> {
     #[tactic(auto, unfolding(crate::specs::Terminals::output_terminal))]
     fn output_terminal(
         &self,
-        cursor: &mut Cursor<'_, L>,
+        cursor: &mut Cursor<'_, L::Spelling>,
         own: &[u8],
         found: Terminals,
     ) -> Read<Terminals>
-        ensures { Reads (read (spec.output_terminal L.is_name L.is_same L.value L.enable self.now.count own.now found) cursor.old)
-            result cursor.new }
+        ensures { Reads (read (spec.output_terminal L.Spelling.is_name L.Spelling.is_same L.value L.enable self.now.count own.now
+            found) cursor.old) result cursor.new }
     {
         let Terminals {
             outputs,
@@ -119,12 +123,12 @@ impl<L: DriverLanguage> Wired<L> {
     #[tactic(auto, unfolding(crate::specs::Terminals::input_terminal))]
     fn port_terminal(
         &self,
-        cursor: &mut Cursor<'_, L>,
+        cursor: &mut Cursor<'_, L::Spelling>,
         port: &VPort,
         found: Terminals,
     ) -> Read<Terminals>
-        ensures { Reads (read (spec.port_terminal L.is_name L.is_same L.value L.enable self.now.count port.now found) cursor.old)
-            result cursor.new }
+        ensures { Reads (read (spec.port_terminal L.Spelling.is_name L.Spelling.is_same L.value L.enable self.now.count port.now
+            found) cursor.old) result cursor.new }
     {
         if !port.input {
             return self.output_terminal(cursor, port.name.as_slice(), found);
@@ -136,12 +140,12 @@ impl<L: DriverLanguage> Wired<L> {
     /// The terminals of ports, behind others.
     fn more_terminals(
         &self,
-        cursor: &mut Cursor<'_, L>,
+        cursor: &mut Cursor<'_, L::Spelling>,
         ports: &[VPort],
         mut found: Terminals,
     ) -> Read<Terminals>
-        ensures { Reads (read (spec.more_terminals L.is_name L.is_same L.value L.enable self.now.count ports.now found)
-            cursor.old) result cursor.new }
+        ensures { Reads (read (spec.more_terminals L.Spelling.is_name L.Spelling.is_same L.value L.enable self.now.count ports.now
+            found) cursor.old) result cursor.new }
     {
         for port in ports {
             cursor.expect(b",")?;
@@ -151,9 +155,13 @@ impl<L: DriverLanguage> Wired<L> {
     }
 
     /// The terminals of ports.
-    fn port_terminals(&self, cursor: &mut Cursor<'_, L>, ports: &[VPort]) -> Read<Terminals>
-        ensures { Reads (read (spec.port_terminals L.is_name L.is_same L.value L.enable self.now.count ports.now) cursor.old)
-            result cursor.new }
+    fn port_terminals(
+        &self,
+        cursor: &mut Cursor<'_, L::Spelling>,
+        ports: &[VPort],
+    ) -> Read<Terminals>
+        ensures { Reads (read (spec.port_terminals L.Spelling.is_name L.Spelling.is_same L.value L.enable self.now.count
+            ports.now) cursor.old) result cursor.new }
     {
         let none = Terminals {
             outputs: 0,
@@ -167,9 +175,14 @@ impl<L: DriverLanguage> Wired<L> {
     }
 
     /// The terminal of the wire to an enable, which stands only behind all wires to inputs.
-    fn enable_terminal(&self, cursor: &mut Cursor<'_, L>, ready: bool, number: usize) -> Read<()>
-        ensures { Reads (read (this_name L.is_name L.is_same
-            (spec.enable_name L.is_name L.is_same L.value L.enable self.now.count ready number)) cursor.old) result cursor.new }
+    fn enable_terminal(
+        &self,
+        cursor: &mut Cursor<'_, L::Spelling>,
+        ready: bool,
+        number: usize,
+    ) -> Read<()>
+        ensures { Reads (read (this_name L.Spelling.is_name L.Spelling.is_same (spec.enable_name L.Spelling.is_name
+            L.Spelling.is_same L.value L.enable self.now.count ready number)) cursor.old) result cursor.new }
     {
         if !ready {
             return Err(Stop::Refused(cursor.no_name()));
@@ -179,9 +192,9 @@ impl<L: DriverLanguage> Wired<L> {
     }
 
     /// The terminals of all wires to enables.
-    fn enables(&self, cursor: &mut Cursor<'_, L>, ready: bool) -> Read<()>
-        ensures { Reads (read (spec.more_enables L.is_name L.is_same L.value L.enable self.now.count ready 1 self.now.count)
-            cursor.old) result cursor.new }
+    fn enables(&self, cursor: &mut Cursor<'_, L::Spelling>, ready: bool) -> Read<()>
+        ensures { Reads (read (spec.more_enables L.Spelling.is_name L.Spelling.is_same L.value L.enable self.now.count ready 1
+            self.now.count) cursor.old) result cursor.new }
     {
         for i in 0..self.count {
             cursor.expect(b",")?;
@@ -192,9 +205,9 @@ impl<L: DriverLanguage> Wired<L> {
 
     /// No further terminal.
     #[tactic(auto, using(grammar_reader::proofs::Repeats::choose_begun, grammar_reader::proofs::Repeats::choose_other), unfolding(crate::specs::Terminals::no_terminal))]
-    fn no_terminal(&self, cursor: &mut Cursor<'_, L>) -> Read<()>
-        ensures { Reads (read (spec.no_terminal L.is_name L.is_same L.value L.enable self.now.count) cursor.old) result
-            cursor.new }
+    fn no_terminal(&self, cursor: &mut Cursor<'_, L::Spelling>) -> Read<()>
+        ensures { Reads (read (spec.no_terminal L.Spelling.is_name L.Spelling.is_same L.value L.enable self.now.count) cursor.old)
+            result cursor.new }
     {
         if !cursor.is_next(b",") {
             return Ok(());
@@ -202,23 +215,31 @@ impl<L: DriverLanguage> Wired<L> {
         cursor.skip();
         Err(Stop::Refused(cursor.no_name()))
     }
+
+    /// The terminals of a core, by the ports of its driver.
+    #[tactic(auto, unfolding(crate::specs::Terminals::core_terminals))]
+    fn terminals(&self, cursor: &mut Cursor<'_, L::Spelling>, ports: &[VPort]) -> Read<Items<usize>>
+        ensures { Reads (read (spec.core_terminals L.Spelling.is_name L.Spelling.is_same L.value L.enable self.now.count ports.now)
+            cursor.old) result cursor.new }
+    {
+        let Terminals { drives, .. } = self.port_terminals(cursor, ports)?;
+        self.enables(cursor, drives.len() == self.count)?;
+        self.no_terminal(cursor)?;
+        Ok(drives)
+    }
 }
 
 /// The terminals of a core, behind "(", by the ports of its driver and the number of wires to inputs of buffers, each of which
 /// stands at one: the places among the outputs that are driven, ascending.
-#[tactic(auto, unfolding(crate::specs::Terminals::core_terminals))]
 pub fn core_terminals<L: DriverLanguage>(
-    cursor: &mut Cursor<'_, L>,
+    cursor: &mut Cursor<'_, L::Spelling>,
     alloc: Global,
     ports: &[VPort],
     count: usize,
 ) -> Read<Items<usize>>
-    ensures { Reads (read (spec.core_terminals L.is_name L.is_same L.value L.enable count ports.now) cursor.old) result
-        cursor.new }
+    ensures { Reads (read (spec.core_terminals L.Spelling.is_name L.Spelling.is_same L.value L.enable count ports.now) cursor.old)
+        result cursor.new }
 {
     let wired = Wired::<L>::new(alloc, count)?;
-    let Terminals { drives, .. } = wired.port_terminals(cursor, ports)?;
-    wired.enables(cursor, drives.len() == count)?;
-    wired.no_terminal(cursor)?;
-    Ok(drives)
+    wired.terminals(cursor, ports)
 }

@@ -7,6 +7,7 @@ ghost use Rattle.driver_models.specs.Wires as spec;
 use crate::language::DriverLanguage;
 use grammar_reader::{Cursor, Language, Read, RepeatedPart, while_next, with_end};
 use std::alloc::{AllocError, Global};
+use std::marker::PhantomData;
 use vhdl_tokens::numbered_name;
 
 /// How many wires are declared: to the inputs of buffers, and to their enables.
@@ -45,17 +46,17 @@ fn next_wire<L: DriverLanguage>(
     found: Wires,
     name: &[u8],
 ) -> Result<Option<Wires>, AllocError>
-    ensures { IfOk result (λ more. more ≡ spec.next_wire L.is_name L.is_same L.value L.enable found name.now) }
+    ensures { IfOk result (λ more. more ≡ spec.next_wire L.Spelling.is_name L.Spelling.is_same L.value L.enable found name.now) }
 {
     let Wires { values, enables } = found;
     let next = number_behind(values)?;
-    if enables == 0 && is_numbered::<L>(alloc, name, L::value_word(), next)? {
+    if enables == 0 && is_numbered::<L::Spelling>(alloc, name, L::value_word(), next)? {
         return Ok(Some(Wires {
             values: next,
             enables: 0,
         }));
     }
-    if enables < values && is_numbered::<L>(alloc, name, L::enable_word(), enables + 1)? {
+    if enables < values && is_numbered::<L::Spelling>(alloc, name, L::enable_word(), enables + 1)? {
         return Ok(Some(Wires {
             values,
             enables: enables + 1,
@@ -66,12 +67,12 @@ fn next_wire<L: DriverLanguage>(
 
 /// The name of a wire that is declared next.
 fn wire_name<L: DriverLanguage>(
-    cursor: &mut Cursor<'_, L>,
+    cursor: &mut Cursor<'_, L::Spelling>,
     alloc: Global,
     found: Wires,
 ) -> Read<Wires>
-    ensures { Reads (read (known L.is_name (spec.next_wire L.is_name L.is_same L.value L.enable found)) cursor.old) result
-        cursor.new }
+    ensures { Reads (read (known L.Spelling.is_name (spec.next_wire L.Spelling.is_name L.Spelling.is_same L.value L.enable found))
+        cursor.old) result cursor.new }
 {
     let more = next_wire::<L>(alloc, found, cursor.bytes())?;
     cursor.known(more)
@@ -79,24 +80,25 @@ fn wire_name<L: DriverLanguage>(
 
 /// A declared wire, behind its word: its name, and the words behind it.
 #[derive(Drop)]
-struct DeclaredWire<'a> {
+struct DeclaredWire<'a, L> {
     alloc: Global,
     tail: &'a [&'a [u8]],
+    language: PhantomData<L>,
 }
 
-impl<L: DriverLanguage> RepeatedPart<L> for DeclaredWire<'_> {
+impl<L: DriverLanguage> RepeatedPart<L::Spelling> for DeclaredWire<'_, L> {
     type Found = Wires;
 
     ghost use Rattle.std.specs.Prelude.{map};
     ghost use Rattle.grammar_reader.specs.Reading.{read};
     ghost use Rattle.driver_models.specs.Wires as spec;
 
-    ghost reading = { λ wire found s. read
-        (spec.declared_wire L.is_name L.is_same L.value L.enable (map (λ word. word.now) wire.tail.now) found) s };
+    ghost reading = { λ wire found s. read (spec.declared_wire L.Spelling.is_name L.Spelling.is_same L.value L.enable (map (λ
+        word. word.now) wire.tail.now) found) s };
 
     #[tactic(auto, unfolding(crate::specs::Wires::declared_wire))]
-    fn next(&self, cursor: &mut Cursor<'_, L>, found: Wires) -> Read<Wires> {
-        let wires = wire_name(cursor, self.alloc, found)?;
+    fn next(&self, cursor: &mut Cursor<'_, L::Spelling>, found: Wires) -> Read<Wires> {
+        let wires = wire_name::<L>(cursor, self.alloc, found)?;
         with_end(cursor, self.tail, wires)
     }
 }
@@ -105,15 +107,19 @@ impl<L: DriverLanguage> RepeatedPart<L> for DeclaredWire<'_> {
 /// of buffers. As many lead to enables.
 #[tactic(auto, unfolding(crate::specs::Wires::declared_wires))]
 pub fn declared_wires<L: DriverLanguage>(
-    cursor: &mut Cursor<'_, L>,
+    cursor: &mut Cursor<'_, L::Spelling>,
     alloc: Global,
     word: &[u8],
     tail: &[&[u8]],
 ) -> Read<usize>
-    ensures { Reads (read (spec.declared_wires L.is_name L.is_same L.value L.enable word.now (map (λ word. word.now) tail.now))
-        cursor.old) result cursor.new }
+    ensures { Reads (read (spec.declared_wires L.Spelling.is_name L.Spelling.is_same L.value L.enable word.now (map (λ word.
+        word.now) tail.now)) cursor.old) result cursor.new }
 {
-    let wire = DeclaredWire { alloc, tail };
+    let wire = DeclaredWire::<L> {
+        alloc,
+        tail,
+        language: PhantomData,
+    };
     let none = Wires {
         values: 0,
         enables: 0,

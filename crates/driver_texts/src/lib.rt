@@ -18,4 +18,4 @@ pub use numbered_names::{ListedNames, NumberedNames, WireNames};
 pub use numbered_ports::{EachPort, PortAt, PortText};
 pub use port_names::{input_name, output_name};
 pub use section_parts::{CoreCall, SectionFront, driver_of, fresh_name, nothing_left};
-pub use sections::{DriverSections, SectionRead, read_driver};
+pub use sections::{DriverSections, read_driver};

@@ -26,15 +26,13 @@ pub struct CoreCall {
     pub drives: Items<usize>,
 }
 
-/// A name that is declared here and is none of these. Names are the same where they are for the cursor's language `F`.
-pub fn fresh_name<F: Language, D: DriverLanguage>(
-    cursor: &mut Cursor<'_, F>,
+/// A name that is declared here and is none of these.
+pub fn fresh_name<L: DriverLanguage>(
+    cursor: &mut Cursor<'_, L::Spelling>,
     alloc: Global,
-    names: &KnownNames<D>,
+    names: &KnownNames<L>,
 ) -> Read<Items<u8>>
-    requires names { F.is_name ≡ D.is_name }
-    requires same { F.is_same ≡ D.is_same }
-    ensures { Reads (read (new_name F.is_name F.is_same names.now) cursor.old) result cursor.new }
+    ensures { Reads (read (new_name L.Spelling.is_name L.Spelling.is_same names.now) cursor.old) result cursor.new }
 {
     if !cursor.is_next_name() {
         return Err(Stop::Refused(Refusal::Syntax));

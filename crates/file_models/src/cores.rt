@@ -52,9 +52,9 @@ pub(crate) fn core_of<'a, L: SectionLanguage>(
     names: &Names,
     name: &[u8],
 ) -> Result<Option<&'a Shared<L::Model>>, AllocError>
-    requires same { (x y : List ℕ) → L.language.vocabulary.is_same x y ≡ L.Drivers.is_same x y }
+    requires same { (x y : List ℕ) → L.language.vocabulary.is_same x y ≡ L.Drivers.Spelling.is_same x y }
     requires folded { names.now ≡ folded_names L.Drivers.fold L.language cores.now }
-    requires is_name { L.Drivers.is_name name.now ≡ true }
+    requires is_name { L.Drivers.Spelling.is_name name.now ≡ true }
     ensures { IfOk result (λ found. option_map (λ core. core.now) found ≡ core_named L.language cores.now name.now) }
 {
     let folded = L::Drivers::folded(alloc, name)?;

@@ -84,9 +84,9 @@ fn drivers_over<L: SectionLanguage>(
     names: &Names,
     drivers: &[DriverModel],
 ) -> Result<Vec<FileModel<L::Model>>, AllocError>
-    requires same { (x y : List ℕ) → L.language.vocabulary.is_same x y ≡ L.Drivers.is_same x y }
+    requires same { (x y : List ℕ) → L.language.vocabulary.is_same x y ≡ L.Drivers.Spelling.is_same x y }
     requires folded { names.now ≡ folded_names L.Drivers.fold L.language cores.now }
-    requires are_names { All (λ (driver : Model). L.Drivers.is_name driver.core ≡ true) drivers.now }
+    requires are_names { All (λ (driver : Model). L.Drivers.Spelling.is_name driver.core ≡ true) drivers.now }
     ensures { IfOk result (λ models. models.items ≡ flat_map (spec.over_its_core L.language cores.now) drivers.now) }
 {
     let mut models = Vec::new(alloc);
@@ -106,9 +106,9 @@ pub fn file_models<L: SectionLanguage>(
     alloc: Global,
     found: DrivenModels<L::Model>,
 ) -> Result<Vec<FileModel<L::Model>>, AllocError>
-    requires same { (x y : List ℕ) → L.language.vocabulary.is_same x y ≡ L.Drivers.is_same x y }
+    requires same { (x y : List ℕ) → L.language.vocabulary.is_same x y ≡ L.Drivers.Spelling.is_same x y }
     requires apart { AreDistinct (folded_names L.Drivers.fold L.language found.models) }
-    requires are_names { All (λ (driver : Model). L.Drivers.is_name driver.core ≡ true) found.drivers }
+    requires are_names { All (λ (driver : Model). L.Drivers.Spelling.is_name driver.core ≡ true) found.drivers }
     ensures { IfOk result (λ models. models.items ≡ spec.file_models L.language found) }
 {
     let DrivenModels { models, drivers } = found;

@@ -7,7 +7,7 @@ ghost use Rattle.sectioned_texts.specs.Drivers.{AllMayStand};
 ghost use Rattle.sectioned_texts.specs.Faults.{IsFaultIn};
 
 use crate::verilog::Verilog;
-use driver_models::{Core, Cores, DriverModel, KnownNames};
+use driver_models::{Core, Cores, DriverLanguage, DriverModel, KnownNames};
 use driver_sections::{Ending, Marks, all_ends, find_sections};
 use driver_texts::read_driver;
 use lexer::Span;
@@ -19,6 +19,9 @@ use verilog_drivers::VerilogDrivers;
 use verilog_grammar::modules::VModule;
 use verilog_reader::read_models;
 use verilog_tokens::InTable;
+
+/// How texts spell names and words.
+type Spelling = <VerilogDrivers as DriverLanguage>::Spelling;
 
 /// How sections are marked.
 const MARKS: Marks<'static> = Marks {
@@ -60,11 +63,11 @@ impl SectionLanguage for Verilog {
     ghost language = { verilog_sections };
 
     fn sections(alloc: Global, text: &[u8]) -> Result<Vec<Span>, AllocError> {
-        find_sections::<VerilogDrivers, InTable>(alloc, text, &MARKS)
+        find_sections::<Spelling, InTable>(alloc, text, &MARKS)
     }
 
     fn ends(alloc: Global, text: &[u8]) -> Result<Vec<usize>, AllocError> {
-        all_ends::<VerilogDrivers, InTable>(alloc, text, &MODULE_END)
+        all_ends::<Spelling, InTable>(alloc, text, &MODULE_END)
     }
 
     fn read(alloc: Global, text: &[u8]) -> Result<Vec<VModule>, ModelFault> {

@@ -6,7 +6,7 @@ ghost use Rattle.sectioned_texts.specs.Drivers.{AllMayStand};
 ghost use Rattle.sectioned_texts.specs.Faults.{IsFaultIn};
 
 use crate::vital::Vital;
-use driver_models::{Core, Cores, DriverModel, KnownNames};
+use driver_models::{Core, Cores, DriverLanguage, DriverModel, KnownNames};
 use driver_sections::{Ending, Marks, all_ends, find_sections};
 use driver_texts::read_driver;
 use lexer::Span;
@@ -18,6 +18,9 @@ use vhdl_drivers::VitalDrivers;
 use vhdl_reader::read_entities;
 use vhdl_tokens::LastToken;
 use vital_models::VEntity;
+
+/// How texts spell names and words.
+type Spelling = <VitalDrivers as DriverLanguage>::Spelling;
 
 /// How sections are marked.
 const MARKS: Marks<'static> = Marks {
@@ -47,11 +50,11 @@ impl SectionLanguage for Vital {
     ghost language = { vital_sections };
 
     fn sections(alloc: Global, text: &[u8]) -> Result<Vec<Span>, AllocError> {
-        find_sections::<VitalDrivers, LastToken<'_>>(alloc, text, &MARKS)
+        find_sections::<Spelling, LastToken<'_>>(alloc, text, &MARKS)
     }
 
     fn ends(alloc: Global, text: &[u8]) -> Result<Vec<usize>, AllocError> {
-        all_ends::<VitalDrivers, LastToken<'_>>(alloc, text, &MODEL_END)
+        all_ends::<Spelling, LastToken<'_>>(alloc, text, &MODEL_END)
     }
 
     fn read(alloc: Global, text: &[u8]) -> Result<Vec<VEntity>, ModelFault> {

@@ -6,47 +6,45 @@ ghost use Rattle.sectioned_texts.specs.DrivenModels as spec;
 use std::alloc::AllocError;
 use udp_tables::ModelFault;
 
+/// Where a fault counts among others: at its offset, and there by the number of its kind.
+#[derive(Clone, Copy)]
+struct FaultPlace {
+    at: usize,
+    rank: usize,
+}
+
+/// Where a fault counts among others.
+fn place_of(fault: &ModelFault) -> FaultPlace
+    ensures at { result.at ≡ fault_place fault.now }
+    ensures rank { result.rank ≡ fault_rank fault.now }
+{
+    let (at, rank) = match fault {
+        ModelFault::Lexical(at) => (*at, 0),
+        ModelFault::Syntax(at) => (*at, 1),
+        ModelFault::TwoEdges(at) => (*at, 2),
+        ModelFault::Width(at) => (*at, 3),
+        ModelFault::Undefined(at) => (*at, 4),
+        ModelFault::Twice(at) => (*at, 5),
+        ModelFault::Undriven(at) => (*at, 6),
+        ModelFault::Unequal(at) => (*at, 7),
+        ModelFault::Memory => (0, 8),
+    };
+    FaultPlace { at, rank }
+}
+
 /// The offset of a fault.
 pub(crate) fn fault_place(fault: &ModelFault) -> usize
     ensures { result ≡ fault_place fault.now }
 {
-    match fault {
-        ModelFault::Lexical(at)
-        | ModelFault::Syntax(at)
-        | ModelFault::TwoEdges(at)
-        | ModelFault::Width(at)
-        | ModelFault::Undefined(at)
-        | ModelFault::Twice(at)
-        | ModelFault::Undriven(at)
-        | ModelFault::Unequal(at) => *at,
-        ModelFault::Memory => 0,
-    }
-}
-
-/// The number of a kind of fault, in the order in which they count at one offset.
-fn fault_rank(fault: &ModelFault) -> usize
-    ensures { result ≡ fault_rank fault.now }
-{
-    match fault {
-        ModelFault::Lexical(_) => 0,
-        ModelFault::Syntax(_) => 1,
-        ModelFault::TwoEdges(_) => 2,
-        ModelFault::Width(_) => 3,
-        ModelFault::Undefined(_) => 4,
-        ModelFault::Twice(_) => 5,
-        ModelFault::Undriven(_) => 6,
-        ModelFault::Unequal(_) => 7,
-        ModelFault::Memory => 8,
-    }
+    place_of(fault).at
 }
 
 /// Whether a fault counts before another.
 fn counts_first(fault: &ModelFault, other: &ModelFault) -> bool
     ensures { result ≡ spec.counts_first fault.now other.now }
 {
-    let at = fault_place(fault);
-    let behind = fault_place(other);
-    at < behind || (at == behind && fault_rank(fault) <= fault_rank(other))
+    let (before, behind) = (place_of(fault), place_of(other));
+    before.at < behind.at || (before.at == behind.at && before.rank <= behind.rank)
 }
 
 /// Of two faults the one that counts first.

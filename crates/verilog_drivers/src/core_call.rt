@@ -15,7 +15,7 @@ use udp_tables::VPort;
 pub(crate) fn driver_wires(cursor: &mut Cursor, alloc: Global) -> Read<usize>
     ensures { Reads (read spec.driver_wires cursor.old) result cursor.new }
 {
-    declared_wires(cursor, alloc, b"wire", &[b";"])
+    declared_wires::<VerilogDrivers>(cursor, alloc, b"wire", &[b";"])
 }
 
 /// The instance of the core.
@@ -32,6 +32,6 @@ pub(crate) fn core_call(
     let core = core_name(cursor, alloc, cores, ports, driven)?;
     cursor.this_name(b"lib_u")?;
     cursor.expect(b"(")?;
-    let drives = core_terminals(cursor, alloc, ports, driven)?;
+    let drives = core_terminals::<VerilogDrivers>(cursor, alloc, ports, driven)?;
     with_end(cursor, &[b")", b";"], CoreCall { core, drives })
 }

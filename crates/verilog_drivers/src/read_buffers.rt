@@ -4,10 +4,11 @@ ghost use Rattle.std.specs.Prelude.{◌<◌};
 ghost use Rattle.grammar_reader.specs.Reading.{read, Reads};
 ghost use Rattle.verilog_drivers.specs.DriverSections as spec;
 
-use crate::language::{Cursor, VerilogDrivers};
+use crate::language::Cursor;
 use grammar_reader::{Read, RepeatedPart, Stop, while_next, with_end};
 use sqlite_items::Items;
 use std::alloc::Global;
+use verilog_udp_reader::Verilog;
 use vhdl_tokens::numbered_name;
 
 /// The name of a word and a number.
@@ -38,7 +39,7 @@ struct Buffer<'a> {
     outputs: &'a [Items<u8>],
 }
 
-impl RepeatedPart<VerilogDrivers> for Buffer<'_> {
+impl RepeatedPart<Verilog> for Buffer<'_> {
     type Found = usize;
 
     ghost use Rattle.grammar_reader.specs.Reading.{read};

@@ -12,8 +12,7 @@ use crate::read_buffers::buffers;
 use driven_traces::DrivePath;
 use driver_models::{Cores, DriverModel, KnownNames};
 use driver_texts::{
-    CoreCall, DriverSections, SectionFront, SectionRead, driven_names, driver_of, fresh_name,
-    nothing_left,
+    CoreCall, DriverSections, SectionFront, driven_names, driver_of, fresh_name, nothing_left,
 };
 use grammar_reader::Read;
 use lexer::Scan;
@@ -21,29 +20,12 @@ use sqlite_items::Items;
 use std::alloc::{AllocError, Global};
 use udp_tables::VPort;
 use verilog_tokens::scan;
-use verilog_udp_reader::Verilog;
 
 /// What stands behind the ports: the core, and the paths.
 #[derive(Drop)]
-pub(crate) struct SectionBody {
-    pub(crate) call: CoreCall,
-    pub(crate) paths: Items<DrivePath>,
-}
-
-/// What a section begins with, where these names are taken.
-#[tactic(auto, unfolding(crate::specs::DriverSections::section_front))]
-pub(crate) fn section_front(
-    cursor: &mut verilog_udp_reader::Cursor,
-    alloc: Global,
-    names: &KnownNames<VerilogDrivers>,
-) -> Read<SectionFront>
-    ensures { Reads (read (spec.section_front names.now) cursor.old) result cursor.new }
-{
-    cursor.expect(b"`celldefine")?;
-    cursor.expect(b"module")?;
-    let name = fresh_name(cursor, alloc, names)?;
-    let ports = driver_ports(cursor, alloc)?;
-    Ok(SectionFront { name, ports })
+struct SectionBody {
+    call: CoreCall,
+    paths: Items<DrivePath>,
 }
 
 /// What stands behind these ports, where the models that may be cores are these.
@@ -79,27 +61,8 @@ fn section_end(cursor: &mut Cursor) -> Read<()>
     nothing_left(cursor)
 }
 
-/// The rest of a section behind its front.
-#[tactic(auto, unfolding(crate::specs::DriverSections::section_rest))]
-pub(crate) fn section_rest(
-    cursor: &mut Cursor,
-    alloc: Global,
-    cores: &Cores<'_, VerilogDrivers>,
-    front: SectionFront,
-) -> Read<DriverModel>
-    ensures { Reads (read (spec.section_rest cores.now front) cursor.old) result cursor.new }
-{
-    let body = section_body(cursor, alloc, cores, front.ports.as_slice())?;
-    section_end(cursor)?;
-    Ok(driver_of(front, body.call, body.paths))
-}
-
 impl DriverSections for VerilogDrivers {
     ghost use Rattle.verilog_drivers.specs.DriverSections.{verilog_section_grammar};
-
-    type Front = Verilog;
-
-    type Rest = VerilogDrivers;
 
     ghost grammar = { verilog_section_grammar };
 
@@ -107,22 +70,28 @@ impl DriverSections for VerilogDrivers {
         scan(alloc, text)
     }
 
+    #[tactic(auto, unfolding(crate::specs::DriverSections::section_front))]
     fn front(
-        cursor: &mut verilog_udp_reader::Cursor,
+        cursor: &mut Cursor,
         alloc: Global,
         names: &KnownNames<VerilogDrivers>,
     ) -> Read<SectionFront> {
-        section_front(cursor, alloc, names)
+        cursor.expect(b"`celldefine")?;
+        cursor.expect(b"module")?;
+        let name = fresh_name(cursor, alloc, names)?;
+        let ports = driver_ports(cursor, alloc)?;
+        Ok(SectionFront { name, ports })
     }
 
-    fn rest<'a>(
+    #[tactic(auto, unfolding(crate::specs::DriverSections::section_rest))]
+    fn rest(
+        cursor: &mut Cursor,
         alloc: Global,
-        before: &mut verilog_udp_reader::Cursor<'a>,
         cores: &Cores<'_, VerilogDrivers>,
         front: SectionFront,
-    ) -> SectionRead<'a, VerilogDrivers> {
-        let mut left = before.in_language::<VerilogDrivers>(alloc);
-        let driver = section_rest(&mut left, alloc, cores, front);
-        SectionRead { driver, left }
+    ) -> Read<DriverModel> {
+        let body = section_body(cursor, alloc, cores, front.ports.as_slice())?;
+        section_end(cursor)?;
+        Ok(driver_of(front, body.call, body.paths))
     }
 }

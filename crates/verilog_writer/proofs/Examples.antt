@@ -17,7 +17,7 @@ use Rattle.udp_tables.specs.declared.timing_checks.TimingCheck.{TimingCheck}
 use Rattle.specify_blocks.specs.declared.model.VModule.{VModule}
 use Rattle.verilog_writer.specs.Timing.{gate_text, delays_text, path_text, ordered_text, turned_text, width_text, period_line}
 use Rattle.verilog_writer.specs.Timing.{period_text, check_text, lines_text, block_text}
-use Rattle.verilog_writer.specs.Model.{module_opening_text, next_port_text, module_header_text, input_port_text, output_port_text}
+use Rattle.verilog_writer.specs.Model.{module_opening_text, module_header_text, input_port_text, output_port_text}
 use Rattle.verilog_writer.specs.Model.{wire_text, declarations_text, terminal_text, driver_text, call_text, constant_text}
 use Rattle.verilog_writer.specs.Model.{module_only_text}
 
@@ -54,7 +54,7 @@ its-text :
     module_only_text flip_flop
     ≡ codes "module DFFT (CK, D, Q);\n  input CK;\n  input D;\n  output Q;\n  wire lib_s1;\n  reg lib_n;\n  lib_1_1 (lib_s1, CK, D, lib_n);\n  lib_1_2 (Q, lib_s1);\n  specify\n    (CK => Q) = (100, 120);\n    $setup(D, posedge CK, 50, lib_n);\n  endspecify\nendmodule\n"
 unfolding check flip_flop primitive digits gate_text delays_text path_text ordered_text check_text lines_text block_text
-    module_opening_text next_port_text module_header_text input_port_text output_port_text wire_text declarations_text
+    module_opening_text module_header_text input_port_text output_port_text wire_text declarations_text
     terminal_text driver_text call_text module_only_text
 its-text = refl
 
@@ -73,7 +73,7 @@ tied =
     }
 
 tied-text : module_only_text tied ≡ codes "module TIE (Y);\n  output Y;\n  buf (Y, 1'b1);\nendmodule\n"
-unfolding tied lines_text block_text module_opening_text next_port_text module_header_text input_port_text output_port_text
+unfolding tied lines_text block_text module_opening_text module_header_text input_port_text output_port_text
     wire_text declarations_text constant_text module_only_text
 tied-text = refl
 

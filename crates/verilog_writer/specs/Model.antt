@@ -20,7 +20,7 @@ unfoldable pub module_opening_text : VModule → List ℕ
 module_opening_text m = codes "module " ++ (m.name ++ codes " (")
 
 -- a port in the header behind another one
-unfoldable pub next_port_text : VPort → List ℕ
+abbrev pub next_port_text : VPort → List ℕ
 next_port_text port = codes ", " ++ port.name
 
 -- the ports in the header

@@ -4,7 +4,7 @@ ghost use Rattle.verilog_writer.specs.Nets.{port_at};
 ghost use Rattle.verilog_writer.specs.Timing.{edge_text, joint_text, condition_text, limit_text, ordered_text, turned_text};
 ghost use Rattle.verilog_writer.specs.Timing.{period_text, check_text};
 
-use crate::nets::{notifier_in, port_at, wire_at};
+use crate::nets::{InModule, notifier_in, port_at, wire_at};
 use cell_machine::{CheckKind, Edge, Event};
 use specify_blocks::VModule;
 use text_io::{Bytes, Decimal, Desk, ItemText, Line, OutSlot, Part, Put, parts};
@@ -133,11 +133,7 @@ impl Part for Period<'_> {
     }
 }
 
-/// Lines of checks.
-#[derive(Drop)]
-pub(crate) struct CheckLines<'a>(pub(crate) &'a VModule);
-
-impl ItemText<TimingCheck> for CheckLines<'_> {
+impl ItemText<TimingCheck> for InModule<'_> {
     ghost text = { λ m check. check_text m.0.now check };
 
     #[tactic(auto, unfolding(crate::specs::Timing::check_text))]

@@ -14,7 +14,6 @@ pub struct Ports<'a>(pub &'a [VPort]);
 impl Part for Ports<'_> {
     ghost text = { λ m. ports_text m.0.now };
 
-    #[tactic(auto, unfolding(crate::specs::Model::next_port_text))]
     fn put<D: Desk>(&self, line: &mut Line, desk: &mut D, slot: OutSlot) -> Put {
         match self.0.split_first() {
             Some((first, items)) => {

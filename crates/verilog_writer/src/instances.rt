@@ -1,15 +1,11 @@
 //! The text of a module's instances.
 ghost use Rattle.verilog_writer.specs.Model.{terminal_text, call_text, constant_text, instance_text};
 
-use crate::nets::{net_at, primitive_at};
+use crate::nets::{InModule, net_at, primitive_at};
 use specify_blocks::{Instance, VModule, VNet};
 use text_io::{Bytes, Desk, Each, ItemText, Line, OutSlot, Part, Put, parts};
 
-/// Inputs of instances.
-#[derive(Drop)]
-struct Terminals<'a>(&'a VModule);
-
-impl ItemText<VNet> for Terminals<'_> {
+impl ItemText<VNet> for InModule<'_> {
     ghost text = { λ m input. terminal_text m.0.now input };
 
     #[tactic(auto, unfolding(crate::specs::Model::terminal_text))]
@@ -30,7 +26,7 @@ impl Part for Call<'_> {
         let name = Bytes(primitive_at(self.0, self.1));
         let output = Bytes(net_at(self.0, self.2));
         let driver = parts!(Bytes(b"  "), name, Bytes(b" ("), output);
-        let terminals = Each(Terminals(self.0), self.3);
+        let terminals = Each(InModule(self.0), self.3);
         parts!(driver, terminals, Bytes(b");\n")).put(line, desk, slot)
     }
 }
@@ -53,11 +49,7 @@ impl Part for Constant<'_> {
     }
 }
 
-/// Lines of instances.
-#[derive(Drop)]
-pub(crate) struct InstanceLines<'a>(pub(crate) &'a VModule);
-
-impl ItemText<Instance> for InstanceLines<'_> {
+impl ItemText<Instance> for InModule<'_> {
     ghost text = { λ m instance. instance_text m.0.now instance };
 
     fn put<D: Desk>(&self, item: &Instance, line: &mut Line, desk: &mut D, slot: OutSlot) -> Put {

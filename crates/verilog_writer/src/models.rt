@@ -6,11 +6,9 @@ ghost use Rattle.text_io.specs.Desk.{is_bound, HasCause, WritesText};
 ghost use Rattle.verilog_writer.specs.Timing.{has_block};
 ghost use Rattle.verilog_writer.specs.Model.{prelude_text, module_text};
 
-use crate::checks::CheckLines;
 use crate::declarations::{PortLines, Ports, Register};
-use crate::instances::InstanceLines;
 use crate::names::NameLines;
-use crate::paths::PathLines;
+use crate::nets::InModule;
 use crate::primitive::Primitives;
 use specify_blocks::VModule;
 use text_io::{Bytes, Desk, Each, Failed, OutSlot, When, parts, write_part, write_whole};
@@ -49,9 +47,9 @@ pub fn write_model<D: Desk>(desk: &mut D, model: &VModule) -> Result<(), Failed>
     let (inputs, outputs) = (Each(PortLines(true), ports), Each(PortLines(false), ports));
     let inner = Each(NameLines(b"  wire "), model.wires.as_slice());
     let declarations = parts!(inputs, outputs, inner, Register(&model.notifier));
-    let instances = Each(InstanceLines(model), model.instances.as_slice());
-    let paths = Each(PathLines(model), model.paths.as_slice());
-    let checks = Each(CheckLines(model), model.checks.as_slice());
+    let instances = Each(InModule(model), model.instances.as_slice());
+    let paths = Each(InModule(model), model.paths.as_slice());
+    let checks = Each(InModule(model), model.checks.as_slice());
     let lines = parts!(
         Bytes(b"  specify\n"),
         paths,

@@ -1,8 +1,13 @@
-//! The names of a module's parts by their numbers.
+//! A module whose parts are written, and their names by their numbers.
 ghost use Rattle.std.specs.Prelude.{◌≡◌};
 ghost use Rattle.verilog_writer.specs.Nets.{port_at, wire_at, primitive_at, name_or_none, notifier_in, net_at};
 
 use specify_blocks::{VModule, VNet};
+
+/// Items of a module, as they stand in lists and in lines of its text: an input of an instance by its name, an instance by its
+/// call, a path by its ports and delays, a check by its events and limit.
+#[derive(Drop)]
+pub(crate) struct InModule<'a>(pub(crate) &'a VModule);
 
 /// The name of a port, none where there is no such port.
 pub(crate) fn port_at(model: &VModule, port: usize) -> &[u8]

@@ -1,7 +1,7 @@
 //! The lines of paths in a specify block.
 ghost use Rattle.verilog_writer.specs.Timing.{gate_text, path_line, path_text};
 
-use crate::nets::{port_at, wire_at};
+use crate::nets::{InModule, port_at, wire_at};
 use specify_blocks::{Gate, VModule, VPath};
 use text_io::{Bytes, Decimal, Desk, ItemText, Line, OutSlot, Part, Put, parts};
 
@@ -57,11 +57,7 @@ impl Part for PathDelays<'_> {
     }
 }
 
-/// Lines of paths: what stands before a path, and its ports with its delays.
-#[derive(Drop)]
-pub(crate) struct PathLines<'a>(pub(crate) &'a VModule);
-
-impl ItemText<VPath> for PathLines<'_> {
+impl ItemText<VPath> for InModule<'_> {
     ghost text = { λ m path. path_text m.0.now path };
 
     #[tactic(auto, unfolding(crate::specs::Timing::path_text, crate::specs::Timing::delays_text))]

@@ -1,7 +1,7 @@
 //! The rows of a primitive's table.
 ghost use Rattle.verilog_writer.specs.Primitive.{row_text, spaced_text, outcome_text};
 
-use crate::symbols::{level_text, next_text};
+use crate::symbols::{level_symbol, next_symbol};
 use text_io::{Bytes, Desk, Each, ItemText, Line, OutSlot, Part, Put, parts};
 use udp_tables::{Entry, UdpRow};
 
@@ -15,12 +15,11 @@ impl ItemText<Entry> for Entries {
     #[tactic(auto, unfolding(crate::specs::Primitive::spaced_text))]
     fn put<D: Desk>(&self, entry: &Entry, line: &mut Line, desk: &mut D, slot: OutSlot) -> Put {
         match *entry {
-            Entry::Level(level) => line.put_pieces(desk, slot, &[level_text(level), b" "]),
-            Entry::Pair(before, after) => line.put_pieces(
-                desk,
-                slot,
-                &[b"(", level_text(before), level_text(after), b") "],
-            ),
+            Entry::Level(level) => line.put(desk, slot, &[level_symbol(level), b' ']),
+            Entry::Pair(before, after) => {
+                let (before, after) = (level_symbol(before), level_symbol(after));
+                line.put(desk, slot, &[b'(', before, after, b')', b' '])
+            }
             Entry::R => line.put(desk, slot, b"r "),
             Entry::F => line.put(desk, slot, b"f "),
             Entry::P => line.put(desk, slot, b"p "),
@@ -39,12 +38,12 @@ impl Part for Outcome<'_> {
 
     #[tactic(auto, unfolding(crate::specs::Primitive::outcome_text))]
     fn put<D: Desk>(&self, line: &mut Line, desk: &mut D, slot: OutSlot) -> Put {
-        let state = level_text(self.1.state);
-        let next = next_text(self.1.next);
+        let state = level_symbol(self.1.state);
+        let next = next_symbol(self.1.next);
         if self.0 {
-            line.put_pieces(desk, slot, &[b": ", state, b" : ", next, b";\n"])
+            line.put_pieces(desk, slot, &[b": ", &[state], b" : ", &[next], b";\n"])
         } else {
-            line.put_pieces(desk, slot, &[b": ", next, b";\n"])
+            line.put_pieces(desk, slot, &[b": ", &[next], b";\n"])
         }
     }
 }

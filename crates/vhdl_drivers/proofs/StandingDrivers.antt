@@ -32,9 +32,8 @@ maps : (ports : List VPort) (driven : ℕ) → 1 ≤ driven
     → Promises AnyToken (port_map ports driven) (λ drives. AreDrives (output_count ports) drives × (length drives ≡ driven))
 unfolding port_map
 maps ports driven some =
-    behind (λ a. behind (λ b. behind (λ c.
-    in_turn (core_drives is_name is_same data_word enable_word driven ports some)
-    (λ drives h. behind (λ d. behind (λ e. gives h))))))
+    behind (λ a. in_turn (core_drives is_name is_same data_word enable_word driven ports some)
+    (λ drives h. behind (λ b. behind (λ c. gives h))))
 
 calls : (cores : List Core) (ports : List VPort) → Promises AnyToken (section_core cores ports) (MayCall is_same cores ports)
 unfolding section_core driver_signals core_call

@@ -4,11 +4,11 @@ use Rattle.std.specs.Fmt.{digits}
 use Rattle.udp_tables.specs.declared.models.VPort.{VPort}
 use Rattle.vhdl_writer.specs.Assignments.{glitch_data_text, assigned_variables_text, path_call_start_text, path_call_text}
 use Rattle.vhdl_writer.specs.Assignments.{direct_text}
-use Rattle.vhdl_writer.specs.Declarations.{port_text, some_ports_text}
+use Rattle.vhdl_writer.specs.Declarations.{port_text}
 use Rattle.driven_traces.specs.declared.delays.DrivePath.{DrivePath}
 use Rattle.driver_models.specs.declared.model.DriverModel.{DriverModel}
 use Rattle.vhdl_drivers.specs.DriverText.{driver_header_text, signal_text, signals_text, core_text, process_text}
-use Rattle.vhdl_drivers.specs.DriverText.{buffer_text, drive_path_text, driven_line, statements_text, driver_text}
+use Rattle.vhdl_drivers.specs.DriverText.{drive_path_text, driven_line, statements_text, driver_text}
 
 abbrev port : List ℕ → Bool → VPort
 port name input = record { name = name; input = input }
@@ -25,8 +25,8 @@ plain = record {
 plain-text :
     driver_text plain
     ≡ codes "use work.all;\nlibrary IEEE;\nuse IEEE.std_logic_1164.all;\nuse IEEE.VITAL_Timing.all;\nuse IEEE.VITAL_Primitives.all;\nentity TB is\n  port (A : in std_ulogic; Y : out std_ulogic);\nend TB;\narchitecture driven of TB is\n  signal d_1 : std_ulogic;\n  signal e_1 : std_ulogic;\nbegin\n  u_1 : entity work.cell2 port map (A, d_1, e_1);\n  process (A, d_1, e_1)\n    variable z_1 : std_logic := 'X';\n  begin\n    z_1 := VitalBUFIF1 (d_1, e_1);\n    Y <= z_1;\n  end process;\nend driven;\n"
-unfolding plain digits port_text some_ports_text driver_header_text signal_text signals_text core_text process_text
-    assigned_variables_text buffer_text direct_text driven_line statements_text driver_text
+unfolding plain digits port_text driver_header_text signal_text signals_text core_text process_text
+    assigned_variables_text direct_text driven_line statements_text driver_text
 plain-text = refl
 
 abbrev path : ℕ → ℕ → ℕ → ℕ → DrivePath
@@ -45,7 +45,7 @@ gated = record {
 gated-text :
     driver_text gated
     ≡ codes "use work.all;\nlibrary IEEE;\nuse IEEE.std_logic_1164.all;\nuse IEEE.VITAL_Timing.all;\nuse IEEE.VITAL_Primitives.all;\nentity TW is\n  port (Y : out std_ulogic; A : in std_ulogic; N : out std_ulogic; B : in std_ulogic; Z : out std_ulogic);\nend TW;\narchitecture driven of TW is\n  signal d_1 : std_ulogic;\n  signal d_2 : std_ulogic;\n  signal e_1 : std_ulogic;\n  signal e_2 : std_ulogic;\nbegin\n  u_1 : entity work.cell7 port map (d_1, A, N, B, d_2, e_1, e_2);\n  process (A, B, d_1, d_2, e_1, e_2)\n    variable z_1 : std_logic := 'X';\n    variable z_2 : std_logic := 'X';\n    variable g_2 : VitalGlitchDataType;\n  begin\n    z_1 := VitalBUFIF1 (d_1, e_1);\n    z_2 := VitalBUFIF1 (d_2, e_2);\n    Y <= z_1;\n    VitalPathDelay01 (OutSignal => Z, GlitchData => g_2, OutSignalName => \"Z\", OutTemp => z_2, Paths => (0 => (B'last_event, (4 ps, 8 ps), true), 1 => (A'last_event, (5 ps, 9 ps), true)), Mode => VitalTransport);\n  end process;\nend driven;\n"
-unfolding gated digits port_text some_ports_text driver_header_text signal_text signals_text core_text process_text
-    glitch_data_text assigned_variables_text buffer_text drive_path_text path_call_start_text path_call_text direct_text
+unfolding gated digits port_text driver_header_text signal_text signals_text core_text process_text
+    glitch_data_text assigned_variables_text drive_path_text path_call_start_text path_call_text direct_text
     driven_line statements_text driver_text
 gated-text = refl

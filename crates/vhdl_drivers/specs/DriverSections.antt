@@ -95,17 +95,12 @@ unfoldable pub core_start : Grammar (Unit {0})
 core_start = do
   _ ← expect (codes "begin")
   _ ← this_name (Some (codes "u_1"))
-  _ ← expect (codes ":")
-  _ ← expect (codes "entity")
-  _ ← expect (codes "work")
-  expect (codes ".")
+  expect_all (codes ":" ∷ codes "entity" ∷ codes "work" ∷ codes "." ∷ [])
 
 -- "port" "map" "(" terminals ")" ";" behind the name of the core: the places among the outputs that are driven
 unfoldable pub port_map : List VPort → ℕ → Grammar (List ℕ)
 port_map ports driven = do
-  _ ← expect (codes "port")
-  _ ← expect (codes "map")
-  _ ← expect (codes "(")
+  _ ← expect_all (codes "port" ∷ codes "map" ∷ codes "(" ∷ [])
   drives ← terminals.core_terminals is_name is_same data_word enable_word driven ports
   _ ← expect (codes ")")
   _ ← expect (codes ";")

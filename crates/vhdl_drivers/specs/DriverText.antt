@@ -70,7 +70,7 @@ abbrev pub driven_variables_text : DriverModel → ℕ → ℕ → List ℕ
 driven_variables_text m n place = assigned_variables_text n (nat_lt 0 (length (own_paths m n)))
 
 -- the buffer of the driven output with this number, from 1 (IEEE 1076.4-2000, VitalBUFIF1)
-unfoldable pub buffer_text : ℕ → ℕ → List ℕ
+abbrev pub buffer_text : ℕ → ℕ → List ℕ
 buffer_text n place =
     codes "    z_" ++ (decimal n ++ (codes " := VitalBUFIF1 (d_" ++ (decimal n ++ (codes ", e_" ++ (decimal n ++ codes ");\n")))))
 

@@ -3,20 +3,21 @@
 ghost use Rattle.grammar_reader.specs.Reading.{read, Reads};
 ghost use Rattle.vhdl_drivers.specs.DriverSections as spec;
 
-use crate::language::{Cursor, VitalDrivers};
+use crate::language::VitalDrivers;
 use driver_models::{Cores, core_name, core_terminals, declared_wires};
 use driver_texts::CoreCall;
 use grammar_reader::{Read, with_end};
 use sqlite_items::Items;
 use std::alloc::Global;
 use udp_tables::VPort;
+use vhdl_grammar::{Cursor, expect_all};
 
 /// The signals of a driver: how many lead to inputs of buffers.
 #[tactic(auto, unfolding(crate::specs::DriverSections::driver_signals))]
 fn driver_signals(cursor: &mut Cursor, alloc: Global) -> Read<usize>
     ensures { Reads (read spec.driver_signals cursor.old) result cursor.new }
 {
-    declared_wires(cursor, alloc, b"signal", &[b":", b"std_ulogic", b";"])
+    declared_wires::<VitalDrivers>(cursor, alloc, b"signal", &[b":", b"std_ulogic", b";"])
 }
 
 /// What stands before the name of the core.
@@ -26,10 +27,7 @@ fn core_start(cursor: &mut Cursor) -> Read<()>
 {
     cursor.expect(b"begin")?;
     cursor.this_name(b"u_1")?;
-    cursor.expect(b":")?;
-    cursor.expect(b"entity")?;
-    cursor.expect(b"work")?;
-    cursor.expect(b".")
+    expect_all(cursor, &[b":", b"entity", b"work", b"."])
 }
 
 /// What stands behind the name of the core of a driver with these ports and so many driven outputs.
@@ -42,10 +40,8 @@ fn port_map(
 ) -> Read<Items<usize>>
     ensures { Reads (read (spec.port_map ports.now driven) cursor.old) result cursor.new }
 {
-    cursor.expect(b"port")?;
-    cursor.expect(b"map")?;
-    cursor.expect(b"(")?;
-    let drives = core_terminals(cursor, alloc, ports, driven)?;
+    expect_all(cursor, &[b"port", b"map", b"("])?;
+    let drives = core_terminals::<VitalDrivers>(cursor, alloc, ports, driven)?;
     with_end(cursor, &[b")", b";"], drives)
 }
 

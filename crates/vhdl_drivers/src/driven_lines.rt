@@ -1,7 +1,7 @@
 //! The lines of driven outputs, by recursive descent. (IEEE 1076.4-2000, VitalPathDelay01; IEEE 1076-1993, 8.4.)
 
 ghost use Rattle.std.specs.Prelude.{◌≡◌, ◌<◌, ◌^◌, []};
-ghost use Rattle.grammar_reader.specs.Reading.{read, Reads};
+ghost use Rattle.grammar_reader.specs.Reading.{read, Reads, ReadsAs};
 ghost use Rattle.vhdl_drivers.specs.DriverSections as spec;
 
 use crate::buffers::numbered_word;
@@ -44,23 +44,23 @@ pub(crate) struct Outputs<'a> {
 }
 
 impl Outputs<'_> {
-    /// The line of the driven output with this number, from 0, and this name: these paths, and its own.
+    /// The line of the driven output with this number, from 0, and this name. Its paths stand behind those found before then.
     fn line(
         &self,
         cursor: &mut Cursor,
         number: usize,
         name: &[u8],
-        found: Items<DrivePath>,
-    ) -> Read<Items<DrivePath>>
+        found: &mut Items<DrivePath>,
+    ) -> Read<()>
         requires { number < 2 ^ 63 }
-        ensures { Reads (read (spec.line_by self.now.ports.now number name.now found
+        ensures { ReadsAs (λ _. found.new) (read (spec.line_by self.now.ports.now number name.now found.old
             (spec.has_glitch self.now.glitches.now number)) cursor.old) result cursor.new }
     {
         if has_glitch(self.glitches, number) {
             return path_call(cursor, self.alloc, self.ports, number, name, found);
         }
         assignment(cursor, number, name)?;
-        Ok(found)
+        Ok(())
     }
 
     /// The lines of the driven outputs with these names: the paths to them.
@@ -70,7 +70,7 @@ impl Outputs<'_> {
     {
         let mut found = Items::new(self.alloc);
         for (number, name) in names.iter().enumerate() {
-            found = self.line(cursor, number, name.as_slice(), found)?;
+            self.line(cursor, number, name.as_slice(), &mut found)?;
         }
         Ok(found)
     }

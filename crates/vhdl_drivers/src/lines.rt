@@ -47,7 +47,6 @@ pub(crate) struct Buffers;
 impl ItemText<usize> for Buffers {
     ghost text = { λ _ n place. buffer_text n place };
 
-    #[tactic(auto, unfolding(crate::specs::DriverText::buffer_text))]
     fn put<D: Desk>(&self, at: &At<usize>, line: &mut Line, desk: &mut D, slot: OutSlot) -> Put {
         let number = Decimal(at.number as u128);
         TwiceNumbered {

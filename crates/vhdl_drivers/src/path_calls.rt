@@ -1,8 +1,7 @@
 //! The calls of the paths of driven outputs, by recursive descent. (IEEE 1076.4-2000, VitalPathDelay01.)
 
-ghost use Rattle.std.specs.Prelude.{◌≡◌, ◌<◌, ◌^◌, length};
-ghost use Rattle.grammar_reader.specs.Reading.{read, Reads};
-ghost use Rattle.vhdl_grammar.specs.VhdlRules.{this_number};
+ghost use Rattle.std.specs.Prelude.{◌<◌, ◌^◌};
+ghost use Rattle.grammar_reader.specs.Reading.{read, Reads, ReadsAs};
 ghost use Rattle.vhdl_drivers.specs.DriverSections as spec;
 
 use crate::buffers::numbered_word;
@@ -15,13 +14,6 @@ use udp_tables::VPort;
 use vhdl_grammar::{Cursor, Vhdl, expect_all, this_number};
 use vhdl_outputs_reader::delays;
 use vhdl_tokens::is_quoted;
-
-/// The number of the path behind these.
-fn path_number(cursor: &mut Cursor, paths: &[DrivePath]) -> Read<()>
-    ensures { Reads (read (this_number (length paths.now)) cursor.old) result cursor.new }
-{
-    this_number(cursor, paths.len())
-}
 
 /// A path from one of these ports to the driven output with this number, from 0.
 #[derive(Drop)]
@@ -37,7 +29,7 @@ impl RepeatedPart<Vhdl> for NextPath<'_> {
 
     #[tactic(auto, unfolding(crate::specs::DriverSections::drive_path))]
     fn next(&self, cursor: &mut Cursor<'_>, mut paths: Items<DrivePath>) -> Read<Items<DrivePath>> {
-        path_number(cursor, paths.as_slice())?;
+        this_number(cursor, paths.len())?;
         expect_all(cursor, &[b"=>", b"("])?;
         let from = path_from(cursor, self.ports)?;
         expect_all(cursor, &[b"'", b"last_event", b","])?;
@@ -82,7 +74,8 @@ fn path_call_start(cursor: &mut Cursor, number: usize, name: &[u8]) -> Read<()>
     expect_all(cursor, &[b",", b"Paths", b"=>", b"("])
 }
 
-/// The call of the paths from these ports to the driven output with this number, from 0, and this name: these paths, and its own.
+/// The call of the paths from these ports to the driven output with this number, from 0, and this name. They stand behind the
+/// paths that were found before then.
 #[tactic(auto, unfolding(crate::specs::DriverSections::path_call, crate::specs::DriverSections::drive_paths))]
 pub(crate) fn path_call(
     cursor: &mut Cursor,
@@ -90,10 +83,10 @@ pub(crate) fn path_call(
     ports: &[VPort],
     number: usize,
     name: &[u8],
-    mut found: Items<DrivePath>,
-) -> Read<Items<DrivePath>>
+    found: &mut Items<DrivePath>,
+) -> Read<()>
     requires { number < 2 ^ 63 }
-    ensures { Reads (read (spec.path_call ports.now number name.now found) cursor.old) result cursor.new }
+    ensures { ReadsAs (λ _. found.new) (read (spec.path_call ports.now number name.now found.old) cursor.old) result cursor.new }
 {
     cursor.this_name(b"VitalPathDelay01")?;
     path_call_start(cursor, number, name)?;
@@ -107,5 +100,5 @@ pub(crate) fn path_call(
         &[b")", b",", b"Mode", b"=>", b"VitalTransport", b")", b";"],
     )?;
     found.append(own)?;
-    Ok(found)
+    Ok(())
 }

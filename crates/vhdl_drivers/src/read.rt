@@ -5,20 +5,16 @@ use crate::core_call::section_core;
 use crate::front::section_front;
 use crate::language::VitalDrivers;
 use crate::section::section_process;
-use driver_models::{Cores, KnownNames};
-use driver_texts::{DriverSections, SectionFront, SectionRead};
+use driver_models::{Cores, DriverModel, KnownNames};
+use driver_texts::{DriverSections, SectionFront};
 use grammar_reader::Read;
 use lexer::Scan;
 use std::alloc::{AllocError, Global};
-use vhdl_grammar::{Cursor, Vhdl};
+use vhdl_grammar::Cursor;
 use vhdl_tokens::scan;
 
 impl DriverSections for VitalDrivers {
     ghost use Rattle.vhdl_drivers.specs.DriverSections.{vhdl_section_grammar};
-
-    type Front = Vhdl;
-
-    type Rest = Vhdl;
 
     ghost grammar = { vhdl_section_grammar };
 
@@ -35,19 +31,13 @@ impl DriverSections for VitalDrivers {
     }
 
     #[tactic(auto, unfolding(crate::specs::DriverSections::section_rest))]
-    fn rest<'a>(
+    fn rest(
+        cursor: &mut Cursor,
         alloc: Global,
-        before: &mut Cursor<'a>,
         cores: &Cores<'_, VitalDrivers>,
         front: SectionFront,
-    ) -> SectionRead<'a, Vhdl> {
-        let mut inner = before.in_language::<VitalDrivers>(alloc);
-        let call = section_core(&mut inner, alloc, cores, front.ports.as_slice());
-        let mut left = inner.in_language::<Vhdl>(alloc);
-        let driver = match call {
-            Ok(call) => section_process(&mut left, alloc, front, call),
-            Err(stop) => Err(stop),
-        };
-        SectionRead { driver, left }
+    ) -> Read<DriverModel> {
+        let call = section_core(cursor, alloc, cores, front.ports.as_slice())?;
+        section_process(cursor, alloc, front, call)
     }
 }

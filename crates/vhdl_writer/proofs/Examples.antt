@@ -17,7 +17,7 @@ use Rattle.vhdl_writer.specs.Tables.{symbol_apart_text, level_apart_text, state_
 use Rattle.vhdl_writer.specs.Tables.{state_rows_text, state_constant_text, condition_constant_text, is_looked_up}
 use Rattle.vhdl_writer.specs.Tables.{output_table_text, constants_text}
 use Rattle.vhdl_writer.specs.Statements.{one_text, setup_hold_text, recovery_removal_text, period_pulse_text, check_text}
-use Rattle.vhdl_writer.specs.Outputs.{not_zero_text, zero_text, all_zero_text, path_text}
+use Rattle.vhdl_writer.specs.Outputs.{not_zero_text, all_zero_text, path_text}
 
 abbrev port : List ℕ → Bool → VPort
 port name input = record { name = name; input = input }
@@ -75,5 +75,5 @@ gates-text :
     × (constants_text control ≡ codes "  constant c_1 : VitalTruthTableType := (\n    0 => ('-', 'X'));\n")
 unfolding control digits input_text inputs_text next_input_text violated_text condition_text symbol_apart_text level_apart_text
     state_row_text truth_row_text truth_rows_text state_rows_text state_constant_text condition_constant_text is_looked_up
-    output_table_text constants_text not_zero_text zero_text all_zero_text path_text
+    output_table_text constants_text not_zero_text all_zero_text path_text
 gates-text = (refl, refl, refl, refl, refl)

@@ -24,7 +24,7 @@ unfoldable pub port_text : ℕ → VPort → List ℕ
 port_text n port = apart_text (codes "; ") n ++ (port.name ++ direction_text port)
 
 -- the list of ports
-unfoldable pub some_ports_text : List VPort → List ℕ
+abbrev pub some_ports_text : List VPort → List ℕ
 some_ports_text ports = codes "  port (" ++ (numbered_texts port_text 1 ports ++ codes ");\n")
 
 -- the list of ports, where there are ports

@@ -33,7 +33,7 @@ unfoldable pub not_zero_text : VEntity → ℕ → List ℕ
 not_zero_text e i = condition_text e i ++ codes " /= '0'"
 
 -- a condition that is 0, among others
-unfoldable pub zero_text : VEntity → ℕ → ℕ → List ℕ
+abbrev pub zero_text : VEntity → ℕ → ℕ → List ℕ
 zero_text e n i = apart_text (codes " and ") n ++ (condition_text e i ++ codes " = '0'")
 
 -- conditions that are all 0

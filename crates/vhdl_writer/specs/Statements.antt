@@ -121,7 +121,7 @@ unfoldable pub check_text : VEntity → ℕ → TimingCheck → List ℕ
 check_text e n k = kind_text e n k k.kind
 
 -- the report of a check among all of them
-unfoldable pub report_text : ℕ → TimingCheck → List ℕ
+abbrev pub report_text : ℕ → TimingCheck → List ℕ
 report_text n k = apart_text (codes " or ") n ++ (codes "x_" ++ decimal n)
 
 -- what the violation is: whether a check reported

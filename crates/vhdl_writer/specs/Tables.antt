@@ -1,8 +1,8 @@
 -- The text of tables, which constants hold. (IEEE 1076.4-2000, VitalTruthTableType, VitalStateTableType and the VITAL table
 -- symbols; IEEE 1076-1993, 4.3.1.1 and 7.3.2.) The layout is this project's: a row a line, four spaces before it. A table of one
 -- row has the row's index before it.
-use Rattle.std.specs.Prelude.{ℕ, ◌+◌, ◌-◌, Bool, true, false, nat_eq, if◌then◌else◌, List, [], ◌++◌, length, count_by, take}
-use Rattle.std.specs.Prelude.{codes, decimal}
+use Rattle.std.specs.Prelude.{ℕ, ◌+◌, ◌-◌, Bool, true, false, nat_eq, if◌then◌else◌, List, [], ◌∷◌, ◌++◌, length, count_by}
+use Rattle.std.specs.Prelude.{take, codes, decimal}
 use Rattle.trit_cubes.specs.declared.trits.Trit.{Trit}
 use Rattle.trit_cubes.specs.declared.trits.Trit.TheVariants as trit
 use Rattle.vital_models.specs.declared.table.Trits.{Trits}
@@ -21,6 +21,10 @@ use Rattle.vital_models.specs.declared.model.OutValue.TheVariants as value
 use Rattle.vital_models.specs.declared.model.VOutput.{VOutput}
 use Rattle.vital_models.specs.declared.model.VEntity.{VEntity}
 use Rattle.vhdl_writer.specs.Joined.{numbered_texts}
+
+-- a symbol between quotes (IEEE 1076-1993, 13.5)
+abbrev pub quoted : ℕ → List ℕ
+quoted symbol = codes "'" ++ symbol ∷ codes "'"
 
 -- the symbol of what a row of a truth table gives
 abbrev pub value_text : Trit → List ℕ

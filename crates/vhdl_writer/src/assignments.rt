@@ -1,6 +1,6 @@
 //! The variables of an output and the line that assigns it, by its number and its name: of an entity, and of a model of drivers.
 //! (IEEE 1076-1993, 4.3.1.3 and 8.4; IEEE 1076.4-2000, VitalPathDelay01.)
-ghost use Rattle.vhdl_writer.specs.Assignments.{assigned_variables_text, path_call_start_text, assignment_text};
+ghost use Rattle.vhdl_writer.specs.Assignments.{assigned_variables_text, assignment_text};
 
 use text_io::{Bytes, Decimal, Desk, Line, OutSlot, Part, Put, When, parts};
 
@@ -31,31 +31,6 @@ impl Part for AssignedVariables {
     }
 }
 
-/// The call of the paths of the output with this number and this name, up to the paths.
-#[derive(Drop)]
-struct PathCallStart<'a>(usize, &'a [u8]);
-
-impl Part for PathCallStart<'_> {
-    ghost text = { λ s. path_call_start_text s.0 s.1.now };
-
-    #[tactic(auto, unfolding(crate::specs::Assignments::path_call_start_text))]
-    fn put<D: Desk>(&self, line: &mut Line, desk: &mut D, slot: OutSlot) -> Put {
-        let (number, name) = (self.0 as u128, self.1);
-        parts!(
-            Bytes(b"    VitalPathDelay01 (OutSignal => "),
-            Bytes(name),
-            Bytes(b", GlitchData => g_"),
-            Decimal(number),
-            Bytes(b", OutSignalName => \""),
-            Bytes(name),
-            Bytes(b"\", OutTemp => z_"),
-            Decimal(number),
-            Bytes(b", Paths => (")
-        )
-        .put(line, desk, slot)
-    }
-}
-
 /// The line of an output: the call of its paths, or, where it has none, its assignment.
 #[derive(Drop)]
 pub struct Assignment<'a, P> {
@@ -73,13 +48,24 @@ impl<P: Part> Part for Assignment<'_, P> {
     ghost text = { λ a. assignment_text a.number a.name.now a.has_paths (P.text a.paths) };
 
     fn put<D: Desk>(&self, line: &mut Line, desk: &mut D, slot: OutSlot) -> Put {
+        let (number, name) = (self.number as u128, self.name);
         if self.has_paths {
-            let start = PathCallStart(self.number, self.name);
+            let start = parts!(
+                Bytes(b"    VitalPathDelay01 (OutSignal => "),
+                Bytes(name),
+                Bytes(b", GlitchData => g_"),
+                Decimal(number),
+                Bytes(b", OutSignalName => \""),
+                Bytes(name),
+                Bytes(b"\", OutTemp => z_"),
+                Decimal(number),
+                Bytes(b", Paths => (")
+            );
             let end = Bytes(b"), Mode => VitalTransport);\n");
             parts!(start, &self.paths, end).put(line, desk, slot)
         } else {
-            let value = parts!(Decimal(self.number as u128), Bytes(b";\n"));
-            parts!(Bytes(b"    "), Bytes(self.name), Bytes(b" <= z_"), value).put(line, desk, slot)
+            let value = parts!(Decimal(number), Bytes(b";\n"));
+            parts!(Bytes(b"    "), Bytes(name), Bytes(b" <= z_"), value).put(line, desk, slot)
         }
     }
 }

@@ -43,7 +43,6 @@ pub struct PortList<'a>(pub &'a [VPort]);
 impl Part for PortList<'_> {
     ghost text = { λ l. some_ports_text l.0.now };
 
-    #[tactic(auto, unfolding(crate::specs::Declarations::some_ports_text))]
     fn put<D: Desk>(&self, line: &mut Line, desk: &mut D, slot: OutSlot) -> Put {
         let listed = Each(ListedPorts, self.0);
         parts!(Bytes(b"  port ("), listed, Bytes(b");\n")).put(line, desk, slot)

@@ -6,7 +6,7 @@ ghost use Rattle.text_io.specs.Desk.{is_bound, HasCause, WritesText};
 ghost use Rattle.vhdl_writer.specs.Entity.{entity_text};
 
 use crate::declarations::{Header, Process, end_text};
-use crate::outputs::{OutputLines, ValueLines};
+use crate::outputs::ValueLines;
 use crate::parts::{Each, InEntity};
 use crate::states::ListedReports;
 use crate::tables::ConstantLines;
@@ -44,7 +44,7 @@ pub fn write_entity<D: Desk>(desk: &mut D, entity: &VEntity) -> Result<(), Faile
         When(checks.len() > 0, violation),
         Each(InEntity(entity), states),
         Each(ValueLines(entity), outputs),
-        Each(OutputLines(entity), outputs)
+        Each(InEntity(entity), outputs)
     );
     let begin = Bytes(b"  begin\n");
     let end = Bytes(end_text(entity));

@@ -52,7 +52,6 @@ struct Zeros<'a>(&'a VEntity);
 impl ItemText<usize> for Zeros<'_> {
     ghost text = { λ m n i. zero_text m.0.now n i };
 
-    #[tactic(auto, unfolding(crate::specs::Outputs::zero_text))]
     fn put<D: Desk>(&self, at: &At<usize>, line: &mut Line, desk: &mut D, slot: OutSlot) -> Put {
         let start = Bytes(apart(b" and ", at.number));
         parts!(start, Condition(self.0, *at.item), Bytes(b" = '0'")).put(line, desk, slot)
@@ -103,11 +102,7 @@ impl ItemText<HPath> for InEntity<'_> {
     }
 }
 
-/// Lines of outputs.
-#[derive(Drop)]
-pub(crate) struct OutputLines<'a>(pub(crate) &'a VEntity);
-
-impl ItemText<VOutput> for OutputLines<'_> {
+impl ItemText<VOutput> for InEntity<'_> {
     ghost text = { λ m n output. output_line m.0.now n output };
 
     fn put<D: Desk>(&self, at: &At<VOutput>, line: &mut Line, desk: &mut D, slot: OutSlot) -> Put {

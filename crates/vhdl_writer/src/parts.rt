@@ -35,7 +35,7 @@ pub trait ItemText<T> {
 }
 
 /// Items of an entity, as they stand in lists and in lines of its text: an input and a source by its name, a check and a state by
-/// its call, a path by its ports and delays.
+/// its call, a path by its ports and delays, an output by the line that assigns it.
 #[derive(Drop)]
 pub(crate) struct InEntity<'a>(pub(crate) &'a VEntity);
 

@@ -15,7 +15,6 @@ pub(crate) struct ListedReports;
 impl ItemText<TimingCheck> for ListedReports {
     ghost text = { λ _ n k. report_text n k };
 
-    #[tactic(auto, unfolding(crate::specs::Statements::report_text))]
     fn put<D: Desk>(&self, at: &CheckAt, line: &mut Line, desk: &mut D, slot: OutSlot) -> Put {
         let number = Decimal(at.number as u128);
         parts!(Bytes(apart(b" or ", at.number)), Bytes(b"x_"), number).put(line, desk, slot)

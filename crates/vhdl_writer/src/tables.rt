@@ -5,7 +5,7 @@ ghost use Rattle.vhdl_writer.specs.Tables.{state_constant_text, condition_consta
 ghost use Rattle.vhdl_writer.specs.Tables.{output_table_text, output_constant_text};
 
 use crate::parts::{At, Each, ItemText};
-use crate::symbols::{Columns, level_text, next_text, value_text};
+use crate::symbols::{Columns, Quoted, level_symbol, next_symbol, value_symbol};
 use text_io::{Bytes, Decimal, Desk, Line, OutSlot, Part, Put, parts};
 use vital_models::{OutValue, TruthRow, TruthTable, VEntity, VOutput, VState, VStateRow, VTruth};
 
@@ -37,9 +37,9 @@ impl ItemText<VStateRow> for Rows {
         parts!(
             Bytes(row_start(self.0, at.number)),
             Each(Columns, at.item.inputs.as_slice()),
-            Bytes(level_text(at.item.state)),
+            Quoted(level_symbol(at.item.state)),
             Bytes(b", "),
-            Bytes(next_text(at.item.result)),
+            Quoted(next_symbol(at.item.result)),
             Bytes(b")")
         )
         .put(line, desk, slot)
@@ -53,7 +53,7 @@ impl ItemText<TruthRow> for Rows {
     fn put<D: Desk>(&self, at: &At<TruthRow>, line: &mut Line, desk: &mut D, slot: OutSlot) -> Put {
         let start = Bytes(row_start(self.0, at.number));
         let columns = Each(Columns, at.item.inputs.as_slice());
-        let result = Bytes(value_text(at.item.result));
+        let result = Quoted(value_symbol(at.item.result));
         parts!(start, columns, result, Bytes(b")")).put(line, desk, slot)
     }
 }

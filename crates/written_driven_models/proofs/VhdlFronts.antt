@@ -22,7 +22,8 @@ use Rattle.vhdl_drivers.specs.WellFormed.{IsWrittenDriver, IsWellFormedDriver}
 use Rattle.written_modules.proofs.grammar_reader.Fronts.{each}
 use Rattle.written_modules.proofs.grammar_reader.Derivations.{Reads, gives, token, in_turn}
 use Rattle.written_entities.proofs.Names.{entity_named}
-use Rattle.written_entities.proofs.NameReading.{expected, four_expected, six_expected, newly_named, known_as, so_named}
+use Rattle.written_entities.proofs.NameReading.{expected, three_expected, four_expected, six_expected, newly_named, known_as}
+use Rattle.written_entities.proofs.NameReading.{so_named}
 use Rattle.written_entities.proofs.HeaderReading.{packages_read, ports_front, AreDeclared, port_list_read}
 use Rattle.written_driven_models.proofs.WholeSections.{front_of, call_of}
 use Rattle.written_driven_models.proofs.NumberedDrives.{Numbered}
@@ -90,8 +91,7 @@ instance_is_name = refl
 start_read : (s : List (List ℕ)) → Reads core_start
     (codes "begin" ∷ codes "u_1" ∷ codes ":" ∷ codes "entity" ∷ codes "work" ∷ codes "." ∷ s) tt s
 unfolding core_start
-start_read s = in_turn expected (in_turn (token (rw instance_is_name refl))
-    (in_turn expected (in_turn expected (in_turn expected expected))))
+start_read s = in_turn expected (in_turn (token (rw instance_is_name refl)) four_expected)
 
 module _ (names : List (List ℕ)) (cores : List Core) (m : DriverModel) (h : IsWellFormedDriver names cores m) where
   pub front_read : (s : List (List ℕ)) → Reads (section_front names) (driver_header_front m s) (front_of m) s
@@ -109,11 +109,10 @@ module _ (names : List (List ℕ)) (cores : List Core) (m : DriverModel) (h : Is
       (codes "port" ∷ codes "map" ∷ codes "(" ∷ terminals_front m (codes ")" ∷ codes ";" ∷ s)) m.driver.drives s
   unfolding port_map
   map_read s =
-      in_turn expected (in_turn expected
-      (in_turn expected (in_turn (terminals_read (length (outputs m.ports)) (driven_count m) m.ports
+      in_turn three_expected (in_turn (terminals_read (length (outputs m.ports)) (driven_count m) m.ports
       (ports_of m) m.driver.drives (codes ")" ∷ codes ";" ∷ s)
       (sound.numbered m h.written.sound) (terminals_free m h.written) h.written.some refl refl)
-      (in_turn expected (in_turn expected gives)))))
+      (in_turn expected (in_turn expected gives)))
 
   pub core_read : (s : List (List ℕ))
       → Reads (section_core cores m.ports) (signals_front (driven_count m) (core_front m s)) (call_of m) s

@@ -254,7 +254,6 @@ buffer_word : {t : Bool} → Spells Anything t
 buffer_word = literal (λ r. refl) refl
 
 buffer_spelled : (n place : ℕ) → IsCount n → Spells Anything false (buffer_text n place) (buffer_front n place) false
-unfolding buffer_text
 buffer_spelled n place h =
     part_behind 122 n refl h indented (λ r q. refl)
     (part_behind 100 n refl h buffer_word (λ r q. refl) (part_behind 101 n refl h comma (λ r q. refl) call_end))

@@ -124,7 +124,6 @@ AreNamed ports = (before : List VPort) (port : VPort) (after : List VPort) → b
 -- ports, of which there is one at least
 pub some_ports_spelled : (port : VPort) (ports : List VPort) → AreNamed (port ∷ ports)
     → Spells Anything false (some_ports_text (port ∷ ports)) (ports_front (port ∷ ports)) false
-unfolding some_ports_text
 some_ports_spelled port ports h =
     behind ports_word (joins (apart_spelled (codes "; ") (λ q. codes ";" ∷ q) port_text (λ n x. x.name ++ direction_text x)
     port_front port_text_is semicolon (λ r. refl) port ports

@@ -80,10 +80,6 @@ all_below e seen is others h before i after same =
     looks_below e (seen_after seen before) i (after ++ others)
     (behind_look_ups (length e.conditions) seen before (i ∷ (after ++ others)) (subst (Looks e seen) split h))
 
-zero_text_is : (e : VEntity) (n i : ℕ) → zero_text e n i ≡ apart_text (codes " and ") n ++ (condition_text e i ++ codes " = '0'")
-unfolding zero_text
-zero_text_is e n i = refl
-
 zeros_spelled : (e : VEntity) → IsWellFormedEntity e → (is : List ℕ) → nat_lt 0 (length is) ≡ true
     → ((before : List ℕ) (i : ℕ) (after : List ℕ) → before ++ i ∷ after ≡ is → i < length e.conditions)
     → Spells Anything false (all_zero_text e is) (apart_front (λ q. codes "and" ∷ q) (zero_front e) is) false
@@ -91,7 +87,7 @@ unfolding all_zero_text
 zeros_spelled e w [] some h = absurd (cc some)
 zeros_spelled e w (i ∷ is) some h =
     apart_spelled (codes " and ") (λ q. codes "and" ∷ q) (zero_text e) (λ n j. condition_text e j ++ codes " = '0'")
-    (zero_front e) (zero_text_is e) and_word (λ r. tt) i is
+    (zero_front e) (λ n j. refl) and_word (λ r. tt) i is
     (λ before j after same. behind (condition_spelled e w j (h before j after same)) is_zero)
 
 gate_spelled : (e : VEntity) → IsWellFormedEntity e → (seen : ℕ) (g : HGate) (others : List ℕ)

@@ -8,7 +8,6 @@ use Rattle.vital_models.specs.declared.model.VEntity.{VEntity}
 use Rattle.vhdl_tokens.specs.Words.{is_reserved, is_used, vhdl_words, used_words}
 use Rattle.vhdl_grammar.specs.VhdlChecks.{checks, next_report, any_report, violation}
 use Rattle.vhdl_grammar.specs.WellFormed.{IsWellFormedEntity}
-use Rattle.vhdl_writer.specs.Joined.{apart_text}
 use Rattle.vhdl_writer.specs.Statements.{report_text, reports_text, violation_text}
 use Rattle.grammar_reader.proofs.Fronts.{Front, Anything}
 use Rattle.grammar_reader.proofs.Derivations.{Reads, to_same, gives, in_turn, no_turn, turn, turns, goes_on}
@@ -42,10 +41,6 @@ violation_by (k ∷ checks) s = codes "viol" ∷ codes ":=" ∷ apart_front (λ 
 abbrev pub violation_front : VEntity → Front
 violation_front e s = violation_by e.checks s
 
-report_text_is : (n : ℕ) (k : TimingCheck) → report_text n k ≡ apart_text (codes " or ") n ++ (120 ∷ 95 ∷ decimal n)
-unfolding report_text
-report_text_is n k = refl
-
 violation_by_spelled : (e : VEntity) → IsWellFormedEntity e → (checks : List TimingCheck) → checks ≡ e.checks
     → Spells Anything false (violation_text checks) (violation_by checks) false
 unfolding reports_text
@@ -53,7 +48,7 @@ violation_by_spelled e w [] same = nothing
 violation_by_spelled e w (k ∷ checks) same =
     shown (nat_lt 0 (length (k ∷ checks))) (some_items (length checks))
     (behind violation_start (joins (apart_spelled {P = Ends} (codes " or ") (λ q. codes "or" ∷ q) report_text
-    (λ n x. 120 ∷ 95 ∷ decimal n) report_front report_text_is or_word (λ r. refl) k checks
+    (λ n x. 120 ∷ 95 ∷ decimal n) report_front (λ n x. refl) or_word (λ r. refl) k checks
     (λ before x after at. part 120 (length before + 1) refl
     (check_number e w (length before + 1) (place_below before x after e.checks (at ∙ same))))) (λ r q. refl) line_end))
 

@@ -34,11 +34,9 @@ module_word : Spells Anything false (codes "module ") (λ s. codes "module" ∷ 
 module_word = literal (λ r. refl) refl
 
 a_port : (port : VPort) → IsNamedPort port → Spells Ends false (next_port_text port) (next_port port) false
-unfolding next_port_text
 a_port port n = behind comma (name port.name n)
 
 port_begins : (port : VPort) (r : List ℕ) → Ends r → Ends (next_port_text port ++ r)
-unfolding next_port_text
 port_begins port r e = refl
 
 pub ports : (all : List VPort) → AllByRecursion IsNamedPort all → Spells Ends false (ports_text all) (listed all) false

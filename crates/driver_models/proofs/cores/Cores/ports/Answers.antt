@@ -20,5 +20,5 @@ returns g c =
     let is : position_from (λ (core : Core). bytes_eq (fold x) (fold core.name)) 0 cores ≡ Some n =
     sym (c.self.invariant.first (fold x)) ∙ ap (option_and_then (slice_get c.self.inside.firsts)) number ∙ first in
     c.ports_at.ensures ∙ ap (λ (all : List Core). ports_at all n) (sym c.self.view_is)
-    ∙ sym (ports_found fold g.L.Language.is_name g.L.Language.is_same g.met.L.DriverLanguage.same cores x c.requires ∙ ap (option_and_then (ports_at cores)) is)
-    ∙ ap (λ (all : List Core). core_ports g.L.Language.is_same all x) c.self.view_is
+    ∙ sym (ports_found fold g.L.Spelling.Language.is_name g.L.Spelling.Language.is_same g.met.L.DriverLanguage.same cores x c.requires ∙ ap (option_and_then (ports_at cores)) is)
+    ∙ ap (λ (all : List Core). core_ports g.L.Spelling.Language.is_same all x) c.self.view_is

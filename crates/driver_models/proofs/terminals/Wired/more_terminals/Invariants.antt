@@ -5,5 +5,5 @@ use Rattle.driver_models.proofs.terminals.Wired.more_terminals.Given as goal
 
 abbrev pub invariant-loop-port : goal.invariant-loop-port
 invariant-loop-port g l =
-    read (more_terminals g.L.Language.is_name g.L.Language.is_same g.L.DriverLanguage.value g.L.DriverLanguage.enable l.self.count (drop l.port-index l.ports) l.found) l.cursor
-    ≡ read (more_terminals g.L.Language.is_name g.L.Language.is_same g.L.DriverLanguage.value g.L.DriverLanguage.enable l.self.count l.ports l.initial.found) l.initial.cursor
+    read (more_terminals g.L.Spelling.Language.is_name g.L.Spelling.Language.is_same g.L.DriverLanguage.value g.L.DriverLanguage.enable l.self.count (drop l.port-index l.ports) l.found) l.cursor
+    ≡ read (more_terminals g.L.Spelling.Language.is_name g.L.Spelling.Language.is_same g.L.DriverLanguage.value g.L.DriverLanguage.enable l.self.count l.ports l.initial.found) l.initial.cursor

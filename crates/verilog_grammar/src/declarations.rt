@@ -146,19 +146,21 @@ pub fn module_inputs(cursor: &mut Cursor, alloc: Global, mut found: Inputs) -> R
 
 /// A declared output, behind its word: of the ports that are no inputs, the next one from a place on.
 #[derive(Drop)]
-struct DeclaredOutput<'a>(&'a [VPort]);
+struct DeclaredOutput<'a> {
+    ports: &'a [VPort],
+}
 
 impl RepeatedPart<Verilog> for DeclaredOutput<'_> {
     type Found = usize;
 
-    ghost reading = { λ output from s. read (spec.declared_output output.0.now from) s };
+    ghost reading = { λ output from s. read (spec.declared_output output.ports.now from) s };
 
     #[tactic(auto, unfolding(crate::specs::VerilogModules::declared_output))]
     fn next(&self, cursor: &mut Cursor<'_>, from: usize) -> Read<usize> {
-        let Some(place) = output_place(self.0, from) else {
+        let Some(place) = output_place(self.ports, from) else {
             return Err(Stop::Refused(cursor.no_name()));
         };
-        let Some(port) = self.0.get(place) else {
+        let Some(port) = self.ports.get(place) else {
             return Err(Stop::Refused(cursor.no_name()));
         };
         cursor.this_name(port.name.as_slice())?;
@@ -172,7 +174,7 @@ impl RepeatedPart<Verilog> for DeclaredOutput<'_> {
 pub fn module_outputs(cursor: &mut Cursor, ports: &[VPort]) -> Read<()>
     ensures { Reads (read (spec.declared_outputs ports.now) cursor.old) result cursor.new }
 {
-    let from = while_next(cursor, b"output", &DeclaredOutput(ports), 0)?;
+    let from = while_next(cursor, b"output", &DeclaredOutput { ports }, 0)?;
     cursor.go_on_where(output_place(ports, from).is_none())
 }
 
@@ -200,13 +202,13 @@ pub fn module_declarations(
     let wires = module_wires(cursor, alloc, ports.as_slice())?;
     let notifier = module_notifier(cursor, alloc, ports.as_slice(), wires.as_slice())?;
     Ok(VModule {
+        instances: Items::new(alloc),
+        paths: Items::new(alloc),
+        checks: Items::new(alloc),
         name,
         ports,
         wires,
         notifier,
         udps,
-        instances: Items::new(alloc),
-        paths: Items::new(alloc),
-        checks: Items::new(alloc),
     })
 }

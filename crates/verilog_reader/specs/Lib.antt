@@ -1,4 +1,5 @@
 pub mod Checks
+pub mod Paths
 pub mod File
 pub mod Begun
 pub mod NameSearch

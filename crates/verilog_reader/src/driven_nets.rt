@@ -11,15 +11,6 @@ use sqlite_items::Items;
 use std::alloc::Global;
 use verilog_grammar::modules::{VModule, VNet};
 
-/// Which nets the instances of a module drive: a mark for each port, one for each wire that is driven as a state, and one for
-/// each wire that is driven without a state. Nothing is told of a net without a mark.
-#[derive(Drop)]
-pub struct DrivenNets {
-    pub ports: Items<bool>,
-    pub states: Items<bool>,
-    pub values: Items<bool>,
-}
-
 /// Sets a mark, where there is one.
 #[tactic(auto, using(crate::proofs::DrivenNets::set_behind))]
 fn mark(marks: &mut Items<bool>, at: usize)
@@ -37,6 +28,15 @@ fn unset(alloc: Global, count: usize) -> Read<Items<bool>>
 {
     let marks = vec![in alloc; false; count]?;
     Ok(Items::from_vec(marks))
+}
+
+/// Which nets the instances of a module drive: a mark for each port, one for each wire that is driven as a state, and one for
+/// each wire that is driven without a state. Nothing is told of a net without a mark.
+#[derive(Drop)]
+pub struct DrivenNets {
+    pub ports: Items<bool>,
+    pub states: Items<bool>,
+    pub values: Items<bool>,
 }
 
 impl DrivenNets {

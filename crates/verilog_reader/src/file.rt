@@ -18,12 +18,12 @@ use verilog_grammar::module_declarations;
 use verilog_grammar::modules::VModule;
 use verilog_udp_reader::{Cursor, Verilog, declare, primitive};
 
-/// What stands before a place of a text: the modules, the names of all primitives and modules, and the primitives behind the
+/// What stands before a place of a text: the names of all primitives and modules, the modules, and the primitives behind the
 /// last module.
 #[derive(Drop)]
 pub struct Before {
-    pub modules: Vec<VModule>,
     pub names: Names,
+    pub modules: Vec<VModule>,
     pub udps: Vec<Udp>,
 }
 

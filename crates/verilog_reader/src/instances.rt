@@ -9,7 +9,7 @@ ghost use Rattle.verilog_reader.specs.NameSearch.{udp_name};
 ghost use Rattle.verilog_reader.specs.Netlist.{MayFind};
 ghost use Rattle.grammar_reader.specs.Reading.{read, Reads, ReadsAs};
 
-use crate::connections::{driven_terminal, first_terminal, more_terminals};
+use crate::connections::{FedInstance, driven_terminal};
 use crate::name_search::{many_names, place_of};
 use crate::netlist::Netlist;
 use crate::nets::is_sequential;
@@ -69,8 +69,13 @@ fn call_inputs<'a>(
         cursor.new }
 {
     let sequential = is_sequential(model.module().udps.as_slice(), udp);
-    let mut found = first_terminal(cursor, alloc, model, sequential, output, name)?;
-    more_terminals(cursor, model, sequential, output, &mut found)?;
+    let instance = FedInstance {
+        model,
+        sequential,
+        output,
+    };
+    let mut found = instance.first_terminal(cursor, alloc, name)?;
+    instance.more_terminals(cursor, &mut found)?;
     let NamedItems { items: inputs, .. } = found;
     let whole = inputs.len() == input_count(model.module().udps.as_slice(), udp);
     cursor.expect_where(whole, Refusal::Width, b")")?;

@@ -8,6 +8,7 @@ ghost use Rattle.verilog_grammar.specs.specify_blocks.Nets as nets;
 ghost use Rattle.verilog_grammar.specs.VerilogBlocks as spec;
 ghost use Rattle.grammar_reader.specs.Reading.{read, Reads};
 ghost use Rattle.grammar_reader.specs.Next.{next_bytes, rest};
+ghost use Rattle.verilog_reader.specs.Paths.{delays};
 
 use crate::netlist::Netlist;
 use crate::nets::is_output_port;
@@ -68,15 +69,6 @@ pub fn input_name(cursor: &mut Cursor, model: &Netlist) -> Read<usize>
     cursor.known(found)
 }
 
-/// The name of an output.
-#[tactic(auto, unfolding(verilog_grammar::specs::VerilogBlocks::an_output))]
-fn output_name(cursor: &mut Cursor, model: &Netlist) -> Read<usize>
-    ensures { Reads (read (spec.an_output model.now) cursor.old) result cursor.new }
-{
-    let found = output_of(model, cursor.bytes());
-    cursor.known(found)
-}
-
 /// The name of a condition.
 #[tactic(auto, unfolding(verilog_grammar::specs::VerilogBlocks::a_condition))]
 pub fn condition_name(cursor: &mut Cursor, model: &Netlist) -> Read<usize>
@@ -121,18 +113,12 @@ fn path_gate(cursor: &mut Cursor, model: &Netlist) -> Read<Gate>
     }
 }
 
-/// A path, of which the first token is next.
-#[tactic(auto, unfolding(verilog_grammar::specs::VerilogBlocks::path))]
-fn path(cursor: &mut Cursor, model: &Netlist) -> Read<VPath>
-    ensures { Reads (read (spec.path model.now (next_bytes cursor.old)) (rest cursor.old)) result cursor.new }
+/// The delays of a path between these ports, behind their bracket, and its end.
+#[inline(always)]
+#[tactic(auto, unfolding(crate::specs::Paths::delays))]
+fn delays(cursor: &mut Cursor, from: usize, to: usize, gate: Gate) -> Read<VPath>
+    ensures { Reads (read (delays from to gate) cursor.old) result cursor.new }
 {
-    let gate = path_gate(cursor, model)?;
-    let from = input_name(cursor, model)?;
-    cursor.expect(b"=>")?;
-    let to = output_name(cursor, model)?;
-    cursor.expect(b")")?;
-    cursor.expect(b"=")?;
-    cursor.expect(b"(")?;
     let rise = number(cursor)?;
     cursor.expect(b",")?;
     let fall = number(cursor)?;
@@ -144,6 +130,30 @@ fn path(cursor: &mut Cursor, model: &Netlist) -> Read<VPath>
         gate,
     };
     with_end(cursor, &[b")", b";"], path)
+}
+
+/// The name of an output.
+#[tactic(auto, unfolding(verilog_grammar::specs::VerilogBlocks::an_output))]
+fn output_name(cursor: &mut Cursor, model: &Netlist) -> Read<usize>
+    ensures { Reads (read (spec.an_output model.now) cursor.old) result cursor.new }
+{
+    let found = output_of(model, cursor.bytes());
+    cursor.known(found)
+}
+
+/// A path, of which the first token is next.
+#[tactic(auto, unfolding(verilog_grammar::specs::VerilogBlocks::path, crate::specs::Paths::delays))]
+fn path(cursor: &mut Cursor, model: &Netlist) -> Read<VPath>
+    ensures { Reads (read (spec.path model.now (next_bytes cursor.old)) (rest cursor.old)) result cursor.new }
+{
+    let gate = path_gate(cursor, model)?;
+    let from = input_name(cursor, model)?;
+    cursor.expect(b"=>")?;
+    let to = output_name(cursor, model)?;
+    cursor.expect(b")")?;
+    cursor.expect(b"=")?;
+    cursor.expect(b"(")?;
+    delays(cursor, from, to, gate)
 }
 
 /// The paths of a specify block, in a list without room for more.

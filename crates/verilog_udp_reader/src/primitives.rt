@@ -1,6 +1,6 @@
 //! Primitives, by recursive descent. (IEEE 1364-2005, clause 8.)
 
-ghost use Rattle.std.specs.Prelude.{◌≡◌, [], ◌∷◌, ◌++◌, IfOk, OnOk};
+ghost use Rattle.std.specs.Prelude.{◌≡◌, [], ◌∷◌, ◌++◌, IfOk};
 ghost use Rattle.grammar_reader.specs.declared.refusal.Refusal.TheVariants.{Syntax};
 ghost use Rattle.udp_tables.specs.VerilogPrimitives as spec;
 ghost use Rattle.grammar_reader.specs.Reading.{read, Token, Many, Reads, ReadsAs};
@@ -11,6 +11,7 @@ ghost use Rattle.verilog_udp_reader.specs.Headers.{header_of, header_rest, heade
 use crate::declared::declare;
 use crate::language::{Cursor, Verilog};
 use crate::named_items::NamedItems;
+use crate::named_parts::{NamedPart, add_listed};
 use crate::row::{begins_entry, row};
 use crate::text_names::{TextNames, new_name};
 use bool_functions::Names;
@@ -56,48 +57,30 @@ fn first_name<'a>(cursor: &mut Cursor<'a>, alloc: Global) -> Read<(SmallBytes, T
     Ok((name, names))
 }
 
-/// Adds one more input of a header with this output.
-#[inline(always)]
-#[tactic(auto, unfolding(udp_tables::specs::VerilogPrimitives::next_input))]
-fn next_input<'a>(
-    cursor: &mut Cursor<'a>,
+/// An input of a header with this output.
+#[derive(Clone, Copy)]
+struct HeaderInput<'o> {
     alloc: Global,
-    output: &[u8],
-    found: &mut HeaderInputs<'a>,
-) -> Read<()>
-    requires { found.old.names ≡ output.now ∷ found.old.items }
-    ensures reads { ReadsAs (λ _. found.new.items) (read (spec.next_input output.now found.old.items) cursor.old) result
-        cursor.new }
-    ensures named { OnOk result (found.new.names ≡ output.now ∷ found.new.items) }
-{
-    let name = new_name(cursor, &found.names)?;
-    let input = SmallBytes::from_slice(alloc, name)?;
-    found.add(input, name)
+    output: &'o [u8],
 }
 
-/// Adds the inputs of a header with this output behind these.
-#[tactic(auto, unfolding(udp_tables::specs::VerilogPrimitives::more_inputs), using(grammar_reader::proofs::Repeats::turns))]
-fn more_inputs<'a>(
-    cursor: &mut Cursor<'a>,
-    alloc: Global,
-    output: &[u8],
-    found: &mut HeaderInputs<'a>,
-) -> Read<()>
-    requires { found.old.names ≡ output.now ∷ found.old.items }
-    ensures { ReadsAs (λ _. found.new.items) (read (spec.more_inputs output.now found.old.items) cursor.old) result cursor.new }
-{
-    for _turn in 0..cursor.left() {
-        if !cursor.is_next(b",") {
-            break;
-        }
-        cursor.skip();
-        next_input(cursor, alloc, output, found)?;
+impl NamedPart for HeaderInput<'_> {
+    type Item = SmallBytes;
+
+    ghost are_named = { λ input names items. names ≡ input.output.now ∷ items };
+
+    ghost reading = { λ input items s. read (spec.next_input input.output.now items) s };
+
+    #[tactic(auto, unfolding(udp_tables::specs::VerilogPrimitives::next_input))]
+    fn add<'a>(&self, cursor: &mut Cursor<'a>, found: &mut HeaderInputs<'a>) -> Read<()> {
+        let name = new_name(cursor, &found.names)?;
+        let input = SmallBytes::from_slice(self.alloc, name)?;
+        found.add(input, name)
     }
-    Ok(())
 }
 
 /// The inputs of a header with this output, of which these are the names, and its end.
-#[tactic(auto, unfolding(crate::specs::Headers::header_rest))]
+#[tactic(auto, unfolding(crate::specs::Headers::header_rest, udp_tables::specs::VerilogPrimitives::more_inputs))]
 fn header_rest<'a>(
     cursor: &mut Cursor<'a>,
     alloc: Global,
@@ -109,8 +92,9 @@ fn header_rest<'a>(
 {
     let items = Items::new(alloc);
     let mut found = NamedItems { items, names };
-    next_input(cursor, alloc, output, &mut found)?;
-    more_inputs(cursor, alloc, output, &mut found)?;
+    let input = HeaderInput { alloc, output };
+    input.add(cursor, &mut found)?;
+    add_listed(cursor, &input, &mut found)?;
     let may = found.items.len() <= MOST_INPUTS;
     cursor.expect_where(may, Refusal::Width, b")")?;
     cursor.expect(b";")?;

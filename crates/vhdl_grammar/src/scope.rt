@@ -28,19 +28,6 @@ pub struct Variables {
     pub glitches: Items<bool>,
 }
 
-/// The declarations of an entity and of its architecture.
-#[derive(Drop)]
-pub struct Scope {
-    /// The entity's name, in bytes.
-    pub name: Items<u8>,
-    /// The ports, in order.
-    pub ports: Items<VPort>,
-    /// The tables.
-    pub tables: Tables,
-    /// The variables.
-    pub variables: Variables,
-}
-
 /// The input columns of the table of a state.
 #[derive(Drop)]
 pub struct Columns {
@@ -57,4 +44,17 @@ pub enum Assigned {
     Constant(bool),
     /// What the next table of the outputs gives for these input ports and states.
     Lookup(Items<Source>),
+}
+
+/// The declarations of an entity and of its architecture.
+#[derive(Drop)]
+pub struct Scope {
+    /// The entity's name, in bytes.
+    pub name: Items<u8>,
+    /// The ports, in order.
+    pub ports: Items<VPort>,
+    /// The tables.
+    pub tables: Tables,
+    /// The variables.
+    pub variables: Variables,
 }

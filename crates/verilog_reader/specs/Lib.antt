@@ -1,5 +1,4 @@
 pub mod Checks
-pub mod Paths
 pub mod File
 pub mod Begun
 pub mod NameSearch

@@ -1,18 +1,19 @@
 //! The nets that an instance is connected to, by recursive descent. (IEEE 1364-2005, 8.6.)
 
-ghost use Rattle.std.specs.Prelude.{◌≡◌, Some, IfOk};
+ghost use Rattle.std.specs.Prelude.{◌≡◌, ◌∷◌, [], Some, IfOk, IfErr};
 ghost use Rattle.verilog_grammar.specs.VerilogModules as spec;
 ghost use Rattle.grammar_reader.specs.Next.{next_bytes};
 ghost use Rattle.grammar_reader.specs.Reading.{read, Reads};
+ghost use Rattle.verilog_reader.specs.Terminals.{AreNamed};
 
 use crate::netlist::Netlist;
 use crate::terminals::{may_drive, may_feed, net_of};
-use grammar_reader::{Read, Refusal, Stop};
+use grammar_reader::{Read, Refusal, Stop, where_read};
 use sqlite_items::Items;
 use std::alloc::Global;
 use verilog_grammar::modules::VNet;
 use verilog_tokens::is_name;
-use verilog_udp_reader::{Cursor, NamedItems, TextNames};
+use verilog_udp_reader::{Cursor, NamedItems, NamedPart, TextNames, add_listed};
 
 /// The nets that feed an instance so far, and the names of the net that it drives and of these, as they stand in the text.
 type Terminals<'a> = NamedItems<'a, VNet>;
@@ -39,6 +40,20 @@ pub fn driven_terminal(cursor: &mut Cursor, model: &Netlist, sequential: bool) -
     Ok(net)
 }
 
+/// No net that feeds an instance, where its output has this name.
+fn no_terminals<'a>(alloc: Global, output: &'a [u8]) -> Read<Terminals<'a>>
+    ensures none { IfOk result (λ found. found.items ≡ []) }
+    ensures named { IfOk result (λ found. found.names ≡ output.now ∷ []) }
+    ensures memory { IfErr result (λ stop. stop ≡ Stop.Memory) }
+{
+    let mut names = TextNames::new(alloc);
+    names.add(output)?;
+    Ok(NamedItems {
+        items: Items::new(alloc),
+        names,
+    })
+}
+
 /// The instance whose inputs are read: whether it has a state, and the net that it drives.
 #[derive(Clone, Copy)]
 pub struct FedInstance<'m> {
@@ -48,7 +63,7 @@ pub struct FedInstance<'m> {
 }
 
 impl FedInstance<'_> {
-    ghost use Rattle.std.specs.Prelude.{◌≡◌, ◌∷◌, [], false, Some, IfOk, OnOk};
+    ghost use Rattle.std.specs.Prelude.{◌≡◌, ◌∷◌, [], false, Some, IfOk};
     ghost use Rattle.udp_tables.specs.VerilogRules.{is_among};
     ghost use Rattle.verilog_grammar.specs.VerilogModules as spec;
     ghost use Rattle.grammar_reader.specs.Next.{next_bytes};
@@ -81,21 +96,8 @@ impl FedInstance<'_> {
         Ok(net)
     }
 
-    /// Adds one more net that feeds the instance.
-    #[inline(always)]
-    #[tactic(auto, unfolding(verilog_grammar::specs::VerilogModules::next_input), using(crate::proofs::SameTerminals::named_more))]
-    fn next_terminal<'a>(&self, cursor: &mut Cursor<'a>, found: &mut Terminals<'a>) -> Read<()>
-        requires { AreNamed self.now.model.now found.old.names (self.now.output ∷ found.old.items) }
-        ensures reads { ReadsAs (λ _. found.new.items) (read (spec.next_input self.now.model.now self.now.sequential
-            self.now.output found.old.items) cursor.old) result cursor.new }
-        ensures named { OnOk result (AreNamed self.now.model.now found.new.names (self.now.output ∷ found.new.items)) }
-    {
-        let token = cursor.bytes();
-        let net = self.feeding_terminal(cursor, found)?;
-        found.add(net, token)
-    }
-
     /// The first net that feeds the instance, behind the name of its output.
+    #[tactic(auto, using(crate::proofs::WholeParts::part_read, crate::proofs::WholeParts::part_kept))]
     pub fn first_terminal<'a>(
         &self,
         cursor: &mut Cursor<'a>,
@@ -107,28 +109,40 @@ impl FedInstance<'_> {
             self.now.output []) cursor.old) result cursor.new }
         ensures named { IfOk result (λ more. AreNamed self.now.model.now more.names (self.now.output ∷ more.items)) }
     {
-        let mut names = TextNames::new(alloc);
-        names.add(name)?;
-        let items = Items::new(alloc);
-        let mut found = NamedItems { items, names };
-        self.next_terminal(cursor, &mut found)?;
-        Ok(found)
+        let mut found = no_terminals(alloc, name)?;
+        let first = self.add(cursor, &mut found);
+        where_read(found, first)
     }
 
-    /// Adds the nets that feed the instance behind these.
-    #[tactic(auto, unfolding(verilog_grammar::specs::VerilogModules::more_inputs), using(grammar_reader::proofs::Repeats::turns))]
-    pub fn more_terminals<'a>(&self, cursor: &mut Cursor<'a>, found: &mut Terminals<'a>) -> Read<()>
-        requires { AreNamed self.now.model.now found.old.names (self.now.output ∷ found.old.items) }
-        ensures { ReadsAs (λ _. found.new.items) (read (spec.more_inputs self.now.model.now self.now.sequential
-            self.now.output found.old.items) cursor.old) result cursor.new }
+    /// The nets that feed the instance, of which these stand before.
+    #[tactic(auto, unfolding(verilog_grammar::specs::VerilogModules::more_inputs), using(grammar_reader::proofs::WithRest::reads_before))]
+    pub fn all_terminals<'a>(
+        &self,
+        cursor: &mut Cursor<'a>,
+        before: Terminals<'a>,
+    ) -> Read<Items<VNet>>
+        requires { AreNamed self.now.model.now before.names (self.now.output ∷ before.items) }
+        ensures { Reads (read (spec.more_inputs self.now.model.now self.now.sequential self.now.output before.entry.items)
+            cursor.old) result cursor.new }
     {
-        for _turn in 0..cursor.left() {
-            if !cursor.is_next(b",") {
-                break;
-            }
-            cursor.skip();
-            self.next_terminal(cursor, found)?;
-        }
-        Ok(())
+        let mut found = before;
+        let more = add_listed(cursor, self, &mut found);
+        let NamedItems { items: nets, .. } = found;
+        where_read(nets, more)
+    }
+}
+
+impl NamedPart for FedInstance<'_> {
+    type Item = VNet;
+
+    ghost are_named = { λ fed names nets. AreNamed fed.model.now names (fed.output ∷ nets) };
+
+    ghost reading = { λ fed nets s. read (spec.next_input fed.model.now fed.sequential fed.output nets) s };
+
+    #[tactic(auto, unfolding(verilog_grammar::specs::VerilogModules::next_input), using(crate::proofs::SameTerminals::named_more))]
+    fn add<'a>(&self, cursor: &mut Cursor<'a>, found: &mut Terminals<'a>) -> Read<()> {
+        let token = cursor.bytes();
+        let net = self.feeding_terminal(cursor, found)?;
+        found.add(net, token)
     }
 }

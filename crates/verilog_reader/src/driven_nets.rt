@@ -5,6 +5,7 @@ ghost use Rattle.udp_tables.specs.declared.table.Udp.{Udp};
 ghost use Rattle.verilog_grammar.specs.specify_blocks.declared.model.Instance.{Instance};
 ghost use Rattle.verilog_reader.specs.DrivenNets.{AreDriven};
 
+use crate::all_made::{AllMade, all_made};
 use crate::nets::{FEW, has_state};
 use grammar_reader::{Read, Stop};
 use sqlite_items::Items;
@@ -21,15 +22,6 @@ fn mark(marks: &mut Items<bool>, at: usize)
     }
 }
 
-/// So many marks that are not set.
-fn unset(alloc: Global, count: usize) -> Read<Items<bool>>
-    ensures unset { IfOk result (λ marks. marks ≡ replicate count false) }
-    ensures memory { IfErr result (λ stop. stop ≡ Stop.Memory) }
-{
-    let marks = vec![in alloc; false; count]?;
-    Ok(Items::from_vec(marks))
-}
-
 /// Which nets the instances of a module drive: a mark for each port, one for each wire that is driven as a state, and one for
 /// each wire that is driven without a state. Nothing is told of a net without a mark.
 #[derive(Drop)]
@@ -37,6 +29,15 @@ pub struct DrivenNets {
     pub ports: Items<bool>,
     pub states: Items<bool>,
     pub values: Items<bool>,
+}
+
+/// So many marks that are not set.
+fn unset(alloc: Global, count: usize) -> Read<Items<bool>>
+    ensures unset { IfOk result (λ marks. marks ≡ replicate count false) }
+    ensures memory { IfErr result (λ stop. stop ≡ Stop.Memory) }
+{
+    let marks = vec![in alloc; false; count]?;
+    Ok(Items::from_vec(marks))
 }
 
 impl DrivenNets {
@@ -85,9 +86,12 @@ fn undriven(alloc: Global, ports: usize, wires: usize) -> Read<DrivenNets>
     ensures undriven { IfOk result (λ driven. (udps : List Udp) → AreDriven driven udps []) }
     ensures memory { IfErr result (λ stop. stop ≡ Stop.Memory) }
 {
-    let ports = unset(alloc, ports)?;
-    let states = unset(alloc, wires)?;
-    let values = unset(alloc, wires)?;
+    let ports = unset(alloc, ports);
+    let AllMade {
+        first: ports,
+        second: states,
+        third: values,
+    } = all_made(ports, unset(alloc, wires), unset(alloc, wires))?;
     Ok(DrivenNets {
         ports,
         states,

@@ -8,7 +8,6 @@ ghost use Rattle.verilog_grammar.specs.specify_blocks.Nets as nets;
 ghost use Rattle.verilog_grammar.specs.VerilogBlocks as spec;
 ghost use Rattle.grammar_reader.specs.Reading.{read, Reads};
 ghost use Rattle.grammar_reader.specs.Next.{next_bytes, rest};
-ghost use Rattle.verilog_reader.specs.Paths.{delays};
 
 use crate::netlist::Netlist;
 use crate::nets::is_output_port;
@@ -115,21 +114,23 @@ fn path_gate(cursor: &mut Cursor, model: &Netlist) -> Read<Gate>
 
 /// The delays of a path between these ports, behind their bracket, and its end.
 #[inline(always)]
-#[tactic(auto, unfolding(crate::specs::Paths::delays))]
 fn delays(cursor: &mut Cursor, from: usize, to: usize, gate: Gate) -> Read<VPath>
-    ensures { Reads (read (delays from to gate) cursor.old) result cursor.new }
+    ensures { Reads (read (spec.delays from to gate) cursor.old) result cursor.new }
 {
     let rise = number(cursor)?;
     cursor.expect(b",")?;
     let fall = number(cursor)?;
-    let path = VPath {
-        from,
-        to,
-        rise,
-        fall,
-        gate,
-    };
-    with_end(cursor, &[b")", b";"], path)
+    with_end(
+        cursor,
+        &[b")", b";"],
+        VPath {
+            gate,
+            from,
+            to,
+            rise,
+            fall,
+        },
+    )
 }
 
 /// The name of an output.
@@ -142,7 +143,7 @@ fn output_name(cursor: &mut Cursor, model: &Netlist) -> Read<usize>
 }
 
 /// A path, of which the first token is next.
-#[tactic(auto, unfolding(verilog_grammar::specs::VerilogBlocks::path, crate::specs::Paths::delays))]
+#[tactic(auto, unfolding(verilog_grammar::specs::VerilogBlocks::path))]
 fn path(cursor: &mut Cursor, model: &Netlist) -> Read<VPath>
     ensures { Reads (read (spec.path model.now (next_bytes cursor.old)) (rest cursor.old)) result cursor.new }
 {

@@ -28,15 +28,6 @@ pub struct Variables {
     pub glitches: Items<bool>,
 }
 
-/// The input columns of the table of a state.
-#[derive(Drop)]
-pub struct Columns {
-    /// Whether the violation comes first.
-    pub violation: bool,
-    /// The numbers of the input ports behind it.
-    pub inputs: Items<usize>,
-}
-
 /// What is assigned to the variable of an output.
 #[derive(Drop)]
 pub enum Assigned {
@@ -57,4 +48,13 @@ pub struct Scope {
     pub tables: Tables,
     /// The variables.
     pub variables: Variables,
+}
+
+/// The input columns of the table of a state.
+#[derive(Drop)]
+pub struct Columns {
+    /// Whether the violation comes first.
+    pub violation: bool,
+    /// The numbers of the input ports behind it.
+    pub inputs: Items<usize>,
 }

@@ -1,7 +1,7 @@
 //! Why a reading stops.
 
 ghost use Rattle.std.specs.Prelude.{◌≡◌};
-ghost use Rattle.grammar_reader.specs.declared.refusal.Stop.TheVariants.{Memory as NoMemory};
+ghost use Rattle.grammar_reader.specs.declared.refusal.Stop.TheVariants as stop;
 
 use std::alloc::{AllocError, AllocFailed};
 
@@ -30,7 +30,7 @@ pub enum Stop {
 pub type Read<A> = Result<A, Stop>;
 
 impl From<AllocError> for Stop {
-    ghost from_gives = { λ _ e. e ≡ NoMemory };
+    ghost from_gives = { λ _ e. e ≡ stop.Memory };
 
     fn from(_: AllocError) -> Stop {
         Stop::Memory
@@ -38,7 +38,7 @@ impl From<AllocError> for Stop {
 }
 
 impl<T: Drop> From<AllocFailed<T>> for Stop {
-    ghost from_gives = { λ _ e. e ≡ NoMemory };
+    ghost from_gives = { λ _ e. e ≡ stop.Memory };
 
     fn from(_: AllocFailed<T>) -> Stop {
         Stop::Memory

@@ -6,7 +6,7 @@ ghost use Rattle.specify_blocks.specs.Generated.{each_from, group_instance, cond
 ghost use Rattle.specify_blocks.specs.Generated.{output_instances, instances_of};
 
 use crate::model::{Instance, VNet};
-use crate::nets::{add_notifier, pin_net, pin_nets, source_nets};
+use crate::nets::{add_notifier, nets_of, pin_net};
 use bool_functions::Function;
 use cell_machine::{Cell, OutputPin, StateGroup, Values};
 use cell_tables::{ModelSource, has_sources};
@@ -50,7 +50,7 @@ fn group_instance(
 ) -> Result<Instance, AllocError>
     ensures { IfOk result (λ instance. instance ≡ group_instance (data_of cell.now) g group.now) }
 {
-    let mut inputs = pin_nets(alloc, cell.pins.as_slice(), group.support.as_slice())?;
+    let mut inputs = nets_of(alloc, cell.pins.as_slice(), group.support.as_slice())?;
     add_notifier(&mut inputs, cell)?;
     Ok(Instance::Primitive {
         udp: g,
@@ -87,7 +87,7 @@ fn condition_instance(
 {
     let wire = cell.groups.len() + i;
     let names = condition.support(alloc)?;
-    let inputs = pin_nets(alloc, cell.pins.as_slice(), &names)?;
+    let inputs = nets_of(alloc, cell.pins.as_slice(), &names)?;
     Ok(Instance::Primitive {
         udp: wire,
         output: VNet::Wire(wire),
@@ -132,7 +132,7 @@ fn output_instance(
         Ok(Instance::Primitive {
             udp: next,
             output: net,
-            inputs: source_nets(alloc, pins, output.support.as_slice())?,
+            inputs: nets_of(alloc, pins, output.support.as_slice())?,
         })
     } else {
         Ok(Instance::Constant {

@@ -28,32 +28,46 @@ fn source_net(pins: &[Pin], source: Source) -> VNet
     }
 }
 
-/// The nets of pins, in order.
-pub(crate) fn pin_nets(
-    alloc: Global,
-    pins: &[Pin],
-    support: &[usize],
-) -> Result<Items<VNet>, AllocError>
-    ensures { IfOk result (λ nets. nets ≡ map (pin_net pins.now) support.now) }
-{
-    let mut nets = Items::new(alloc);
-    for pin in support {
-        nets.push(pin_net(pins, *pin))?;
-    }
-    Ok(nets)
+/// What a net of a cell stands for.
+pub(crate) trait HasNet: Copy {
+    ghost use Rattle.std.specs.Prelude.{◌≡◌, List};
+    ghost use Rattle.cell_machine.specs.declared.pins.Pin.{Pin};
+    ghost use Rattle.specify_blocks.specs.declared.model.VNet.{VNet};
+
+    ghost net_of: { List Pin → Self → VNet };
+
+    /// The net, where the cell has these pins.
+    fn net(self, pins: &[Pin]) -> VNet
+        ensures { result ≡ net_of pins.now self };
 }
 
-/// The nets of sources, in order.
-pub(crate) fn source_nets(
+impl HasNet for usize {
+    ghost net_of = { pin_net };
+
+    fn net(self, pins: &[Pin]) -> VNet {
+        pin_net(pins, self)
+    }
+}
+
+impl HasNet for Source {
+    ghost net_of = { source_net };
+
+    fn net(self, pins: &[Pin]) -> VNet {
+        source_net(pins, self)
+    }
+}
+
+/// The nets of pins or of sources, in order.
+pub(crate) fn nets_of<S: HasNet>(
     alloc: Global,
     pins: &[Pin],
-    support: &[Source],
+    support: &[S],
 ) -> Result<Items<VNet>, AllocError>
-    ensures { IfOk result (λ nets. nets ≡ map (source_net pins.now) support.now) }
+    ensures { IfOk result (λ nets. nets ≡ map (S.net_of pins.now) support.now) }
 {
     let mut nets = Items::new(alloc);
-    for source in support {
-        nets.push(source_net(pins, *source))?;
+    for stands in support {
+        nets.push((*stands).net(pins))?;
     }
     Ok(nets)
 }

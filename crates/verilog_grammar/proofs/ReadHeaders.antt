@@ -22,7 +22,7 @@ use Rattle.verilog_grammar.specs.WellFormed.{register_names, inner_names}
 use Rattle.verilog_grammar.proofs.ReadNames.{IsSpelled, AreNames, a_name, push_name, no_names, one_name, fits_same, some_if}
 use Rattle.verilog_grammar.proofs.ReadNames.{new_names, known_values, behind}
 
--- Headers.
+-- Headers, whose ports are names of which none stands twice.
 
 abbrev AreNamed : List VPort → Type 0
 AreNamed ports = AreNames (port_names ports)

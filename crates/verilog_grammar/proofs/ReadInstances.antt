@@ -35,15 +35,14 @@ use Rattle.verilog_grammar.proofs.ReadNames.{IsSpelled, fits_if, fits_unless, wh
 -- a module with these instances, paths and checks, and otherwise as this one
 abbrev pub filled : VModule → List Instance → List VPath → List TimingCheck → VModule
 filled b is ps cs = record {
+  instances = is;
+  paths = ps;
+  checks = cs;
   name = b.name;
   ports = b.ports;
   wires = b.wires;
   notifier = b.notifier;
   udps = b.udps;
-  instances =
-      is;
-  paths = ps;
-  checks = cs;
 }
 
 abbrev built : VModule → List Instance → VModule

@@ -23,6 +23,9 @@ use Rattle.grammar_reader.specs.Words.{fresh}
 use Rattle.udp_tables.specs.VerilogRules.{expect_where, any_name, is_among, new_name, known}
 use Rattle.verilog_grammar.specs.WellFormed.{IsName, AreApart}
 
+pub fits_same : {A : Type 0} (x a : A) → ◌≡◌ {A = Verdict A Refusal} (Fits x) (Fits a) → x ≡ a
+fits_same x a e = cc
+
 -- a token that begins as a name is one whole identifier
 abbrev pub IsSpelled : List ℕ → Type 0
 IsSpelled x = IsTrue (is_name x) → IsTrue (is_identifier x)
@@ -34,9 +37,6 @@ a_name (b ∷ bs) h e = record {
   no_word =
       (and_parts (is_ascii_alphabetic b || b == 95) (not (is_verilog_word (b ∷ bs))) e).1;
 }
-
-pub fits_same : {A : Type 0} (x a : A) → ◌≡◌ {A = Verdict A Refusal} (Fits x) (Fits a) → x ≡ a
-fits_same x a e = cc
 
 -- Names.
 

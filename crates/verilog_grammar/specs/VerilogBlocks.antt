@@ -78,6 +78,16 @@ gate_by m false false = r.Gives gate.Always
 unfoldable pub path_gate : VModule → List ℕ → Grammar Gate
 path_gate m x = gate_by m (bytes_eq x (codes "if")) (bytes_eq x (codes "ifnone"))
 
+-- NUM "," NUM ")" ";" behind the bracket: the path between these ports with its delays
+abbrev pub delays : ℕ → ℕ → Gate → Grammar VPath
+delays from to when = do
+  rise ← a_number
+  _ ← expect (codes ",")
+  fall ← a_number
+  _ ← expect (codes ")")
+  _ ← expect (codes ";")
+  r.Gives (record { from = from; to = to; rise = rise; fall = fall; gate = when })
+
 -- [ "if" "(" NAME ")" | "ifnone" ] "(" NAME "=>" NAME ")" "=" "(" NUM "," NUM ")" ";" behind its first token: a parallel path
 -- from an input to an output, with the delays of a rise and of a fall (14.2.1, 14.3.1)
 unfoldable pub path : VModule → List ℕ → Grammar VPath
@@ -89,12 +99,7 @@ path m x = do
   _ ← expect (codes ")")
   _ ← expect (codes "=")
   _ ← expect (codes "(")
-  rise ← a_number
-  _ ← expect (codes ",")
-  fall ← a_number
-  _ ← expect (codes ")")
-  _ ← expect (codes ";")
-  r.Gives (record { from = from; to = to; rise = rise; fall = fall; gate = when })
+  delays from to when
 
 unfoldable pub next_path : VModule → List VPath → List ℕ → Grammar (List VPath)
 next_path m paths x = path m x >>= λ another. r.Gives (paths ++ another ∷ [])

@@ -105,11 +105,7 @@ file = do
 
 -- the tokens of Verilog, its grammar and its faults
 abbrev pub language : Texts (List VModule) ModelFault
-language = record {
-  lexis = lexis;
-  file = file;
-  faults = model_faults;
-}
+language = record { lexis = lexis; file = file; faults = model_faults }
 
 -- The bytes are the text of these modules: they are tokens, without a lexical fault, that the grammar takes.
 abbrev pub IsVerilogText : List ℕ → List VModule → Type 0

@@ -1,6 +1,6 @@
 //! The declarations of a module, by recursive descent. (IEEE 1364-2005, 12.1 and 12.3, and A.1 to A.3.)
 
-ghost use Rattle.std.specs.Prelude.{◌≡◌, IfOk, OnOk};
+ghost use Rattle.std.specs.Prelude.{◌≡◌, [], ◌∷◌, IfOk, IfErr};
 ghost use Rattle.udp_tables.specs.VerilogRules.{known};
 ghost use Rattle.verilog_grammar.specs.VerilogModules as spec;
 ghost use Rattle.grammar_reader.specs.Reading.{read, Reads, ReadsAs};
@@ -8,13 +8,13 @@ ghost use Rattle.verilog_grammar.specs.Headers.{inputs_of};
 
 use crate::ports::{output_place, port_place};
 use crate::wires::{module_notifier, module_wires};
-use grammar_reader::{Read, Refusal, RepeatedPart, Stop, while_next, with_end};
+use grammar_reader::{Read, Refusal, RepeatedPart, Stop, where_read, while_next, with_end};
 use specify_blocks::VModule;
 use sqlite_items::Items;
 use std::alloc::Global;
 use udp_tables::{SmallBytes, Udp, VPort};
 use verilog_tokens::is_name;
-use verilog_udp_reader::{Cursor, NamedItems, TextNames, Verilog, new_name};
+use verilog_udp_reader::{Cursor, NamedItems, NamedPart, TextNames, Verilog, add_listed, new_name};
 
 /// The ports of a header with those that are declared inputs, and the place behind the last of these.
 #[derive(Drop)]
@@ -26,61 +26,62 @@ pub struct Inputs {
 /// The ports of a header so far, with their names.
 type HeaderPorts<'a> = NamedItems<'a, VPort>;
 
-/// Adds one more port of a header.
-#[tactic(auto, unfolding(crate::specs::VerilogModules::next_port))]
-fn next_port<'a>(cursor: &mut Cursor<'a>, alloc: Global, found: &mut HeaderPorts<'a>) -> Read<()>
-    requires { found.old.names ≡ spec.port_names found.old.items }
-    ensures reads { ReadsAs (λ _. found.new.items) (read (spec.next_port found.old.items) cursor.old) result cursor.new }
-    ensures named { OnOk result (found.new.names ≡ spec.port_names found.new.items) }
+/// A port of a header.
+#[derive(Clone, Copy)]
+struct HeaderPort {
+    alloc: Global,
+}
+
+impl NamedPart for HeaderPort {
+    type Item = VPort;
+
+    ghost are_named = { λ _ names ports. names ≡ spec.port_names ports };
+
+    ghost reading = { λ _ ports s. read (spec.next_port ports) s };
+
+    #[tactic(auto, unfolding(crate::specs::VerilogModules::next_port))]
+    fn add<'a>(&self, cursor: &mut Cursor<'a>, found: &mut HeaderPorts<'a>) -> Read<()> {
+        let name = new_name(cursor, &found.names)?;
+        let port = VPort {
+            name: SmallBytes::from_slice(self.alloc, name)?,
+            input: false,
+        };
+        found.add(port, name)
+    }
+}
+
+/// One port of a header, with its name.
+fn one_port<'a>(alloc: Global, name: &'a [u8]) -> Read<HeaderPorts<'a>>
+    ensures port { IfOk result (λ found. found.items ≡ spec.plain_port name.now ∷ []) }
+    ensures named { IfOk result (λ found. found.names ≡ spec.port_names found.items) }
+    ensures memory { IfErr result (λ stop. stop ≡ Stop.Memory) }
 {
-    let name = new_name(cursor, &found.names)?;
+    let mut found = NamedItems {
+        items: Items::new(alloc),
+        names: TextNames::new(alloc),
+    };
     let port = VPort {
         name: SmallBytes::from_slice(alloc, name)?,
         input: false,
     };
-    found.add(port, name)
-}
-
-/// Adds the ports of a header behind these.
-#[tactic(auto, unfolding(crate::specs::VerilogModules::more_ports), using(grammar_reader::proofs::Repeats::turns))]
-fn more_ports<'a>(cursor: &mut Cursor<'a>, alloc: Global, found: &mut HeaderPorts<'a>) -> Read<()>
-    requires { found.old.names ≡ spec.port_names found.old.items }
-    ensures { ReadsAs (λ _. found.new.items) (read (spec.more_ports found.old.items) cursor.old) result cursor.new }
-{
-    for _turn in 0..cursor.left() {
-        if !cursor.is_next(b",") {
-            break;
-        }
-        cursor.skip();
-        next_port(cursor, alloc, found)?;
-    }
-    Ok(())
+    found.add(port, name)?;
+    Ok(found)
 }
 
 /// The ports of a header.
-#[tactic(auto, unfolding(crate::specs::VerilogModules::some_ports), using(crate::proofs::Headers::choose_port, crate::proofs::Headers::choose_no_port))]
+#[tactic(auto, unfolding(crate::specs::VerilogModules::some_ports, crate::specs::VerilogModules::more_ports), using(crate::proofs::Headers::choose_port, crate::proofs::Headers::choose_no_port, grammar_reader::proofs::WithRest::reads_before))]
 pub fn some_ports(cursor: &mut Cursor, alloc: Global) -> Read<Items<VPort>>
     ensures { Reads (read spec.some_ports cursor.old) result cursor.new }
 {
-    let mut ports = Items::new(alloc);
     let token = cursor.bytes();
     if !is_name(token) {
-        return Ok(ports);
+        return Ok(Items::new(alloc));
     }
-    ports.push(VPort {
-        name: SmallBytes::from_slice(alloc, token)?,
-        input: false,
-    })?;
-    let mut names = TextNames::new(alloc);
-    names.add(token)?;
+    let mut found = one_port(alloc, token)?;
     cursor.skip();
-    let mut found = NamedItems {
-        items: ports,
-        names,
-    };
-    more_ports(cursor, alloc, &mut found)?;
+    let more = add_listed(cursor, &HeaderPort { alloc }, &mut found);
     let NamedItems { items: ports, .. } = found;
-    Ok(ports)
+    where_read(ports, more)
 }
 
 /// The header of a module, behind its name.
@@ -146,19 +147,21 @@ pub fn module_inputs(cursor: &mut Cursor, alloc: Global, mut found: Inputs) -> R
 
 /// A declared output, behind its word: of the ports that are no inputs, the next one from a place on.
 #[derive(Drop)]
-struct DeclaredOutput<'a>(&'a [VPort]);
+struct DeclaredOutput<'a> {
+    ports: &'a [VPort],
+}
 
 impl RepeatedPart<Verilog> for DeclaredOutput<'_> {
     type Found = usize;
 
-    ghost reading = { λ output from s. read (spec.declared_output output.0.now from) s };
+    ghost reading = { λ output from s. read (spec.declared_output output.ports.now from) s };
 
     #[tactic(auto, unfolding(crate::specs::VerilogModules::declared_output))]
     fn next(&self, cursor: &mut Cursor<'_>, from: usize) -> Read<usize> {
-        let Some(place) = output_place(self.0, from) else {
+        let Some(place) = output_place(self.ports, from) else {
             return Err(Stop::Refused(cursor.no_name()));
         };
-        let Some(port) = self.0.get(place) else {
+        let Some(port) = self.ports.get(place) else {
             return Err(Stop::Refused(cursor.no_name()));
         };
         cursor.this_name(port.name.as_slice())?;
@@ -172,7 +175,7 @@ impl RepeatedPart<Verilog> for DeclaredOutput<'_> {
 pub fn module_outputs(cursor: &mut Cursor, ports: &[VPort]) -> Read<()>
     ensures { Reads (read (spec.declared_outputs ports.now) cursor.old) result cursor.new }
 {
-    let from = while_next(cursor, b"output", &DeclaredOutput(ports), 0)?;
+    let from = while_next(cursor, b"output", &DeclaredOutput { ports }, 0)?;
     cursor.go_on_where(output_place(ports, from).is_none())
 }
 
@@ -188,25 +191,22 @@ pub fn module_declarations(
     ensures named { IfOk result (λ model. model.name ≡ name) }
 {
     let plain = module_header(cursor, alloc)?;
-    let Inputs { ports, .. } = module_inputs(
-        cursor,
-        alloc,
-        Inputs {
-            ports: plain,
-            behind: 0,
-        },
-    )?;
+    let none = Inputs {
+        ports: plain,
+        behind: 0,
+    };
+    let Inputs { ports, .. } = module_inputs(cursor, alloc, none)?;
     module_outputs(cursor, ports.as_slice())?;
     let wires = module_wires(cursor, alloc, ports.as_slice())?;
     let notifier = module_notifier(cursor, alloc, ports.as_slice(), wires.as_slice())?;
     Ok(VModule {
+        instances: Items::new(alloc),
+        paths: Items::new(alloc),
+        checks: Items::new(alloc),
         name,
         ports,
         wires,
         notifier,
         udps,
-        instances: Items::new(alloc),
-        paths: Items::new(alloc),
-        checks: Items::new(alloc),
     })
 }

@@ -7,3 +7,4 @@ pub mod Begun
 pub mod DrivenNets
 pub mod FoundNets
 pub mod SameTerminals
+pub mod WholeParts

@@ -1,20 +1,19 @@
 //! The nets that an instance is connected to, by recursive descent. (IEEE 1364-2005, 8.6.)
 
-ghost use Rattle.std.specs.Prelude.{◌≡◌, ◌∷◌, [], false, Some, IfOk, OnOk};
-ghost use Rattle.udp_tables.specs.VerilogRules.{is_among};
+ghost use Rattle.std.specs.Prelude.{◌≡◌, ◌∷◌, [], Some, IfOk, IfErr};
 ghost use Rattle.verilog_grammar.specs.VerilogModules as spec;
 ghost use Rattle.grammar_reader.specs.Next.{next_bytes};
-ghost use Rattle.grammar_reader.specs.Reading.{read, Reads, ReadsAs};
+ghost use Rattle.grammar_reader.specs.Reading.{read, Reads};
 ghost use Rattle.verilog_reader.specs.Terminals.{AreNamed};
 
 use crate::netlist::Netlist;
 use crate::terminals::{may_drive, may_feed, net_of};
-use grammar_reader::{Read, Refusal, Stop};
+use grammar_reader::{Read, Refusal, Stop, where_read};
 use sqlite_items::Items;
 use std::alloc::Global;
 use verilog_grammar::modules::VNet;
 use verilog_tokens::is_name;
-use verilog_udp_reader::{Cursor, NamedItems, TextNames};
+use verilog_udp_reader::{Cursor, NamedItems, NamedPart, TextNames, add_listed};
 
 /// The nets that feed an instance so far, and the names of the net that it drives and of these, as they stand in the text.
 type Terminals<'a> = NamedItems<'a, VNet>;
@@ -41,99 +40,109 @@ pub fn driven_terminal(cursor: &mut Cursor, model: &Netlist, sequential: bool) -
     Ok(net)
 }
 
-/// A net that feeds an instance with this output and these inputs already.
-#[tactic(auto, unfolding(verilog_grammar::specs::VerilogModules::feeding_terminal), using(crate::proofs::NamedNets::other, crate::proofs::NamedNets::no_net, crate::proofs::NamedNets::barred))]
-fn feeding_terminal(
-    cursor: &mut Cursor,
-    model: &Netlist,
-    sequential: bool,
-    output: VNet,
-    before: &Terminals<'_>,
-) -> Read<VNet>
-    requires { AreNamed model.now before.now.names (output ∷ before.now.items) }
-    ensures reads { Reads (read (spec.feeding_terminal model.now sequential (output ∷ before.now.items)) cursor.old) result
-        cursor.new }
-    ensures named { IfOk result (λ net. spec.net_of model.now (next_bytes cursor.old) ≡ Some net) }
-    ensures fresh { IfOk result (λ _. is_among before.now.names (next_bytes cursor.old) ≡ false) }
-{
-    let token = cursor.bytes();
-    if !is_name(token) {
-        return Err(Stop::Refused(Refusal::Syntax));
-    }
-    let Some(net) = net_of(model, token) else {
-        return Err(Stop::Refused(Refusal::Undefined));
-    };
-    if !may_feed(model, sequential, net) {
-        return Err(Stop::Refused(Refusal::Undefined));
-    }
-    if before.names.has(token) {
-        return Err(Stop::Refused(Refusal::Twice));
-    }
-    cursor.skip();
-    Ok(net)
-}
-
-/// Adds one more net that feeds an instance.
-#[inline(always)]
-#[tactic(auto, unfolding(verilog_grammar::specs::VerilogModules::next_input), using(crate::proofs::SameTerminals::named_more))]
-fn next_terminal<'a>(
-    cursor: &mut Cursor<'a>,
-    model: &Netlist,
-    sequential: bool,
-    output: VNet,
-    found: &mut Terminals<'a>,
-) -> Read<()>
-    requires { AreNamed model.now found.old.names (output ∷ found.old.items) }
-    ensures reads { ReadsAs (λ _. found.new.items) (read (spec.next_input model.now sequential output found.old.items) cursor.old)
-        result cursor.new }
-    ensures named { OnOk result (AreNamed model.now found.new.names (output ∷ found.new.items)) }
-{
-    let token = cursor.bytes();
-    let net = feeding_terminal(cursor, model, sequential, output, found)?;
-    found.add(net, token)
-}
-
-/// The first net that feeds an instance, behind the name of its output.
-pub fn first_terminal<'a>(
-    cursor: &mut Cursor<'a>,
-    alloc: Global,
-    model: &Netlist,
-    sequential: bool,
-    output: VNet,
-    name: &'a [u8],
-) -> Read<Terminals<'a>>
-    requires { spec.net_of model.now name.now ≡ Some output }
-    ensures reads { ReadsAs (λ more. more.items) (read (spec.next_input model.now sequential output []) cursor.old) result
-        cursor.new }
-    ensures named { IfOk result (λ more. AreNamed model.now more.names (output ∷ more.items)) }
+/// No net that feeds an instance, where its output has this name.
+fn no_terminals<'a>(alloc: Global, output: &'a [u8]) -> Read<Terminals<'a>>
+    ensures none { IfOk result (λ found. found.items ≡ []) }
+    ensures named { IfOk result (λ found. found.names ≡ output.now ∷ []) }
+    ensures memory { IfErr result (λ stop. stop ≡ Stop.Memory) }
 {
     let mut names = TextNames::new(alloc);
-    names.add(name)?;
-    let items = Items::new(alloc);
-    let mut found = NamedItems { items, names };
-    next_terminal(cursor, model, sequential, output, &mut found)?;
-    Ok(found)
+    names.add(output)?;
+    Ok(NamedItems {
+        items: Items::new(alloc),
+        names,
+    })
 }
 
-/// Adds the nets that feed an instance behind these.
-#[tactic(auto, unfolding(verilog_grammar::specs::VerilogModules::more_inputs), using(grammar_reader::proofs::Repeats::turns))]
-pub fn more_terminals<'a>(
-    cursor: &mut Cursor<'a>,
-    model: &Netlist,
-    sequential: bool,
-    output: VNet,
-    found: &mut Terminals<'a>,
-) -> Read<()>
-    requires { AreNamed model.now found.old.names (output ∷ found.old.items) }
-    ensures { ReadsAs (λ _. found.new.items) (read (spec.more_inputs model.now sequential output found.old.items) cursor.old)
-        result cursor.new }
-{
-    for _turn in 0..cursor.left() {
-        if !cursor.is_next(b",") {
-            break;
+/// The instance whose inputs are read: whether it has a state, and the net that it drives.
+#[derive(Clone, Copy)]
+pub struct FedInstance<'m> {
+    pub model: &'m Netlist,
+    pub sequential: bool,
+    pub output: VNet,
+}
+
+impl FedInstance<'_> {
+    ghost use Rattle.std.specs.Prelude.{◌≡◌, ◌∷◌, [], false, Some, IfOk};
+    ghost use Rattle.udp_tables.specs.VerilogRules.{is_among};
+    ghost use Rattle.verilog_grammar.specs.VerilogModules as spec;
+    ghost use Rattle.grammar_reader.specs.Next.{next_bytes};
+    ghost use Rattle.grammar_reader.specs.Reading.{read, Reads, ReadsAs};
+    ghost use Rattle.verilog_reader.specs.Terminals.{AreNamed};
+
+    /// A net that feeds the instance, which has these inputs already.
+    #[tactic(auto, unfolding(verilog_grammar::specs::VerilogModules::feeding_terminal), using(crate::proofs::NamedNets::other, crate::proofs::NamedNets::no_net, crate::proofs::NamedNets::barred))]
+    fn feeding_terminal(&self, cursor: &mut Cursor, before: &Terminals<'_>) -> Read<VNet>
+        requires { AreNamed self.now.model.now before.now.names (self.now.output ∷ before.now.items) }
+        ensures reads { Reads (read (spec.feeding_terminal self.now.model.now self.now.sequential
+            (self.now.output ∷ before.now.items)) cursor.old) result cursor.new }
+        ensures named { IfOk result (λ net. spec.net_of self.now.model.now (next_bytes cursor.old) ≡ Some net) }
+        ensures fresh { IfOk result (λ _. is_among before.now.names (next_bytes cursor.old) ≡ false) }
+    {
+        let token = cursor.bytes();
+        if !is_name(token) {
+            return Err(Stop::Refused(Refusal::Syntax));
+        }
+        let Some(net) = net_of(self.model, token) else {
+            return Err(Stop::Refused(Refusal::Undefined));
+        };
+        if !may_feed(self.model, self.sequential, net) {
+            return Err(Stop::Refused(Refusal::Undefined));
+        }
+        if before.names.has(token) {
+            return Err(Stop::Refused(Refusal::Twice));
         }
         cursor.skip();
-        next_terminal(cursor, model, sequential, output, found)?;
+        Ok(net)
     }
-    Ok(())
+
+    /// The first net that feeds the instance, behind the name of its output.
+    #[tactic(auto, using(crate::proofs::WholeParts::part_read, crate::proofs::WholeParts::part_kept))]
+    pub fn first_terminal<'a>(
+        &self,
+        cursor: &mut Cursor<'a>,
+        alloc: Global,
+        name: &'a [u8],
+    ) -> Read<Terminals<'a>>
+        requires { spec.net_of self.now.model.now name.now ≡ Some self.now.output }
+        ensures reads { ReadsAs (λ more. more.items) (read (spec.next_input self.now.model.now self.now.sequential
+            self.now.output []) cursor.old) result cursor.new }
+        ensures named { IfOk result (λ more. AreNamed self.now.model.now more.names (self.now.output ∷ more.items)) }
+    {
+        let mut found = no_terminals(alloc, name)?;
+        let first = self.add(cursor, &mut found);
+        where_read(found, first)
+    }
+
+    /// The nets that feed the instance, of which these stand before.
+    #[tactic(auto, unfolding(verilog_grammar::specs::VerilogModules::more_inputs), using(grammar_reader::proofs::WithRest::reads_before))]
+    pub fn all_terminals<'a>(
+        &self,
+        cursor: &mut Cursor<'a>,
+        before: Terminals<'a>,
+    ) -> Read<Items<VNet>>
+        requires { AreNamed self.now.model.now before.names (self.now.output ∷ before.items) }
+        ensures { Reads (read (spec.more_inputs self.now.model.now self.now.sequential self.now.output before.entry.items)
+            cursor.old) result cursor.new }
+    {
+        let mut found = before;
+        let more = add_listed(cursor, self, &mut found);
+        let NamedItems { items: nets, .. } = found;
+        where_read(nets, more)
+    }
+}
+
+impl NamedPart for FedInstance<'_> {
+    type Item = VNet;
+
+    ghost are_named = { λ fed names nets. AreNamed fed.model.now names (fed.output ∷ nets) };
+
+    ghost reading = { λ fed nets s. read (spec.next_input fed.model.now fed.sequential fed.output nets) s };
+
+    #[tactic(auto, unfolding(verilog_grammar::specs::VerilogModules::next_input), using(crate::proofs::SameTerminals::named_more))]
+    fn add<'a>(&self, cursor: &mut Cursor<'a>, found: &mut Terminals<'a>) -> Read<()> {
+        let token = cursor.bytes();
+        let net = self.feeding_terminal(cursor, found)?;
+        found.add(net, token)
+    }
 }

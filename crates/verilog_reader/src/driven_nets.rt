@@ -5,20 +5,12 @@ ghost use Rattle.udp_tables.specs.declared.table.Udp.{Udp};
 ghost use Rattle.verilog_grammar.specs.specify_blocks.declared.model.Instance.{Instance};
 ghost use Rattle.verilog_reader.specs.DrivenNets.{AreDriven};
 
+use crate::all_made::{AllMade, all_made};
 use crate::nets::{FEW, has_state};
 use grammar_reader::{Read, Stop};
 use sqlite_items::Items;
 use std::alloc::Global;
 use verilog_grammar::modules::{VModule, VNet};
-
-/// Which nets the instances of a module drive: a mark for each port, one for each wire that is driven as a state, and one for
-/// each wire that is driven without a state. Nothing is told of a net without a mark.
-#[derive(Drop)]
-pub struct DrivenNets {
-    pub ports: Items<bool>,
-    pub states: Items<bool>,
-    pub values: Items<bool>,
-}
 
 /// Sets a mark, where there is one.
 #[tactic(auto, using(crate::proofs::DrivenNets::set_behind))]
@@ -28,6 +20,15 @@ fn mark(marks: &mut Items<bool>, at: usize)
     if at < marks.len() {
         marks.set(at, true);
     }
+}
+
+/// Which nets the instances of a module drive: a mark for each port, one for each wire that is driven as a state, and one for
+/// each wire that is driven without a state. Nothing is told of a net without a mark.
+#[derive(Drop)]
+pub struct DrivenNets {
+    pub ports: Items<bool>,
+    pub states: Items<bool>,
+    pub values: Items<bool>,
 }
 
 /// So many marks that are not set.
@@ -85,9 +86,12 @@ fn undriven(alloc: Global, ports: usize, wires: usize) -> Read<DrivenNets>
     ensures undriven { IfOk result (λ driven. (udps : List Udp) → AreDriven driven udps []) }
     ensures memory { IfErr result (λ stop. stop ≡ Stop.Memory) }
 {
-    let ports = unset(alloc, ports)?;
-    let states = unset(alloc, wires)?;
-    let values = unset(alloc, wires)?;
+    let ports = unset(alloc, ports);
+    let AllMade {
+        first: ports,
+        second: states,
+        third: values,
+    } = all_made(ports, unset(alloc, wires), unset(alloc, wires))?;
     Ok(DrivenNets {
         ports,
         states,

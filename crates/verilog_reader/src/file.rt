@@ -18,12 +18,12 @@ use verilog_grammar::module_declarations;
 use verilog_grammar::modules::VModule;
 use verilog_udp_reader::{Cursor, Verilog, declare, primitive};
 
-/// What stands before a place of a text: the modules, the names of all primitives and modules, and the primitives behind the
+/// What stands before a place of a text: the names of all primitives and modules, the modules, and the primitives behind the
 /// last module.
 #[derive(Drop)]
 pub struct Before {
-    pub modules: Vec<VModule>,
     pub names: Names,
+    pub modules: Vec<VModule>,
     pub udps: Vec<Udp>,
 }
 
@@ -137,25 +137,35 @@ fn design(cursor: &mut Cursor, alloc: Global, before: &mut Before, first: &[u8])
     }
 }
 
-/// All primitives and modules of a text.
+/// Adds all primitives and modules of a text to nothing.
 #[tactic(auto, unfolding(verilog_grammar::specs::VerilogText::designs), using(grammar_reader::proofs::Repeats::turn, grammar_reader::proofs::Choices::choose_by, grammar_reader::proofs::Choices::choose_not_by))]
-fn designs(cursor: &mut Cursor, alloc: Global) -> Read<Before>
-    ensures { ReadsAs before_of (read spec.designs cursor.old) result cursor.new }
+fn add_designs(cursor: &mut Cursor, alloc: Global, before: &mut Before) -> Read<()>
+    requires { before_of before.old ≡ spec.nothing }
+    ensures { ReadsAs (λ _. before_of before.new) (read spec.designs cursor.old) result cursor.new }
 {
-    let mut before = Before {
-        modules: Vec::new(alloc),
-        names: Names::new(alloc),
-        udps: Vec::new(alloc),
-    };
     for _turn in 0..cursor.left() {
         let token = cursor.bytes();
         if !is_design_start(token) {
             break;
         }
         cursor.skip();
-        design(cursor, alloc, &mut before, token)?;
+        design(cursor, alloc, before, token)?;
     }
-    Ok(before)
+    Ok(())
+}
+
+/// All primitives and modules of a text.
+#[tactic(auto, using(crate::proofs::WholeParts::part_read))]
+fn designs(cursor: &mut Cursor, alloc: Global) -> Read<Before>
+    ensures { ReadsAs before_of (read spec.designs cursor.old) result cursor.new }
+{
+    let mut before = Before {
+        names: Names::new(alloc),
+        modules: Vec::new(alloc),
+        udps: Vec::new(alloc),
+    };
+    let rest = add_designs(cursor, alloc, &mut before);
+    where_read(before, rest)
 }
 
 /// All primitives and modules of a text, and nothing behind them.

@@ -9,7 +9,7 @@ ghost use Rattle.verilog_reader.specs.NameSearch.{udp_name};
 ghost use Rattle.verilog_reader.specs.Netlist.{MayFind};
 ghost use Rattle.grammar_reader.specs.Reading.{read, Reads, ReadsAs};
 
-use crate::connections::{driven_terminal, first_terminal, more_terminals};
+use crate::connections::{FedInstance, driven_terminal};
 use crate::name_search::{many_names, place_of};
 use crate::netlist::Netlist;
 use crate::nets::is_sequential;
@@ -20,7 +20,7 @@ use sqlite_items::{Boxed, Items};
 use std::alloc::Global;
 use verilog_grammar::modules::{Instance, VModule, VNet};
 use verilog_tokens::is_name;
-use verilog_udp_reader::{Cursor, NamedItems, Verilog};
+use verilog_udp_reader::{Cursor, Verilog};
 
 /// The bit that a token stands for.
 fn bit(token: &[u8]) -> Option<bool>
@@ -69,12 +69,18 @@ fn call_inputs<'a>(
         cursor.new }
 {
     let sequential = is_sequential(model.module().udps.as_slice(), udp);
-    let mut found = first_terminal(cursor, alloc, model, sequential, output, name)?;
-    more_terminals(cursor, model, sequential, output, &mut found)?;
-    let NamedItems { items: inputs, .. } = found;
+    let instance = FedInstance {
+        model,
+        sequential,
+        output,
+    };
+    let first = instance.first_terminal(cursor, alloc, name)?;
+    let inputs = instance.all_terminals(cursor, first)?;
     let whole = inputs.len() == input_count(model.module().udps.as_slice(), udp);
-    cursor.expect_where(whole, Refusal::Width, b")")?;
-    cursor.expect(b";")?;
+    let end = cursor.expect_where(whole, Refusal::Width, b")");
+    let inputs = where_read(inputs, end)?;
+    let end = cursor.expect(b";");
+    let inputs = where_read(inputs, end)?;
     Ok(Instance::Primitive {
         udp,
         output,
@@ -159,19 +165,22 @@ fn more_instances(
     Ok(())
 }
 
-/// A module with its instances behind those that it has, where its primitives have these names, if they are many.
+/// Puts all instances of a module behind those that it has.
+fn all_instances(cursor: &mut Cursor, alloc: Global, model: &mut Netlist) -> Read<()>
+    ensures reads { ReadsAs (λ _. model.new) (read (spec.instances model.old) cursor.old) result cursor.new }
+    ensures named { IfOk result (λ _. model.new.name ≡ model.old.name) }
+{
+    let names = many_names(alloc, model.module().udps.as_slice())?;
+    more_instances(cursor, alloc, &names, model)
+}
+
+/// A module with its instances behind those that it has.
 #[tactic(auto, using(grammar_reader::proofs::WithRest::reads_before, grammar_reader::proofs::WithRest::kept_before))]
-fn with_instances(
-    cursor: &mut Cursor,
-    alloc: Global,
-    names: &Option<Boxed<FirstNames>>,
-    mut model: Netlist,
-) -> Read<Netlist>
-    requires { MayFind udp_name names.now model.udps }
+fn with_instances(cursor: &mut Cursor, alloc: Global, mut model: Netlist) -> Read<Netlist>
     ensures reads { Reads (read (spec.instances model) cursor.old) result cursor.new }
     ensures named { IfOk result (λ joined. joined.name ≡ model.name) }
 {
-    let rest = more_instances(cursor, alloc, names, &mut model);
+    let rest = all_instances(cursor, alloc, &mut model);
     where_read(model, rest)
 }
 
@@ -180,7 +189,6 @@ pub fn module_instances(cursor: &mut Cursor, alloc: Global, declared: VModule) -
     ensures reads { Reads (read (spec.instances declared) cursor.old) result cursor.new }
     ensures named { IfOk result (λ joined. joined.name ≡ declared.name) }
 {
-    let names = many_names(alloc, declared.udps.as_slice())?;
     let model = Netlist::new(alloc, declared)?;
-    with_instances(cursor, alloc, &names, model)
+    with_instances(cursor, alloc, model)
 }

@@ -3,6 +3,7 @@
 //! 15.)
 #![tactic(auto)]
 
+mod all_made;
 mod check_parts;
 mod checks;
 mod connections;

@@ -1,12 +1,11 @@
 //! A module that finds each of its nets, and what drives it, in the time of one look-up.
 
-ghost use Rattle.std.specs.Prelude.{◌≡◌, IfOk, IfErr, Ok};
-
+use crate::all_made::{AllMade, all_made};
 use crate::driven_nets::{DrivenNets, driven_nets};
 use crate::name_search::{many_names, place_of};
 use crate::nets::{has_state, is_driven_already, is_wire_driven_by};
 use first_names::FirstNames;
-use grammar_reader::{Read, Stop};
+use grammar_reader::{Read, Stop, with_read};
 use sqlite_items::{Boxed, Items};
 use std::alloc::Global;
 use std::marker::Model;
@@ -34,30 +33,6 @@ impl Model for Netlist {
     ghost invariant = { λ n. AreKeptOf n.model n.ports n.wires n.driven };
 }
 
-/// What is kept beside a module.
-struct Kept<P, W, D> {
-    ports: P,
-    wires: W,
-    driven: D,
-}
-
-/// What is kept beside a module, where all of it was made.
-fn all_kept<P: Drop, W: Drop, D: Drop>(
-    ports: Read<P>,
-    wires: Read<W>,
-    driven: Read<D>,
-) -> Read<Kept<P, W, D>>
-    ensures made { IfOk result (λ kept. (ports ≡ Ok kept.ports) × ((wires ≡ Ok kept.wires) × (driven ≡ Ok kept.driven))) }
-    ensures memory { IfErr ports (λ stop. stop ≡ Stop.Memory) → IfErr wires (λ stop. stop ≡ Stop.Memory)
-        → IfErr driven (λ stop. stop ≡ Stop.Memory) → IfErr result (λ stop. stop ≡ Stop.Memory) }
-{
-    Ok(Kept {
-        ports: ports?,
-        wires: wires?,
-        driven: driven?,
-    })
-}
-
 impl Netlist {
     ghost use Rattle.std.specs.Prelude.{◌≡◌, IfErr, IfOk, OnOk};
     ghost use Rattle.std.specs.List.{list_any, position};
@@ -76,11 +51,12 @@ impl Netlist {
         let ports = many_names(alloc, model.ports.as_slice());
         let wires = many_names(alloc, model.wires.as_slice());
         let driven = driven_nets(alloc, &model);
-        let Kept {
-            ports,
-            wires,
-            driven,
-        } = all_kept(ports, wires, driven)?;
+        let (model, kept) = with_read(model, all_made(ports, wires, driven))?;
+        let AllMade {
+            first: ports,
+            second: wires,
+            third: driven,
+        } = kept;
         Ok(Netlist {
             model,
             ports,

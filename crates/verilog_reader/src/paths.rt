@@ -68,15 +68,6 @@ pub fn input_name(cursor: &mut Cursor, model: &Netlist) -> Read<usize>
     cursor.known(found)
 }
 
-/// The name of an output.
-#[tactic(auto, unfolding(verilog_grammar::specs::VerilogBlocks::an_output))]
-fn output_name(cursor: &mut Cursor, model: &Netlist) -> Read<usize>
-    ensures { Reads (read (spec.an_output model.now) cursor.old) result cursor.new }
-{
-    let found = output_of(model, cursor.bytes());
-    cursor.known(found)
-}
-
 /// The name of a condition.
 #[tactic(auto, unfolding(verilog_grammar::specs::VerilogBlocks::a_condition))]
 pub fn condition_name(cursor: &mut Cursor, model: &Netlist) -> Read<usize>
@@ -121,6 +112,36 @@ fn path_gate(cursor: &mut Cursor, model: &Netlist) -> Read<Gate>
     }
 }
 
+/// The delays of a path between these ports, behind their bracket, and its end.
+#[inline(always)]
+fn delays(cursor: &mut Cursor, from: usize, to: usize, gate: Gate) -> Read<VPath>
+    ensures { Reads (read (spec.delays from to gate) cursor.old) result cursor.new }
+{
+    let rise = number(cursor)?;
+    cursor.expect(b",")?;
+    let fall = number(cursor)?;
+    with_end(
+        cursor,
+        &[b")", b";"],
+        VPath {
+            gate,
+            from,
+            to,
+            rise,
+            fall,
+        },
+    )
+}
+
+/// The name of an output.
+#[tactic(auto, unfolding(verilog_grammar::specs::VerilogBlocks::an_output))]
+fn output_name(cursor: &mut Cursor, model: &Netlist) -> Read<usize>
+    ensures { Reads (read (spec.an_output model.now) cursor.old) result cursor.new }
+{
+    let found = output_of(model, cursor.bytes());
+    cursor.known(found)
+}
+
 /// A path, of which the first token is next.
 #[tactic(auto, unfolding(verilog_grammar::specs::VerilogBlocks::path))]
 fn path(cursor: &mut Cursor, model: &Netlist) -> Read<VPath>
@@ -133,17 +154,7 @@ fn path(cursor: &mut Cursor, model: &Netlist) -> Read<VPath>
     cursor.expect(b")")?;
     cursor.expect(b"=")?;
     cursor.expect(b"(")?;
-    let rise = number(cursor)?;
-    cursor.expect(b",")?;
-    let fall = number(cursor)?;
-    let path = VPath {
-        from,
-        to,
-        rise,
-        fall,
-        gate,
-    };
-    with_end(cursor, &[b")", b";"], path)
+    delays(cursor, from, to, gate)
 }
 
 /// The paths of a specify block, in a list without room for more.

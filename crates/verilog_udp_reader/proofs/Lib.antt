@@ -4,3 +4,4 @@ pub mod Entries
 pub mod Levels
 pub mod NewNames
 pub mod NearNames
+pub mod Bodies

@@ -4,6 +4,7 @@
 mod declared;
 mod language;
 mod named_items;
+mod named_parts;
 mod primitives;
 mod row;
 mod text_names;
@@ -11,5 +12,6 @@ mod text_names;
 pub use declared::declare;
 pub use language::{Cursor, Verilog};
 pub use named_items::NamedItems;
+pub use named_parts::{NamedPart, add_listed};
 pub use primitives::primitive;
 pub use text_names::{TextNames, new_name};

@@ -1,16 +1,18 @@
 //! Primitives, by recursive descent. (IEEE 1364-2005, clause 8.)
 
-ghost use Rattle.std.specs.Prelude.{◌≡◌, [], ◌∷◌, ◌++◌, IfOk, OnOk};
+ghost use Rattle.std.specs.Prelude.{◌≡◌, ℕ, List, [], ◌∷◌, ◌++◌, IfOk};
 ghost use Rattle.grammar_reader.specs.declared.refusal.Refusal.TheVariants.{Syntax};
 ghost use Rattle.udp_tables.specs.VerilogPrimitives as spec;
 ghost use Rattle.grammar_reader.specs.Reading.{read, Token, Many, Reads, ReadsAs};
 ghost use Rattle.grammar_reader.specs.Next.{next_bytes};
 ghost use Rattle.udp_tables.specs.VerilogRules.{any_name};
 ghost use Rattle.verilog_udp_reader.specs.Headers.{header_of, header_rest, header_with};
+ghost use Rattle.verilog_udp_reader.specs.Primitives.{behind_header, behind_name, udp_of};
 
 use crate::declared::declare;
 use crate::language::{Cursor, Verilog};
 use crate::named_items::NamedItems;
+use crate::named_parts::{NamedPart, add_listed};
 use crate::row::{begins_entry, row};
 use crate::text_names::{TextNames, new_name};
 use bool_functions::Names;
@@ -56,48 +58,30 @@ fn first_name<'a>(cursor: &mut Cursor<'a>, alloc: Global) -> Read<(SmallBytes, T
     Ok((name, names))
 }
 
-/// Adds one more input of a header with this output.
-#[inline(always)]
-#[tactic(auto, unfolding(udp_tables::specs::VerilogPrimitives::next_input))]
-fn next_input<'a>(
-    cursor: &mut Cursor<'a>,
+/// An input of a header with this output.
+#[derive(Clone, Copy)]
+struct HeaderInput<'o> {
     alloc: Global,
-    output: &[u8],
-    found: &mut HeaderInputs<'a>,
-) -> Read<()>
-    requires { found.old.names ≡ output.now ∷ found.old.items }
-    ensures reads { ReadsAs (λ _. found.new.items) (read (spec.next_input output.now found.old.items) cursor.old) result
-        cursor.new }
-    ensures named { OnOk result (found.new.names ≡ output.now ∷ found.new.items) }
-{
-    let name = new_name(cursor, &found.names)?;
-    let input = SmallBytes::from_slice(alloc, name)?;
-    found.add(input, name)
+    output: &'o [u8],
 }
 
-/// Adds the inputs of a header with this output behind these.
-#[tactic(auto, unfolding(udp_tables::specs::VerilogPrimitives::more_inputs), using(grammar_reader::proofs::Repeats::turns))]
-fn more_inputs<'a>(
-    cursor: &mut Cursor<'a>,
-    alloc: Global,
-    output: &[u8],
-    found: &mut HeaderInputs<'a>,
-) -> Read<()>
-    requires { found.old.names ≡ output.now ∷ found.old.items }
-    ensures { ReadsAs (λ _. found.new.items) (read (spec.more_inputs output.now found.old.items) cursor.old) result cursor.new }
-{
-    for _turn in 0..cursor.left() {
-        if !cursor.is_next(b",") {
-            break;
-        }
-        cursor.skip();
-        next_input(cursor, alloc, output, found)?;
+impl NamedPart for HeaderInput<'_> {
+    type Item = SmallBytes;
+
+    ghost are_named = { λ input names items. names ≡ input.output.now ∷ items };
+
+    ghost reading = { λ input items s. read (spec.next_input input.output.now items) s };
+
+    #[tactic(auto, unfolding(udp_tables::specs::VerilogPrimitives::next_input))]
+    fn add<'a>(&self, cursor: &mut Cursor<'a>, found: &mut HeaderInputs<'a>) -> Read<()> {
+        let name = new_name(cursor, &found.names)?;
+        let input = SmallBytes::from_slice(self.alloc, name)?;
+        found.add(input, name)
     }
-    Ok(())
 }
 
 /// The inputs of a header with this output, of which these are the names, and its end.
-#[tactic(auto, unfolding(crate::specs::Headers::header_rest))]
+#[tactic(auto, unfolding(crate::specs::Headers::header_rest, udp_tables::specs::VerilogPrimitives::more_inputs))]
 fn header_rest<'a>(
     cursor: &mut Cursor<'a>,
     alloc: Global,
@@ -109,12 +93,17 @@ fn header_rest<'a>(
 {
     let items = Items::new(alloc);
     let mut found = NamedItems { items, names };
-    next_input(cursor, alloc, output, &mut found)?;
-    more_inputs(cursor, alloc, output, &mut found)?;
-    let may = found.items.len() <= MOST_INPUTS;
-    cursor.expect_where(may, Refusal::Width, b")")?;
-    cursor.expect(b";")?;
+    let input = HeaderInput { alloc, output };
+    let first = input.add(cursor, &mut found);
+    let mut found = where_read(found, first)?;
+    let more = add_listed(cursor, &input, &mut found);
     let NamedItems { items: inputs, .. } = found;
+    let inputs = where_read(inputs, more)?;
+    let may = inputs.len() <= MOST_INPUTS;
+    let bracket = cursor.expect_where(may, Refusal::Width, b")");
+    let inputs = where_read(inputs, bracket)?;
+    let end = cursor.expect(b";");
+    let inputs = where_read(inputs, end)?;
     Ok(inputs)
 }
 
@@ -247,8 +236,28 @@ fn begin_row(cursor: &mut Cursor<'_>, sequential: bool) -> Read<()>
     Ok(())
 }
 
-/// The table of a primitive.
+/// Adds the rows of a table to none.
 #[tactic(auto, unfolding(udp_tables::specs::VerilogPrimitives::table))]
+fn add_rows(
+    cursor: &mut Cursor<'_>,
+    rows: &mut Vec<UdpRow>,
+    alloc: Global,
+    sequential: bool,
+    inputs: usize,
+) -> Read<()>
+    requires { rows.old.items ≡ [] }
+    ensures { ReadsAs (λ _. rows.new.items) (read (spec.table sequential inputs) cursor.old) result cursor.new }
+{
+    cursor.expect(b"table")?;
+    let token = cursor.bytes();
+    begin_row(cursor, sequential)?;
+    next_row(cursor, alloc, sequential, inputs, token, rows)?;
+    more_rows(cursor, alloc, sequential, inputs, rows)?;
+    cursor.expect(b"endtable")
+}
+
+/// The table of a primitive.
+#[tactic(auto, using(grammar_reader::proofs::WithRest::reads_before))]
 fn table(
     cursor: &mut Cursor<'_>,
     alloc: Global,
@@ -258,30 +267,43 @@ fn table(
     ensures { Reads (read (spec.table sequential inputs) cursor.old) result cursor.new }
 {
     let mut rows = Vec::with_capacity(alloc, SOME_ROWS)?;
-    cursor.expect(b"table")?;
-    let token = cursor.bytes();
-    begin_row(cursor, sequential)?;
-    next_row(cursor, alloc, sequential, inputs, token, &mut rows)?;
-    more_rows(cursor, alloc, sequential, inputs, &mut rows)?;
-    cursor.expect(b"endtable")?;
-    Ok(Items::from_vec(rows))
+    let rest = add_rows(cursor, &mut rows, alloc, sequential, inputs);
+    where_read(Items::from_vec(rows), rest)
 }
 
-/// A primitive behind the word `primitive`, where primitives and modules of these names stand before it. Its own name is then
-/// the last of them; where the reading stops they may have one name more.
-#[tactic(auto, unfolding(udp_tables::specs::VerilogPrimitives::primitive))]
-pub fn primitive(cursor: &mut Cursor<'_>, alloc: Global, names: &mut Names) -> Read<Udp>
-    ensures reads { Reads (read (spec.primitive names.old) cursor.old) result cursor.new }
-    ensures added { IfOk result (λ udp. names.new ≡ names.old ++ udp.name ∷ []) }
+/// What stands behind the header of a primitive.
+#[derive(Drop)]
+struct Body {
+    sequential: bool,
+    rows: Items<UdpRow>,
+}
+
+/// What stands behind this header of a primitive, whatever the primitive's name is.
+#[tactic(auto, unfolding(crate::specs::Primitives::behind_header))]
+fn behind_header(cursor: &mut Cursor<'_>, alloc: Global, header: &Header) -> Read<Body>
+    ensures { (name : List ℕ) → ReadsAs (λ body. udp_of name header.now body)
+        (read (behind_header name (header_of header.now)) cursor.old) result cursor.new }
 {
-    let name = SmallBytes::from_slice(alloc, declare(cursor, names)?)?;
-    let header = primitive_header(cursor, alloc)?;
     primitive_output(cursor, header.output.as_slice())?;
-    let sequential = primitive_register(cursor, &header)?;
+    let sequential = primitive_register(cursor, header)?;
     primitive_inputs(cursor, header.inputs.as_slice())?;
     let rows = table(cursor, alloc, sequential, header.inputs.len())?;
     cursor.expect(b"endprimitive")?;
+    Ok(Body { sequential, rows })
+}
+
+/// A primitive behind its name.
+#[tactic(auto, unfolding(crate::specs::Primitives::behind_name, crate::specs::Primitives::behind_header))]
+fn behind_name(cursor: &mut Cursor<'_>, alloc: Global, name: SmallBytes) -> Read<Udp>
+    ensures reads { Reads (read (behind_name name) cursor.old) result cursor.new }
+    ensures named { IfOk result (λ udp. udp.name ≡ name) }
+{
+    let header = primitive_header(cursor, alloc);
+    let (name, header) = with_read(name, header)?;
+    let body = behind_header(cursor, alloc, &header);
+    let ((name, header), body) = with_read((name, header), body)?;
     let Header { output, inputs } = header;
+    let Body { sequential, rows } = body;
     Ok(Udp {
         name,
         output,
@@ -289,4 +311,15 @@ pub fn primitive(cursor: &mut Cursor<'_>, alloc: Global, names: &mut Names) -> R
         sequential,
         rows,
     })
+}
+
+/// A primitive behind the word `primitive`, where primitives and modules of these names stand before it. Its own name is then
+/// the last of them; where the reading stops they may have one name more.
+#[tactic(auto, unfolding(udp_tables::specs::VerilogPrimitives::primitive, crate::specs::Primitives::behind_name, crate::specs::Primitives::behind_header))]
+pub fn primitive(cursor: &mut Cursor<'_>, alloc: Global, names: &mut Names) -> Read<Udp>
+    ensures reads { Reads (read (spec.primitive names.old) cursor.old) result cursor.new }
+    ensures added { IfOk result (λ udp. names.new ≡ names.old ++ udp.name ∷ []) }
+{
+    let name = SmallBytes::from_slice(alloc, declare(cursor, names)?)?;
+    behind_name(cursor, alloc, name)
 }

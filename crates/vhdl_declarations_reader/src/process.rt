@@ -25,16 +25,18 @@ pub fn input_names(alloc: Global, ports: &[VPort]) -> Result<Items<Items<u8>>, A
 
 /// The name of these that stands behind so many of them.
 #[derive(Drop)]
-struct ListedName<'a>(&'a [Items<u8>]);
+struct ListedName<'a> {
+    names: &'a [Items<u8>],
+}
 
 impl RepeatedPart<Vhdl> for ListedName<'_> {
     type Found = usize;
 
-    ghost reading = { λ listed count s. read (spec.listed_name listed.0.now count) s };
+    ghost reading = { λ listed count s. read (spec.listed_name listed.names.now count) s };
 
     #[tactic(auto, unfolding(vhdl_grammar::specs::VhdlDeclarations::listed_name))]
     fn next(&self, cursor: &mut Cursor<'_>, count: usize) -> Read<usize> {
-        let Some(name) = self.0.get(count) else {
+        let Some(name) = self.names.get(count) else {
             return Err(Stop::Refused(cursor.no_name()));
         };
         cursor.this_name(name.as_slice())?;
@@ -48,7 +50,7 @@ pub fn listed_names(cursor: &mut Cursor<'_>, names: &[Items<u8>]) -> Read<()>
     ensures { Reads (read (spec.listed_names names.now) cursor.old) result cursor.new }
 {
     cursor.expect(b"(")?;
-    let count = one_or_more(cursor, b",", &ListedName(names), 0)?;
+    let count = one_or_more(cursor, b",", &ListedName { names }, 0)?;
     cursor.go_on_where(count == names.len())?;
     cursor.expect(b")")
 }

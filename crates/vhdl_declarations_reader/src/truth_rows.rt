@@ -39,6 +39,10 @@ impl TableRow for TruthRow {
 
     ghost input_count = { λ row. length row.inputs };
 
+    fn input_count(&self) -> usize {
+        self.inputs.len()
+    }
+
     fn row_of(found: Items<Trits>) -> Option<TruthRow>
         ensures { result ≡ spec.truth_row_of found }
     {
@@ -53,10 +57,6 @@ impl TableRow for TruthRow {
             inputs: first_entries(found, columns),
             result,
         })
-    }
-
-    fn input_count(&self) -> usize {
-        self.inputs.len()
     }
 }
 

@@ -17,6 +17,7 @@ use Rattle.udp_tables.specs.declared.timing_checks.TimingCheck.{TimingCheck}
 use Rattle.vital_tables.specs.Sound.{has_events}
 use Rattle.udp_tables.specs.Ports.{is_input_port}
 use Rattle.vhdl_tokens.specs.Spelling.{is_same}
+use Rattle.grammar_reader.specs.Words.{Grammar, ◌>>=◌}
 use Rattle.vhdl_grammar.specs.declared.scope.Scope.{Scope}
 use Rattle.vhdl_grammar.specs.VhdlRules.{a_time}
 use Rattle.vhdl_grammar.specs.VhdlNames.{Uses}
@@ -198,28 +199,32 @@ push_check scope before k when h told same looked = record {
       looked.looked_up;
 }
 
+-- what is read behind the two signals of a check
+behind_signals : {B : Type 0} {P : B → Type 0} {rest : ℕ → ℕ → Grammar B} (scope : Scope) (before : Checks)
+    → ((test reference : ℕ) → IsInput scope test → IsInput scope reference → Promises IsSpelled (rest test reference) P)
+    → Promises IsSpelled (tested scope false (codes "TimingData") (length before.checks) >>= λ test. referred scope >>= rest test) P
+behind_signals scope before more =
+    in_turn (tested_inputs scope false (codes "TimingData") (length before.checks))
+    (λ test t. in_turn (referred_inputs scope) (λ reference r. more test reference t r))
+
 setup_holds : (scope : Scope) (before : Checks) → AreChecks scope before
     → Promises IsSpelled (setup_hold scope before) (AreChecks scope)
 unfolding setup_hold
 setup_holds scope before h =
-    in_turn (tested_inputs scope false (codes "TimingData") (length before.checks))
-    (λ test t. in_turn (referred_inputs scope) (λ reference r.
-    in_turn (values setup_or_hold) (λ kind f.
+    behind_signals scope before (λ test reference t r. in_turn (values setup_or_hold) (λ kind f.
     in_turn (equal_limits kind) (λ limit l.
     in_turn (enabling scope (flat_map conditions_of_check before.checks) before.uses h.looked_up) (λ when w.
     in_turn transitions (λ e one.
     gives (push_check scope before (check_with kind (record { pin = test; edge = edge.Any })
     (record { pin = reference; edge = e }) limit when.0) when h
     (setup_or_hold_told scope f.0 kind f.1 test reference limit e when.0 t r one w.condition l)
-    (kind_conditions kind (record { pin = test; edge = edge.Any }) (record { pin = reference; edge = e }) limit when.0) w)))))))
+    (kind_conditions kind (record { pin = test; edge = edge.Any }) (record { pin = reference; edge = e }) limit when.0) w))))))
 
 recovery_removals : (scope : Scope) (before : Checks) → AreChecks scope before
     → Promises IsSpelled (recovery_removal scope before) (AreChecks scope)
 unfolding recovery_removal
 recovery_removals scope before h =
-    in_turn (tested_inputs scope false (codes "TimingData") (length before.checks))
-    (λ test t. in_turn (referred_inputs scope) (λ reference r.
-    in_turn (values recovery_or_removal) (λ kind f.
+    behind_signals scope before (λ test reference t r. in_turn (values recovery_or_removal) (λ kind f.
     in_turn limits (λ limit l.
     in_turn controls (λ control c.
     in_turn (enabling scope (flat_map conditions_of_check before.checks) before.uses h.looked_up) (λ when w.
@@ -227,7 +232,7 @@ recovery_removals scope before h =
     gives (push_check scope before (check_with kind (record { pin = test; edge = control }) (record { pin = reference; edge = e })
     limit when.0) when h
     (recovery_or_removal_told scope f.0 kind f.1 control c test reference limit e when.0 t r one w.condition l)
-    (kind_conditions kind (record { pin = test; edge = control }) (record { pin = reference; edge = e }) limit when.0) w))))))))
+    (kind_conditions kind (record { pin = test; edge = control }) (record { pin = reference; edge = e }) limit when.0) w)))))))
 
 -- a check of one signal
 abbrev IsToldPulse : Scope → Pulse → Type 0

@@ -173,7 +173,7 @@ active_low = do
   _ ← expect (codes ",")
   r.Gives e
 
--- a call of VitalRecoveryRemovalCheck behind its word
+-- a call of VitalRecoveryRemovalCheck, which tells the level at which the control is active, behind its word
 unfoldable pub recovery_removal : Scope → Checks → Grammar Checks
 recovery_removal scope before = do
   test ← tested scope false (codes "TimingData") (length before.checks)

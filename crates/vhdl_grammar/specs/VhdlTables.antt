@@ -162,8 +162,7 @@ abbrev pub value_of : Trits → Option Trit
 value_of trits.Zero = Some trit.Zero
 value_of trits.One = Some trit.One
 value_of trits.Unknown = Some trit.Unknown
-value_of trits.Any = None
-value_of trits.Binary = None
+value_of _ = None
 
 abbrev pub truth_row_with : List Trits → Option Trit → Option TruthRow
 truth_row_with inputs None = None

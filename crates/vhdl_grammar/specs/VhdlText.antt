@@ -122,16 +122,12 @@ file = do
 
 -- the tokens of VHDL, its grammar and its faults
 abbrev pub language : Texts (List VEntity) ModelFault
-language = record {
-  lexis = lexis;
-  file = file;
-  faults = model_faults;
-}
-
--- The bytes are the text of these entities: they are tokens, without a lexical fault, that the grammar takes.
-abbrev pub IsVhdlText : List ℕ → List VEntity → Type 0
-IsVhdlText = IsText language
+language = record { lexis = lexis; file = file; faults = model_faults }
 
 -- the entities of a text, or its fault (`Texts`, `IsAnswer`)
 unfoldable pub vhdl_text : List ℕ → Result (List VEntity) ModelFault
 vhdl_text bytes = text language bytes
+
+-- The bytes are the text of these entities: they are tokens, without a lexical fault, that the grammar takes.
+abbrev pub IsVhdlText : List ℕ → List VEntity → Type 0
+IsVhdlText = IsText language

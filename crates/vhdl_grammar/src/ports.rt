@@ -1,16 +1,16 @@
 //! The ports of an entity, with a list that finds a name at once.
 
-ghost use Rattle.std.specs.Prelude.{◌≡◌, [], ◌∷◌, ◌++◌, if◌then◌else◌, true, false, drop, IfOk, IfErr, OnOk};
+ghost use Rattle.std.specs.Prelude.{◌≡◌, [], ◌∷◌, ◌++◌, if◌then◌else◌, true, false, drop, IfOk, IfErr, Ok};
 ghost use Rattle.vhdl_tokens.specs.Tokens.{is_name};
 ghost use Rattle.vhdl_grammar.specs.VhdlRules.{is_among};
 ghost use Rattle.vhdl_grammar.specs.VhdlDeclarations.{port_names};
-ghost use Rattle.vhdl_grammar.specs.VhdlNames.{port_of};
+ghost use Rattle.vhdl_grammar.specs.VhdlNames as names;
 ghost use Rattle.vhdl_grammar.specs.Lowered.{all_lowered};
 
 use crate::language::Vhdl;
 use crate::listed::{NEAR, near};
 use crate::lowercase_names::LowercaseNames;
-use grammar_reader::{Language, Stop};
+use grammar_reader::{Language, Read, Stop};
 use sqlite_items::Items;
 use std::alloc::{AllocError, Global};
 use std::marker::Model;
@@ -30,13 +30,13 @@ pub struct Ports {
 impl Model for Ports {
     ghost use Rattle.std.specs.Prelude.{List};
     ghost use Rattle.udp_tables.specs.declared.models.VPort.{VPort};
-    ghost use Rattle.vhdl_grammar.specs.Lowered.{AreKeptOf};
+    ghost use Rattle.vhdl_grammar.specs.Lowered as lowered;
 
     ghost Value = { List VPort };
 
     ghost view = { λ p. p.ports };
 
-    ghost invariant = { λ p. AreKeptOf p.ports p.far p.outputs };
+    ghost invariant = { λ p. lowered.AreKeptOf p.ports p.far p.outputs };
 }
 
 /// The numbers of outputs, and the number of a port behind them where it is an output. An `Err` comes only where memory is
@@ -54,24 +54,55 @@ fn outputs_with(
     Ok(outputs)
 }
 
-/// Adds the name of one more port behind these to the list of those that are not compared one by one, where it is one of them.
-fn add_far(far: &mut LowercaseNames, ports: &[VPort], port: &VPort) -> Result<(), Stop>
-    requires kept { far.old ≡ all_lowered (port_names (drop 16 ports.now)) }
+/// The names of the ports that are not compared one by one, where one more port comes behind these.
+fn far_with(mut far: LowercaseNames, ports: &[VPort], port: &VPort) -> Read<LowercaseNames>
+    requires kept { far ≡ all_lowered (port_names (drop 16 ports.now)) }
     requires named { is_name port.now.name ≡ true }
     requires fresh { is_among (port_names ports.now) port.now.name ≡ false }
-    ensures added { OnOk result (far.new ≡ all_lowered (port_names (drop 16 (ports.now ++ port.now ∷ [])))) }
+    ensures added { IfOk result (λ more. more ≡ all_lowered (port_names (drop 16 (ports.now ++ port.now ∷ [])))) }
     ensures memory { IfErr result (λ stop. stop ≡ Stop.Memory) }
 {
     if ports.len() < NEAR {
-        return Ok(());
+        return Ok(far);
     }
     far.add(port.name.as_slice())?;
-    Ok(())
+    Ok(far)
+}
+
+/// These ports, and one more behind them. An `Err` comes only where memory is wanting.
+fn ports_with(mut ports: Items<VPort>, port: VPort) -> Result<Items<VPort>, AllocError>
+    ensures { IfOk result (λ more. more ≡ ports ++ port ∷ []) }
+{
+    ports.push(port)?;
+    Ok(ports)
+}
+
+/// What is kept of ports.
+struct Kept<P, F, O> {
+    ports: P,
+    far: F,
+    outputs: O,
+}
+
+/// What is kept of ports, where all of it was made.
+fn all_kept<P: Drop, F: Drop, O: Drop>(
+    ports: Result<P, AllocError>,
+    far: Read<F>,
+    outputs: Result<O, AllocError>,
+) -> Read<Kept<P, F, O>>
+    ensures made { IfOk result (λ kept. (ports ≡ Ok kept.ports) × ((far ≡ Ok kept.far) × (outputs ≡ Ok kept.outputs))) }
+    ensures memory { IfErr far (λ stop. stop ≡ Stop.Memory) → IfErr result (λ stop. stop ≡ Stop.Memory) }
+{
+    Ok(Kept {
+        ports: ports?,
+        far: far?,
+        outputs: outputs?,
+    })
 }
 
 /// The number of the port with this name, looked for one after another.
 fn number_among(ports: &[VPort], name: &[u8]) -> Option<usize>
-    ensures { result ≡ port_of ports.now name.now }
+    ensures { result ≡ names.port_of ports.now name.now }
 {
     ports
         .iter()
@@ -154,6 +185,7 @@ impl Ports {
     }
 
     /// These ports, and one more behind them, whose name is none of theirs.
+    #[tactic(auto, using(crate::proofs::LoweredNames::outputs_added))]
     pub fn with(self, port: VPort) -> Result<Ports, Stop>
         requires named { is_name port.name ≡ true }
         requires fresh { is_among (port_names self) port.name ≡ false }
@@ -162,13 +194,17 @@ impl Ports {
     {
         let Ports {
             alloc,
-            mut ports,
-            mut far,
+            ports,
+            far,
             outputs,
         } = self;
-        add_far(&mut far, ports.as_slice(), &port)?;
-        let outputs = outputs_with(outputs, ports.len(), port.input)?;
-        ports.push(port)?;
+        let far = far_with(far, ports.as_slice(), &port);
+        let outputs = outputs_with(outputs, ports.len(), port.input);
+        let Kept {
+            ports,
+            far,
+            outputs,
+        } = all_kept(ports_with(ports, port), far, outputs)?;
         Ok(Ports {
             alloc,
             ports,

@@ -28,6 +28,15 @@ pub struct Variables {
     pub glitches: Items<bool>,
 }
 
+/// What is assigned to the variable of an output.
+#[derive(Drop)]
+pub enum Assigned {
+    /// A constant: whether it is 1.
+    Constant(bool),
+    /// What the next table of the outputs gives for these input ports and states.
+    Lookup(Items<Source>),
+}
+
 /// The declarations of an entity and of its architecture.
 #[derive(Drop)]
 pub struct Scope {
@@ -48,13 +57,4 @@ pub struct Columns {
     pub violation: bool,
     /// The numbers of the input ports behind it.
     pub inputs: Items<usize>,
-}
-
-/// What is assigned to the variable of an output.
-#[derive(Drop)]
-pub enum Assigned {
-    /// A constant: whether it is 1.
-    Constant(bool),
-    /// What the next table of the outputs gives for these input ports and states.
-    Lookup(Items<Source>),
 }

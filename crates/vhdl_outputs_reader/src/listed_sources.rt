@@ -54,8 +54,8 @@ impl Numbers {
 /// Sources in the order in which they were listed. Contracts see the list of them. Beside them stand their numbers.
 #[derive(Drop)]
 pub struct ListedSources {
-    sources: Items<Source>,
     numbers: Numbers,
+    sources: Items<Source>,
 }
 
 impl Model for ListedSources {
@@ -85,6 +85,14 @@ impl ListedSources {
         }
     }
 
+    /// The list of these sources, alone.
+    pub fn into_items(self) -> Items<Source>
+        ensures { result ≡ self }
+    {
+        let ListedSources { sources, .. } = self;
+        sources
+    }
+
     /// Whether a source is one of these, in the time of one look-up.
     #[tactic(auto, using(crate::proofs::SourceNumbers::source_found))]
     pub fn has(&self, source: Source) -> bool
@@ -106,13 +114,5 @@ impl ListedSources {
         let numbers = numbers.with(source)?;
         sources.push(source)?;
         Ok(ListedSources { sources, numbers })
-    }
-
-    /// The list of these sources, alone.
-    pub fn into_items(self) -> Items<Source>
-        ensures { result ≡ self }
-    {
-        let ListedSources { sources, .. } = self;
-        sources
     }
 }

@@ -145,7 +145,9 @@ fn entity(cursor: &mut Cursor, alloc: Global, entities: &Entities) -> Read<VEnti
 
 /// An entity behind its first word.
 #[derive(Drop)]
-struct NextEntity(Global);
+struct NextEntity {
+    alloc: Global,
+}
 
 impl RepeatedPart<Vhdl> for NextEntity {
     type Found = Entities;
@@ -154,7 +156,7 @@ impl RepeatedPart<Vhdl> for NextEntity {
 
     #[tactic(auto, unfolding(crate::specs::File::next_entity))]
     fn next(&self, cursor: &mut Cursor<'_>, entities: Entities) -> Read<Entities> {
-        let more = entity(cursor, self.0, &entities);
+        let more = entity(cursor, self.alloc, &entities);
         let (entities, more) = with_read(entities, more)?;
         cursor.give_back();
         entities.with(more)
@@ -167,7 +169,7 @@ pub fn file(cursor: &mut Cursor, alloc: Global) -> Read<Vec<VEntity>>
     ensures { ReadsAs entities_of (read spec.file cursor.old) result cursor.new }
 {
     let none = Entities::new(alloc);
-    let entities = while_next(cursor, b"library", &NextEntity(alloc), none)?;
+    let entities = while_next(cursor, b"library", &NextEntity { alloc }, none)?;
     if cursor.left() > 0 {
         return Err(Stop::Refused(Refusal::Syntax));
     }

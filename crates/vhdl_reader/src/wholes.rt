@@ -29,13 +29,11 @@ pub trait Whole: Drop {
 }
 
 impl Whole for VState {
-    ghost use Rattle.vhdl_reader.specs.Joined.{state_of};
-
     type First = VStateTable;
 
     type Second = Columns;
 
-    ghost join = { state_of };
+    ghost join = { spec.state_of };
 
     fn join(table: VStateTable, columns: Columns) -> VState {
         let Columns { violation, inputs } = columns;
@@ -48,13 +46,11 @@ impl Whole for VState {
 }
 
 impl Whole for VTruth {
-    ghost use Rattle.vhdl_reader.specs.Joined.{condition_of};
-
     type First = TruthTable;
 
     type Second = Items<usize>;
 
-    ghost join = { condition_of };
+    ghost join = { spec.condition_of };
 
     fn join(table: TruthTable, inputs: Items<usize>) -> VTruth {
         VTruth { table, inputs }
@@ -62,13 +58,11 @@ impl Whole for VTruth {
 }
 
 impl Whole for Driven {
-    ghost use Rattle.vhdl_reader.specs.Joined.{driven_of};
+    ghost join = { spec.driven_of };
 
     type First = OutValue;
 
     type Second = Items<HPath>;
-
-    ghost join = { driven_of };
 
     fn join(value: OutValue, paths: Items<HPath>) -> Driven {
         Driven { value, paths }
@@ -76,13 +70,11 @@ impl Whole for Driven {
 }
 
 impl Whole for VOutput {
-    ghost use Rattle.vhdl_reader.specs.Joined.{output_of};
+    ghost join = { spec.output_of };
 
     type First = usize;
 
     type Second = Driven;
-
-    ghost join = { output_of };
 
     fn join(port: usize, driven: Driven) -> VOutput {
         let Driven { value, paths } = driven;

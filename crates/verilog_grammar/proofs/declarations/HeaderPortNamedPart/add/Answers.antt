@@ -1,6 +1,6 @@
 use Rattle.std.proofs.Common.{false}
 use Rattle.verilog_grammar.proofs.Headers.{ports_named}
-use Rattle.verilog_grammar.proofs.declarations.next_port.Goals as goal
+use Rattle.verilog_grammar.proofs.declarations.HeaderPortNamedPart.add.Goals as goal
 
 pub returns-clause-named : goal.returns-clause-named
 returns-clause-named c =

@@ -5,4 +5,3 @@ pub mod Expanded
 pub mod Fixed
 pub mod Runs
 pub mod Gathered
-pub mod Copies

@@ -1,7 +1,6 @@
 //! The group of a Liberty cell with buses, bundles and banks, expanded to single bits.
 #![tactic(auto)]
 
-mod copies;
 mod expansion;
 mod gathered;
 mod inner_pins;
@@ -15,6 +14,5 @@ mod states;
 mod timings;
 
 pub use bank_refusals::{BankReason, BankRefusal, bank_refusal, has_many, refusal};
-pub use copies::with_items;
 pub use gathered::gather;
 pub use sink::ItemSink;

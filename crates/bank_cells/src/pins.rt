@@ -4,13 +4,13 @@ ghost use Rattle.bank_refusals.specs.Members.{inner_pins, member_items};
 ghost use Rattle.bank_cells.specs.Fixed.{shown_shared, shared_items};
 ghost use Rattle.bank_cells.specs.Expanded as spec;
 
-use crate::copies::with_items;
 use crate::rewritten::pin_text;
 use crate::room::with_room;
 use crate::shared::{Shared, add_shared_at};
 use crate::timings::timing_at;
 use bank_refusals::{InnerPins, Member, Place, all_items, named_items};
 use bus_texts::{Vectors, is_called};
+use group_copies::with_items;
 use liberty_groups::{Group, Item, copy_item};
 use sqlite_items::Items;
 use std::alloc::{AllocError, Global};

@@ -1,6 +1,7 @@
 //! The pin groups of a bus or bundle, of which neighbouring members with the same statements have one together.
-ghost use Rattle.std.specs.Prelude.{◌≡◌, ◌++◌, ◌∷◌, [], IfOk, OnOk, map};
+ghost use Rattle.std.specs.Prelude.{◌≡◌, ◌++◌, ◌∷◌, [], IfOk, OnOk, codes, map};
 ghost use Rattle.std.specs.List.{fold};
+ghost use Rattle.liberty_groups.specs.declared.tree.Group.{roll-Group};
 ghost use Rattle.bank_cells.specs.Runs as spec;
 
 use crate::inner_pins::{all_shared_stay, judged_pins, same_places};
@@ -10,6 +11,7 @@ use crate::sink::ItemSink;
 use bank_refusals::{InnerPins, Member, indexed_pins, member_places};
 use bus_texts::{Vector, Vectors};
 use liberty_groups::{Group, Item, SmallList, Value, Values, copy_arguments, copy_text};
+use sqlite_items::Items;
 use std::alloc::{AllocError, Global};
 
 /// Adds the members of a bus or bundle of one name.
@@ -72,6 +74,26 @@ fn add_name(alloc: Global, names: &mut Values, member: Member<'_>) -> Result<(),
 {
     let name = name_of(alloc, member)?;
     names.push(alloc, name)
+}
+
+/// The pin group with these names and statements, at this offset.
+fn pin_group(
+    alloc: Global,
+    names: &[Value],
+    items: Items<Item>,
+    at: usize,
+) -> Result<Group, AllocError>
+    ensures { IfOk result
+        (λ pin. pin ≡ roll-Group (record { name = codes "pin"; arguments = names.now; items = items; at = at })) }
+{
+    let items = SmallList::from_items(alloc, items)?;
+    let arguments = copy_arguments(alloc, names)?;
+    Ok(Group {
+        name: copy_text(alloc, b"pin")?,
+        arguments,
+        items,
+        at,
+    })
 }
 
 /// What the pins of a bus or bundle are made of.
@@ -148,12 +170,7 @@ impl<'a> Statements<'a> {
             &self.shared,
             run.first.member,
         )?;
-        Ok(Group {
-            name: copy_text(alloc, b"pin")?,
-            arguments: copy_arguments(alloc, run.names.as_slice())?,
-            items: SmallList::from_items(alloc, items)?,
-            at: self.group.at,
-        })
+        pin_group(alloc, run.names.as_slice(), items, self.group.at)
     }
 
     /// Adds the pin group of neighbours with the same statements.

@@ -1,5 +1,5 @@
 //! The states of single bits that a bank becomes.
-ghost use Rattle.std.specs.Prelude.{◌≡◌, IfOk, OnOk, map};
+ghost use Rattle.std.specs.Prelude.{◌≡◌, ◌++◌, ◌∷◌, [], IfOk, OnOk, map};
 ghost use Rattle.std.specs.List.{fold};
 ghost use Rattle.bus_texts.specs.Vectors.{shown_bank, positions as positions_of};
 ghost use Rattle.bank_cells.specs.Expanded as spec;
@@ -8,7 +8,7 @@ use crate::rewritten::state_items;
 use crate::sink::ItemSink;
 use bank_refusals::Place;
 use bus_texts::{Bank, Vectors, is_called, member_name, positions};
-use liberty_groups::{Arguments, Group, Item, SmallList, Value, Values, copy_text, value_of};
+use liberty_groups::{Arguments, Group, Item, SmallList, Values, copy_text, value_of};
 use small_bytes::SmallBytes;
 use std::alloc::{AllocError, Global};
 
@@ -23,12 +23,13 @@ fn state_name(alloc: Global, group: &Group) -> Result<SmallBytes, AllocError>
     }
 }
 
-/// The name of a variable's bit.
-fn variable(alloc: Global, name: &[u8], bit: u16) -> Result<Value, AllocError>
-    ensures { IfOk result (λ value. value ≡ spec.variable_value name.now bit) }
+/// Adds the name of a variable's bit.
+fn add_variable(alloc: Global, values: &mut Values, name: &[u8], bit: u16) -> Result<(), AllocError>
+    ensures { OnOk result (values.new ≡ values.old ++ spec.variable_value name.now bit ∷ []) }
 {
     let bytes = member_name(alloc, name, bit)?;
-    value_of(alloc, bytes, true)
+    let value = value_of(alloc, bytes, true)?;
+    values.push(alloc, value)
 }
 
 /// The variables of a bank's state.
@@ -36,8 +37,8 @@ fn variables(alloc: Global, bank: Bank<'_>, bit: u16) -> Result<Arguments, Alloc
     ensures { IfOk result (λ values. values ≡ spec.variables_at (shown_bank bank.entry) bit) }
 {
     let mut values = Values::with_capacity(alloc, 2)?;
-    values.push(alloc, variable(alloc, bank.first, bit)?)?;
-    values.push(alloc, variable(alloc, bank.second, bit)?)?;
+    add_variable(alloc, &mut values, bank.first, bit)?;
+    add_variable(alloc, &mut values, bank.second, bit)?;
     Arguments::from_values(alloc, values)
 }
 
@@ -52,13 +53,13 @@ fn bank_state(
     ensures { IfOk result (λ state. state ≡ spec.bank_state vectors.now group.now (shown_bank bank.entry) bit) }
 {
     let position = Some(usize::from(bit));
+    let items = state_items(alloc, Place { vectors, position }, group)?;
+    let items = SmallList::from_items(alloc, items)?;
+    let arguments = variables(alloc, bank, bit)?;
     Ok(Group {
         name: state_name(alloc, group)?,
-        arguments: variables(alloc, bank, bit)?,
-        items: SmallList::from_items(
-            alloc,
-            state_items(alloc, Place { vectors, position }, group)?,
-        )?,
+        arguments,
+        items,
         at: group.at,
     })
 }

@@ -3,11 +3,11 @@ ghost use Rattle.std.specs.Prelude.{◌≡◌, ◌++◌, IfOk, OnOk, map, flat_m
 ghost use Rattle.bank_cells.specs.Fixed as fixed;
 ghost use Rattle.bank_cells.specs.Expanded as spec;
 
-use crate::copies::with_items;
 use crate::rewritten::{one_value, timing_text};
 use crate::room::with_room;
 use bank_refusals::{Place, are_fixed, pins_named, related_words};
 use bus_texts::{VectorKind, Vectors, is_called, member_at, vector_named};
+use group_copies::with_items;
 use liberty_groups::{Attribute, Group, Item, copy_item, copy_text, simple_attribute};
 use sqlite_items::Items;
 use std::alloc::{AllocError, Global};

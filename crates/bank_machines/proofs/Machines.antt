@@ -185,37 +185,34 @@ record IsBankCell (types : List BusType) (cell : Group) : Type 0 where
   pub states : groups_of (expanded types cell) ≡ joined (bank_cell types cell).states
   pub outputs : outputs_of (expanded types cell) ≡ (bank_cell types cell).outputs
 
-is_bank_cell : (types : List BusType) (cell : Group) → bank_refusal types cell ≡ None → CellMeetsNone (expanded types cell)
-    → IsBankCell types cell
-is_bank_cell types cell h meets = by (has_many cell) refl
-  where
-    by : (many : Bool) → has_many cell ≡ many → IsBankCell types cell
-    by true e =
-        let single : Group = expanded types cell in
-        let items = expanded_items types cell e in
-        let faults : width_faults types cell ≡ [] = unrefused types cell e h in
-        let same : groups_of single ≡ joined (state_lists types cell single) =
-        many_states types cell single meets (ap single_states items) faults in
-        record {
-          states = same;
-          outputs =
-              outputs_over types cell single meets same
-              ∙ many_outputs types cell single meets (owner_list single.items)
-              (ap owner_list items ∙ owners_are types (cell_vectors types cell) cell.items) faults
-              (reads types cell single meets);
-        }
-    by false e =
-        let single : Group = expanded types cell in
-        let items = plain_items types cell e in
-        let same : groups_of single ≡ joined (state_lists types cell single) =
-        few_states types cell single meets (ap single_states items) e in
-        record {
-          states = same;
-          outputs =
-              outputs_over types cell single meets same
-              ∙ few_outputs types cell single meets (owner_list single.items)
-              (ap owner_list items ∙ own_are types (cell_vectors types cell) cell.items e) e;
-        }
+module _ (types : List BusType) (cell : Group) (h : bank_refusal types cell ≡ None)
+    (meets : CellMeetsNone (expanded types cell)) where
+  abbrev single : Group
+  single = expanded types cell
+
+  made_states : (many : Bool) → has_many cell ≡ many → groups_of single ≡ joined (state_lists types cell single)
+  made_states true e =
+      many_states types cell single meets (ap single_states (expanded_items types cell e)) (unrefused types cell e h)
+  made_states false e = few_states types cell single meets (ap single_states (plain_items types cell e)) e
+
+  made_outputs : (many : Bool) → has_many cell ≡ many
+      → outputs_from (vocabulary single) (length (pins_of single)) (joined (state_lists types cell single)) (numbers_of single) 0
+      (owner_list single.items) ≡ (bank_cell types cell).outputs
+  made_outputs true e =
+      many_outputs types cell single meets (owner_list single.items)
+      (ap owner_list (expanded_items types cell e) ∙ owners_are types (cell_vectors types cell) cell.items) (unrefused types cell e h)
+      (reads types cell single meets)
+  made_outputs false e =
+      few_outputs types cell single meets (owner_list single.items)
+      (ap owner_list (plain_items types cell e) ∙ own_are types (cell_vectors types cell) cell.items e) e
+
+  is_bank_cell : IsBankCell types cell
+  is_bank_cell =
+      let same : groups_of single ≡ joined (state_lists types cell single) = made_states (has_many cell) refl in
+      record {
+        states = same;
+        outputs = outputs_over types cell single meets same ∙ made_outputs (has_many cell) refl;
+      }
 
 -- the states list by list
 named_append : (number : ℕ) (xs ys : List StateGroup)

@@ -1,4 +1,3 @@
-pub mod Copies
 pub mod Outputs
 pub mod CoreGroups
 pub mod DriverGroups

@@ -1,15 +1,14 @@
 //! The timing groups of three-state outputs, as their delays are read.
-ghost use Rattle.std.specs.Prelude.{◌≡◌, ◌++◌, ◌∷◌, [], IfOk, OnOk, filter, map};
-ghost use Rattle.liberty_groups.specs.declared.tree.Item.{out-Item};
+ghost use Rattle.std.specs.Prelude.{◌≡◌, ◌++◌, ◌∷◌, [], IfOk, OnOk, map};
 ghost use Rattle.timing_arcs.specs.Timing.{timing_groups as timing_groups_of};
 ghost use Rattle.core_groups.specs.DriverGroups.{has_type as has_type_of, is_unread as is_unread_of};
 ghost use Rattle.core_groups.specs.DriverGroups.{is_no_type as is_no_type_of, read_items as read_items_of};
 ghost use Rattle.core_groups.specs.DriverGroups.{driver_timing as driver_timing_of, driver_item as driver_item_of};
 ghost use Rattle.core_groups.specs.DriverGroups.{driver_pin as driver_pin_of};
 
-use crate::copies::with_items;
 use cell_attributes::groups::is_missing;
-use liberty_groups::{Group, Item, copy_item, copy_items, inner_group, last_attribute};
+use group_copies::{Keeps, kept_items, with_items};
+use liberty_groups::{Group, Item, copy_items, inner_group, last_attribute};
 use sqlite_items::Items;
 use std::alloc::{AllocError, Global};
 
@@ -30,27 +29,18 @@ fn is_unread(group: &Group) -> bool
     has_type(group, b"three_state_disable") || !is_missing(group, b"when")
 }
 
-/// Whether a statement is not the type of a timing group.
-fn is_no_type(item: &Item) -> bool
-    ensures { result ≡ is_no_type_of (out-Item item.now) }
-{
-    match item {
-        Item::Simple { name, .. } => name.as_slice() != b"timing_type".as_slice(),
-        Item::Complex { .. } | Item::Inner(_) => true,
-    }
-}
+/// All statements of a timing group but for its type.
+struct Untyped;
 
-/// Copies of all statements of a timing group but for its type.
-fn untyped_items(alloc: Global, items: &[Item]) -> Result<Items<Item>, AllocError>
-    ensures { IfOk result (λ untyped. untyped ≡ filter (λ item. is_no_type_of (out-Item item)) items.now) }
-{
-    let mut untyped = Items::new(alloc);
-    for item in items {
-        if is_no_type(item) {
-            untyped.push(copy_item(alloc, item)?)?;
+impl Keeps for Untyped {
+    ghost keeps = { λ _. is_no_type_of };
+
+    fn is_kept(&self, item: &Item) -> bool {
+        match item {
+            Item::Simple { name, .. } => name.as_slice() != b"timing_type".as_slice(),
+            Item::Complex { .. } | Item::Inner(_) => true,
         }
     }
-    Ok(untyped)
 }
 
 /// What is read of a timing group.
@@ -60,7 +50,7 @@ fn read_items(alloc: Global, group: &Group) -> Result<Items<Item>, AllocError>
     if is_unread(group) {
         Ok(Items::new(alloc))
     } else if has_type(group, b"three_state_enable") {
-        untyped_items(alloc, group.items.as_slice())
+        kept_items(alloc, &Untyped, group.items.as_slice())
     } else {
         copy_items(alloc, group.items.as_slice())
     }

@@ -1,5 +1,5 @@
 //! The outputs of a core that say where its three-state outputs are driven.
-ghost use Rattle.std.specs.Prelude.{◌≡◌, ◌+◌, ◌<◌, ◌^◌, ◌++◌, IfOk, OnOk, map};
+ghost use Rattle.std.specs.Prelude.{◌≡◌, ◌+◌, ◌<◌, ◌^◌, ◌++◌, IfOk, OnOk, codes, decimal, map};
 ghost use Rattle.liberty_groups.specs.Attributes.{shown as shown_attribute};
 ghost use Rattle.core_groups.specs.Outputs.{shown, three_state_of};
 ghost use Rattle.core_groups.specs.CoreGroups.{reads_alone as reads_alone_of, enable_function as enable_function_of};
@@ -52,9 +52,10 @@ fn one_value(alloc: Global, bytes: Items<u8>) -> Result<Values, AllocError>
 fn simple(alloc: Global, name: &[u8], text: Items<u8>, at: usize) -> Result<Item, AllocError>
     ensures { IfOk result (λ item. item ≡ Item.Simple name.now (one_value_of text) at) }
 {
+    let value = one_value(alloc, text)?;
     Ok(Item::Simple {
         name: copy_text(alloc, name)?,
-        value: one_value(alloc, text)?,
+        value,
         at,
     })
 }
@@ -71,16 +72,26 @@ fn enable_statements(alloc: Global, floats: Attribute<'_>) -> Result<Items<Item>
     Ok(items)
 }
 
+/// The name of the output for the three-state output with this number, from 0.
+fn enable_name(alloc: Global, number: usize) -> Result<Arguments, AllocError>
+    requires { number + 1 < 2 ^ 64 }
+    ensures { IfOk result (λ name. name ≡ one_value_of (codes "-e" ++ decimal (number + 1))) }
+{
+    let name = numbered_name(alloc, b"-e", number + 1)?;
+    Arguments::from_values(alloc, one_value(alloc, name)?)
+}
+
 /// The output for the three-state output with this number, from 0, which floats where this statement says so.
 fn enable_pin(alloc: Global, number: usize, floats: Attribute<'_>) -> Result<Item, AllocError>
     requires { number + 1 < 2 ^ 64 }
     ensures { IfOk result (λ pin. pin ≡ enable_pin_as number (shown_attribute floats.entry)) }
 {
-    let name = numbered_name(alloc, b"-e", number + 1)?;
+    let items = SmallList::from_items(alloc, enable_statements(alloc, floats)?)?;
+    let arguments = enable_name(alloc, number)?;
     Ok(Item::Inner(Group {
         name: copy_text(alloc, b"pin")?,
-        arguments: Arguments::from_values(alloc, one_value(alloc, name)?)?,
-        items: SmallList::from_items(alloc, enable_statements(alloc, floats)?)?,
+        arguments,
+        items,
         at: floats.at,
     }))
 }

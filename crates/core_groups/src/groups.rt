@@ -1,46 +1,36 @@
 //! The group of the core of a cell with three-state outputs.
-ghost use Rattle.std.specs.Prelude.{◌≡◌, ◌++◌, ◌∷◌, [], IfOk, OnOk, filter, map};
-ghost use Rattle.liberty_groups.specs.declared.tree.Item.{out-Item};
+ghost use Rattle.std.specs.Prelude.{◌≡◌, ◌++◌, ◌∷◌, [], IfOk, OnOk, map};
 ghost use Rattle.core_groups.specs.Outputs.{shown, three_state_outputs as three_state_outputs_of};
 ghost use Rattle.core_groups.specs.CoreGroups.{stays_in_core as stays_in_core_of, core_pin as core_pin_of};
 ghost use Rattle.core_groups.specs.CoreGroups.{core_statement as core_statement_of, core_group as core_group_of};
 
-use crate::copies::with_items;
 use crate::enable_pins::add_enable_pins;
 use crate::outputs::{ThreeStateOutput, is_three_state};
+use group_copies::{Keeps, with_items, with_kept};
 use liberty_groups::{Group, Item, copy_item};
 use sqlite_items::Items;
 use std::alloc::{AllocError, Global};
 
-/// Whether a statement of a three-state output stays in the core.
-fn stays_in_core(item: &Item) -> bool
-    ensures { result ≡ stays_in_core_of (out-Item item.now) }
-{
-    match item {
-        Item::Simple { name, .. } => name.as_slice() != b"three_state".as_slice(),
-        Item::Complex { .. } => true,
-        Item::Inner(group) => group.name.as_slice() != b"timing".as_slice(),
-    }
-}
+/// The statements of a three-state output that stay in the core.
+struct CoreStatements;
 
-/// Copies of the statements of a three-state output that stay in the core.
-fn core_statements(alloc: Global, items: &[Item]) -> Result<Items<Item>, AllocError>
-    ensures { IfOk result (λ stays. stays ≡ filter (λ item. stays_in_core_of (out-Item item)) items.now) }
-{
-    let mut stays = Items::new(alloc);
-    for item in items {
-        if stays_in_core(item) {
-            stays.push(copy_item(alloc, item)?)?;
+impl Keeps for CoreStatements {
+    ghost keeps = { λ _. stays_in_core_of };
+
+    fn is_kept(&self, item: &Item) -> bool {
+        match item {
+            Item::Simple { name, .. } => name.as_slice() != b"three_state".as_slice(),
+            Item::Complex { .. } => true,
+            Item::Inner(group) => group.name.as_slice() != b"timing".as_slice(),
         }
     }
-    Ok(stays)
 }
 
 /// A pin group of three-state outputs with what stays of it in the core.
 fn core_pin(alloc: Global, pin: &Group) -> Result<Group, AllocError>
     ensures { IfOk result (λ core. core ≡ core_pin_of pin.now) }
 {
-    with_items(alloc, pin, core_statements(alloc, pin.items.as_slice())?)
+    with_kept(alloc, &CoreStatements, pin)
 }
 
 /// A statement of a cell as it stands in the core.

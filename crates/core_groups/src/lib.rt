@@ -2,7 +2,6 @@
 //! three-state output; and the pin groups of the three-state outputs as their delays are read.
 #![tactic(auto)]
 
-mod copies;
 mod driver_groups;
 mod enable_pins;
 mod groups;

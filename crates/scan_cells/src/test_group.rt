@@ -1,17 +1,14 @@
 //! The test cell of a cell, and what of it is read.
-ghost use Rattle.std.specs.Prelude.{◌≡◌, IfOk, [], ◌∷◌, map, filter, codes};
+ghost use Rattle.std.specs.Prelude.{◌≡◌, IfOk, [], ◌∷◌, map, codes};
 ghost use Rattle.std.specs.Option.{option_copied};
-ghost use Rattle.liberty_groups.specs.declared.tree.Item.{out-Item};
 ghost use Rattle.scan_cells.specs.TestGroup.{test_of as test_of_cell, is_time as is_time_name, untimed as untimed_group};
 ghost use Rattle.scan_cells.specs.TestGroup.{view_group as view_group_of, name_value as name_value_of, untimed_item};
 ghost use Rattle.scan_cells.specs.TestGroup.{is_kept as is_kept_statement};
 ghost use Rattle.cell_attributes.specs.Groups.{inner_groups as inner_groups_of};
 
 use cell_attributes::groups::inner_groups;
-use liberty_groups::{
-    Arguments, Group, Item, SmallList, Value, Values, copy_arguments, copy_item, copy_text,
-    inner_group,
-};
+use group_copies::{Keeps, with_kept};
+use liberty_groups::{Arguments, Group, Item, SmallList, Value, Values, copy_text, inner_group};
 use sqlite_items::Items;
 use std::alloc::{AllocError, Global};
 
@@ -36,40 +33,26 @@ fn is_time(name: &[u8]) -> bool
         || name == b"min_period".as_slice()
 }
 
-/// Whether a statement of a group of the test cell is kept.
-fn is_kept(item: &Item) -> bool
-    ensures { result ≡ is_kept_statement (out-Item item.now) }
-{
-    match item {
-        Item::Simple { name, .. } => !is_time(name.as_slice()),
-        Item::Complex { .. } => true,
-        Item::Inner(_) => false,
-    }
-}
+/// The statements of a group of the test cell that are kept.
+struct UntimedStatements;
 
-/// Copies of the statements that are kept.
-fn copy_kept(alloc: Global, items: &[Item]) -> Result<Items<Item>, AllocError>
-    ensures { IfOk result (λ kept. kept ≡ filter (λ item. is_kept_statement (out-Item item)) items.now) }
-{
-    let mut kept = Items::new(alloc);
-    for item in items {
-        if is_kept(item) {
-            kept.push(copy_item(alloc, item)?)?;
+impl Keeps for UntimedStatements {
+    ghost keeps = { λ _. is_kept_statement };
+
+    fn is_kept(&self, item: &Item) -> bool {
+        match item {
+            Item::Simple { name, .. } => !is_time(name.as_slice()),
+            Item::Complex { .. } => true,
+            Item::Inner(_) => false,
         }
     }
-    Ok(kept)
 }
 
 /// A group with what is kept of its statements.
 fn untimed(alloc: Global, group: &Group) -> Result<Group, AllocError>
     ensures { IfOk result (λ kept. kept ≡ untimed_group group.now) }
 {
-    Ok(Group {
-        name: copy_text(alloc, group.name.as_slice())?,
-        arguments: copy_arguments(alloc, group.arguments.as_slice())?,
-        items: SmallList::from_items(alloc, copy_kept(alloc, group.items.as_slice())?)?,
-        at: group.at,
-    })
+    with_kept(alloc, &UntimedStatements, group)
 }
 
 /// Groups as statements, each with what is kept of it.
@@ -103,10 +86,12 @@ fn name_arguments(alloc: Global, name: &[u8]) -> Result<Arguments, AllocError>
 pub fn view_group(alloc: Global, name: &[u8], test: &Group) -> Result<Group, AllocError>
     ensures { IfOk result (λ group. group ≡ view_group_of name.now test.now) }
 {
+    let items = SmallList::from_items(alloc, view_items(alloc, test)?)?;
+    let arguments = name_arguments(alloc, name)?;
     Ok(Group {
         name: copy_text(alloc, b"cell")?,
-        arguments: name_arguments(alloc, name)?,
-        items: SmallList::from_items(alloc, view_items(alloc, test)?)?,
+        arguments,
+        items,
         at: test.at,
     })
 }

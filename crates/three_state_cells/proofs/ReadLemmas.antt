@@ -13,7 +13,7 @@ use Rattle.liberty_groups.specs.declared.tree.Group.{Group, roll-Group}
 use Rattle.bus_texts.specs.declared.bus_types.BusType.{BusType}
 use Rattle.bus_texts.specs.Vectors.{cell_vectors}
 use Rattle.bank_cells.specs.Refusals.{has_many}
-use Rattle.bank_cells.specs.Copies.{with_items}
+use Rattle.group_copies.specs.Copies.{with_items}
 use Rattle.bank_cells.specs.Gathered.{gathered_item, gathered_cell, gathered}
 use Rattle.timing_arcs.specs.declared.subject.Subject.{Subject}
 use Rattle.cell_attributes.specs.Groups.{is_pin, inner_groups, pin_groups}

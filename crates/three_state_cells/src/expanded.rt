@@ -24,12 +24,13 @@ use crate::read::{read_driven, subject_of};
 use crate::trimmed_items::{AllItems, TrimmedItems};
 use crate::trimming::are_behind;
 use crate::wrong_timings::WrongTimings;
-use bank_cells::{gather, with_items};
+use bank_cells::gather;
 use bool_functions::Names;
 use bus_texts::BusTypes;
 use cell_attributes::pins::owners_of;
 use cell_reader::{CellFault, Reason, Refusal, read_cell};
 use core_groups::{CellPins, core_group};
+use group_copies::with_items;
 use liberty_groups::Group;
 use liberty_text::Unit;
 use std::alloc::{AllocError, Global};
@@ -169,23 +170,23 @@ fn fault_with_lost_timing(
     }
 }
 
-/// The cell with this number, which has more pins than a cell may have, and whose trimmed core is this.
-fn read_trimmed(
+/// Why a cell is refused that has more pins than a cell may have, and whose trimmed core is this.
+fn trimmed_fault(
     alloc: Global,
     source: Source<'_>,
     core: &Group,
     has_apart: bool,
     number: usize,
-) -> Result<DrivenCell, CellFault>
+) -> CellFault
     requires core { IsTrimmedCore (gathered_cell source.types.now source.cell.now) core.now }
     requires apart { has_apart ≡ false → HasNoneApart (gathered_cell source.types.now source.cell.now) }
-    ensures { Reads source.entry.unit source.entry.earlier.now number
-        (gathered_cell source.entry.types.now source.entry.cell.now) result }
+    ensures { Tells (driven_refusal source.entry.unit source.entry.earlier.now
+        (gathered_cell source.entry.types.now source.entry.cell.now)) result }
 {
     match read_cell(alloc, core, number, source.unit, source.earlier) {
         // It has too many pins.
         Ok(_) => unreachable!(),
-        Err(fault) => Err(fault_with_lost_timing(alloc, source, core, has_apart, fault)),
+        Err(fault) => fault_with_lost_timing(alloc, source, core, has_apart, fault),
     }
 }
 
@@ -209,46 +210,21 @@ fn trimmed_core(
     Ok(Some(core))
 }
 
-/// The cell with this number whose gathered group is read with the timing of all pins.
-fn read_whole(alloc: Global, source: Source<'_>, number: usize) -> Result<DrivenCell, CellFault>
-    ensures { Reads source.entry.unit source.entry.earlier.now number
-        (gathered_cell source.entry.types.now source.entry.cell.now) result }
-{
-    let group = whole_group(alloc, source.types, source.cell)?;
-    read_driven(alloc, &group, number, source.unit, source.earlier)
-}
-
-/// The cell with this number whose gathered group is trimmed to this.
-fn read_made(
-    alloc: Global,
-    source: Source<'_>,
-    made: &TrimmedGroup,
-    number: usize,
-) -> Result<DrivenCell, CellFault>
-    requires group { made.now.group ≡ trimmed (gathered_cell source.types.now source.cell.now) }
-    requires whole { made.now.is_whole ≡ true → made.now.group ≡ gathered_cell source.types.now source.cell.now }
-    requires ordered { made.now.is_ordered ≡ true
-        → all_keep_order 0 (owners_of_cell (gathered_cell source.types.now source.cell.now)) ≡ true }
-    requires apart { made.now.has_apart ≡ false → HasNoneApart (gathered_cell source.types.now source.cell.now) }
-    ensures { Reads source.entry.unit source.entry.earlier.now number
-        (gathered_cell source.entry.types.now source.entry.cell.now) result }
-{
-    if made.is_whole {
-        return read_driven(alloc, &made.group, number, source.unit, source.earlier);
-    }
-    match trimmed_core(alloc, source, made)? {
-        Some(core) => read_trimmed(alloc, source, &core, made.has_apart, number),
-        None => read_whole(alloc, source, number),
-    }
-}
-
-/// The cell with this number that a group with buses, bundles or banks describes, as its gathered group.
+/// The cell with this number that a group with buses, bundles or banks describes, as its gathered group: with the timing of all
+/// pins, unless the pins behind the limit can be read without theirs.
 fn read_gathered(alloc: Global, source: Source<'_>, number: usize) -> Result<DrivenCell, CellFault>
     ensures { Reads source.entry.unit source.entry.earlier.now number
         (gathered_cell source.entry.types.now source.entry.cell.now) result }
 {
     let made = trimmed_group(alloc, source.types, source.cell)?;
-    read_made(alloc, source, &made, number)
+    if made.is_whole {
+        return read_driven(alloc, &made.group, number, source.unit, source.earlier);
+    }
+    if let Some(core) = trimmed_core(alloc, source, &made)? {
+        return Err(trimmed_fault(alloc, source, &core, made.has_apart, number));
+    }
+    let group = whole_group(alloc, source.types, source.cell)?;
+    read_driven(alloc, &group, number, source.unit, source.earlier)
 }
 
 /// The cell with this number in its library that a group with buses, bundles or banks describes, expanded to single bits with the

@@ -5,8 +5,8 @@ ghost use Rattle.cell_machine.specs.Delay.{least};
 ghost use Rattle.cell_attributes.specs.Groups.{offsets_of};
 ghost use Rattle.three_state_cells.specs.PinAttributes as spec;
 
-use bank_cells::with_items;
 use cell_machine::least::lesser;
+use group_copies::with_items;
 use liberty_groups::{
     Attribute, Group, Item, Values, copy_bytes, copy_text, last_attribute, simple_attribute,
     value_of,

@@ -4,6 +4,6 @@ use Rattle.liberty_groups.specs.declared.tree.Item.{Item}
 use Rattle.liberty_groups.specs.declared.tree.Group.{Group, roll-Group}
 
 -- the group with these statements in place of its own
-abbrev pub with_statements : Group → List Item → Group
-with_statements group items =
+abbrev pub with_items : Group → List Item → Group
+with_items group items =
     roll-Group (record { name = group.name; arguments = group.arguments; items = items; at = group.at })

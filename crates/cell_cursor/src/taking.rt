@@ -17,10 +17,11 @@ use crate::reading::read_end;
 use crate::statements::{Reached, reach};
 use liberty_groups::{Cursor, LibraryFault};
 use liberty_text::Kept;
+use small_bytes::SharedBytes;
 use std::alloc::AllocError;
 use std::mem::replace;
 
-/// The memory of a part of more bytes than these is given back when its statements were taken.
+/// The memory of a part with room for more bytes than these is given back when its statements were taken.
 const MOST_KEPT: usize = 1_048_576;
 
 impl CellCursor {
@@ -42,12 +43,14 @@ impl CellCursor {
         let end = before + self.part.bytes().len();
         let nothing = Part::new(self.alloc, end, self.place);
         let (bytes, tokens) = replace(&mut self.part, nothing).into_tokens();
-        let mut cursor = Cursor::behind(before, &bytes, tokens);
+        // the long texts of a cell stand in the bytes of its part
+        let shared = SharedBytes::new(self.alloc, bytes)?;
+        let mut cursor = Cursor::sharing(before, &shared, tokens);
         let reached = reach(&mut cursor, self.alloc, self.place, end, &mut items)?;
         let room = cursor.into_room();
         match reached {
             Reached::Unfinished => {
-                self.scan_anew(before, &bytes)?;
+                self.scan_anew(before, shared.as_slice())?;
                 Ok(())
             }
             Reached::Refused(fault) => {
@@ -56,10 +59,10 @@ impl CellCursor {
             }
             Reached::To(place) => {
                 if !may_have_ended {
-                    self.scan_anew(before, &bytes)?;
+                    self.scan_anew(before, shared.as_slice())?;
                     return Ok(());
                 }
-                self.go_to(place, end, items, bytes, room);
+                self.go_to(place, end, items, shared.into_room(self.alloc), room);
                 Ok(())
             }
         }
@@ -129,7 +132,8 @@ impl CellCursor {
         self.answer = Some(Answer::Refused(fault));
     }
 
-    /// The part led to a place, at an offset, behind these items. Its bytes and tokens leave their memory to the next part.
+    /// The part led to a place, at an offset, behind these items. Its tokens leave their memory to the next part, and so do its
+    /// bytes where no text shared them.
     fn go_to(
         &mut self,
         place: Place,
@@ -151,7 +155,7 @@ impl CellCursor {
         items.reverse();
         self.waiting = items;
         self.place = place;
-        self.part = if bytes.len() > MOST_KEPT {
+        self.part = if bytes.capacity() > MOST_KEPT {
             Part::new(self.alloc, end, place)
         } else {
             Part::with_room(end, place, bytes, tokens)

@@ -1,12 +1,13 @@
 //! A cursor over the tokens of a text.
 
-ghost use Rattle.std.specs.Prelude.{◌≡◌, ◌<◌, ◌+◌, ◌^◌, [], length, IfOk};
+ghost use Rattle.std.specs.Prelude.{◌≡◌, ◌<◌, ◌≤◌, ◌+◌, ◌^◌, [], length, slice_range, IfOk};
 ghost use Rattle.liberty_groups.specs.Lexeme.{lexemes_of, lexemes_behind, LieInside, next_token, next_bytes, rest};
 ghost use Rattle.liberty_groups.specs.Answer.{is_last};
 
 use crate::reader::is_argument;
 use crate::values::{Arguments, Values};
 use liberty_text::{Kept, Token, TokenKind, Unread};
+use small_bytes::{SharedBytes, SmallBytes};
 use std::alloc::{AllocError, Global};
 use std::marker::Model;
 
@@ -15,6 +16,8 @@ use std::marker::Model;
 #[derive(Drop)]
 pub struct Cursor<'a> {
     text: &'a [u8],
+    /// The bytes of the text, where what is read may share them.
+    shared: Option<&'a SharedBytes>,
     left: Unread,
     /// How many bytes stand before the part.
     before: usize,
@@ -45,6 +48,7 @@ impl<'a> Cursor<'a> {
     {
         Cursor {
             text,
+            shared: None,
             left: Unread::new(tokens),
             before: 0,
             no_arguments: None,
@@ -60,6 +64,23 @@ impl<'a> Cursor<'a> {
     {
         Cursor {
             text,
+            shared: None,
+            left: Unread::new(tokens),
+            before,
+            no_arguments: None,
+            last_arguments: None,
+        }
+    }
+
+    /// The same, where the texts that are read share the bytes of the part.
+    pub fn sharing(before: usize, shared: &'a SharedBytes, tokens: Vec<Kept>) -> Cursor<'a>
+        requires inside { LieInside shared.now tokens.items }
+        requires fits { before + length shared.now < 2 ^ 64 }
+        ensures { result ≡ lexemes_behind before shared.now tokens.items }
+    {
+        Cursor {
+            text: shared.as_slice(),
+            shared: Some(shared),
             left: Unread::new(tokens),
             before,
             no_arguments: None,
@@ -73,6 +94,7 @@ impl<'a> Cursor<'a> {
     {
         Ok(Cursor {
             text: self.text,
+            shared: self.shared,
             left: self.left.again(alloc)?,
             before: self.before,
             no_arguments: None,
@@ -173,5 +195,25 @@ impl<'a> Cursor<'a> {
             Some(token) => &self.text[token.at..token.end],
             None => &[],
         }
+    }
+
+    /// The bytes of the next token from one place up to another. An `Err` comes only where memory is wanting.
+    #[tactic(auto, using(crate::proofs::Unreads::part_inside, crate::proofs::Unreads::part_is))]
+    pub(crate) fn part(
+        &self,
+        alloc: Global,
+        from: usize,
+        to: usize,
+    ) -> Result<SmallBytes, AllocError>
+        requires ordered { from ≤ to }
+        requires within { to ≤ length (next_bytes self.now) }
+        ensures { IfOk result (λ part. part ≡ slice_range (next_bytes self.now) from to) }
+    {
+        if let Some(shared) = self.shared {
+            if let Some(token) = self.left.first() {
+                return SmallBytes::part(alloc, shared, token.at + from, token.at + to);
+            }
+        }
+        SmallBytes::from_slice(alloc, &self.bytes()[from..to])
     }
 }

@@ -35,7 +35,7 @@ impl Cursor<'_> {
         ensures memory { OnErr result (result ≡ Err Stop.Memory) }
     {
         let at = self.at();
-        let bytes = SmallBytes::from_slice(alloc, self.bytes())?;
+        let bytes = self.word(alloc)?;
         self.skip();
         self.give_back();
         Ok((bytes, at))

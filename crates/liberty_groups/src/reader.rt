@@ -2,7 +2,6 @@
 
 ghost use Rattle.std.specs.Prelude.{◌≡◌, ◌++◌, ℕ, [], OnOk, OnErr, IfOk};
 ghost use Rattle.grammar_rules.specs.Reading.{read};
-ghost use Rattle.liberty_text.specs.TextValue.{value_of};
 ghost use Rattle.liberty_groups.specs.Lexeme.{next_token, next_bytes, rest};
 ghost use Rattle.liberty_groups.specs.Grammar as spec;
 ghost use Rattle.liberty_groups.specs.Grammar.{Reads, next_part, next_start, next_at};
@@ -11,9 +10,9 @@ use crate::cursor::Cursor;
 use crate::fault::{Expected, Refusal, Stop};
 use crate::tree::{Item, Value};
 use crate::values::Values;
-use liberty_text::{Token, TokenKind, plain_value, text_value};
+use liberty_text::{Token, TokenKind};
 use small_bytes::SmallBytes;
-use std::alloc::{AllocError, Global};
+use std::alloc::Global;
 
 /// Where a list of values stands.
 #[derive(Clone, Copy)]
@@ -124,26 +123,6 @@ pub fn ends_value(place: Place, token: Token) -> bool
     }
 }
 
-/// The bytes of a quoted text between its quotes.
-fn between_quotes(bytes: &[u8]) -> &[u8]
-    ensures { result.now ≡ spec.between_quotes bytes.now }
-{
-    match bytes {
-        [_, inner @ .., _] => inner,
-        _ => &[],
-    }
-}
-
-/// The value of a quoted text, given the bytes between its quotes. A short one that is plain needs no memory.
-fn text_bytes(alloc: Global, inner: &[u8]) -> Result<SmallBytes, AllocError>
-    ensures { IfOk result (λ value. value ≡ value_of inner.now) }
-{
-    match plain_value(inner) {
-        Some(value) => Ok(SmallBytes::from_slice(alloc, value)?),
-        None => Ok(SmallBytes::from_items(alloc, text_value(alloc, inner)?)?),
-    }
-}
-
 impl Cursor<'_> {
     /// A mark that must stand next.
     pub fn expect(&mut self, mark: Mark, expected: Expected) -> Result<(), Stop>
@@ -189,11 +168,11 @@ impl Cursor<'_> {
         };
         match token.kind {
             TokenKind::Word => {
-                let bytes = SmallBytes::from_slice(alloc, self.bytes())?;
+                let bytes = self.word(alloc)?;
                 found.push(alloc, Value::new(bytes, false))?;
             }
             TokenKind::Text => {
-                let bytes = text_bytes(alloc, between_quotes(self.bytes()))?;
+                let bytes = self.text(alloc)?;
                 found.push(alloc, Value::new(bytes, true))?;
             }
             _ => {}

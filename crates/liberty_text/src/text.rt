@@ -78,6 +78,7 @@ fn is_plain(bytes: &[u8]) -> bool
 #[tactic(auto, using(crate::proofs::TextValues::value_of_plain))]
 pub fn plain_value(bytes: &[u8]) -> Option<&[u8]>
     ensures plain { IfSome result (λ value. value.now ≡ value_of bytes.now) }
+    ensures same { IfSome result (λ value. value.now ≡ bytes.now) }
     ensures other { result ≡ None → list_all stands_for_itself bytes.now ≡ false }
 {
     if is_plain(bytes) { Some(bytes) } else { None }

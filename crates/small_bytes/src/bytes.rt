@@ -1,9 +1,10 @@
 //! Bytes, of which few stand in place.
 
-ghost use Rattle.std.specs.Prelude.{◌≡◌, ◌≤◌, [], length, false, IfOk, IsTrue};
+ghost use Rattle.std.specs.Prelude.{◌≡◌, ◌≤◌, [], length, take, drop, slice_range, false, IfOk, IsTrue};
 ghost use Rattle.small_bytes.specs.Bytes.{held_bytes, is_marked};
 
 use crate::room::Room;
+use crate::shared::SharedBytes;
 use sqlite_items::{Boxed, Items};
 use std::alloc::{AllocError, Global};
 use std::marker::Model;
@@ -24,10 +25,12 @@ enum HeldBytes {
     Row(bool, Boxed<Room<71>>),
     WideRow(bool, Boxed<Room<103>>),
     Long(bool, Boxed<Items<u8>>),
+    /// So many of bytes that others share, behind so many others.
+    Part(bool, u16, u32, SharedBytes),
 }
 
-/// Some bytes, in 16: at most 15 stand in place, at most 103 in one block, and more in a list behind a box. Contracts see the
-/// list of the bytes.
+/// Some bytes, in 16: at most 15 stand in place, at most 103 in one block, and more in a list behind a box, or they are a part of
+/// bytes that others share. Contracts see the list of the bytes.
 #[derive(Drop)]
 pub struct SmallBytes {
     held: HeldBytes,
@@ -57,6 +60,12 @@ const NAME: usize = 39;
 const ROW: usize = 71;
 
 const WIDE_ROW: usize = 103;
+
+/// The longest part of shared bytes.
+const LONGEST: usize = 65_535;
+
+/// So many bytes may stand before a part of shared bytes.
+const FARTHEST: usize = 4_294_967_295;
 
 /// As many bytes as fit where a box would stand.
 fn full(bytes: &[u8]) -> HeldBytes
@@ -89,6 +98,16 @@ fn few(alloc: Global, bytes: &[u8]) -> Result<HeldBytes, AllocError>
     Ok(HeldBytes::WideRow(false, Boxed::new(alloc, Room::filled(bytes))?))
 }
 
+/// So many bytes behind so many others, as far as there are so many.
+#[inline(always)]
+fn part_of(bytes: &[u8], before: usize, count: usize) -> &[u8]
+    ensures { result.now ≡ take count (drop before bytes.now) }
+{
+    let (_, behind) = bytes.split_at(before.min(bytes.len()));
+    let (part, _) = behind.split_at(count.min(behind.len()));
+    part
+}
+
 /// The bytes that are held.
 #[inline(always)]
 fn bytes_of(held: &HeldBytes) -> &[u8]
@@ -103,6 +122,9 @@ fn bytes_of(held: &HeldBytes) -> &[u8]
         HeldBytes::Row(_, block) => block.get().as_slice(),
         HeldBytes::WideRow(_, block) => block.get().as_slice(),
         HeldBytes::Long(_, bytes) => bytes.get().as_slice(),
+        HeldBytes::Part(_, count, before, shared) => {
+            part_of(shared.as_slice(), *before as usize, usize::from(*count))
+        }
     }
 }
 
@@ -118,6 +140,7 @@ fn marked(held: HeldBytes) -> HeldBytes
         HeldBytes::Row(_, block) => HeldBytes::Row(true, block),
         HeldBytes::WideRow(_, block) => HeldBytes::WideRow(true, block),
         HeldBytes::Long(_, bytes) => HeldBytes::Long(true, bytes),
+        HeldBytes::Part(_, count, before, shared) => HeldBytes::Part(true, count, before, shared),
         held => held,
     }
 }
@@ -134,6 +157,7 @@ fn unmarked(held: HeldBytes) -> HeldBytes
         HeldBytes::Row(_, block) => HeldBytes::Row(false, block),
         HeldBytes::WideRow(_, block) => HeldBytes::WideRow(false, block),
         HeldBytes::Long(_, bytes) => HeldBytes::Long(false, bytes),
+        HeldBytes::Part(_, count, before, shared) => HeldBytes::Part(false, count, before, shared),
         held => held,
     }
 }
@@ -170,6 +194,26 @@ impl SmallBytes {
         } else {
             HeldBytes::Long(false, Boxed::new(alloc, bytes)?)
         };
+        Ok(SmallBytes { held })
+    }
+
+    /// Those of some shared bytes from one place up to another. So few as stand in place are copied. An `Err` comes only where
+    /// memory is wanting.
+    pub fn part(
+        alloc: Global,
+        shared: &SharedBytes,
+        from: usize,
+        to: usize,
+    ) -> Result<SmallBytes, AllocError>
+        requires ordered { from ≤ to }
+        requires within { to ≤ length shared.now }
+        ensures { IfOk result (λ part. part ≡ slice_range shared.now from to) }
+    {
+        let count = to - from;
+        if count <= FULL || count > LONGEST || from > FARTHEST {
+            return SmallBytes::from_slice(alloc, &shared.as_slice()[from..to]);
+        }
+        let held = HeldBytes::Part(false, count as u16, from as u32, shared.again()?);
         Ok(SmallBytes { held })
     }
 
@@ -233,6 +277,7 @@ impl MarkedBytes {
             | HeldBytes::Row(mark, _)
             | HeldBytes::WideRow(mark, _)
             | HeldBytes::Long(mark, _) => *mark,
+            HeldBytes::Part(mark, _, _, _) => *mark,
         }
     }
 

@@ -3,5 +3,7 @@
 
 mod bytes;
 mod room;
+mod shared;
 
 pub use bytes::{MarkedBytes, SmallBytes};
+pub use shared::SharedBytes;

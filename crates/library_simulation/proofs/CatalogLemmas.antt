@@ -1,7 +1,7 @@
 -- The cells of a catalog, added one after another.
 use Rattle.std.proofs.Common.{◌≡◌, ◌<◌, ℕ, ◌+◌, true, is_some, List, [], ◌∷◌, ◌++◌, map, take, get_or, length, Option, Some, None}
 use Rattle.std.proofs.Common.{Result, Ok, Err, IfOk, refl, sym, ap, ◌∙◌}
-use Rattle.bool_functions.specs.NameList.{number_of, AreDistinct}
+use Rattle.bool_functions.specs.NameList.{number_of, Adds, AreDistinct}
 use Rattle.file_models.specs.declared.file_model.FileModel.{FileModel}
 use Rattle.library_reader.specs.LibraryCells.{CellEntry, name_of, cell_names}
 use Rattle.specify_blocks.specs.declared.model.VModule.{VModule}
@@ -9,10 +9,12 @@ use Rattle.vital_models.specs.declared.model.VEntity.{VEntity}
 use Rattle.stimulus.specs.declared.ports.Ports.{Ports}
 use Rattle.stimulus.specs.PortEntries.{NamedCells, AddsCell}
 use Rattle.library_simulation.specs.declared.numbers.ModelNumbers.{ModelNumbers}
-use Rattle.library_simulation.specs.NamedModels.{NamedModels, named_models, module_names, lowered_names}
+use Rattle.library_simulation.specs.declared.same_ports.Spelling.{Spelling}
+use Rattle.library_simulation.specs.SamePorts.{looked_up}
+use Rattle.library_simulation.specs.NamedModels.{NamedModels, named_models, names_of, module_names, lowered_names}
 use Rattle.library_simulation.specs.declared.catalog.Simulated.{Simulated}
 use Rattle.library_simulation.specs.Catalog.{ports_in, numbers_in, simulated_in, simulated_of, HaveOwnNames}
-use Rattle.file_models.proofs.NewNames.{new_name, one_more}
+use Rattle.file_models.proofs.NewNames.{new_name, one_more, names_more}
 
 -- these cells stand in a catalog, each with the numbers of its models
 pub record AreListed (models : NamedModels) (catalog : NamedCells) (kept : List (Option ModelNumbers)) (some : List CellEntry) :
@@ -39,6 +41,15 @@ listed_more models old new before after cells i cell ports numbers (Some number)
       cells = ap (λ c. c.cells) a.2 ∙ (λ j. k.cells j ++ p j ∷ []) ∙ sym (one_more (ports_in models) cells i cell h e);
       numbers = pushed refl ∙ (λ j. k.numbers j ++ n j ∷ []) ∙ sym (one_more (numbers_in models) cells i cell h e);
     }
+
+-- the next model is added by its name
+pub model_named : {M : Type 0} (spelling : Spelling) (models : List (FileModel M)) (i : ℕ) (model : FileModel M)
+    (old new : List (List ℕ)) (found : Option ℕ)
+    → i < length models → model ≡ get_or models i model
+    → (AreDistinct (names_of spelling models) → old ≡ names_of spelling (take i models))
+    → Adds old (looked_up spelling model.name) found new
+    → AreDistinct (names_of spelling models) → new ≡ names_of spelling (take (i + 1) models)
+model_named {M = M} spelling = names_more (λ (f : FileModel M). looked_up spelling f.name)
 
 -- the look-ups are by the names of the models
 pub named_as : (modules : List (FileModel VModule)) (entities : List (FileModel VEntity)) (some others : List (List ℕ))

@@ -5,9 +5,10 @@ ghost use Rattle.library_reader.specs.LibraryCells.{described, all_described, ce
 ghost use Rattle.library_simulation.specs.NamedModels.{shown};
 ghost use Rattle.library_simulation.specs.Catalog.{ports_in, numbers_in, simulated_in, simulated_of, HaveOwnNames};
 
-use crate::named_models::{ModelFiles, lowered_names, module_names};
+use crate::named_models::{ModelFiles, model_names};
 use crate::numbers::ModelNumbers;
 use crate::pin_names::named_ports;
+use crate::same_ports::Spelling;
 use bool_functions::Names;
 use file_models::FileModel;
 use generated_drivers::own_pins;
@@ -106,9 +107,9 @@ pub fn simulation_catalog(
 {
     let files = ModelFiles {
         modules,
-        module_names: module_names(alloc, modules)?,
+        module_names: model_names(alloc, Spelling::Exact, modules)?,
         entities,
-        entity_names: lowered_names(alloc, entities)?,
+        entity_names: model_names(alloc, Spelling::AnyCase, entities)?,
     };
     simulated_in(alloc, &files, cells)
 }

@@ -4,8 +4,7 @@ ghost use Rattle.std.specs.Option.{option_map};
 ghost use Rattle.bool_functions.specs.NameList.{AreDistinct};
 ghost use Rattle.three_state_cells.specs.DrivenCells.{driven_data_of};
 ghost use Rattle.file_models.specs.declared.file_model.FileModel.{FileModel as FileModelOf};
-ghost use Rattle.library_simulation.specs.NamedModels.{verilog_name as verilog_name_of, module_names as module_names_of};
-ghost use Rattle.library_simulation.specs.NamedModels.{lowered_names as lowered_names_of, shown, has_ports};
+ghost use Rattle.library_simulation.specs.NamedModels.{verilog_name as verilog_name_of, names_of, shown, has_ports};
 ghost use Rattle.library_simulation.specs.NamedModels.{verilog_number as verilog_number_of};
 ghost use Rattle.library_simulation.specs.NamedModels.{vital_number as vital_number_of};
 
@@ -117,31 +116,17 @@ fn verilog_name(alloc: Global, cell: &DrivenCell) -> Result<Items<u8>, AllocErro
     }
 }
 
-/// The names of Verilog models, in their order, where no two have one name.
-pub(crate) fn module_names(
+/// The names of these models, in their order, as names that are spelled so are looked up, where no two are the same.
+pub(crate) fn model_names<M: Drop>(
     alloc: Global,
-    modules: &[FileModel<VModule>],
+    spelling: Spelling,
+    models: &[FileModel<M>],
 ) -> Result<Names, AllocError>
-    ensures { IfOk result (λ names. AreDistinct (module_names_of modules.now) → names ≡ module_names_of modules.now) }
+    ensures { IfOk result (λ names. AreDistinct (names_of spelling models.now) → names ≡ names_of spelling models.now) }
 {
     let mut names = Names::new(alloc);
-    for model in modules {
-        names.add(model.name.as_slice())?;
-    }
-    Ok(names)
-}
-
-/// The names of VITAL models in lower case, in their order, where no two have one name, whatever the case of its letters.
-pub(crate) fn lowered_names(
-    alloc: Global,
-    entities: &[FileModel<VEntity>],
-) -> Result<Names, AllocError>
-    ensures { IfOk result (λ names. AreDistinct (lowered_names_of entities.now) → names ≡ lowered_names_of entities.now) }
-{
-    let mut names = Names::new(alloc);
-    for entity in entities {
-        let name = entity.name.as_slice().to_ascii_lowercase(alloc)?;
-        names.add(&name)?;
+    for model in models {
+        spelling.add(alloc, &mut names, model.name.as_slice())?;
     }
     Ok(names)
 }

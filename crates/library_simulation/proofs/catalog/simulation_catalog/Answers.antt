@@ -4,5 +4,5 @@ use Rattle.library_simulation.proofs.catalog.simulation_catalog.Goals as goal
 
 pub returns : goal.returns
 returns c =
-    whole_catalog c.simulated_in.result (all_described c.args.cells.now) c.args.modules.now c.args.entities.now c.in_ok-module_names.field-0 c.in_ok-lowered_names.field-0
-    c.in_ok-module_names.ensures c.in_ok-lowered_names.ensures c.simulated_in.ensures
+    whole_catalog c.simulated_in.result (all_described c.args.cells.now) c.args.modules.now c.args.entities.now c.in_ok-model_names.field-0 c.in_ok-model_names-2.field-0
+    c.in_ok-model_names.ensures c.in_ok-model_names-2.ensures c.simulated_in.ensures

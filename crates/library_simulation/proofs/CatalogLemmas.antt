@@ -1,6 +1,6 @@
 -- The cells of a catalog, added one after another.
-use Rattle.std.proofs.Common.{◌≡◌, ◌<◌, ℕ, ◌+◌, List, [], ◌∷◌, ◌++◌, map, take, get_or, length, Option, Some, None}
-use Rattle.std.proofs.Common.{Result, Ok, Err, IfOk, refl, sym, ap, ◌∙◌}
+use Rattle.std.proofs.Common.{◌≡◌, ◌<◌, ℕ, ◌+◌, List, [], ◌∷◌, ◌++◌, take, get_or, length, Option, Some, None}
+use Rattle.std.proofs.Common.{Result, Ok, Err, IfOk, sym, ap, ◌∙◌}
 use Rattle.bool_functions.specs.NameList.{number_of, Adds, AreDistinct}
 use Rattle.file_models.specs.declared.file_model.FileModel.{FileModel}
 use Rattle.library_reader.specs.LibraryCells.{CellEntry, name_of, cell_names}

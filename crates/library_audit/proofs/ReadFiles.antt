@@ -74,6 +74,11 @@ modules_sound models h = λ k d below. (h k d below).core
 
 -- The file that ends the run.
 
+-- how the run ended, by another name of the status
+pub ended_as : (old new : DeskState) (result other : Status) → result ≡ other
+    → RunsAs audit_files (audit_of old.words) old new other → RunsAs audit_files (audit_of old.words) old new result
+ended_as old new result other is = subst (RunsAs audit_files (audit_of old.words) old new) (sym is)
+
 pub library_ends : (old new : DeskState) (result : Status) → FileEndsRun library_answer old new Library 1 result
     → RunsAs audit_files (audit_of old.words) old new result
 library_ends old new result f =

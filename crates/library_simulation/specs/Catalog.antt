@@ -1,5 +1,5 @@
 -- The cells of a library as those that a stimulus may name, with the models of each. (This project's rules.)
-use Rattle.std.specs.Prelude.{ℕ, List, [], map, Option, None}
+use Rattle.std.specs.Prelude.{ℕ, List, [], ◌∷◌, ◌++◌, map, Option, None}
 use Rattle.bool_functions.specs.NameList.{AreDistinct}
 use Rattle.three_state_cells.specs.DrivenCells.{DrivenData}
 use Rattle.generated_drivers.specs.Generated.{pins_of}
@@ -38,6 +38,14 @@ cells_in models cells = record { names = cell_names cells; cells = map (ports_in
 
 abbrev pub simulated_in : NamedModels → List CellEntry → Simulated
 simulated_in models cells = record { catalog = cells_in models cells; models = map (numbers_in models) cells }
+
+-- with a cell more behind the others, of this name, with these ports and these numbers of its models
+abbrev pub with_cell : Simulated → List ℕ → Ports → Option ModelNumbers → Simulated
+with_cell simulated name ports numbers =
+    record {
+      catalog = record { names = simulated.catalog.names ++ name ∷ []; cells = simulated.catalog.cells ++ ports ∷ [] };
+      models = simulated.models ++ numbers ∷ [];
+    }
 
 -- the cells of a library beside the models of two files
 abbrev pub cells_named : List CellEntry → List (FileModel VModule) → List (FileModel VEntity) → NamedCells

@@ -18,7 +18,11 @@ use Rattle.file_models.specs.declared.file_model.FileModel.{FileModel}
 use Rattle.library_simulation.specs.declared.named_models.ModelFiles.{ModelFiles}
 use Rattle.library_simulation.specs.declared.same_ports.Spelling.{Spelling}
 use Rattle.library_simulation.specs.declared.same_ports.Spelling.TheVariants.{Exact, AnyCase}
-use Rattle.library_simulation.specs.SamePorts.{same_ports}
+use Rattle.library_simulation.specs.SamePorts.{same_ports, looked_up}
+
+-- the names of models, as names that are spelled so are looked up
+abbrev pub names_of : {M : Type 0} → Spelling → List (FileModel M) → List (List ℕ)
+names_of {M = M} spelling models = map (λ (f : FileModel M). looked_up spelling f.name) models
 
 -- the names of Verilog models
 abbrev pub module_names : List (FileModel VModule) → List (List ℕ)

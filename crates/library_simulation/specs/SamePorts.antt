@@ -5,6 +5,7 @@ use Rattle.std.specs.Prelude.{ℕ, Bool, true, false, ◌&&◌, List, [], ◌∷
 use Rattle.std.specs.Str.{bytes_eq, str_eq_ignore_ascii_case}
 use Rattle.udp_tables.specs.declared.models.VPort.{VPort}
 use Rattle.stimulus.specs.Differences.{same_fact}
+use Rattle.vhdl_tokens.specs.Kept.{lowered}
 use Rattle.library_simulation.specs.declared.same_ports.Spelling.{Spelling}
 use Rattle.library_simulation.specs.declared.same_ports.Spelling.TheVariants.{Exact, AnyCase}
 
@@ -12,6 +13,11 @@ use Rattle.library_simulation.specs.declared.same_ports.Spelling.TheVariants.{Ex
 abbrev pub same_name : Spelling → List ℕ → List ℕ → Bool
 same_name Exact one other = bytes_eq one other
 same_name AnyCase one other = str_eq_ignore_ascii_case one other
+
+-- a name as others are compared with it byte for byte: itself, or in lower case where the case of letters does not count
+abbrev pub looked_up : Spelling → List ℕ → List ℕ
+looked_up Exact name = name
+looked_up AnyCase name = lowered name
 
 -- two ports have the same name and direction
 abbrev pub same_port : Spelling → VPort → VPort → Bool

@@ -1,14 +1,16 @@
 //! The cells of a library as those that a stimulus may name, with the models of each.
-ghost use Rattle.std.specs.Prelude.{◌≡◌, [], IfOk};
-ghost use Rattle.bool_functions.specs.NameList.{AreDistinct};
+ghost use Rattle.std.specs.Prelude.{◌≡◌, [], None, IfOk, OnOk};
+ghost use Rattle.bool_functions.specs.NameList.{number_of, AreDistinct};
 ghost use Rattle.library_reader.specs.LibraryCells.{described, all_described, cell_names};
 ghost use Rattle.library_simulation.specs.NamedModels.{shown};
-ghost use Rattle.library_simulation.specs.Catalog.{ports_in, numbers_in, simulated_in, simulated_of, HaveOwnNames};
+ghost use Rattle.library_simulation.specs.Catalog.{ports_in, numbers_in, with_cell, simulated_in, simulated_of, HaveOwnNames};
 
-use crate::named_models::{ModelFiles, lowered_names, module_names};
+use crate::named_models::{ModelFiles, model_names};
 use crate::numbers::ModelNumbers;
 use crate::pin_names::named_ports;
+use crate::same_ports::Spelling;
 use bool_functions::Names;
+use cell_attributes::held::{both_made, held_with};
 use file_models::FileModel;
 use generated_drivers::own_pins;
 use library_reader::LibraryCell;
@@ -67,6 +69,42 @@ fn no_ports(alloc: Global, standing: Standing) -> Ports
     }
 }
 
+impl Simulated {
+    /// Adds a cell with this name, where no cell has it.
+    #[tactic(auto, using(crate::proofs::CatalogLemmas::cell_added))]
+    fn add(&mut self, name: &[u8], entry: Entry) -> Result<(), AllocError>
+        ensures { OnOk result (number_of self.old.catalog.names name.now ≡ None
+            → self.new ≡ with_cell self.old name.now entry.ports entry.numbers) }
+    {
+        let Entry { ports, numbers } = entry;
+        match self.catalog.add(name, ports)? {
+            None => Ok(()),
+            Some(_) => {
+                self.models.push(numbers)?;
+                Ok(())
+            }
+        }
+    }
+
+    /// Adds these cells, in their order, with their models among those of these files, where there was none.
+    fn add_all(
+        &mut self,
+        alloc: Global,
+        files: &ModelFiles<'_>,
+        cells: &[LibraryCell],
+    ) -> Result<(), AllocError>
+        requires { self.old ≡ record { catalog = record { names = []; cells = [] }; models = [] } }
+        ensures { OnOk result (AreDistinct (cell_names (all_described cells.now))
+            → self.new ≡ simulated_in (shown files.now) (all_described cells.now)) }
+    {
+        for cell in cells {
+            let entry = entry_of(alloc, files, cell)?;
+            self.add(cell.name(), entry)?;
+        }
+        Ok(())
+    }
+}
+
 /// The cells with their models among those of these files.
 fn simulated_in(
     alloc: Global,
@@ -76,15 +114,12 @@ fn simulated_in(
     ensures { IfOk result (λ simulated. AreDistinct (cell_names (all_described cells.now))
         → simulated ≡ simulated_in (shown files.now) (all_described cells.now)) }
 {
-    let mut catalog = PortCatalog::new(alloc);
-    let mut models = Items::new(alloc);
-    for cell in cells {
-        let Entry { ports, numbers } = entry_of(alloc, files, cell)?;
-        if catalog.add(cell.name(), ports)?.is_some() {
-            models.push(numbers)?;
-        }
-    }
-    Ok(Simulated { catalog, models })
+    let mut simulated = Simulated {
+        catalog: PortCatalog::new(alloc),
+        models: Items::new(alloc),
+    };
+    let added = simulated.add_all(alloc, files, cells);
+    Ok(held_with(simulated, added)?.0)
 }
 
 /// The catalog of the cells of a library, in their order, beside the models of a Verilog file and those of a VHDL file. A driver
@@ -104,11 +139,14 @@ pub fn simulation_catalog(
     ensures { IfOk result (λ simulated. HaveOwnNames (all_described cells.now) modules.now entities.now
         → simulated ≡ simulated_of (all_described cells.now) modules.now entities.now) }
 {
+    let module_names = model_names(alloc, Spelling::Exact, modules);
+    let entity_names = model_names(alloc, Spelling::AnyCase, entities);
+    let names = both_made(module_names, entity_names)?;
     let files = ModelFiles {
         modules,
-        module_names: module_names(alloc, modules)?,
+        module_names: names.0,
         entities,
-        entity_names: lowered_names(alloc, entities)?,
+        entity_names: names.1,
     };
     simulated_in(alloc, &files, cells)
 }

@@ -19,6 +19,7 @@ use crate::known::learn;
 use crate::known_beside::KnownBeside;
 use crate::laws::described_are_cells;
 use crate::simulation::Simulation;
+use cell_attributes::held::both_made;
 use cell_machine::{CellStart, Change, LibertySim, Shared};
 use driven_traces::DrivenSim;
 use file_models::FileModel;
@@ -93,10 +94,11 @@ fn all_started<L: Drop, V: Drop, H: Drop>(
 ) -> Result<ThreeSimulators<L, V, H>, AllocError>
     ensures { IfOk result (λ three. (liberty ≡ Ok three.liberty) × ((verilog ≡ Ok three.verilog) × (vital ≡ Ok three.vital))) }
 {
+    let ((liberty, verilog), vital) = both_made(both_made(liberty, verilog), vital)?;
     Ok(ThreeSimulators {
-        liberty: liberty?,
-        verilog: verilog?,
-        vital: vital?,
+        liberty,
+        verilog,
+        vital,
     })
 }
 

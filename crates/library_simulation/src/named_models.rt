@@ -1,17 +1,18 @@
 //! The models of two files, looked up by their names.
 ghost use Rattle.std.specs.Prelude.{◌≡◌, slice_get, IfOk};
 ghost use Rattle.std.specs.Option.{option_map};
-ghost use Rattle.bool_functions.specs.NameList.{AreDistinct};
+ghost use Rattle.bool_functions.specs.NameList.{number_of, AreDistinct};
+ghost use Rattle.vhdl_tokens.specs.Kept.{lowered};
 ghost use Rattle.three_state_cells.specs.DrivenCells.{driven_data_of};
 ghost use Rattle.file_models.specs.declared.file_model.FileModel.{FileModel as FileModelOf};
-ghost use Rattle.library_simulation.specs.NamedModels.{verilog_name as verilog_name_of, module_names as module_names_of};
-ghost use Rattle.library_simulation.specs.NamedModels.{lowered_names as lowered_names_of, shown, has_ports};
+ghost use Rattle.library_simulation.specs.NamedModels.{verilog_name as verilog_name_of, names_of, shown, has_ports, with_ports};
 ghost use Rattle.library_simulation.specs.NamedModels.{verilog_number as verilog_number_of};
 ghost use Rattle.library_simulation.specs.NamedModels.{vital_number as vital_number_of};
 
 use crate::numbers::Found;
 use crate::same_ports::Spelling;
 use bool_functions::Names;
+use cell_attributes::held::{both_made, held_with};
 use file_models::FileModel;
 use generated_drivers::own_pins;
 use specify_blocks::{VModule, driver_name, module_name, verilog_ports};
@@ -57,15 +58,11 @@ impl<'a> ModelFiles<'a> {
     fn verilog_number(&self, alloc: Global, cell: &DrivenCell) -> Result<Option<usize>, AllocError>
         ensures { IfOk result (λ number. number ≡ verilog_number_of (shown self.now) (driven_data_of cell.now)) }
     {
-        let name = verilog_name(alloc, cell)?;
-        let ports = verilog_ports(alloc, own_pins(cell))?;
-        match self.module_names.number(name.as_slice()) {
-            None => Ok(None),
-            Some(number) => {
-                let is_it = model_has(self.modules, number, Spelling::Exact, ports.as_slice());
-                Ok(is_it.then_some(number))
-            }
-        }
+        let name = verilog_name(alloc, cell);
+        let ports = verilog_ports(alloc, own_pins(cell));
+        let (name, ports) = both_made(name, ports)?;
+        let number = self.module_names.number(name.as_slice());
+        Ok(number_with(self.modules, number, Spelling::Exact, ports.as_slice()))
     }
 
     /// The number of the VITAL model with this name, where it is there with the ports of the cell.
@@ -78,15 +75,34 @@ impl<'a> ModelFiles<'a> {
     ) -> Result<Option<usize>, AllocError>
         ensures { IfOk result (λ number. number ≡ vital_number_of (shown self.now) entity.now (driven_data_of cell.now)) }
     {
-        let name = entity.to_ascii_lowercase(alloc)?;
         let ports = vital_ports(alloc, own_pins(cell), entity)?;
-        match self.entity_names.number(&name) {
-            None => Ok(None),
-            Some(number) => {
-                let is_it = model_has(self.entities, number, Spelling::AnyCase, ports.as_slice());
-                Ok(is_it.then_some(number))
-            }
-        }
+        let number = number_of_lowered(alloc, &self.entity_names, entity);
+        let (ports, number) = held_with(ports, number)?;
+        Ok(number_with(self.entities, number, Spelling::AnyCase, ports.as_slice()))
+    }
+}
+
+/// The number of a name, whatever the case of its letters, among these, which are in lower case.
+fn number_of_lowered(alloc: Global, names: &Names, name: &[u8]) -> Result<Option<usize>, AllocError>
+    ensures { IfOk result (λ number. number ≡ number_of names.now (lowered name.now)) }
+{
+    let name = name.to_ascii_lowercase(alloc)?;
+    Ok(names.number(&name))
+}
+
+/// This number of a model of these, where there is one, and this model has these ports, whose names are spelled so.
+fn number_with<M: Drop>(
+    models: &[FileModel<M>],
+    number: Option<usize>,
+    spelling: Spelling,
+    ports: &[VPort],
+) -> Option<usize>
+    ensures { result ≡ with_ports spelling ports.now
+        (λ number. option_map (λ (model : FileModelOf M). model.ports) (slice_get models.now number)) number }
+{
+    match number {
+        Some(number) => model_has(models, number, spelling, ports).then_some(number),
+        None => None,
     }
 }
 
@@ -117,31 +133,17 @@ fn verilog_name(alloc: Global, cell: &DrivenCell) -> Result<Items<u8>, AllocErro
     }
 }
 
-/// The names of Verilog models, in their order, where no two have one name.
-pub(crate) fn module_names(
+/// The names of these models, in their order, as names that are spelled so are looked up, where no two are the same.
+pub(crate) fn model_names<M: Drop>(
     alloc: Global,
-    modules: &[FileModel<VModule>],
+    spelling: Spelling,
+    models: &[FileModel<M>],
 ) -> Result<Names, AllocError>
-    ensures { IfOk result (λ names. AreDistinct (module_names_of modules.now) → names ≡ module_names_of modules.now) }
+    ensures { IfOk result (λ names. AreDistinct (names_of spelling models.now) → names ≡ names_of spelling models.now) }
 {
     let mut names = Names::new(alloc);
-    for model in modules {
-        names.add(model.name.as_slice())?;
-    }
-    Ok(names)
-}
-
-/// The names of VITAL models in lower case, in their order, where no two have one name, whatever the case of its letters.
-pub(crate) fn lowered_names(
-    alloc: Global,
-    entities: &[FileModel<VEntity>],
-) -> Result<Names, AllocError>
-    ensures { IfOk result (λ names. AreDistinct (lowered_names_of entities.now) → names ≡ lowered_names_of entities.now) }
-{
-    let mut names = Names::new(alloc);
-    for entity in entities {
-        let name = entity.name.as_slice().to_ascii_lowercase(alloc)?;
-        names.add(&name)?;
+    for model in models {
+        spelling.add(alloc, &mut names, model.name.as_slice())?;
     }
     Ok(names)
 }

@@ -4,6 +4,7 @@ ghost use Rattle.library_simulation.specs.PinNames.{AreNamedApart, same_directio
 ghost use Rattle.library_simulation.specs.PinNames.{pin_names as pin_names_of, named_ports as named_ports_of};
 
 use bool_functions::Names;
+use cell_attributes::held::both_made;
 use cell_machine::{Direction, Pin};
 use std::alloc::{AllocError, Global};
 use stimulus::{Ports, Standing};
@@ -18,10 +19,13 @@ pub(crate) fn named_ports(
     requires { AreNamedApart pins.now }
     ensures { IfOk result (λ ports. ports ≡ named_ports_of standing pins.now) }
 {
+    let inputs = pin_names(alloc, Direction::Input, pins);
+    let outputs = pin_names(alloc, Direction::Output, pins);
+    let (inputs, outputs) = both_made(inputs, outputs)?;
     Ok(Ports {
         standing,
-        inputs: pin_names(alloc, Direction::Input, pins)?,
-        outputs: pin_names(alloc, Direction::Output, pins)?,
+        inputs,
+        outputs,
     })
 }
 

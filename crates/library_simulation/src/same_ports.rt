@@ -1,8 +1,11 @@
 //! Ports that a file has and those that it should have.
-ghost use Rattle.std.specs.Prelude.{◌≡◌, ◌<◌, length};
+ghost use Rattle.std.specs.Prelude.{◌≡◌, ◌<◌, length, IfOk};
+ghost use Rattle.bool_functions.specs.NameList.{Adds};
 ghost use Rattle.stimulus.specs.Differences.{same_fact};
-ghost use Rattle.library_simulation.specs.SamePorts.{same_name, same_port, same_ports};
+ghost use Rattle.library_simulation.specs.SamePorts.{same_name, looked_up, same_port, same_ports};
 
+use bool_functions::Names;
+use std::alloc::{AllocError, Global};
 use udp_tables::VPort;
 use vhdl_tokens::is_same_name;
 
@@ -23,6 +26,21 @@ impl Spelling {
         match self {
             Spelling::Exact => one == other,
             Spelling::AnyCase => is_same_name(one, other),
+        }
+    }
+
+    /// Adds a name to others as it is looked up, where none of them is the same, and answers its number, which is the length before.
+    pub(crate) fn add(
+        self,
+        alloc: Global,
+        names: &mut Names,
+        name: &[u8],
+    ) -> Result<Option<usize>, AllocError>
+        ensures { IfOk result (λ number. Adds names.old (looked_up self name.now) number names.new) }
+    {
+        match self {
+            Spelling::Exact => names.add(name),
+            Spelling::AnyCase => names.add(&name.to_ascii_lowercase(alloc)?),
         }
     }
 

@@ -1,10 +1,11 @@
 -- What translating a library comes to. This project's rules.
-use Rattle.std.specs.Prelude.{◌≡◌, ℕ, List, [], nat_eq, Result, IfOk, IfSome, if◌then◌else◌}
+use Rattle.std.specs.Prelude.{◌≡◌, ℕ, List, [], nat_eq, Result, IfOk, IfSome, IsTrue, if◌then◌else◌}
 use Rattle.cell_cursor.specs.Ends.{items_within}
 use Rattle.text_io.specs.declared.outside.Failed.{Failed}
 use Rattle.text_io.specs.declared.slots.InSlot.TheVariants.{Library}
 use Rattle.text_io.specs.declared.slots.OutSlot.TheVariants.{Faults}
-use Rattle.text_io.specs.Desk.{DeskState, took, wrote, IsPrefix}
+use Rattle.text_io.specs.declared.slots.Slot.TheVariants.{Input}
+use Rattle.text_io.specs.Desk.{DeskState, is_bound, took, wrote, IsPrefix}
 use Rattle.verilog_writer.specs.Model.{prelude_text}
 use Rattle.library_reader.specs.ReportLines.{totals_line}
 use Rattle.library_reader.specs.FaultLines.{library_fault_line, library_too_long_line}
@@ -20,7 +21,7 @@ use Rattle.run_outcome.specs.Written.{Written, in_verilog, in_report, joined, Is
 use Rattle.library_reader.specs.Progress.{no_progress, progress_after}
 use Rattle.library_reader.specs.Endings.{library_limit, ending_of}
 use Rattle.library_reader.specs.WrittenItems.{HoldsCells}
-use Rattle.library_translation.specs.Cells.{item_written, items_written}
+use Rattle.library_translation.specs.Cells.{ModelsAreBound, item_written, items_written}
 use Rattle.library_translation.specs.Models.{HoldsModels}
 
 -- the line behind those of the cells, where the library was read to its end
@@ -55,6 +56,12 @@ outcome_at items ending = record {
 -- what translating a library with these bytes comes to
 abbrev pub translate_outcome : List ℕ → Outcome
 translate_outcome bytes = outcome_at (items_within library_limit bytes) (ending_of library_limit bytes)
+
+-- the library and both model files are bound, and no item of the library was handled
+pub record IsReady (s : DeskState) (p : Progress) : Type 0 where
+  pub library : IsTrue (is_bound s (Input Library))
+  pub models : ModelsAreBound s
+  pub fresh : p ≡ no_progress
 
 -- the items of a library were handled, and it ended so
 pub record IsHandled (limit : ℕ) (bytes : List ℕ) (before after : Progress) (text : Written) (ending : Ending) : Type 0 where

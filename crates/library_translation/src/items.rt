@@ -1,11 +1,10 @@
 //! The items of a library, one after another: what is written for each.
-ghost use Rattle.std.specs.Prelude.{◌≡◌, [], ◌∷◌, IsTrue};
-ghost use Rattle.text_io.specs.{declared.slots.Slot.TheVariants.Input, declared.slots.InSlot.TheVariants.Library};
+ghost use Rattle.std.specs.Prelude.{[], ◌∷◌};
 ghost use Rattle.text_io.specs.{declared.slots.OutSlot.TheVariants.VerilogText, declared.slots.OutSlot.TheVariants.VitalText};
-ghost use Rattle.text_io.specs.{Desk.is_bound, Desk.StopsWithCause};
+ghost use Rattle.text_io.specs.Desk.{StopsWithCause};
 ghost use Rattle.run_outcome.specs.Written.{in_report};
-ghost use Rattle.library_reader.specs.{LeftOutLines.left_out_file_line, Endings.library_limit, Progress.no_progress};
-ghost use Rattle.library_translation.specs.{Cells.ModelsAreBound, Cells.cell_written, Library.Handles};
+ghost use Rattle.library_reader.specs.{LeftOutLines.left_out_file_line, Endings.library_limit};
+ghost use Rattle.library_translation.specs.{Cells.cell_written, Library.IsReady, Library.Handles};
 
 use crate::cells::write_accepted;
 use crate::stopped::stopped;
@@ -60,9 +59,7 @@ pub(crate) fn handle_items<D: Desk>(
     desk: &mut D,
     progress: &mut Progress,
 ) -> Result<Ending, Stop>
-    requires library { IsTrue (is_bound (D.state desk.old) (Input Library)) }
-    requires models { ModelsAreBound (D.state desk.old) }
-    requires fresh { progress.old ≡ no_progress }
+    requires { IsReady (D.state desk.old) progress.old }
     ensures text { Handles library_limit (D.state desk.old) (D.state desk.new) progress.old progress.new result }
     ensures cause { StopsWithCause (D.faults desk.old) (D.faults desk.new) result }
 {

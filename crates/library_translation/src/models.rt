@@ -62,15 +62,25 @@ fn write_verilog_drivers<D: Desk>(
     stopped(write_verilog_driver(desk, &model))
 }
 
-/// Writes the Verilog model of a cell, which has this core: the module of its core, and its drivers behind it.
-fn write_verilog<D: Desk>(desk: &mut D, cell: &DrivenCell, core: &ModelSource) -> Result<(), Stop>
+/// A cell, and its core as what its models are made of.
+#[derive(Clone, Copy)]
+struct CellSource<'a> {
+    /// The cell.
+    cell: &'a DrivenCell,
+    /// Its core.
+    core: ModelSource<'a>,
+}
+
+/// Writes the Verilog model of a cell: the module of its core, and its drivers behind it.
+fn write_verilog<D: Desk>(desk: &mut D, source: CellSource) -> Result<(), Stop>
     requires bound { IsTrue (is_bound (D.state desk.old) (Output VerilogText)) }
-    requires core { core.now.cell.now ≡ cell.now.core }
-    ensures text { Writes (D.state desk.old) (D.state desk.new) (in_verilog (model_text (driven_data_of cell.now))) result }
+    requires core { source.core.cell.now ≡ source.cell.now.core }
+    ensures text { Writes (D.state desk.old) (D.state desk.new)
+        (in_verilog (model_text (driven_data_of source.entry.cell.now))) result }
     ensures cause { StopsWithCause (D.faults desk.old) (D.faults desk.new) result }
 {
-    write_module(desk, core)?;
-    write_verilog_drivers(core.alloc, desk, cell)
+    write_module(desk, &source.core)?;
+    write_verilog_drivers(source.core.alloc, desk, source.cell)
 }
 
 /// Writes the entity of a core, with this name.
@@ -84,25 +94,20 @@ fn write_entity_of<D: Desk>(desk: &mut D, core: &ModelSource, entity: &[u8]) -> 
     stopped(write_entity(desk, &model))
 }
 
-/// Writes the entity of the core of a cell, which is this, whose VHDL model has this name.
-fn write_core_entity<D: Desk>(
-    desk: &mut D,
-    cell: &DrivenCell,
-    core: &ModelSource,
-    entity: &[u8],
-) -> Result<(), Stop>
+/// Writes the entity of the core of a cell whose VHDL model has this name.
+fn write_core_entity<D: Desk>(desk: &mut D, source: CellSource, entity: &[u8]) -> Result<(), Stop>
     requires bound { IsTrue (is_bound (D.state desk.old) (Output VitalText)) }
-    requires core { core.now.cell.now ≡ cell.now.core }
+    requires core { source.core.cell.now ≡ source.cell.now.core }
     ensures text { Writes (D.state desk.old) (D.state desk.new)
-        (in_vital (entity_text (entity_of (data_of cell.now.core) (core_entity_name entity.now (driven_data_of cell.now)))))
-        result }
+        (in_vital (entity_text (entity_of (data_of source.entry.cell.now.core)
+        (core_entity_name entity.now (driven_data_of source.entry.cell.now))))) result }
     ensures cause { StopsWithCause (D.faults desk.old) (D.faults desk.new) result }
 {
-    if may_float(cell) {
-        let name = numbered_name(core.alloc, b"cell", cell.core.number)?;
-        write_entity_of(desk, core, name.as_slice())
+    if may_float(source.cell) {
+        let name = numbered_name(source.core.alloc, b"cell", source.cell.core.number)?;
+        write_entity_of(desk, &source.core, name.as_slice())
     } else {
-        write_entity_of(desk, core, entity)
+        write_entity_of(desk, &source.core, entity)
     }
 }
 
@@ -125,21 +130,16 @@ fn write_vital_drivers<D: Desk>(
     stopped(write_vital_driver(desk, &model))
 }
 
-/// Writes the VHDL model of a cell, which has this core, with this name: the entity of its core, and its drivers behind it.
-fn write_vital<D: Desk>(
-    desk: &mut D,
-    cell: &DrivenCell,
-    core: &ModelSource,
-    entity: &[u8],
-) -> Result<(), Stop>
+/// Writes the VHDL model of a cell, with this name: the entity of its core, and its drivers behind it.
+fn write_vital<D: Desk>(desk: &mut D, source: CellSource, entity: &[u8]) -> Result<(), Stop>
     requires bound { IsTrue (is_bound (D.state desk.old) (Output VitalText)) }
-    requires core { core.now.cell.now ≡ cell.now.core }
-    ensures text { Writes (D.state desk.old) (D.state desk.new) (in_vital (vital_text entity.now (driven_data_of cell.now)))
-        result }
+    requires core { source.core.cell.now ≡ source.cell.now.core }
+    ensures text { Writes (D.state desk.old) (D.state desk.new)
+        (in_vital (vital_text entity.now (driven_data_of source.entry.cell.now))) result }
     ensures cause { StopsWithCause (D.faults desk.old) (D.faults desk.new) result }
 {
-    write_core_entity(desk, cell, core, entity)?;
-    write_vital_drivers(core.alloc, desk, cell, entity)
+    write_core_entity(desk, source, entity)?;
+    write_vital_drivers(source.core.alloc, desk, source.cell, entity)
 }
 
 /// Writes both models of a cell, the Verilog model and then the VHDL model with this name.
@@ -156,6 +156,7 @@ pub(crate) fn write_models<D: Desk>(
 {
     let parts = ModelParts::of(alloc, &cell.core)?;
     let core = parts.source();
-    write_verilog(desk, cell, &core)?;
-    write_vital(desk, cell, &core, entity)
+    let source = CellSource { cell, core };
+    write_verilog(desk, source)?;
+    write_vital(desk, source, entity)
 }

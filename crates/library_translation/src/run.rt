@@ -9,9 +9,8 @@ ghost use Rattle.run_outcome.specs.Status.{is_decided};
 ghost use Rattle.run_outcome.specs.Binding.{Binds};
 ghost use Rattle.run_outcome.specs.Runs.{StopsWithStatus};
 ghost use Rattle.library_reader.specs.declared.ending.Ending.TheVariants as ending;
-ghost use Rattle.library_reader.specs.Progress.{no_progress};
 ghost use Rattle.library_translation.specs.Cells.{ModelsAreBound};
-ghost use Rattle.library_translation.specs.Library.{status_at, Finishes, Translates};
+ghost use Rattle.library_translation.specs.Library.{IsReady, status_at, Finishes, Translates};
 ghost use Rattle.library_translation.specs.Runs.{translate_files, RunsTranslation};
 
 use crate::items::handle_items;
@@ -72,9 +71,7 @@ fn translate_from<D: Desk>(
     desk: &mut D,
     progress: &mut Progress,
 ) -> Result<Status, Stop>
-    requires library { IsTrue (is_bound (D.state desk.old) (Input Library)) }
-    requires models { ModelsAreBound (D.state desk.old) }
-    requires fresh { progress.old ≡ no_progress }
+    requires { IsReady (D.state desk.old) progress.old }
     ensures text { Translates (D.state desk.old) (D.state desk.new) result }
     ensures cause { StopsWithCause (D.faults desk.old) (D.faults desk.new) result }
     ensures usage { IfOk result (λ status. status ≡ Status.Usage → ⊥) }

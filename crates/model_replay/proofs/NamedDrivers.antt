@@ -1,5 +1,5 @@
 -- Drivers that are read have names, and cores that have names, in any language.
-use Rattle.std.proofs.Common.{◌≡◌, ℕ, Bool, true, List, subst}
+use Rattle.std.proofs.Common.{◌≡◌, ℕ, Bool, true, List, Ok, subst}
 use Rattle.std.specs.List.{IsDistinct}
 use Rattle.std.specs.Prelude.{map}
 use Rattle.grammar_rules.proofs.Promises.{Promises, token}
@@ -9,6 +9,8 @@ use Rattle.grammar_reader.proofs.Passing.{fits_if, fits_unless, fits_allowed, so
 use Rattle.udp_tables.specs.declared.models.VPort.{VPort}
 use Rattle.file_models.specs.driver_models.declared.model.DriverModel.{DriverModel}
 use Rattle.file_models.specs.driver_models.Cores.{Core, core_ports, fits, core_name}
+use Rattle.driver_texts.specs.Sections.{SectionGrammar, EndsTexts, section, section_text}
+use Rattle.file_models.proofs.driver_texts.SectionTexts.{text_keeps}
 use Rattle.file_models.proofs.driver_texts.SoundCores.{AnyToken}
 
 -- the names of a driver and of its core are names, and its ports have different ones
@@ -33,3 +35,16 @@ module _ (is_name : List ℕ → Bool) (is_same : List ℕ → List ℕ → Bool
       let s = some_if (fits ports driven (core_ports is_same cores x)) x a
       (fits_allowed Undefined (core_name is_same cores ports driven x) a n.1) in
       subst (λ (y : List ℕ). is_name y ≡ true) s.1 n.0)
+
+-- the driver that is read of a section is named so
+abbrev pub ReadsNamed : SectionGrammar → (List ℕ → Bool) → (List ℕ → List ℕ → Bool) → Type 0
+ReadsNamed g is_name is_same =
+    (names : List (List ℕ)) (cores : List Core) (bytes : List ℕ) (driver : DriverModel)
+    → section_text g names cores bytes ≡ Ok driver → IsNamed is_name is_same driver
+
+-- it is where the grammar promises so
+pub reads_named : (g : SectionGrammar) (is_name : List ℕ → Bool) (is_same : List ℕ → List ℕ → Bool) → EndsTexts g
+    → ((names : List (List ℕ)) (cores : List Core) → Promises AnyToken (section g names cores) (IsNamed is_name is_same))
+    → ReadsNamed g is_name is_same
+reads_named g is_name is_same ends promise names cores bytes =
+    text_keeps g ends names cores bytes (IsNamed is_name is_same) (promise names cores)

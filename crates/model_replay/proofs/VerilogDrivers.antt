@@ -1,5 +1,5 @@
 -- Drivers that are read from Verilog text have ports of different names.
-use Rattle.std.proofs.Common.{◌≡◌, ℕ, true, List, [], ◌∷◌, Ok, refl, sym, subst, ◌∙◌}
+use Rattle.std.proofs.Common.{◌≡◌, ℕ, true, List, [], ◌∷◌, refl, sym, subst, ◌∙◌}
 use Rattle.std.specs.Str.{bytes_eq}
 use Rattle.std.specs.List.{IsDistinct}
 use Rattle.std.proofs.lemmas.List.{map_push}
@@ -12,16 +12,14 @@ use Rattle.verilog_grammar.specs.VerilogModules.{port_name, port_names, plain_po
 use Rattle.verilog_grammar.specs.VerilogModules.{input_at, declared_input, declared_inputs}
 use Rattle.verilog_grammar.specs.WellFormed.{AreApart}
 use Rattle.verilog_grammar.proofs.ReadHeaders.{HasNames, input_named}
-use Rattle.file_models.specs.driver_models.declared.model.DriverModel.{DriverModel}
 use Rattle.file_models.specs.driver_models.Cores.{Core}
-use Rattle.driver_texts.specs.Sections.{section, section_text}
-use Rattle.file_models.proofs.driver_texts.SectionTexts.{text_keeps}
+use Rattle.driver_texts.specs.Sections.{section}
 use Rattle.file_models.proofs.driver_texts.SoundCores.{AnyToken, behind, known_values}
 use Rattle.file_models.proofs.driver_texts.StandingCores.{new_names}
 use Rattle.verilog_drivers.specs.DriverSections.{driver_header, driver_ports, section_front, core_call, section_body}
 use Rattle.verilog_drivers.specs.DriverSections.{section_rest, verilog_section_grammar}
 use Rattle.verilog_drivers.proofs.StandingDrivers.{section_ends}
-use Rattle.model_replay.proofs.NamedDrivers.{IsNamed, declared_names, core_names}
+use Rattle.model_replay.proofs.NamedDrivers.{IsNamed, ReadsNamed, reads_named, declared_names, core_names}
 
 -- Headers.
 
@@ -102,9 +100,5 @@ named_sections names cores =
     (λ body is. behind (λ a. gives (record { name = h.0; core = is; ports = h.1 }))))
 
 -- the driver of a section has ports of different names
-pub text_is_named : (names : List (List ℕ)) (cores : List Core) (bytes : List ℕ) (driver : DriverModel)
-    → section_text verilog_section_grammar names cores bytes ≡ Ok driver
-    → IsNamed is_name bytes_eq driver
-text_is_named names cores bytes =
-    text_keeps verilog_section_grammar section_ends names cores bytes (IsNamed is_name bytes_eq)
-    (named_sections names cores)
+pub text_is_named : ReadsNamed verilog_section_grammar is_name bytes_eq
+text_is_named = reads_named verilog_section_grammar is_name bytes_eq section_ends named_sections

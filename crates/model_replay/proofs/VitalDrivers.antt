@@ -1,5 +1,5 @@
 -- Drivers that are read from VHDL text have ports of different names, whatever the case of their letters.
-use Rattle.std.proofs.Common.{◌≡◌, ℕ, Bool, true, false, ◌||◌, if◌then◌else◌, List, [], ◌∷◌, ◌++◌, Ok, sym, subst}
+use Rattle.std.proofs.Common.{◌≡◌, ℕ, Bool, true, false, ◌||◌, if◌then◌else◌, List, [], ◌∷◌, ◌++◌, sym, subst}
 use Rattle.std.specs.Str.{str_eq_ignore_ascii_case}
 use Rattle.std.specs.List.{IsDistinct}
 use Rattle.std.proofs.lemmas.List.{map_push}
@@ -15,15 +15,13 @@ use Rattle.vhdl_tokens.specs.Spelling.{is_same}
 use Rattle.vhdl_grammar.specs.VhdlDeclarations.{name_of_port, port_names, has_underscore, port_by, next_port, port_list}
 use Rattle.vhdl_grammar.specs.WellFormed.{AreApart}
 use Rattle.model_replay.proofs.SameNames.{push_apart}
-use Rattle.file_models.specs.driver_models.declared.model.DriverModel.{DriverModel}
 use Rattle.file_models.specs.driver_models.Cores.{Core}
-use Rattle.driver_texts.specs.Sections.{section, section_text}
-use Rattle.file_models.proofs.driver_texts.SectionTexts.{text_keeps}
+use Rattle.driver_texts.specs.Sections.{section}
 use Rattle.file_models.proofs.driver_texts.SoundCores.{AnyToken, behind}
 use Rattle.vhdl_drivers.specs.DriverSections.{driver_name, driver_ports, section_front, core_call, section_core}
 use Rattle.vhdl_drivers.specs.DriverSections.{section_process, section_rest, vhdl_section_grammar}
 use Rattle.vhdl_drivers.proofs.StandingDrivers.{section_ends}
-use Rattle.model_replay.proofs.NamedDrivers.{IsNamed, declared_names, core_names}
+use Rattle.model_replay.proofs.NamedDrivers.{IsNamed, ReadsNamed, reads_named, declared_names, core_names}
 
 -- Ports.
 
@@ -99,9 +97,5 @@ named_sections names cores =
     behind (λ paths. behind (λ a. gives (record { name = h.0; core = is; ports = h.1 })))))
 
 -- the driver of a section has ports of different names
-pub text_is_named : (names : List (List ℕ)) (cores : List Core) (bytes : List ℕ) (driver : DriverModel)
-    → section_text vhdl_section_grammar names cores bytes ≡ Ok driver
-    → IsNamed is_name str_eq_ignore_ascii_case driver
-text_is_named names cores bytes =
-    text_keeps vhdl_section_grammar section_ends names cores bytes (IsNamed is_name str_eq_ignore_ascii_case)
-    (named_sections names cores)
+pub text_is_named : ReadsNamed vhdl_section_grammar is_name str_eq_ignore_ascii_case
+text_is_named = reads_named vhdl_section_grammar is_name str_eq_ignore_ascii_case section_ends named_sections

@@ -1,9 +1,7 @@
 //! The section of a model in the report, from the start of its simulator on.
 ghost use Rattle.std.specs.Prelude.{◌≡◌, [], ◌++◌, IfOk};
 ghost use Rattle.text_io.specs.Desk.{StopsWithCause};
-ghost use Rattle.stimulus.specs.DriveLines.{lines_along};
-ghost use Rattle.stimulus.specs.TraceText.{heading_text, trace_text};
-ghost use Rattle.stimulus.specs.Writes.{WritesTrace};
+ghost use Rattle.stimulus.specs.{DriveLines.lines_along, TraceText.heading_text, TraceText.trace_text, Writes.WritesTrace};
 ghost use Rattle.file_models.specs.FileModels.{machine_by};
 ghost use Rattle.model_replay.specs.Replays.{CanBeGiven};
 

@@ -2,6 +2,7 @@
 use Rattle.std.proofs.Common.{◌≡◌, ℕ, List, [], take, Result, Ok, Err, MatchResult, IsTrue, Contains, refl, sym, ap, subst, ◌∙◌}
 use Rattle.std.proofs.lemmas.List.{append-nil}
 use Rattle.text_io.specs.declared.outside.Failed.{Failed}
+use Rattle.text_io.specs.declared.slots.OutSlot.{OutSlot}
 use Rattle.text_io.specs.declared.slots.OutSlot.TheVariants.{Report, Faults}
 use Rattle.text_io.specs.declared.slots.Slot.TheVariants.{Output}
 use Rattle.text_io.specs.Desk.{DeskState, Folder, wrote, IsPrefix, WritesText}
@@ -79,11 +80,16 @@ reporting status text = record { status = status; binds = 0; text = in_report te
 abbrev pub faulting : Status → List ℕ → Outcome
 faulting status line = record { status = status; binds = 0; text = nothing_written; faults = line }
 
--- a run that appends one text to the report
-pub report_runs : {T : Type 0} (files : Files) (outcome : Folder → Outcome) (old new : DeskState) (text : List ℕ) (ends : Status)
+-- what a run without files comes to that appends a text to a slot, and ends so where the writing did not fail
+abbrev RunsBy : Type 0 → OutSlot → (Status → List ℕ → Outcome) → Type 0
+RunsBy T slot told =
+    (files : Files) (outcome : Folder → Outcome) (old new : DeskState) (text : List ℕ) (ends : Status)
     (written : Result T Failed) (result : Status)
-    → files ≡ [] → ((folder : Folder) → outcome folder ≡ reporting ends text) → WritesText old new Report text written
+    → files ≡ [] → ((folder : Folder) → outcome folder ≡ told ends text) → WritesText old new slot text written
     → MatchResult written (λ _. result ≡ ends) (λ _. result ≡ Outside) → RunsUnread files outcome old new result
+
+-- a run that appends one text to the report
+pub report_runs : {T : Type 0} → RunsBy T Report reporting
 report_runs files outcome old new text ends (Ok x) result none e w r =
     plain files outcome old new result (in_report text) [] none (w.whole ∙ reported old text)
     (λ folder. rw (e folder) (record { text_part = IsPart-all (in_report text); faults_part = nothing [] }))
@@ -98,10 +104,7 @@ report_runs files outcome old new text ends (Err y) result none e w r =
     (λ d. undecided result r d)
 
 -- a run that appends one line to the faults
-pub faults_runs : {T : Type 0} (files : Files) (outcome : Folder → Outcome) (old new : DeskState) (line : List ℕ) (told : Status)
-    (written : Result T Failed) (result : Status)
-    → files ≡ [] → ((folder : Folder) → outcome folder ≡ faulting told line) → WritesText old new Faults line written
-    → MatchResult written (λ _. result ≡ told) (λ _. result ≡ Outside) → RunsUnread files outcome old new result
+pub faults_runs : {T : Type 0} → RunsBy T Faults faulting
 faults_runs files outcome old new line told (Ok x) result none e w r =
     plain files outcome old new result nothing_written line none (w.whole ∙ faulted old line)
     (λ folder. rw (e folder) (record { text_part = IsPart-nothing nothing_written; faults_part = whole_prefix line }))

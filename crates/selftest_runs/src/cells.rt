@@ -1,13 +1,10 @@
 //! What is counted of one cell.
 ghost use Rattle.std.specs.Prelude.{◌≡◌, [], IfOk, count_by};
-ghost use Rattle.cell_machine.specs.CellData.{data_of};
-ghost use Rattle.cell_machine.specs.CellTrace.{inputs_of, cell_trace};
-ghost use Rattle.cell_machine.specs.Inputs.{is_input_at};
+ghost use Rattle.cell_machine.specs.{CellData.data_of, CellTrace.inputs_of, CellTrace.cell_trace, Inputs.is_input_at};
 ghost use Rattle.cell_machine.specs.History.{IsProperFrom};
 ghost use Rattle.three_state_cells.specs.DrivenCells.{driven_data_of};
-ghost use Rattle.selftest_runs.specs.EntityNames.{IsNameOfEntity, IsNameWherePlain};
-ghost use Rattle.selftest_runs.specs.Counts.{known_in};
-ghost use Rattle.selftest_runs.specs.CellCounts.{changes_by, counts_on, cell_counts};
+ghost use Rattle.selftest_runs.specs.{EntityNames.IsNameOfEntity, EntityNames.IsNameWherePlain, Counts.known_in};
+ghost use Rattle.selftest_runs.specs.{CellCounts.changes_by, CellCounts.counts_on, CellCounts.cell_counts};
 ghost use Rattle.selftest_runs.specs.LibraryCounts.{driven_counts};
 
 use crate::counts::{Counts, known_from_start, one_if};

@@ -1,12 +1,9 @@
 //! A cell beside its damaged models.
 ghost use Rattle.std.specs.Prelude.{◌≡◌, [], IfOk};
-ghost use Rattle.cell_machine.specs.CellData.{data_of};
-ghost use Rattle.cell_machine.specs.CellTrace.{inputs_of, cell_trace};
-ghost use Rattle.cell_machine.specs.History.{IsProperFrom};
+ghost use Rattle.cell_machine.specs.{CellData.data_of, CellTrace.inputs_of, CellTrace.cell_trace, History.IsProperFrom};
 ghost use Rattle.verilog_grammar.specs.specify_blocks.Generated.{module_of};
 ghost use Rattle.vital_models.specs.Generated.{entity_of};
-ghost use Rattle.model_traces.specs.ModuleTrace.{module_trace};
-ghost use Rattle.model_traces.specs.EntityTrace.{entity_trace};
+ghost use Rattle.model_traces.specs.{ModuleTrace.module_trace, EntityTrace.entity_trace};
 ghost use Rattle.selftest_runs.specs.EntityNames.{IsNameOfEntity};
 ghost use Rattle.selftest_cells.specs.Damage.{damaged_module, damaged_entity};
 ghost use Rattle.caught_models.specs.Caught.{is_caught};

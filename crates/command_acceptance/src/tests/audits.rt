@@ -3,8 +3,8 @@
 use super::scan_flip_flops::SCAN_FLIP_FLOP;
 use super::words_runs::{USAGE, WordsRun, unread};
 use crate::tests::runs::{
-    AUDIT, FLIP_FLOP, Files, Left, NO_MODULE, Status, THREE_CELLS, Whole, leaves_fronts_in_pieces,
-    ran, translated,
+    AUDIT, FLIP_FLOP, Files, Left, NO_MODULE, Status, THREE_CELLS, Whole, edited,
+    leaves_fronts_in_pieces, ran,
 };
 use std::alloc::Global;
 use std::test::Fail;
@@ -28,10 +28,10 @@ fn audited(alloc: Global, library: &str, verilog: &str) -> Result<Left, Memory> 
 
 /// Compares a library with the Verilog that translating it writes, in which the second text stands in the place of the first.
 fn audited_where(alloc: Global, library: &str, edit: (&str, &str)) -> Option<Left> {
-    let models = translated(alloc, library).ok()?;
-    let verilog = str::from_utf8(models.desk.written(OutSlot::VerilogText)).ok()?;
-    let other = verilog.replace(alloc, edit.0, edit.1).ok()?;
-    audited(alloc, library, other.as_str()).ok()
+    match &edited(alloc, library, OutSlot::VerilogText, edit) {
+        Some(verilog) => audited(alloc, library, verilog.as_str()).ok(),
+        None => None,
+    }
 }
 
 /// A library, an edit of the Verilog that translating it writes, and the status and the report with which comparing the two ends.
@@ -146,13 +146,12 @@ const WITHOUT_MODULES: Whole = Whole {
 };
 
 /// Whether each call that fails leaves a front of that report, whatever a call moves of bytes.
-fn audits_fronts(alloc: Global) -> Result<bool, Memory> {
+fn audits_fronts(alloc: Global) -> bool {
     let files = two_files(FLIP_FLOP, NO_MODULE);
     leaves_fronts_in_pieces(alloc, &AUDIT, files, &WITHOUT_MODULES)
 }
 
 #[test]
-fn each_call_of_a_comparison_that_fails_leaves_a_front(rt: HostRuntime) -> Result<(), Fail> {
-    assert!(rt; audits_fronts(rt.alloc())?);
-    Ok(())
+fn each_call_of_a_comparison_that_fails_leaves_a_front(rt: HostRuntime) {
+    assert!(rt; audits_fronts(rt.alloc()));
 }

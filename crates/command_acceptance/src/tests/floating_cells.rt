@@ -83,7 +83,7 @@ left-out 2 B non_seq
 accepted 2 refused 0
 ";
 
-const CELLS: [TranslationEnd; 2] = [
+const CELLS: [TranslationEnd<'static>; 2] = [
     TranslationEnd {
         library: TBUF,
         status: Status::Done,

@@ -1,6 +1,6 @@
 //! Which cells are refused, by which number and where. The mark `@` stands at the offset of the refusal.
 use crate::tests::runs::{Left, translated};
-use std::alloc::{AllocError, Global};
+use std::alloc::Global;
 use std::test::Fail;
 use table_tests::{Row, all_hold};
 use text_io::OutSlot;
@@ -12,7 +12,7 @@ pub(crate) struct RefusedCell<'a>(pub u8, pub &'a str);
 
 impl Row for RefusedCell<'_> {
     fn holds(&self, alloc: Global) -> bool {
-        is_told(alloc, "time_unit : \"1ps\";", self.0, self.1) == Some(true)
+        is_told(alloc, "time_unit : \"1ps\";", self.0, self.1)
     }
 }
 
@@ -55,19 +55,31 @@ fn tells(left: &Left, end: &str) -> Option<bool> {
     Some(lines.ends_with(end))
 }
 
-/// A text without its mark.
-fn unmarked(alloc: Global, text: &str) -> Result<String, AllocError> {
-    text.replace(alloc, "@", "")
+/// What translating a text without its mark leaves; nothing where memory is short.
+fn translated_unmarked(alloc: Global, marked: &str) -> Option<Left> {
+    match &marked.replace(alloc, "@", "") {
+        Ok(text) => translated(alloc, text.as_str()).ok(),
+        Err(_) => None,
+    }
 }
 
-/// Whether the last cell of a library with this unit and these statements is refused by this number at the mark `@`, or accepted
-/// where there is none.
-fn is_told(alloc: Global, unit: &str, number: u8, statements: &str) -> Option<bool> {
-    let marked = format!(in alloc; "library (L) {{ {unit} {statements} }}").ok()?;
-    let end = line_end(alloc, number, marked.as_str())?;
-    let text = unmarked(alloc, marked.as_str()).ok()?;
-    let left = translated(alloc, text.as_str()).ok()?;
-    tells(&left, end.as_str())
+/// Whether the last cell of this library is refused by this number at the mark `@`, or accepted where there is none.
+fn is_told_of(alloc: Global, number: u8, marked: &str) -> bool {
+    match (
+        &translated_unmarked(alloc, marked),
+        &line_end(alloc, number, marked),
+    ) {
+        (Some(left), Some(end)) => tells(left, end.as_str()) == Some(true),
+        _ => false,
+    }
+}
+
+/// Whether that is so of a library with this unit and these statements.
+fn is_told(alloc: Global, unit: &str, number: u8, statements: &str) -> bool {
+    match &format!(in alloc; "library (L) {{ {unit} {statements} }}") {
+        Ok(marked) => is_told_of(alloc, number, marked.as_str()),
+        Err(_) => false,
+    }
 }
 
 /// Numbers of refusals, and libraries whose last cell is refused so.
@@ -427,5 +439,5 @@ const READING_A_TIME: &str =
 
 #[test]
 fn a_time_without_a_unit_refuses_its_cell(rt: HostRuntime) {
-    assert!(rt; is_told(rt.alloc(), OTHER_UNIT, 12, READING_A_TIME) == Some(true));
+    assert!(rt; is_told(rt.alloc(), OTHER_UNIT, 12, READING_A_TIME));
 }

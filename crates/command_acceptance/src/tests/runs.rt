@@ -9,7 +9,7 @@ mod timed_flip_flops;
 
 pub(crate) use desks::{
     AUDIT, Files, Left, Limits, PIECES, REPLAY_VERILOG, REPLAY_VITAL, SIMULATE, TRANSLATE, desk_of,
-    library_alone, ran, ran_without_files, simulated, simulated_beside_its_own, translated,
+    edited, library_alone, ran, ran_without_files, simulated, simulated_beside_its_own, translated,
     words_of,
 };
 pub(crate) use fronts::{Whole, done, leaves_fronts, leaves_fronts_in_pieces, leaves_nothing};

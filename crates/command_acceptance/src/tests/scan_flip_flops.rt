@@ -2,33 +2,14 @@
 //! module and the line on its test cell.
 use super::translations::{TranslationEnd, ends_with};
 use crate::tests::runs::Status;
+use std::alloc::Global;
 use std::test::Fail;
-use table_tests::all_hold;
+use table_tests::{Row, all_hold};
 
-/// The library of the flip-flop whose test cell has this attribute at its scan enable, and this next state: with the six rows and
-/// the six entries that are least in a table of positive entries, and those of a table of negative ones.
+/// The library of the flip-flop, with the six rows and the six entries that are least in a table of positive entries, and those of
+/// a table of negative ones.
 macro_rules! scan_library {
-    ($enable:literal, $next:literal) => {
-        scan_library!(
-            $enable,
-            $next,
-            "\"0.01, 0.02, 0.03, 0.04, 0.05, 0.06, 0.05\", \\
-\"0.01, 0.02, 0.03, 0.04, 0.05, 0.06, 0.05\", \\
-\"0.01, 0.02, 0.03, 0.04, 0.05, 0.06, 0.05\", \\
-\"0.01, 0.02, 0.03, 0.04, 0.05, 0.06, 0.05\", \\
-\"0.01, 0.02, 0.03, 0.04, 0.05, 0.06, 0.05\", \\
-\"0.01, 0.02, 0.03, 0.04, 0.05, 0.06, 0.05\", \\
-\"0.01, 0.02, 0.03, 0.04, 0.05, 0.06, ",
-            "\"-0.07, -0.06, -0.05, -0.04, -0.03, -0.02, -0.03\", \\
-\"-0.07, -0.06, -0.05, -0.04, -0.03, -0.02, -0.03\", \\
-\"-0.07, -0.06, -0.05, -0.04, -0.03, -0.02, -0.03\", \\
-\"-0.07, -0.06, -0.05, -0.04, -0.03, -0.02, -0.03\", \\
-\"-0.07, -0.06, -0.05, -0.04, -0.03, -0.02, -0.03\", \\
-\"-0.07, -0.06, -0.05, -0.04, -0.03, -0.02, -0.03\", \\
-\"-0.07, -0.06, -0.05, -0.04, -0.03, -0.02, "
-        )
-    };
-    ($enable:literal, $next:literal, $low:literal, $negative:literal) => {
+    ($low:literal, $negative:literal) => {
         concat!(
             "library (L) { time_unit : \"1ns\";\ncell (SDFFR) {\narea : 6.65;\n",
             "pg_pin (VDD) { voltage_name : VDD; pg_type : primary_power; }\n",
@@ -70,27 +51,50 @@ macro_rules! scan_library {
             "0.0990\"); } }\n}\n",
             "test_cell () {\npin (D CK RN) { direction : input; }\n",
             "pin (SI) { direction : input; signal_type : test_scan_in; }\n",
-            "pin (SE) { direction : input; ",
-            $enable,
-            " }\nff (IQ, IQN) { next_state : \"",
-            $next,
-            "\"; clocked_on : \"CK\"; clear : \"!RN\"; }\n",
+            "pin (SE) { direction : input; signal_type : test_scan_enable; }\n",
+            "ff (IQ, IQN) { next_state : \"D\"; clocked_on : \"CK\"; clear : \"!RN\"; }\n",
             "pin (Q) { direction : output; function : \"IQ\"; signal_type : test_scan_out; }\n}\n} }\n"
         )
     };
 }
 
 /// With the plain flip-flop in the test cell.
-pub(crate) const SCAN_FLIP_FLOP: &str = scan_library!("signal_type : test_scan_enable;", "D");
+pub(crate) const SCAN_FLIP_FLOP: &str = scan_library!(
+    "\"0.01, 0.02, 0.03, 0.04, 0.05, 0.06, 0.05\", \\
+\"0.01, 0.02, 0.03, 0.04, 0.05, 0.06, 0.05\", \\
+\"0.01, 0.02, 0.03, 0.04, 0.05, 0.06, 0.05\", \\
+\"0.01, 0.02, 0.03, 0.04, 0.05, 0.06, 0.05\", \\
+\"0.01, 0.02, 0.03, 0.04, 0.05, 0.06, 0.05\", \\
+\"0.01, 0.02, 0.03, 0.04, 0.05, 0.06, 0.05\", \\
+\"0.01, 0.02, 0.03, 0.04, 0.05, 0.06, ",
+    "\"-0.07, -0.06, -0.05, -0.04, -0.03, -0.02, -0.03\", \\
+\"-0.07, -0.06, -0.05, -0.04, -0.03, -0.02, -0.03\", \\
+\"-0.07, -0.06, -0.05, -0.04, -0.03, -0.02, -0.03\", \\
+\"-0.07, -0.06, -0.05, -0.04, -0.03, -0.02, -0.03\", \\
+\"-0.07, -0.06, -0.05, -0.04, -0.03, -0.02, -0.03\", \\
+\"-0.07, -0.06, -0.05, -0.04, -0.03, -0.02, -0.03\", \\
+\"-0.07, -0.06, -0.05, -0.04, -0.03, -0.02, "
+);
 
-/// With one that takes the other value.
-const OTHER_NEXT: &str = scan_library!("signal_type : test_scan_enable;", "!D");
+/// A part of that library and what stands in its place, the report on the library, and the end of its module.
+struct ScanCell((&'static str, &'static str), &'static str, &'static str);
 
-/// With a scan enable that is active at 0.
-const INVERTED: &str = scan_library!("signal_type : test_scan_enable_inverted;", "SI");
+impl ScanCell {
+    /// Whether this library, with the edit, is translated so.
+    fn is_translated(&self, alloc: Global, library: &str) -> bool {
+        let (part, other) = self.0;
+        match &library.replace(alloc, part, other) {
+            Ok(library) => ends_with!(library.as_str(), self.1, self.2).holds(alloc),
+            Err(_) => false,
+        }
+    }
+}
 
-/// Without a scan enable.
-const NO_ENABLE: &str = scan_library!("", "D");
+impl Row for ScanCell {
+    fn holds(&self, alloc: Global) -> bool {
+        self.is_translated(alloc, SCAN_FLIP_FLOP)
+    }
+}
 
 /// The reports: the plain flip-flop does the same; the other one differs first at a rise of CK where RN is 1 and D and SE are 0.
 const SAME: &str = "cell 1 SDFFR ok\ntest 1 same\naccepted 1 refused 0\n";
@@ -127,14 +131,31 @@ const SCAN_FLIP_FLOP_MODULE: &str = "module SDFFR (D, SI, SE, CK, RN, Q);
 endmodule
 ";
 
-const TRANSLATIONS: [TranslationEnd; 4] = [
-    ends_with!(SCAN_FLIP_FLOP, SAME, SCAN_FLIP_FLOP_MODULE),
-    ends_with!(OTHER_NEXT, DIFFERS, "endmodule\n"),
-    ends_with!(INVERTED, SAME, "endmodule\n"),
-    ends_with!(NO_ENABLE, LEFT_OUT, "endmodule\n"),
+/// The library as it is; with a flip-flop in the test cell that takes the other value; with a scan enable that is active at 0; and
+/// without a scan enable.
+const SCAN_CELLS: [ScanCell; 4] = [
+    ScanCell(("endmodule", "endmodule"), SAME, SCAN_FLIP_FLOP_MODULE),
+    ScanCell(
+        ("next_state : \"D\"", "next_state : \"!D\""),
+        DIFFERS,
+        "endmodule\n",
+    ),
+    ScanCell(
+        (
+            "enable; }\nff (IQ, IQN) { next_state : \"D\"",
+            "enable_inverted; }\nff (IQ, IQN) { next_state : \"SI\"",
+        ),
+        SAME,
+        "endmodule\n",
+    ),
+    ScanCell(
+        ("signal_type : test_scan_enable;", ""),
+        LEFT_OUT,
+        "endmodule\n",
+    ),
 ];
 
 #[test]
 fn a_scan_flip_flop_is_translated_and_its_test_cell_compared(rt: HostRuntime) -> Result<(), Fail> {
-    all_hold(rt.alloc(), &TRANSLATIONS)
+    all_hold(rt.alloc(), &SCAN_CELLS)
 }

@@ -26,15 +26,16 @@ impl Row for Translation {
 }
 
 /// A library, the status and the report with which translating it ends, and how its files of models end.
-pub(crate) struct TranslationEnd {
-    pub library: &'static str,
+#[derive(Drop)]
+pub(crate) struct TranslationEnd<'a> {
+    pub library: &'a str,
     pub status: Status,
-    pub report: &'static str,
-    pub verilog: &'static str,
-    pub vital: &'static str,
+    pub report: &'a str,
+    pub verilog: &'a str,
+    pub vital: &'a str,
 }
 
-impl TranslationEnd {
+impl TranslationEnd<'_> {
     /// Whether a run left that.
     fn is_left(&self, left: &Left) -> bool {
         left.is(self.status, self.report, "")
@@ -43,7 +44,7 @@ impl TranslationEnd {
     }
 }
 
-impl Row for TranslationEnd {
+impl Row for TranslationEnd<'_> {
     fn holds(&self, alloc: Global) -> bool {
         match &translated(alloc, self.library) {
             Ok(left) => self.is_left(left),
@@ -286,7 +287,7 @@ const TWO_TIES: &str =
     "library (L) { cell (tie) { pin (Y) { direction : output; function : \"1\"; } }
 cell (TIE) { pin (Y) { direction : output; function : \"1\"; } } }";
 
-const TRANSLATION_ENDS: [TranslationEnd; 6] = [
+const TRANSLATION_ENDS: [TranslationEnd<'static>; 6] = [
     TranslationEnd {
         library: BEHIND_A_REFUSED_CELL,
         status: Status::Cells,

@@ -54,13 +54,28 @@ fn named_file(alloc: Global, name: &str, bytes: &[u8]) -> Result<NamedFile, Allo
     })
 }
 
+/// Adds these files to a folder.
+fn push_files(
+    alloc: Global,
+    folder: &mut Vec<NamedFile>,
+    files: &[(&str, &[u8])],
+) -> Result<(), AllocError> {
+    for (name, bytes) in files {
+        folder.push(named_file(alloc, name, bytes)?)?;
+    }
+    Ok(())
+}
+
 /// The folder of a desk.
 fn folder_of(alloc: Global, files: Files<'_>) -> Result<Vec<NamedFile>, AllocError> {
     let mut folder = Vec::new(alloc);
-    folder.push(named_file(alloc, "in.lib", files.library)?)?;
-    folder.push(named_file(alloc, "in.v", files.verilog)?)?;
-    folder.push(named_file(alloc, "in.vhd", files.vital)?)?;
-    folder.push(named_file(alloc, "in.stim", files.stimulus)?)?;
+    let named = [
+        ("in.lib", files.library),
+        ("in.v", files.verilog),
+        ("in.vhd", files.vital),
+        ("in.stim", files.stimulus),
+    ];
+    push_files(alloc, &mut folder, &named)?;
     Ok(folder)
 }
 
@@ -201,18 +216,44 @@ pub(crate) fn simulated(alloc: Global, files: Files<'_>) -> Result<Left, Memory>
     ran_within(alloc, &SIMULATE, files, WIDE)
 }
 
-/// Simulates a library beside its own models.
-pub(crate) fn simulated_beside_its_own(
-    alloc: Global,
-    library: &str,
-    stimulus: &str,
-) -> Result<Left, Memory> {
-    let models = translated(alloc, library)?;
+/// Simulates a library beside the models that a translation left.
+fn simulated_beside(alloc: Global, library: &str, models: &Left, stimulus: &str) -> Option<Left> {
     let files = Files {
         library: library.as_bytes(),
         verilog: models.desk.written(OutSlot::VerilogText),
         vital: models.desk.written(OutSlot::VitalText),
         stimulus: stimulus.as_bytes(),
     };
-    simulated(alloc, files)
+    simulated(alloc, files).ok()
+}
+
+/// Simulates a library beside its own models; nothing where memory is short.
+pub(crate) fn simulated_beside_its_own(
+    alloc: Global,
+    library: &str,
+    stimulus: &str,
+) -> Option<Left> {
+    match &translated(alloc, library) {
+        Ok(models) => simulated_beside(alloc, library, models, stimulus),
+        Err(_) => None,
+    }
+}
+
+/// What a run wrote to a slot, with the second text of an edit in the place of the first.
+fn with_edit(alloc: Global, left: &Left, slot: OutSlot, edit: (&str, &str)) -> Option<String> {
+    let text = str::from_utf8(left.desk.written(slot)).ok()?;
+    text.replace(alloc, edit.0, edit.1).ok()
+}
+
+/// What translating a library writes to a slot, with the second text of an edit in the place of the first.
+pub(crate) fn edited(
+    alloc: Global,
+    library: &str,
+    slot: OutSlot,
+    edit: (&str, &str),
+) -> Option<String> {
+    match &translated(alloc, library) {
+        Ok(left) => with_edit(alloc, left, slot, edit),
+        Err(_) => None,
+    }
 }

@@ -2,7 +2,7 @@
 //! behind it.
 use super::desks::{Files, Left, PIECES, ran};
 use std::alloc::Global;
-use text_io::{Memory, OutSlot};
+use text_io::OutSlot;
 use translate_cmd::Status;
 
 /// What a run comes to where no call fails: each model file as the texts that stand in it, one behind the other.
@@ -53,25 +53,38 @@ impl Whole {
     }
 }
 
+/// The status of a run at which these calls fail, where it left a front of the whole.
+fn front_status(
+    alloc: Global,
+    words: &[&str],
+    files: Files<'_>,
+    whole: &Whole,
+    failing: &[u64],
+    piece: usize,
+) -> Option<Status> {
+    match &ran(alloc, words, files, failing, piece) {
+        Ok(left) if whole.has_front(left) => Some(left.status),
+        _ => None,
+    }
+}
+
 /// Whether each call that fails in its turn, the next one failing too, leaves a front and is the last, up to the run at which no
-/// call is left that could fail, where a call moves at most `piece` bytes.
+/// call is left that could fail, where a call moves at most `piece` bytes; not where memory is short.
 pub(crate) fn leaves_fronts(
     alloc: Global,
     words: &[&str],
     files: Files<'_>,
     whole: &Whole,
     piece: usize,
-) -> Result<bool, Memory> {
+) -> bool {
     for call in 1..10000 {
-        let left = ran(alloc, words, files, &[call, call + 1], piece)?;
-        if !whole.has_front(&left) {
-            return Ok(false);
-        }
-        if left.status != Status::Outside {
-            return Ok(left.status == whole.status);
+        match front_status(alloc, words, files, whole, &[call, call + 1], piece) {
+            Some(Status::Outside) => {}
+            Some(status) => return status == whole.status,
+            None => return false,
         }
     }
-    Ok(false)
+    false
 }
 
 /// Whether that holds of words, whatever a call moves of bytes.
@@ -80,26 +93,26 @@ pub(crate) fn leaves_fronts_in_pieces(
     words: &[&str],
     files: Files<'_>,
     whole: &Whole,
-) -> Result<bool, Memory> {
+) -> bool {
     for piece in PIECES {
-        if !leaves_fronts(alloc, words, files, whole, piece)? {
-            return Ok(false);
+        if !leaves_fronts(alloc, words, files, whole, piece) {
+            return false;
         }
     }
-    Ok(true)
+    true
+}
+
+/// Whether a run ended at a call that failed, and wrote nothing.
+fn is_without_text(left: &Left) -> bool {
+    left.is(Status::Outside, "", "")
+        && left.wrote(OutSlot::VerilogText, &[])
+        && left.wrote(OutSlot::VitalText, &[])
 }
 
 /// Whether a run at which this call fails leaves nothing written.
-pub(crate) fn leaves_nothing(
-    alloc: Global,
-    words: &[&str],
-    files: Files<'_>,
-    call: u64,
-) -> Result<bool, Memory> {
-    let left = ran(alloc, words, files, &[call], usize::MAX)?;
-    Ok(
-        left.is(Status::Outside, "", "")
-            && left.wrote(OutSlot::VerilogText, &[])
-            && left.wrote(OutSlot::VitalText, &[]),
-    )
+pub(crate) fn leaves_nothing(alloc: Global, words: &[&str], files: Files<'_>, call: u64) -> bool {
+    match &ran(alloc, words, files, &[call], usize::MAX) {
+        Ok(left) => is_without_text(left),
+        Err(_) => false,
+    }
 }

@@ -1,7 +1,8 @@
 //! A section on which a flip-flop and its module differ.
-use crate::tests::runs::{FLIP_FLOP, Files, Status, simulated, translated};
-use std::alloc::Global;
-use text_io::OutSlot;
+use super::simulations::{Models, Simulation};
+use crate::tests::runs::{FLIP_FLOP, Status};
+use std::test::Fail;
+use table_tests::all_hold;
 
 /// A section of eight changes.
 const STIMULUS: &str = "cell DFF
@@ -50,22 +51,18 @@ differs at change 3
 /// The row of the flip-flop's module that takes its data where they are 1, and one that gives another value.
 const ROWS: (&str, &str) = ("(01) 1 : ? : 1;", "(01) 1 : ? : 0;");
 
-/// Whether that is what the flip-flop comes to beside its module with the other row and its own entity.
-fn differs(alloc: Global, stimulus: &str) -> Option<bool> {
-    let models = translated(alloc, FLIP_FLOP).ok()?;
-    let module = str::from_utf8(models.desk.written(OutSlot::VerilogText)).ok()?;
-    let other = module.replace(alloc, ROWS.0, ROWS.1).ok()?;
-    let files = Files {
-        library: FLIP_FLOP.as_bytes(),
-        verilog: other.as_bytes(),
-        vital: models.desk.written(OutSlot::VitalText),
-        stimulus: stimulus.as_bytes(),
-    };
-    let left = simulated(alloc, files).ok()?;
-    Some(left.is(Status::Differ, DIFFERENCE, ""))
-}
+/// The flip-flop beside its module with the other row and its own entity.
+const DIFFERENT: [Simulation; 1] = [Simulation {
+    library: FLIP_FLOP,
+    verilog: Models::Edited(FLIP_FLOP, ROWS),
+    vital: Models::Of(FLIP_FLOP),
+    stimulus: STIMULUS,
+    status: Status::Differ,
+    report: DIFFERENCE,
+    faults: "",
+}];
 
 #[test]
-fn the_first_difference_is_told(rt: HostRuntime) {
-    assert!(rt; differs(rt.alloc(), STIMULUS) == Some(true));
+fn the_first_difference_is_told(rt: HostRuntime) -> Result<(), Fail> {
+    all_hold(rt.alloc(), &DIFFERENT)
 }

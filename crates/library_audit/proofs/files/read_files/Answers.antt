@@ -1,10 +1,7 @@
-use Rattle.std.proofs.Common.{sym, subst}
 use Rattle.library_reader.specs.LibraryCells.{all_described}
-use Rattle.run_outcome.specs.Runs.{RunsAs}
 use Rattle.run_outcome.proofs.FileStepLaws.{err_is}
-use Rattle.library_audit.specs.Outcome.{audit_files, audit_of}
 use Rattle.library_audit.proofs.ReadFiles.{verilog_planned, cells_read, models_read, modules_sound, library_ends, verilog_ends}
-use Rattle.library_audit.proofs.ReadFiles.{no_memory}
+use Rattle.library_audit.proofs.ReadFiles.{no_memory, ended_as}
 use Rattle.library_audit.proofs.files.read_files.Goals as goal
 
 pub read_model_file-requires : goal.read_model_file-requires
@@ -12,14 +9,13 @@ read_model_file-requires g c = let cells = all_described c.in_ok-cells.cells.ite
 
 pub returns-in_err-cells-clause-ended : goal.returns-in_err-cells-clause-ended
 returns-in_err-cells-clause-ended g c =
-    err_is c.from_residual.result _ _ c.from_residual.ensures.1
-    (λ y is. subst (RunsAs audit_files (audit_of (g.D.Desk.state c.args.desk.now).words) (g.D.Desk.state c.args.desk.now) _) (sym is) (library_ends _ _ _ c.in_err-cells.ensures.err))
+    err_is c.from_residual.result _ _ c.from_residual.ensures.1 (λ y is. ended_as _ _ y _ is (library_ends _ _ _ c.in_err-cells.ensures.err))
 
 pub returns-in_err-models-clause-ended : goal.returns-in_err-models-clause-ended
 returns-in_err-models-clause-ended g c =
     let cells = all_described c.in_ok-cells.cells.items in
     err_is c.from_residual-in_err-models.result _ _ c.from_residual-in_err-models.ensures.1
-    (λ y is. subst (RunsAs audit_files (audit_of (g.D.Desk.state c.args.desk.now).words) (g.D.Desk.state c.args.desk.now) _) (sym is)
+    (λ y is. ended_as _ _ y _ is
     (verilog_ends _ _ _ cells _ (cells_read _ _ cells c.in_ok-cells.ensures.ok) c.in_err-models.ensures.err))
 
 pub returns-in_err-names-clause-ended : goal.returns-in_err-names-clause-ended

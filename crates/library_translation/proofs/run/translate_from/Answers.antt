@@ -20,13 +20,14 @@ pub returns-clause-text : goal.returns-clause-text
 returns-clause-text g c =
     finished _ _ _ _ _ _ _ _ c.in_ok-write_prelude.ensures.text.whole c.requires.fresh c.in_ok-ending.ensures.text c.in_ok-finish.ensures.text
 
-pub handle_items-requires-clause-library : goal.handle_items-requires-clause-library
-handle_items-requires-clause-library g c = still_bound _ _ _ _ (Input Library) c.in_ok-write_prelude.ensures.text.whole c.requires.library
-
-pub handle_items-requires-clause-models : goal.handle_items-requires-clause-models
-handle_items-requires-clause-models g c =
+pub handle_items-requires : goal.handle_items-requires
+handle_items-requires g c =
     let prelude = c.in_ok-write_prelude.ensures.text.whole in
     record {
-      verilog = still_bound _ _ _ _ (Output VerilogText) prelude c.requires.models.verilog;
-      vital = still_bound _ _ _ _ (Output VitalText) prelude c.requires.models.vital;
+      library = still_bound _ _ _ _ (Input Library) prelude c.requires.library;
+      models = record {
+        verilog = still_bound _ _ _ _ (Output VerilogText) prelude c.requires.models.verilog;
+        vital = still_bound _ _ _ _ (Output VitalText) prelude c.requires.models.vital;
+      };
+      fresh = c.requires.fresh;
     }

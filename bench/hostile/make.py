@@ -1,6 +1,7 @@
 #!/usr/bin/env python3
-"""make.py KIND SIZE: prints a hostile Liberty text, or a hostile file of models, of this kind and size; make.py KIND SIZE changes
-prints the stimulus of a kind that is replayed or simulated; make.py alone lists the kinds, each with its command and its three sizes.
+"""make.py KIND SIZE: prints a hostile Liberty text, a hostile file of models, or the last word of `udp` or `selftest`, of this kind and
+size; make.py KIND SIZE changes prints the stimulus of a kind that is replayed or simulated, make.py KIND SIZE models the Verilog file of
+a kind that is compared; make.py alone lists the kinds, each with its command and its three sizes.
 
 Each kind is small to write and dear to read or to run carelessly: it repeats one thing that a library, or a model, repeats only a
 few times."""
@@ -372,8 +373,8 @@ def related_words(n):
     return library(bus_type("T", 1), cell(inputs(["R"]), *buses, pin))
 
 
-def module(header, *parts, tables=""):
-    return "`timescale 1ps/1ps\n" + tables + "module M (%s);\n" % ", ".join(header) + "".join(parts) + "endmodule\n"
+def module(header, *parts, tables="", name="M"):
+    return "`timescale 1ps/1ps\n" + tables + "module %s (%s);\n" % (name, ", ".join(header)) + "".join(parts) + "endmodule\n"
 
 
 def declared(word, names):
@@ -542,16 +543,35 @@ def turns_of_conditions(n):
     return "cell C\n" + still.replace("S0 0", "S0 1") + "".join("%d A %d\n" % (100 * (k + 1), k % 2) for k in range(n))
 
 
+def exclusive_ors_of_outputs(n):
+    """n outputs, each an exclusive or of ten names"""
+    names = ["A%d" % k for k in range(10)]
+    outputs = ('pin (Y%d) { direction : output; function : "%s"; }\n' % (k, "^".join(names)) for k in range(n))
+    return library(cell(inputs(names), *outputs))
+
+
 def exclusive_ors(n):
     """two outputs, each an exclusive or of ten names"""
-    names = ["A%d" % k for k in range(10)]
-    outputs = ('pin (Y%d) { direction : output; function : "%s"; }\n' % (k, "^".join(names)) for k in range(2))
-    return library(cell(inputs(names), *outputs))
+    return exclusive_ors_of_outputs(2)
 
 
 def products(n):
     """two outputs, each a product of ten names"""
     return exclusive_ors(n).replace("^", "*")
+
+
+def product(n):
+    """a product of two pins, whatever the size, which is that of its module"""
+    return library(cell(inputs(["A", "B"]), 'pin (Y) { direction : output; function : "A*B"; }\n'))
+
+
+def repeated_rows(n):
+    """the module of a product, whose primitive says each row n times"""
+    rows = ["0 ? : 0", "? 0 : 0", "1 1 : 1"] * n
+    ports = ["A", "B", "Y"]
+    return module(
+        ports, declared("input", ports[:2]), declared("output", ports[2:]), "  T (Y, A, B);\n", tables=primitive("T", 2, rows), name="C"
+    )
 
 
 TRANSLATED = {
@@ -623,6 +643,20 @@ SIMULATED = {
 }
 
 
+# Libraries that are compared with the Verilog file that is written of them, or with one of their own.
+COMPARED = {
+    "compared_conditions": (conditional_arcs, None, (255, 511, 1023)),
+    "compared_outputs": (exclusive_ors_of_outputs, None, (10, 20, 40)),
+    "compared_rows": (product, repeated_rows, (50000, 100000, 200000)),
+}
+
+# Commands without a file, and their last word.
+WORDS = {
+    "exclusive_or": ("udp", lambda n: "^".join("A%d" % k for k in range(n)), (8, 9, 10)),
+    "made_cells": ("selftest", str, (250, 500, 1000)),
+}
+
+
 def main(words):
     if not words:
         for kind, (_, sizes) in TRANSLATED.items():
@@ -631,10 +665,19 @@ def main(words):
             print(kind, command, *sizes)
         for kind, (_, _, sizes) in SIMULATED.items():
             print(kind, "simulate", *sizes)
+        for kind, (_, models, sizes) in COMPARED.items():
+            print(kind, "audit", *sizes)
+        for kind, (command, _, sizes) in WORDS.items():
+            print(kind, command, *sizes)
         return
     kind, size = words[0], int(words[1])
     if kind in TRANSLATED:
         text = TRANSLATED[kind][0](size)
+    elif kind in WORDS:
+        text = WORDS[kind][1](size)
+    elif kind in COMPARED:
+        library_of, models_of, _ = COMPARED[kind]
+        text = (models_of or (lambda _: ""))(size) if words[2:] == ["models"] else library_of(size)
     else:
         models, changes = SIMULATED[kind][:2] if kind in SIMULATED else REPLAYED[kind][1:3]
         text = (changes if words[2:] == ["changes"] else models)(size)

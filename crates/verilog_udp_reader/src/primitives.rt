@@ -99,21 +99,35 @@ fn add_inputs<'a>(
     cursor.expect(b";")
 }
 
-/// The header of a primitive, behind its name. Its names are not moved while they are found.
+/// Adds the inputs of a header to none: its output, as it stands in the text.
 #[tactic(auto, unfolding(udp_tables::specs::VerilogPrimitives::header, crate::specs::Headers::header_rest))]
+fn add_header<'a>(
+    cursor: &mut Cursor<'a>,
+    alloc: Global,
+    found: &mut HeaderInputs<'a>,
+) -> Read<&'a [u8]>
+    requires none { found.old.items ≡ [] }
+    requires unnamed { found.old.names ≡ [] }
+    ensures { ReadsAs (λ output. header_with output.now found.new.items) (read spec.header cursor.old) result cursor.new }
+{
+    cursor.expect(b"(")?;
+    let output = first_name(cursor, &mut found.names)?;
+    cursor.expect(b",")?;
+    add_inputs(cursor, alloc, output, found)?;
+    Ok(output)
+}
+
+/// The header of a primitive, behind its name. Its names are not moved while they are found.
 fn primitive_header(cursor: &mut Cursor<'_>, alloc: Global) -> Read<Header>
     ensures { ReadsAs header_of (read spec.header cursor.old) result cursor.new }
 {
-    cursor.expect(b"(")?;
     let mut found = NamedItems {
         items: Items::new(alloc),
         names: TextNames::new(alloc),
     };
-    let output = first_name(cursor, &mut found.names)?;
-    cursor.expect(b",")?;
-    let rest = add_inputs(cursor, alloc, output, &mut found);
+    let output = add_header(cursor, alloc, &mut found);
     let NamedItems { items: inputs, .. } = found;
-    let inputs = where_read(inputs, rest)?;
+    let (inputs, output) = with_read(inputs, output)?;
     let output = SmallBytes::from_slice(alloc, output)?;
     Ok(Header { output, inputs })
 }

@@ -117,6 +117,34 @@ pub fn run_length<C: ByteClass>(bytes: &[u8]) -> usize
     bytes.len()
 }
 
+/// How many letters, digits and `_` stand at the front of these. Most names have some, so four are looked at in each turn; it is no
+/// part of its callers, which leaves their registers alone.
+#[inline(never)]
+pub fn name_length(bytes: &[u8]) -> usize
+    ensures value { result ≡ prefix_len spec.is_name_byte bytes.now }
+    ensures within { result ≤ length bytes.now }
+{
+    let mut count = 0;
+    let mut rest = bytes;
+    while let [first, second, third, fourth, more @ ..] = rest {
+        if !is_name_byte(*first) {
+            return count;
+        }
+        if !is_name_byte(*second) {
+            return count + 1;
+        }
+        if !is_name_byte(*third) {
+            return count + 2;
+        }
+        if !is_name_byte(*fourth) {
+            return count + 3;
+        }
+        count += 4;
+        rest = more;
+    }
+    count + run_length::<NameByte>(rest)
+}
+
 /// Whether each byte is of a class.
 pub fn are_all<C: ByteClass>(bytes: &[u8]) -> bool
     ensures { result ≡ list_all C.has bytes.now }

@@ -4,7 +4,7 @@ ghost use Rattle.std.specs.Prelude.{◌≡◌, ◌+◌, ◌<◌, ◌≤◌, leng
 ghost use Rattle.std.specs.List.{prefix_len};
 ghost use Rattle.lexer.specs.Tokens as spec;
 
-use crate::classes::{Blank, ByteClass, Digit, InLine, NameByte, run_length};
+use crate::classes::{Blank, ByteClass, Digit, InLine, name_length, run_length};
 
 /// How many digits a number may have.
 pub(crate) const MOST_DIGITS: usize = 15;
@@ -61,6 +61,6 @@ pub fn identifier_length(bytes: &[u8]) -> usize
 {
     match bytes.split_first() {
         None => 0,
-        Some((_, rest)) => 1 + run_length::<NameByte>(rest),
+        Some((_, rest)) => 1 + name_length(rest),
     }
 }

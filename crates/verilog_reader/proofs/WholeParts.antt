@@ -1,5 +1,5 @@
 -- What is read of a part where the rest behind it was, and what is returned stands for a value.
-use Rattle.std.proofs.Common.{◌≡◌, ℕ, List, Result, Ok, Err, IfOk, OnOk}
+use Rattle.std.proofs.Common.{◌≡◌, ℕ, List, Result, Ok, Err}
 use Rattle.grammar_rules.specs.Reading.{Outcome}
 use Rattle.grammar_reader.specs.declared.refusal.Refusal.{Refusal}
 use Rattle.grammar_reader.specs.declared.refusal.Stop.{Stop}
@@ -13,9 +13,3 @@ pub part_read : {A B : Type 0} (value : B → A) (o : Outcome (List ℕ) Refusal
 part_read value o part (Ok done) result left e reads = rw e reads
 part_read value o part (Err (Refused k)) result left e reads = rw e reads
 part_read value o part (Err Memory) result left e reads = rw e tt
-
--- what holds of the part where the rest was read
-pub part_kept : {A : Type 0} (P : A → Type 0) (part : A) (rest : Result (Unit {0}) Stop) (result : Result A Stop) →
-    result ≡ where_read part rest → OnOk rest (P part) → IfOk result P
-part_kept P part (Ok done) result e holds = rw e holds
-part_kept P part (Err stop) result e holds = rw e tt

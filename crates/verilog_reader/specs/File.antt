@@ -6,7 +6,8 @@ use Rattle.grammar_reader.specs.declared.refusal.Refusal.TheVariants.{Undriven}
 use Rattle.udp_tables.specs.declared.models.ModelFault.{ModelFault}
 use Rattle.udp_tables.specs.declared.models.ModelFault.TheVariants as fault
 use Rattle.udp_tables.specs.VerilogRules.{expect_where}
-use Rattle.verilog_grammar.specs.VerilogModules.{are_all_driven}
+use Rattle.verilog_grammar.specs.VerilogModules.{are_all_driven, instances}
+use Rattle.verilog_grammar.specs.VerilogBlocks.{specify}
 use Rattle.verilog_grammar.specs.VerilogText.{verilog_text}
 use Rattle.verilog_grammar.specs.specify_blocks.declared.model.VModule.{VModule}
 use Rattle.verilog_grammar.specs.VerilogText as spec
@@ -18,11 +19,13 @@ before_of b = record { modules = b.modules.items; names = b.names; udps = b.udps
 abbrev pub modules_of : Before → List VModule
 modules_of b = b.modules.items
 
--- the end of this module, all of whose outputs and wires are driven
-unfoldable pub module_end : VModule → Grammar VModule
-module_end m = do
-  _ ← expect_where (are_all_driven m) Undriven (codes "endmodule")
-  r.Gives m
+-- what stands behind the declarations of this module: its instances and its specify block. All its outputs and wires are driven.
+unfoldable pub module_rest : VModule → Grammar VModule
+module_rest m = do
+  joined ← instances m
+  whole ← specify joined
+  _ ← expect_where (are_all_driven whole) Undriven (codes "endmodule")
+  r.Gives whole
 
 -- this is the fault of the text. Want of memory is told of no text.
 abbrev pub IsFaultOf : List ℕ → ModelFault → Type 0

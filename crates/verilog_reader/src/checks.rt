@@ -11,7 +11,7 @@ use crate::numbers::number;
 use crate::paths::paths;
 use crate::period_lines::period_check;
 use cell_machine::{CheckKind, Edge, Event};
-use grammar_reader::{Read, value_of, where_read};
+use grammar_reader::{Read, value_of};
 use sqlite_items::Items;
 use std::alloc::Global;
 use udp_tables::TimingCheck;
@@ -173,16 +173,15 @@ fn block(cursor: &mut Cursor, alloc: Global, model: &mut Netlist) -> Read<()>
     Ok(())
 }
 
-/// The specify block of a module, if there is one: the module with its paths and checks.
-#[tactic(auto, using(grammar_reader::proofs::Repeats::choose_begun, grammar_reader::proofs::Repeats::choose_other, grammar_reader::proofs::WithRest::reads_before, grammar_reader::proofs::WithRest::kept_before), unfolding(verilog_grammar::specs::VerilogBlocks::specify))]
-pub fn specify(cursor: &mut Cursor, alloc: Global, mut joined: Netlist) -> Read<Netlist>
-    ensures reads { Reads (read (spec.specify joined) cursor.old) result cursor.new }
-    ensures named { IfOk result (λ model. model.name ≡ joined.name) }
+/// The specify block of a module, if there is one, whose paths and checks the module gets.
+#[tactic(auto, using(grammar_reader::proofs::Repeats::choose_begun, grammar_reader::proofs::Repeats::choose_other), unfolding(verilog_grammar::specs::VerilogBlocks::specify))]
+pub fn specify(cursor: &mut Cursor, alloc: Global, model: &mut Netlist) -> Read<()>
+    ensures reads { ReadsAs (λ _. model.new) (read (spec.specify model.old) cursor.old) result cursor.new }
+    ensures named { IfOk result (λ _. model.new.name ≡ model.old.name) }
 {
     if !cursor.is_next(b"specify") {
-        return Ok(joined);
+        return Ok(());
     }
     cursor.skip();
-    let rest = block(cursor, alloc, &mut joined);
-    where_read(joined, rest)
+    block(cursor, alloc, model)
 }

@@ -7,7 +7,7 @@ ghost use Rattle.grammar_reader.specs.Reading.{read, Reads};
 ghost use Rattle.verilog_reader.specs.Terminals.{AreNamed};
 
 use crate::netlist::Netlist;
-use crate::terminals::{may_drive, may_feed, net_of};
+use crate::terminals::{input_count, may_drive, may_feed, net_of};
 use grammar_reader::{Read, Refusal, Stop, where_read};
 use sqlite_items::Items;
 use std::alloc::Global;
@@ -41,6 +41,7 @@ pub fn driven_terminal(cursor: &mut Cursor, model: &Netlist, sequential: bool) -
 }
 
 /// No net that feeds an instance, where its output has this name.
+#[inline(always)]
 fn no_terminals<'a>(alloc: Global, output: &'a [u8]) -> Read<Terminals<'a>>
     ensures none { IfOk result (λ found. found.items ≡ []) }
     ensures named { IfOk result (λ found. found.names ≡ output.now ∷ []) }
@@ -68,6 +69,8 @@ impl FedInstance<'_> {
     ghost use Rattle.verilog_grammar.specs.VerilogModules as spec;
     ghost use Rattle.grammar_reader.specs.Next.{next_bytes};
     ghost use Rattle.grammar_reader.specs.Reading.{read, Reads, ReadsAs};
+    ghost use Rattle.verilog_grammar.specs.specify_blocks.declared.model.Instance.TheVariants as instance;
+    ghost use Rattle.verilog_reader.specs.Calls.{call_inputs};
     ghost use Rattle.verilog_reader.specs.Terminals.{AreNamed};
 
     /// A net that feeds the instance, which has these inputs already.
@@ -96,39 +99,44 @@ impl FedInstance<'_> {
         Ok(net)
     }
 
-    /// The first net that feeds the instance, behind the name of its output.
-    #[tactic(auto, using(crate::proofs::WholeParts::part_read, crate::proofs::WholeParts::part_kept))]
-    pub fn first_terminal<'a>(
+    /// Adds all inputs of an instance of the primitive with this number to none, and reads its end.
+    #[tactic(auto, unfolding(verilog_grammar::specs::VerilogModules::more_inputs, crate::specs::Calls::call_inputs))]
+    fn add_inputs<'a>(
+        &self,
+        cursor: &mut Cursor<'a>,
+        udp: usize,
+        found: &mut Terminals<'a>,
+    ) -> Read<()>
+        requires none { found.old.items ≡ [] }
+        requires named { AreNamed self.now.model.now found.old.names (self.now.output ∷ []) }
+        ensures { ReadsAs (λ _. spec.with_instance self.now.model.now (instance.Primitive udp self.now.output found.new.items))
+            (read (call_inputs self.now.model.now self.now.sequential udp self.now.output) cursor.old) result cursor.new }
+    {
+        self.add(cursor, found)?;
+        add_listed(cursor, self, found)?;
+        let whole = found.items.len() == input_count(self.model.module().udps.as_slice(), udp);
+        cursor.expect_where(whole, Refusal::Width, b")")?;
+        cursor.expect(b";")
+    }
+
+    /// All inputs of an instance of the primitive with this number, behind its output, which has this name, and its end. Their
+    /// names are not moved while they are found.
+    pub fn all_inputs<'a>(
         &self,
         cursor: &mut Cursor<'a>,
         alloc: Global,
         name: &'a [u8],
-    ) -> Read<Terminals<'a>>
-        requires { spec.net_of self.now.model.now name.now ≡ Some self.now.output }
-        ensures reads { ReadsAs (λ more. more.items) (read (spec.next_input self.now.model.now self.now.sequential
-            self.now.output []) cursor.old) result cursor.new }
-        ensures named { IfOk result (λ more. AreNamed self.now.model.now more.names (self.now.output ∷ more.items)) }
+        udp: usize,
+    ) -> Read<Items<VNet>>
+        requires named { spec.net_of self.now.model.now name.now ≡ Some self.now.output }
+        ensures { ReadsAs (λ nets. spec.with_instance self.now.model.now (instance.Primitive udp self.now.output nets))
+            (read (call_inputs self.now.model.now self.now.sequential udp self.now.output) cursor.old) result cursor.new }
     {
         let mut found = no_terminals(alloc, name)?;
-        let first = self.add(cursor, &mut found);
-        where_read(found, first)
-    }
-
-    /// The nets that feed the instance, of which these stand before.
-    #[tactic(auto, unfolding(verilog_grammar::specs::VerilogModules::more_inputs), using(grammar_reader::proofs::WithRest::reads_before))]
-    pub fn all_terminals<'a>(
-        &self,
-        cursor: &mut Cursor<'a>,
-        before: Terminals<'a>,
-    ) -> Read<Items<VNet>>
-        requires { AreNamed self.now.model.now before.names (self.now.output ∷ before.items) }
-        ensures { Reads (read (spec.more_inputs self.now.model.now self.now.sequential self.now.output before.entry.items)
-            cursor.old) result cursor.new }
-    {
-        let mut found = before;
-        let more = add_listed(cursor, self, &mut found);
+        let rest = self.add_inputs(cursor, udp, &mut found);
         let NamedItems { items: nets, .. } = found;
-        where_read(nets, more)
+        let nets = where_read(nets, rest)?;
+        Ok(nets)
     }
 }
 

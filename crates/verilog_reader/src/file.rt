@@ -2,11 +2,11 @@
 
 ghost use Rattle.std.specs.Prelude.{◌≡◌, [], ◌∷◌, ◌++◌, IfOk};
 ghost use Rattle.verilog_grammar.specs.VerilogText as spec;
-ghost use Rattle.verilog_reader.specs.File.{before_of, modules_of, module_end};
+ghost use Rattle.verilog_reader.specs.File.{before_of, modules_of, module_rest};
 ghost use Rattle.grammar_reader.specs.Reading.{read, Reads, ReadsAs};
 
 use crate::checks::specify;
-use crate::instances::module_instances;
+use crate::instances::all_instances;
 use crate::netlist::Netlist;
 use crate::terminals::are_all_driven;
 use bool_functions::Names;
@@ -72,18 +72,39 @@ fn more_primitives(cursor: &mut Cursor, alloc: Global, before: &mut Before) -> R
     Ok(())
 }
 
-/// The end of this module, all of whose outputs and wires are driven: the module alone.
-#[tactic(auto, unfolding(crate::specs::File::module_end), using(grammar_reader::proofs::WithRest::reads_rest))]
-fn module_end(cursor: &mut Cursor, whole: Netlist) -> Read<VModule>
-    ensures reads { Reads (read (module_end whole) cursor.old) result cursor.new }
-    ensures same { IfOk result (λ model. model ≡ whole) }
+/// Adds the instances of a module and its specify block, and reads its end, where all its outputs and wires are driven.
+#[tactic(auto, unfolding(crate::specs::File::module_rest))]
+fn add_rest(cursor: &mut Cursor, alloc: Global, model: &mut Netlist) -> Read<()>
+    ensures reads { ReadsAs (λ _. model.new) (read (module_rest model.old) cursor.old) result cursor.new }
+    ensures named { IfOk result (λ _. model.new.name ≡ model.old.name) }
 {
-    let end = cursor.expect_where(are_all_driven(&whole), Refusal::Undriven, b"endmodule");
-    where_read(whole.into_module(), end)
+    all_instances(cursor, alloc, model)?;
+    specify(cursor, alloc, model)?;
+    cursor.expect_where(are_all_driven(model), Refusal::Undriven, b"endmodule")
+}
+
+/// A module with what stands behind its declarations, alone.
+#[inline(always)]
+#[tactic(auto, using(grammar_reader::proofs::WithRest::reads_before, grammar_reader::proofs::WithRest::kept_before))]
+fn with_rest(cursor: &mut Cursor, alloc: Global, mut model: Netlist) -> Read<VModule>
+    ensures reads { Reads (read (module_rest model) cursor.old) result cursor.new }
+    ensures named { IfOk result (λ whole. whole.name ≡ model.name) }
+{
+    let rest = add_rest(cursor, alloc, &mut model);
+    where_read(model.into_module(), rest)
+}
+
+/// What stands behind the declarations of a module, which it then has.
+fn behind_declarations(cursor: &mut Cursor, alloc: Global, declared: VModule) -> Read<VModule>
+    ensures reads { Reads (read (module_rest declared) cursor.old) result cursor.new }
+    ensures named { IfOk result (λ whole. whole.name ≡ declared.name) }
+{
+    let model = Netlist::new(alloc, declared)?;
+    with_rest(cursor, alloc, model)
 }
 
 /// A module behind its word. Its own name is then the last of the names.
-#[tactic(auto, unfolding(verilog_grammar::specs::VerilogText::one_module, crate::specs::File::module_end))]
+#[tactic(auto, unfolding(verilog_grammar::specs::VerilogText::one_module, crate::specs::File::module_rest))]
 fn one_module(
     cursor: &mut Cursor,
     alloc: Global,
@@ -95,9 +116,7 @@ fn one_module(
 {
     let name = Items::from_slice(alloc, declare(cursor, names)?)?;
     let declared = module_declarations(cursor, alloc, name, udps)?;
-    let joined = module_instances(cursor, alloc, declared)?;
-    let whole = specify(cursor, alloc, joined)?;
-    module_end(cursor, whole)
+    behind_declarations(cursor, alloc, declared)
 }
 
 /// Adds one more module, which has the primitives behind the last one, behind its word.

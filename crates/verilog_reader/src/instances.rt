@@ -3,6 +3,7 @@
 ghost use Rattle.std.specs.Prelude.{◌≡◌, Some, IfOk};
 ghost use Rattle.grammar_reader.specs.Words.{valued};
 ghost use Rattle.verilog_grammar.specs.VerilogModules as spec;
+ghost use Rattle.verilog_grammar.specs.specify_blocks.Nets.{is_sequential};
 ghost use Rattle.verilog_reader.specs.Begun.{is_instance_start, instance_primitive};
 ghost use Rattle.verilog_reader.specs.Calls as calls;
 ghost use Rattle.verilog_reader.specs.NameSearch.{udp_name};
@@ -13,12 +14,11 @@ use crate::connections::{FedInstance, driven_terminal};
 use crate::name_search::{many_names, place_of};
 use crate::netlist::Netlist;
 use crate::nets::is_sequential;
-use crate::terminals::input_count;
 use first_names::FirstNames;
-use grammar_reader::{Language, Read, Refusal, Stop, value_of, where_read};
-use sqlite_items::{Boxed, Items};
+use grammar_reader::{Language, Read, Refusal, Stop, value_of};
+use sqlite_items::Boxed;
 use std::alloc::Global;
-use verilog_grammar::modules::{Instance, VModule, VNet};
+use verilog_grammar::modules::{Instance, VNet};
 use verilog_tokens::is_name;
 use verilog_udp_reader::{Cursor, Verilog};
 
@@ -55,7 +55,6 @@ fn instance_primitive(
 }
 
 /// The inputs of an instance of the primitive with this number, behind its output, which has this name.
-#[tactic(auto, unfolding(crate::specs::Calls::call_inputs))]
 fn call_inputs<'a>(
     cursor: &mut Cursor<'a>,
     alloc: Global,
@@ -65,8 +64,8 @@ fn call_inputs<'a>(
     udp: usize,
 ) -> Read<Instance>
     requires { spec.net_of model.now name.now ≡ Some output }
-    ensures { ReadsAs (spec.with_instance model.now) (read (calls.call_inputs model.now udp output) cursor.old) result
-        cursor.new }
+    ensures { ReadsAs (spec.with_instance model.now)
+        (read (calls.call_inputs model.now (is_sequential model.now.udps udp) udp output) cursor.old) result cursor.new }
 {
     let sequential = is_sequential(model.module().udps.as_slice(), udp);
     let instance = FedInstance {
@@ -74,13 +73,7 @@ fn call_inputs<'a>(
         sequential,
         output,
     };
-    let first = instance.first_terminal(cursor, alloc, name)?;
-    let inputs = instance.all_terminals(cursor, first)?;
-    let whole = inputs.len() == input_count(model.module().udps.as_slice(), udp);
-    let end = cursor.expect_where(whole, Refusal::Width, b")");
-    let inputs = where_read(inputs, end)?;
-    let end = cursor.expect(b";");
-    let inputs = where_read(inputs, end)?;
+    let inputs = instance.all_inputs(cursor, alloc, name, udp)?;
     Ok(Instance::Primitive {
         udp,
         output,
@@ -166,29 +159,10 @@ fn more_instances(
 }
 
 /// Puts all instances of a module behind those that it has.
-fn all_instances(cursor: &mut Cursor, alloc: Global, model: &mut Netlist) -> Read<()>
+pub fn all_instances(cursor: &mut Cursor, alloc: Global, model: &mut Netlist) -> Read<()>
     ensures reads { ReadsAs (λ _. model.new) (read (spec.instances model.old) cursor.old) result cursor.new }
     ensures named { IfOk result (λ _. model.new.name ≡ model.old.name) }
 {
     let names = many_names(alloc, model.module().udps.as_slice())?;
     more_instances(cursor, alloc, &names, model)
-}
-
-/// A module with its instances behind those that it has.
-#[tactic(auto, using(grammar_reader::proofs::WithRest::reads_before, grammar_reader::proofs::WithRest::kept_before))]
-fn with_instances(cursor: &mut Cursor, alloc: Global, mut model: Netlist) -> Read<Netlist>
-    ensures reads { Reads (read (spec.instances model) cursor.old) result cursor.new }
-    ensures named { IfOk result (λ joined. joined.name ≡ model.name) }
-{
-    let rest = all_instances(cursor, alloc, &mut model);
-    where_read(model, rest)
-}
-
-/// All instances of a module, which it then has.
-pub fn module_instances(cursor: &mut Cursor, alloc: Global, declared: VModule) -> Read<Netlist>
-    ensures reads { Reads (read (spec.instances declared) cursor.old) result cursor.new }
-    ensures named { IfOk result (λ joined. joined.name ≡ declared.name) }
-{
-    let model = Netlist::new(alloc, declared)?;
-    with_instances(cursor, alloc, model)
 }

@@ -9,11 +9,10 @@ ghost use Rattle.verilog_reader.specs.Netlist.{MayFind};
 use crate::nets::FEW;
 use bool_functions::Names;
 use first_names::FirstNames;
-use grammar_reader::{Language, Read, Stop};
+use grammar_reader::{Read, Stop};
 use sqlite_items::{Boxed, Items};
 use std::alloc::{AllocError, Global};
 use udp_tables::{Udp, VPort};
-use verilog_udp_reader::Verilog;
 
 /// A thing with a name.
 pub trait Named {
@@ -80,9 +79,7 @@ pub fn many_names<T: Named>(alloc: Global, things: &[T]) -> Read<Option<Boxed<Fi
 fn place_among<T: Named>(things: &[T], name: &[u8]) -> Option<usize>
     ensures { result ≡ position (λ x. bytes_eq name.now (T.name_of x)) things.now }
 {
-    things
-        .iter()
-        .position(|thing| Verilog::is_same(name, thing.name()))
+    things.iter().position(|thing| name == thing.name())
 }
 
 /// The number of the first of these things with a name, where these are their names, if there are more than a few.

@@ -6,7 +6,7 @@ ghost use Rattle.std.specs.Str.{bytes_eq};
 ghost use Rattle.verilog_tokens.specs.Tokens as spec;
 
 use crate::bytes_told::{begins_word, is_mark, is_symbol};
-use lexer::{ByteClass, NameByte, decimal_length, line_separator_length, run_length};
+use lexer::{ByteClass, decimal_length, identifier_length, line_separator_length, run_length};
 
 /// How many bytes end a comment, up to and with the first slash right behind a star.
 fn comment_rest(bytes: &[u8]) -> Option<usize>
@@ -111,10 +111,9 @@ fn word_length(bytes: &[u8]) -> usize
     ensures value { result ≡ spec.word_length bytes.now }
     ensures within { result ≤ length bytes.now }
 {
-    match bytes.split_first() {
-        None => 0,
-        Some((b'$' | b'`', rest)) => 1 + run_length::<Letter>(rest),
-        Some((_, rest)) => 1 + run_length::<NameByte>(rest),
+    match bytes {
+        [b'$' | b'`', rest @ ..] => 1 + run_length::<Letter>(rest),
+        _ => identifier_length(bytes),
     }
 }
 

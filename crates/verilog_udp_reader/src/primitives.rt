@@ -41,21 +41,20 @@ pub struct Header {
 /// The inputs of a header so far, and the names of its output and of these.
 type HeaderInputs<'a> = NamedItems<'a, SmallBytes>;
 
-/// The name of the output, as the only one of a header.
+/// The name of the output, as it stands in the text, which is the first name of a header.
 #[tactic(auto, using(crate::proofs::NewNames::any_fits, crate::proofs::NewNames::any_other))]
-fn first_name<'a>(cursor: &mut Cursor<'a>, alloc: Global) -> Read<(SmallBytes, TextNames<'a>)>
-    ensures reads { ReadsAs (λ first. first.0) (read any_name cursor.old) result cursor.new }
-    ensures named { IfOk result (λ first. first.1 ≡ first.0 ∷ []) }
+fn first_name<'a>(cursor: &mut Cursor<'a>, names: &mut TextNames<'a>) -> Read<&'a [u8]>
+    requires { names.old ≡ [] }
+    ensures reads { ReadsAs (λ name. name.now) (read any_name cursor.old) result cursor.new }
+    ensures named { IfOk result (λ name. names.new ≡ name.now ∷ []) }
 {
     let token = cursor.bytes();
     if !is_name(token) {
         return Err(Stop::Refused(Refusal::Syntax));
     }
-    let name = SmallBytes::from_slice(alloc, token)?;
-    let mut names = TextNames::new(alloc);
     names.add(token)?;
     cursor.skip();
-    Ok((name, names))
+    Ok(token)
 }
 
 /// An input of a header with this output.
@@ -80,44 +79,56 @@ impl NamedPart for HeaderInput<'_> {
     }
 }
 
-/// The inputs of a header with this output, of which these are the names, and its end.
+/// Adds the inputs of a header with this output to none, and reads its end.
 #[tactic(auto, unfolding(crate::specs::Headers::header_rest, udp_tables::specs::VerilogPrimitives::more_inputs))]
-fn header_rest<'a>(
+fn add_inputs<'a>(
     cursor: &mut Cursor<'a>,
     alloc: Global,
     output: &[u8],
-    names: TextNames<'a>,
-) -> Read<Items<SmallBytes>>
-    requires { names ≡ output.now ∷ [] }
-    ensures { ReadsAs (header_with output.now) (read (header_rest output.now) cursor.old) result cursor.new }
+    found: &mut HeaderInputs<'a>,
+) -> Read<()>
+    requires none { found.old.items ≡ [] }
+    requires named { found.old.names ≡ output.now ∷ [] }
+    ensures { ReadsAs (λ _. header_with output.now found.new.items) (read (header_rest output.now) cursor.old) result cursor.new }
 {
-    let items = Items::new(alloc);
-    let mut found = NamedItems { items, names };
     let input = HeaderInput { alloc, output };
-    let first = input.add(cursor, &mut found);
-    let mut found = where_read(found, first)?;
-    let more = add_listed(cursor, &input, &mut found);
-    let NamedItems { items: inputs, .. } = found;
-    let inputs = where_read(inputs, more)?;
-    let may = inputs.len() <= MOST_INPUTS;
-    let bracket = cursor.expect_where(may, Refusal::Width, b")");
-    let inputs = where_read(inputs, bracket)?;
-    let end = cursor.expect(b";");
-    let inputs = where_read(inputs, end)?;
-    Ok(inputs)
+    input.add(cursor, found)?;
+    add_listed(cursor, &input, found)?;
+    let may = found.items.len() <= MOST_INPUTS;
+    cursor.expect_where(may, Refusal::Width, b")")?;
+    cursor.expect(b";")
 }
 
-/// The header of a primitive, behind its name.
+/// Adds the inputs of a header to none: its output, as it stands in the text.
 #[tactic(auto, unfolding(udp_tables::specs::VerilogPrimitives::header, crate::specs::Headers::header_rest))]
+fn add_header<'a>(
+    cursor: &mut Cursor<'a>,
+    alloc: Global,
+    found: &mut HeaderInputs<'a>,
+) -> Read<&'a [u8]>
+    requires none { found.old.items ≡ [] }
+    requires unnamed { found.old.names ≡ [] }
+    ensures { ReadsAs (λ output. header_with output.now found.new.items) (read spec.header cursor.old) result cursor.new }
+{
+    cursor.expect(b"(")?;
+    let output = first_name(cursor, &mut found.names)?;
+    cursor.expect(b",")?;
+    add_inputs(cursor, alloc, output, found)?;
+    Ok(output)
+}
+
+/// The header of a primitive, behind its name. Its names are not moved while they are found.
 fn primitive_header(cursor: &mut Cursor<'_>, alloc: Global) -> Read<Header>
     ensures { ReadsAs header_of (read spec.header cursor.old) result cursor.new }
 {
-    cursor.expect(b"(")?;
-    let (output, names) = first_name(cursor, alloc)?;
-    let comma = cursor.expect(b",");
-    let (output, names) = where_read((output, names), comma)?;
-    let inputs = header_rest(cursor, alloc, output.as_slice(), names);
-    let (output, inputs) = with_read(output, inputs)?;
+    let mut found = NamedItems {
+        items: Items::new(alloc),
+        names: TextNames::new(alloc),
+    };
+    let output = add_header(cursor, alloc, &mut found);
+    let NamedItems { items: inputs, .. } = found;
+    let (inputs, output) = with_read(inputs, output)?;
+    let output = SmallBytes::from_slice(alloc, output)?;
     Ok(Header { output, inputs })
 }
 

@@ -6,10 +6,10 @@ ghost use Rattle.std.specs.Str.{bytes_eq};
 ghost use Rattle.grammar_reader.specs.Reading.{read, ReadsAs};
 ghost use Rattle.udp_tables.specs.VerilogRules as spec;
 
-use crate::language::{Cursor, Verilog};
+use crate::language::Cursor;
 use bool_functions::Names;
 use cell_machine::Few;
-use grammar_reader::{Language, Read, Refusal, Stop};
+use grammar_reader::{Read, Refusal, Stop};
 use std::alloc::Global;
 use std::marker::Model;
 use verilog_tokens::is_name;
@@ -39,7 +39,7 @@ fn is_one(names: &[&[u8]], name: &[u8]) -> bool
     ensures { result ≡ list_any (bytes_eq name.now) (map (λ other. other.now) names.now) }
 {
     for other in names {
-        if Verilog::is_same(name, other) {
+        if name == *other {
             return true;
         }
     }

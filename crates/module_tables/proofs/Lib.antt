@@ -2,4 +2,5 @@ pub mod ListNumbers
 pub mod Firsts
 pub mod TableLaws
 pub mod NetOrder
+pub mod KeptKeys
 pub mod StepStates

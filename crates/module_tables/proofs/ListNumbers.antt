@@ -7,12 +7,8 @@ use Rattle.std.proofs.lemmas.Simd.{map-map}
 use Rattle.std.specs.List.{range_with_len}
 use Rattle.trit_cubes.specs.declared.trits.Trit.{Trit}
 use Rattle.trit_cubes.specs.declared.trits.Trit.TheVariants.{Zero, One, Unknown}
-use Rattle.trit_cubes.specs.Filling.{IsFilling, number}
-use Rattle.trit_cubes.specs.Sets.{point_of}
 use Rattle.trit_cubes.specs.Prime.{cubes_of}
-use Rattle.trit_cubes.proofs.PointLemmas.{point_of-number}
 use Rattle.cell_machine.specs.Machine.{without}
-use Rattle.cell_machine.proofs.Tables.{filling_wide}
 use Rattle.module_tables.specs.Lists.{trit_numbered, list_numbered}
 
 -- three lists of each length for one of the length before
@@ -109,10 +105,6 @@ without-parts zero (x ∷ xs) l = refl
 without-parts (suc p) (x ∷ xs) l =
     let next : suc p + 1 ≡ suc (p + 1) = omega arith in
     ap (λ k. x ∷ take p xs ++ drop k (x ∷ xs)) next ∙ ap (λ ys. x ∷ ys) (without-parts p xs (omega (arith, l)))
-
--- the point of a filling by its number
-pub filling-point : (ts : List Trit) (p : List Bool) (n : ℕ) → IsFilling ts p → n ≡ length ts → point_of n (number p) ≡ p
-filling-point ts p n h e = ap (λ k. point_of k (number p)) (e ∙ sym (filling_wide ts p h)) ∙ point_of-number p
 
 pub list_long : (n k : ℕ) → length (list_numbered n k) ≡ n
 list_long zero k = refl

@@ -8,6 +8,7 @@ use Rattle.cell_machine.specs.Machine.{edge_value, forced_at}
 use Rattle.cell_machine.specs.Inputs.{numbered_value}
 use Rattle.cell_machine.specs.CellData.{CellData}
 use Rattle.cell_machine.specs.CellTrace.{support_at, step_at}
+use Rattle.udp_tables.specs.Primitive.{level_output}
 use Rattle.udp_tables.specs.Sequential.{udp_next, noted}
 use Rattle.udp_tables.specs.CellPrimitives.{has_notifier}
 use Rattle.specify_blocks.specs.declared.model.VNet.{VNet}
@@ -16,6 +17,8 @@ use Rattle.specify_blocks.specs.declared.model.VModule.{VModule}
 use Rattle.specify_blocks.specs.Nets.{same_net}
 use Rattle.row_selection.specs.declared.change_rows.ChangeRows.{ChangeRows}
 use Rattle.module_tables.specs.declared.net_rows.NetRows.{NetRows}
+use Rattle.module_tables.specs.declared.keyed_rows.KeyedRows.{KeyedRows}
+use Rattle.module_tables.specs.declared.net_levels.NetLevels.{NetLevels}
 use Rattle.module_terminals.specs.Terminals.{nets_feeding}
 use Rattle.module_tables.specs.Tables.{arranged, next_by, group_next, place_net}
 
@@ -35,6 +38,19 @@ rows_next (Some r) inputs s = udp_next r.udp.now.rows (slice_set inputs r.place 
 -- the same where the inputs stand in some order among nets with values
 abbrev pub looked_up : NetRows → List Trit → Trit → Trit
 looked_up r values s = rows_next r.rows (map (numbered_value values) r.order) s
+
+-- The output of a combinational primitive at these inputs, and a value of its own where there is no primitive.
+abbrev pub rows_level : Option KeyedRows → Trit → List Trit → Trit
+rows_level None alone inputs = alone
+rows_level (Some r) alone inputs = level_output r.udp.now.rows inputs
+
+-- the same where the inputs stand in some order among nets with values
+abbrev pub level_at : NetLevels → List Trit → Trit
+level_at l values = rows_level l.rows l.alone (map (numbered_value values) l.order)
+
+-- The value that is looked up for a net is a function's, for values of at most ten nets.
+abbrev pub Drives : NetLevels → (List Trit → Trit) → Type 0
+Drives l g = (values : List Trit) → length values ≤ 10 → level_at l values ≡ g values
 
 -- The next state by these rows is the same for two lists of values of the nets that differ in the one with this number alone.
 pub record IgnoresNet (n : ℕ) (r : NetRows) : Type 0 where

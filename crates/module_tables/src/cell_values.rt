@@ -1,7 +1,7 @@
 //! What the functions of a cell give for values that may be unknown.
 ghost use Rattle.std.specs.Prelude.{◌≡◌, ◌<◌, ◌≤◌, ◌++◌, ◌∷◌, [], length, slice_index_or};
 ghost use Rattle.trit_cubes.specs.declared.trits.Trit.TheVariants as trit;
-ghost use Rattle.trit_cubes.specs.Resolution.{res};
+ghost use Rattle.trit_cubes.specs.Sets.{AreValuesOf};
 ghost use Rattle.bool_functions.specs.Tree.{name_bound};
 ghost use Rattle.cell_machine.specs.{Machine.without, Outputs.condition_at, CellData.data_of};
 ghost use Rattle.cell_machine.specs.CellTrace.{support_at, sources_at, output_value_at};
@@ -9,12 +9,12 @@ ghost use Rattle.row_selection.specs.NextStates.{next_states};
 ghost use Rattle.module_tables.specs.{Tables.cell_step, Tables.cell_forced, LookUps.AreSteps, LookUps.AreForces};
 
 use crate::net_rows::NetRows;
-use crate::resolved::{resolved, values_at};
+use crate::resolved::{tabled, values_at};
 use bool_functions::Function;
-use cell_machine::{Cell, Few, Values, change_value, numbered_value, point_value};
+use cell_machine::{Cell, Few, Values, change_value, point_value};
 use cell_tables::forced_at;
 use row_selection::NextStates;
-use trit_cubes::{Trit, resolve};
+use trit_cubes::Trit;
 
 /// The values of a group's step at changes of the pin at a place, by the numbers of the points.
 pub(crate) fn edge_values(cell: &Cell, group: usize, place: usize) -> Few<Trit, 1024>
@@ -46,10 +46,7 @@ pub(crate) fn forced_by(cell: &Cell, group: usize, forces: &[Trit], values: &[Tr
     ensures { result ≡ cell_forced (data_of cell.now) group values.now }
 {
     let _few = cell.group(group).support.len();
-    resolve(
-        values,
-        &|number: u16| { numbered_value(forces, usize::from(number)) },
-    )
+    tabled(forces, values)
 }
 
 /// A change of the pin at a place of the support of a group.
@@ -94,11 +91,7 @@ pub(crate) fn step_value(cell: &Cell, group: usize, change: PinChange<'_>, state
     ensures { result ≡ cell_step (data_of cell.now) group change.entry.place change.entry.old change.entry.values.now state }
 {
     let places = change_places(change, state);
-    let steps = change.steps;
-    resolve(
-        places.as_slice(),
-        &|number: u16| { numbered_value(steps, usize::from(number)) },
-    )
+    tabled(change.steps, places.as_slice())
 }
 
 /// The same from each state.
@@ -130,28 +123,27 @@ fn condition_at(condition: &Function, names: &[usize], point: &[bool]) -> Trit
     Trit::from(Values::new().written(names, point).value(condition))
 }
 
-/// The value of a condition where its names have these values.
-pub(crate) fn condition_value(condition: &Function, names: &[usize], values: &[Trit]) -> Trit
+/// The values of a condition at all points of its names, by the numbers of the points.
+pub(crate) fn condition_values(condition: &Function, names: &[usize]) -> Few<Trit, 1024>
     requires bounded { name_bound condition.now ≤ 96 }
     requires few { length names.now ≤ 10 }
-    requires values { length values.now ≡ length names.now }
-    ensures { result ≡ res (condition_at names.now condition.now) values.now }
+    ensures { AreValuesOf (length names.now) (condition_at names.now condition.now) result }
 {
-    resolved(
-        values,
+    values_at(
+        names.len(),
         &|point: &[bool]| { condition_at(condition, names, point) },
     )
 }
 
-/// The value of an output where its support has these values.
-pub(crate) fn output_value(cell: &Cell, output: usize, values: &[Trit]) -> Trit
+/// The values of an output at all points of its support, by the numbers of the points.
+pub(crate) fn output_values(cell: &Cell, output: usize) -> Few<Trit, 1024>
     requires output { output < length cell.now.outputs }
-    requires few { length values.now ≤ 10 }
-    requires values { length values.now ≡ length (sources_at (data_of cell.now) output) }
-    ensures { result ≡ res (output_value_at (data_of cell.now) output) values.now }
+    requires few { length (sources_at (data_of cell.now) output) ≤ 10 }
+    ensures { AreValuesOf (length (sources_at (data_of cell.now) output)) (output_value_at (data_of cell.now) output) result }
 {
-    resolved(
-        values,
+    let places = cell.output_pin(output).support.len();
+    values_at(
+        places,
         &|point: &[bool]| { point_value(cell, output, point) },
     )
 }

@@ -5,8 +5,11 @@
 mod cell_values;
 mod comparison;
 mod differences;
+mod driven_nets;
+mod keyed_rows;
 mod lists;
 mod model_tables;
+mod net_levels;
 mod net_rows;
 mod resolved;
 mod states;

@@ -1,59 +1,26 @@
-//! What the tables of a module give.
-ghost use Rattle.std.specs.Prelude.{◌≡◌, ◌+◌, ◌≤◌, ◌++◌, true, false, List, map, length, position, IsTrue};
+//! What the tables of a module with a state give.
+ghost use Rattle.std.specs.Prelude.{◌≡◌, ◌+◌, ◌≤◌, ◌++◌, true, false, List, map, length, position};
 ghost use Rattle.trit_cubes.specs.declared.trits.Trit.{Trit};
 ghost use Rattle.cell_machine.specs.Inputs.{numbered_value};
-ghost use Rattle.specify_blocks.specs.{Nets.same_net, Nets.has_state, Sound.IsSound};
+ghost use Rattle.specify_blocks.specs.{Nets.same_net, Sound.IsSound};
 ghost use Rattle.row_selection.specs.NextStates.{next_states};
-ghost use Rattle.module_terminals.specs.Terminals.{StandsIn, nets_feeding, drives_value};
+ghost use Rattle.module_terminals.specs.Terminals.{StandsIn, nets_feeding};
 ghost use Rattle.module_tables.specs.ChangeInputs.{input_count};
-ghost use Rattle.module_tables.specs.Tables.{value_among, arranged, next_by, value_by, driven_value};
+ghost use Rattle.module_tables.specs.Tables.{next_by};
 ghost use Rattle.module_tables.specs.LookUps.{place_among, order_of, GivesNext, looked_up, IgnoresNet};
 
 use crate::net_rows::NetRows;
 use cell_machine::{Few, numbered_value};
-use module_terminals::terminals::{driving, nets_feeding};
+use module_terminals::terminals::nets_feeding;
 use row_selection::{ChangeRows, NextStates};
 use specify_blocks::{Instance, VModule, VNet};
 use trit_cubes::Trit;
-use udp_tables::{Udp, udp_level};
 
 /// The place of a net among others, where it is one of them.
 fn place_of(nets: &[VNet], net: VNet) -> Option<usize>
     ensures { result ≡ position (same_net net) nets.now }
 {
     nets.iter().position(|other| net.is_same(*other))
-}
-
-/// The value of a net where the first nets have these values; unknown where it is none of them.
-fn value_among(nets: &[VNet], values: &[Trit], net: VNet) -> Trit
-    ensures { result ≡ value_among nets.now values.now net }
-{
-    match place_of(nets, net) {
-        Some(place) => numbered_value(values, place),
-        None => Trit::Unknown,
-    }
-}
-
-/// Adds the values of the inputs of an instance, where these nets have these values.
-fn add_arranged(all: &mut Few<Trit, 10>, nets: &[VNet], values: &[Trit], inputs: &[VNet])
-    requires { length all.old + length inputs.now ≤ 10 }
-    ensures { all.new ≡ all.old ++ arranged nets.now values.now inputs.now }
-{
-    let Some((first, rest)) = inputs.split_first() else {
-        return;
-    };
-    all.push(value_among(nets, values, *first));
-    add_arranged(all, nets, values, rest);
-}
-
-/// The values of the inputs of an instance, where these nets have these values.
-fn arranged(nets: &[VNet], values: &[Trit], inputs: &[VNet]) -> Few<Trit, 10>
-    requires { length inputs.now ≤ 10 }
-    ensures { result ≡ arranged nets.now values.now inputs.now }
-{
-    let mut all = Few::new(Trit::Unknown);
-    add_arranged(&mut all, nets, values, inputs);
-    all
 }
 
 /// The place of a net among others, 10 where it is none of them.
@@ -76,7 +43,7 @@ fn add_places(order: &mut Few<usize, 10>, nets: &[VNet], inputs: &[VNet])
 }
 
 /// Where the inputs of an instance stand among these nets; 10 where one is none of them.
-fn order_of(nets: &[VNet], inputs: &[VNet]) -> Few<usize, 10>
+pub(crate) fn order_of(nets: &[VNet], inputs: &[VNet]) -> Few<usize, 10>
     requires { length inputs.now ≤ 10 }
     ensures { result ≡ order_of nets.now inputs.now }
 {
@@ -86,7 +53,7 @@ fn order_of(nets: &[VNet], inputs: &[VNet]) -> Few<usize, 10>
 }
 
 /// The values with these numbers, unknown where there is none.
-fn values_numbered(values: &[Trit], order: &[usize]) -> Few<Trit, 10>
+pub(crate) fn values_numbered(values: &[Trit], order: &[usize]) -> Few<Trit, 10>
     requires { length order.now ≤ 10 }
     ensures { result ≡ map (numbered_value values.now) order.now }
 {
@@ -189,38 +156,5 @@ impl<'a> NetRows<'a> {
             Some(rows) => rows.ignores(self.order.as_slice(), number),
             None => true,
         }
-    }
-}
-
-/// What an instance without a state drives, where these nets have these values.
-fn value_by(model: &VModule, nets: &[VNet], values: &[Trit], instance: &Instance) -> Trit
-    requires sound { IsSound model.now }
-    requires stands { StandsIn model.now instance.now }
-    requires few { length (nets_feeding instance.now) ≤ 10 }
-    requires stateless { has_state model.now.udps instance.now ≡ false }
-    ensures { result ≡ value_by model.now nets.now values.now instance.now }
-{
-    match instance {
-        Instance::Primitive { udp, inputs, .. } => match model.udps.as_slice().get(*udp) {
-            Some(udp) => {
-                let inputs = arranged(nets, values, inputs.as_slice());
-                udp_level(udp, inputs.as_slice())
-            }
-            None => Trit::Unknown,
-        },
-        Instance::Constant { one, .. } => Trit::from(*one),
-    }
-}
-
-/// The value of a net that an instance without a state drives.
-pub(crate) fn driven_value(model: &VModule, nets: &[VNet], values: &[Trit], net: VNet) -> Trit
-    requires sound { IsSound model.now }
-    requires few { length nets.now ≤ 10 }
-    requires driven { IsTrue (drives_value model.now nets.now net) }
-    ensures { result ≡ driven_value model.now nets.now values.now net }
-{
-    match driving(model, net) {
-        Some(instance) => value_by(model, nets, values, instance),
-        None => Trit::Unknown,
     }
 }

@@ -5,7 +5,7 @@ ghost use Rattle.trit_cubes.specs.declared.trits.Trit.{Trit};
 ghost use Rattle.trit_cubes.specs.Resolution.{res};
 ghost use Rattle.trit_cubes.specs.Sets.{Gives, AreValuesOf, point_of};
 
-use cell_machine::Few;
+use cell_machine::{Few, numbered_value};
 use trit_cubes::{Trit, point_of, resolve};
 
 /// The value of a function at the point with this number.
@@ -31,16 +31,14 @@ pub(crate) fn values_at<F: Fn(&[bool]) -> Trit>(places: usize, function: &F) -> 
     values
 }
 
-/// The value that a function of points gives on every filling of the places, else unknown.
-pub(crate) fn resolved<F: Fn(&[bool]) -> Trit>(places: &[Trit], function: &F) -> Trit
-    requires callable { F.IsAlwaysCallable function.now }
+/// The value that a function of points gives on every filling of the places, else unknown, by its values at all points, each at the
+/// number of its point.
+pub(crate) fn tabled(values: &[Trit], places: &[Trit]) -> Trit
     requires few { length places.now ≤ 10 }
-    ensures { (f : List Bool → Trit) → Gives (λ p t. FnReturnsAt F.Fn function.now p t) (length places.now) f
-        → result ≡ res f places.now }
+    ensures { (f : List Bool → Trit) → AreValuesOf (length places.now) f values.now → result ≡ res f places.now }
 {
-    let count = places.len();
     resolve(
         places,
-        &|number: u16| { at_number(function, count, number) },
+        &|number: u16| { numbered_value(values, usize::from(number)) },
     )
 }

@@ -1,19 +1,21 @@
 //! The comparison of the values of conditions and outputs.
-ghost use Rattle.std.specs.Prelude.{◌≡◌, ◌+◌, ◌<◌, ◌≤◌, [], ◌∷◌, length, Some, IsTrue};
+ghost use Rattle.std.specs.Prelude.{◌≡◌, ◌<◌, ◌≤◌, Bool, List, [], ◌∷◌, length, map, Some, IsTrue};
+ghost use Rattle.trit_cubes.specs.declared.trits.Trit.{Trit as TritOf};
+ghost use Rattle.trit_cubes.specs.{Resolution.res, Sets.AreValuesOf, Prime.cubes_of};
 ghost use Rattle.bool_functions.specs.{Tree.name_bound, Support.support_of};
 ghost use Rattle.cell_machine.specs.{CellData.data_of, CellTrace.sources_at};
 ghost use Rattle.specify_blocks.specs.Sound.{IsSound};
-ghost use Rattle.module_terminals.specs.Terminals.{condition_nets};
 ghost use Rattle.module_terminals.specs.Feeding.{gating, feeds_condition, feeds_gating, feeds_output};
-ghost use Rattle.module_tables.specs.Tables.{value_compared, cell_condition, model_condition, conditions_compared};
-ghost use Rattle.module_tables.specs.Tables.{outputs_compared, first_difference};
+ghost use Rattle.module_tables.specs.Tables.{value_compared, conditions_compared, outputs_compared, first_difference};
+ghost use Rattle.module_tables.specs.LookUps.{Drives};
 
-use crate::cell_values::{condition_value, output_value};
+use crate::cell_values::{condition_values, output_values};
 use crate::differences::{AuditPart, Difference};
 use crate::lists::{cube_of, list_count, list_numbered};
-use crate::model_tables::driven_value;
+use crate::net_levels::NetLevels;
+use crate::resolved::tabled;
 use bool_functions::Function;
-use cell_machine::{Cell, Few};
+use cell_machine::Cell;
 use module_terminals::condition_wires::ConditionWire;
 use module_terminals::supports::{MOST_NAMES, support_of};
 use module_terminals::terminals::{output_net, output_nets, pin_nets};
@@ -45,105 +47,58 @@ fn compared(
     difference.found()
 }
 
-/// A condition of a cell, and the wire that stands for it in a module.
-#[derive(Drop)]
-struct ConditionTables<'a> {
-    cell: &'a Cell,
-    model: &'a VModule,
-    condition: &'a Function,
-    wire: usize,
-    names: Few<usize, 10>,
-    nets: Few<VNet, 10>,
-    ghost bounded: { name_bound condition.now ≤ 96 },
-    ghost are_names: { names ≡ support_of condition.now },
-    ghost few: { length names ≤ 10 },
-    ghost are_nets: { nets ≡ condition_nets (data_of cell.now) condition.now },
-    ghost fed: { IsTrue (feeds_condition (data_of cell.now) model.now (record { condition = condition.now; wire = wire })) },
+/// The first list of values of so many places at which a function of points, by its values at all points, is not what drives a net,
+/// as one of the part with this number.
+fn first_unlike(
+    part: AuditPart,
+    number: usize,
+    places: usize,
+    table: &[Trit],
+    levels: &NetLevels<'_>,
+) -> Option<Difference>
+    requires few { places ≤ 10 }
+    ensures { (f : List Bool → TritOf) (g : List TritOf → TritOf) → AreValuesOf places f table.now → Drives levels.now g
+        → result ≡ first_difference (map (value_compared part number (res f) g) (cubes_of places)) }
+{
+    let count = list_count(places);
+    for k in 0..count {
+        let list = list_numbered(places, k, count);
+        let values = list.as_slice();
+        let of_cell = tabled(table, values);
+        let of_model = levels.value(values);
+        if let Some(found) = compared(part, number, values, of_cell, of_model) {
+            return Some(found);
+        }
+    }
+    None
 }
 
-impl<'a> ConditionTables<'a> {
-    /// The condition with this wire.
-    fn of(
-        cell: &'a Cell,
-        model: &'a VModule,
-        condition: &'a Function,
-        wire: usize,
-    ) -> ConditionTables<'a>
-        requires bounded { name_bound condition.now ≤ 96 }
-        requires few { length (support_of condition.now) ≤ 10 }
-        requires fed { IsTrue (feeds_condition (data_of cell.now) model.now (record { condition = condition.now; wire = wire })) }
-        ensures cell { result.cell.now ≡ cell.now }
-        ensures model { result.model.now ≡ model.now }
-        ensures condition { result.condition.now ≡ condition.now }
-        ensures wire { result.wire ≡ wire }
-    {
-        let names = support_of(condition, MOST_NAMES);
-        let nets = pin_nets(cell.pins.as_slice(), names.as_slice());
-        ConditionTables {
-            cell,
-            model,
-            condition,
-            wire,
-            names,
-            nets,
-        }
-    }
-
-    /// What the cell gives for these values of the names.
-    fn of_cell(&self, values: &[Trit]) -> Trit
-        requires { length values.now ≡ length (support_of self.now.condition.now) }
-        ensures { result ≡ cell_condition self.now.condition.now values.now }
-    {
-        condition_value(self.condition, self.names.as_slice(), values)
-    }
-
-    /// What the module gives for these values of the names.
-    fn of_model(&self, values: &[Trit]) -> Trit
-        requires { IsSound self.now.model.now }
-        ensures { result ≡ model_condition (data_of self.now.cell.now) self.now.model.now
-            (record { condition = self.now.condition.now; wire = self.now.wire }) values.now }
-    {
-        driven_value(
-            self.model,
-            self.nets.as_slice(),
-            values,
-            VNet::Wire(self.wire),
-        )
-    }
-
-    /// How many names the condition has.
-    fn places(&self) -> usize
-        ensures value { result ≡ length (support_of self.now.condition.now) }
-        ensures few { result ≤ 10 }
-    {
-        self.names.as_slice().len()
-    }
-
-    /// The first difference, as one of the part with this number.
-    #[tactic(auto, using(crate::proofs::Firsts::turn, crate::proofs::Firsts::done))]
-    fn first(&self, part: AuditPart, number: usize) -> Option<Difference>
-        requires { IsSound self.now.model.now }
-        ensures { result ≡ first_difference
-            (conditions_compared (data_of self.now.cell.now) self.now.model.now part number
-            (Some (record { condition = self.now.condition.now; wire = self.now.wire }))) }
-    {
-        let places = self.places();
-        let count = list_count(places);
-        for k in 0..count {
-            let list = list_numbered(places, k, count);
-            let values = list.as_slice();
-            if let Some(found) = compared(
-                part,
-                number,
-                values,
-                self.of_cell(values),
-                self.of_model(values),
-            ) {
-                return Some(found);
-            }
-        }
-        None
-    }
+/// The first difference of a condition and of the wire that stands for it, as one of the part with this number.
+fn of_wire(
+    cell: &Cell,
+    model: &VModule,
+    part: AuditPart,
+    number: usize,
+    condition: &Function,
+    wire: usize,
+) -> Option<Difference>
+    requires sound { IsSound model.now }
+    requires bounded { name_bound condition.now ≤ 96 }
+    requires few { length (support_of condition.now) ≤ 10 }
+    requires fed { IsTrue (feeds_condition (data_of cell.now) model.now (record { condition = condition.now; wire = wire })) }
+    ensures { result ≡ first_difference
+        (conditions_compared (data_of cell.now) model.now part number (Some (record { condition = condition.now; wire = wire }))) }
+{
+    let names = support_of(condition, MOST_NAMES);
+    let places = names.as_slice();
+    let count = places.len();
+    let pins = cell.pins.as_slice();
+    let nets = pin_nets(pins, places);
+    let fed_by = nets.as_slice();
+    let table = condition_values(condition, places);
+    let values = table.as_slice();
+    let levels = NetLevels::of(model, fed_by, VNet::Wire(wire));
+    first_unlike(part, number, count, values, &levels)
 }
 
 /// The first difference of a condition that may be absent and of the wire that stands for it, as one of the part with this
@@ -163,8 +118,7 @@ pub(crate) fn of_condition(
     let (Some(condition), Some(wire)) = (of.condition, of.wire) else {
         return None;
     };
-    let tables = ConditionTables::of(cell, model, condition, wire);
-    tables.first(part, number)
+    of_wire(cell, model, part, number, condition, wire)
 }
 
 /// How many pins and states an output depends on.
@@ -177,7 +131,6 @@ fn source_count(cell: &Cell, output: usize) -> usize
 }
 
 /// The first difference of an output.
-#[tactic(auto, using(crate::proofs::Firsts::turn, crate::proofs::Firsts::done))]
 pub(crate) fn of_output(cell: &Cell, model: &VModule, output: usize) -> Option<Difference>
     requires sound { IsSound model.now }
     requires inside { output < length cell.now.outputs }
@@ -186,16 +139,10 @@ pub(crate) fn of_output(cell: &Cell, model: &VModule, output: usize) -> Option<D
 {
     let places = source_count(cell, output);
     let nets = output_nets(cell, model, output);
+    let fed_by = nets.as_slice();
+    let table = output_values(cell, output);
+    let values = table.as_slice();
     let net = output_net(cell, output);
-    let count = list_count(places);
-    for k in 0..count {
-        let list = list_numbered(places, k, count);
-        let values = list.as_slice();
-        let of_cell = output_value(cell, output, values);
-        let of_model = driven_value(model, nets.as_slice(), values, net);
-        if let Some(found) = compared(AuditPart::Output, output + 1, values, of_cell, of_model) {
-            return Some(found);
-        }
-    }
-    None
+    let levels = NetLevels::of(model, fed_by, net);
+    first_unlike(AuditPart::Output, output + 1, places, values, &levels)
 }

@@ -227,7 +227,7 @@ impl Cursor<'_> {
                 let mut found = Values::new();
                 self.add_part(alloc, &mut found)?;
                 let mut found = self.parts(alloc, Place::Value, found)?;
-                found.give_back();
+                found.fit_exactly(alloc)?;
                 self.value_end(Place::Value)?;
                 Ok(found)
             }

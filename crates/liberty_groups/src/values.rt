@@ -139,6 +139,17 @@ pub fn one_text(values: Values) -> SmallBytes
 /// one the system has given no memory yet for most of what is not used.
 const FEW: usize = 1024;
 
+/// Moves a list to a block with room for no more. The block that it grew to is let go whole, so that the next list may stand there:
+/// what a block is cut down by would often be too little for anything else.
+fn move_exactly<T: Drop>(alloc: Global, list: &mut Vec<T>) -> Result<(), AllocError>
+    ensures { OnOk result (list.new.items ≡ list.old.items) }
+{
+    let mut exact = Vec::with_capacity(alloc, list.len())?;
+    exact.append(list)?;
+    *list = exact;
+    Ok(())
+}
+
 impl Values {
     /// No values.
     pub fn new() -> Values
@@ -189,16 +200,17 @@ impl Values {
         Ok(())
     }
 
-    /// Gives back room that is not used, where there are not too many values.
+    /// Moves the values to exactly the room that they need, where there are not too many. An `Err` comes only where memory is wanting.
     #[inline(always)]
-    pub(crate) fn give_back(&mut self)
-        ensures { self.new ≡ self.old }
+    pub(crate) fn fit_exactly(&mut self, alloc: Global) -> Result<(), AllocError>
+        ensures { OnOk result (self.new ≡ self.old) }
     {
         if let HeldValues::Several(several) = &mut self.held {
-            if several.len() <= FEW {
-                several.shrink_to_fit();
+            if several.len() <= FEW && several.len() < several.capacity() {
+                return move_exactly(alloc, several);
             }
         }
+        Ok(())
     }
 
     /// The values.
@@ -222,7 +234,7 @@ fn are_one(one: &Value, other: &Value) -> bool
     one.is_quoted() == other.is_quoted() && one.bytes() == other.bytes()
 }
 
-/// Whether two lists of at most two values are seen to be the same.
+/// Whether two lists of at most four values are seen to be the same.
 fn are_same(values: &[Value], others: &[Value]) -> bool
     ensures { IsTrue result → values.now ≡ others.now }
 {
@@ -234,6 +246,16 @@ fn are_same(values: &[Value], others: &[Value]) -> bool
         },
         [first, second] => match others {
             [other, next] => are_one(first, other) && are_one(second, next),
+            _ => false,
+        },
+        [first, second, third] => match others {
+            [other, next, last] => {
+                are_one(first, other) && are_one(second, next) && are_one(third, last)
+            }
+            _ => false,
+        },
+        [a, b, c, d] => match others {
+            [e, f, g, h] => are_one(a, e) && are_one(b, f) && are_one(c, g) && are_one(d, h),
             _ => false,
         },
         _ => false,
@@ -275,7 +297,7 @@ impl Arguments {
     }
 
     /// The same values, which share the place of the arguments that were `last` where they are seen to be the same. An `Err` comes
-    /// only where memory is wanting.
+    /// only where memory is wanting, or too many groups have them.
     pub(crate) fn shared(
         alloc: Global,
         last: &mut Option<Arguments>,

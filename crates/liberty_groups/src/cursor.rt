@@ -22,7 +22,7 @@ pub struct Cursor<'a> {
     left: Unread,
     /// How many bytes stand before the part.
     before: usize,
-    /// The arguments of the groups that ended.
+    /// The arguments of the groups that were read.
     recent: RecentArguments,
 }
 
@@ -87,7 +87,7 @@ impl<'a> Cursor<'a> {
             shared: self.shared,
             left: self.left.again(alloc)?,
             before: self.before,
-            recent: self.recent.again(),
+            recent: RecentArguments::new(self.left.len()),
         })
     }
 

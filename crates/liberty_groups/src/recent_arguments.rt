@@ -1,4 +1,4 @@
-//! The arguments of groups that ended, where groups that have the same ones find them again.
+//! The arguments of groups that were read, where groups that have the same ones find them again.
 
 ghost use Rattle.std.specs.Prelude.{◌≡◌, IfOk};
 
@@ -12,8 +12,8 @@ const MANY: usize = 65_536;
 /// So many places are there for arguments by their bytes.
 const PLACES: usize = 16_384;
 
-/// By this factor arguments that are alike but for two ASCII bytes, with at most three ends of a value between these, have unlike
-/// places.
+/// By this factor arguments that are alike but for two printing ASCII bytes, with at most three ends of a value between these, have
+/// unlike places.
 const FACTOR: usize = 139;
 
 /// What stands for the end of a value behind its bytes.
@@ -51,16 +51,16 @@ fn empty_places<T: Drop>(alloc: Global) -> Result<Vec<Option<T>>, AllocError> {
     Ok(places)
 }
 
-/// The arguments of the groups of a text that ended: those of the last one, or the last ones at each place.
+/// The arguments of the groups of a text that were read: those of the last group, or the last ones at each place.
 #[derive(Drop)]
 pub(crate) struct RecentArguments {
-    /// Whether the text has so many tokens that each place is kept.
+    /// Whether the text has so many tokens that there are places for arguments.
     are_many: bool,
     /// No arguments, once a group has none.
     none: Option<Arguments>,
-    /// Those of the group with some that ended last.
+    /// Those of the last group with some.
     last: Option<Arguments>,
-    /// Those that ended last at each place, once there are some.
+    /// The last ones at each place, once there are some.
     by_place: Option<Vec<Option<Arguments>>>,
 }
 
@@ -75,52 +75,33 @@ impl RecentArguments {
         }
     }
 
-    /// None yet, of the same text.
-    pub(crate) fn again(&self) -> RecentArguments {
-        RecentArguments {
-            are_many: self.are_many,
-            none: None,
-            last: None,
-            by_place: None,
-        }
-    }
-
     /// The arguments of a group with these values, which share the place of those that were found to be the same. An `Err` comes only
     /// where memory is wanting, or no more groups can be counted.
-    pub(crate) fn shared(
-        &mut self,
-        alloc: Global,
-        values: Values,
-    ) -> Result<Arguments, AllocError>
+    pub(crate) fn shared(&mut self, alloc: Global, values: Values) -> Result<Arguments, AllocError>
         ensures { IfOk result (λ same. same ≡ values) }
     {
         if values.as_slice().is_empty() {
             return Arguments::shared(alloc, &mut self.none, values);
         }
-        if !self.are_many {
-            return Arguments::shared(alloc, &mut self.last, values);
-        }
-        if self.by_place.is_none() {
+        if self.are_many && self.by_place.is_none() {
             self.by_place = Some(empty_places(alloc)?);
         }
-        let place = place_of(values.as_slice());
         match &mut self.by_place {
-            Some(places) => at_place(alloc, places, place, values),
-            None => Arguments::from_values(alloc, values),
+            Some(places) => shared_at(alloc, places, values),
+            None => Arguments::shared(alloc, &mut self.last, values),
         }
     }
 }
 
-/// The arguments of a group with these values, which share the place of those that are kept at a place where they are the same.
-fn at_place(
+/// The arguments of a group with these values, which share the place of those that are kept where they are the same.
+fn shared_at(
     alloc: Global,
     places: &mut Vec<Option<Arguments>>,
-    place: usize,
     values: Values,
 ) -> Result<Arguments, AllocError>
     ensures { IfOk result (λ same. same ≡ values) }
 {
-    match places.get_mut(place) {
+    match places.get_mut(place_of(values.as_slice())) {
         Some(last) => Arguments::shared(alloc, last, values),
         None => Arguments::from_values(alloc, values),
     }

@@ -200,17 +200,17 @@ impl Values {
         Ok(())
     }
 
-    /// Moves the values to exactly the room that they need, where there are not too many. An `Err` comes only where memory is wanting.
+    /// The same values in exactly the room that they need, where there are not too many. An `Err` comes only where memory is wanting.
     #[inline(always)]
-    pub(crate) fn fit_exactly(&mut self, alloc: Global) -> Result<(), AllocError>
-        ensures { OnOk result (self.new ≡ self.old) }
+    pub(crate) fn exactly(mut self, alloc: Global) -> Result<Values, AllocError>
+        ensures { IfOk result (λ same. same ≡ self) }
     {
         if let HeldValues::Several(several) = &mut self.held {
             if several.len() <= FEW && several.len() < several.capacity() {
-                return move_exactly(alloc, several);
+                move_exactly(alloc, several)?;
             }
         }
-        Ok(())
+        Ok(self)
     }
 
     /// The values.

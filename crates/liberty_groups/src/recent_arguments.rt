@@ -12,8 +12,8 @@ const MANY: usize = 65_536;
 /// So many places are there for arguments by their bytes.
 const PLACES: usize = 16_384;
 
-/// By this factor arguments that are alike but for two printing ASCII bytes, with at most three ends of a value between these, have
-/// unlike places.
+/// By this factor arguments that are alike but for two printing ASCII bytes, with at most three ends of a value between these,
+/// have unlike places.
 const FACTOR: usize = 139;
 
 /// What stands for the end of a value behind its bytes.
@@ -75,8 +75,8 @@ impl RecentArguments {
         }
     }
 
-    /// The arguments of a group with these values, which share the place of those that were found to be the same. An `Err` comes only
-    /// where memory is wanting, or no more groups can be counted.
+    /// The arguments of a group with these values, which share the block of those that were found to be the same. An `Err` comes
+    /// only where memory is wanting, or no more groups can be counted.
     pub(crate) fn shared(&mut self, alloc: Global, values: Values) -> Result<Arguments, AllocError>
         ensures { IfOk result (λ same. same ≡ values) }
     {
@@ -93,7 +93,7 @@ impl RecentArguments {
     }
 }
 
-/// The arguments of a group with these values, which share the place of those that are kept where they are the same.
+/// The same, which share the block of those at their place where they are the same.
 fn shared_at(
     alloc: Global,
     places: &mut Vec<Option<Arguments>>,

@@ -139,8 +139,8 @@ pub fn one_text(values: Values) -> SmallBytes
 /// one the system has given no memory yet for most of what is not used.
 const FEW: usize = 1024;
 
-/// Moves a list to a block with room for no more. The block that it grew to is let go whole, so that the next list may stand there:
-/// what a block is cut down by would often be too little for anything else.
+/// Moves a list to a block with room for no more. The block that it grew to is let go whole, so that the next list may stand
+/// there: what a block is cut down by would often be too little for anything else.
 fn move_exactly<T: Drop>(alloc: Global, list: &mut Vec<T>) -> Result<(), AllocError>
     ensures { OnOk result (list.new.items ≡ list.old.items) }
 {
@@ -200,7 +200,8 @@ impl Values {
         Ok(())
     }
 
-    /// The same values in exactly the room that they need, where there are not too many. An `Err` comes only where memory is wanting.
+    /// The same values in exactly the room that they need, where there are not too many. An `Err` comes only where memory is
+    /// wanting.
     #[inline(always)]
     pub(crate) fn exactly(mut self, alloc: Global) -> Result<Values, AllocError>
         ensures { IfOk result (λ same. same ≡ self) }

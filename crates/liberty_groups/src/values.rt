@@ -64,12 +64,12 @@ fn three(alloc: Global, block: Boxed<[Value; 2]>, value: Value) -> Result<HeldVa
     Ok(HeldValues::Three(Boxed::new(alloc, [first, second, value])?))
 }
 
-/// A list of four, with room for no more. It is of any type, since what is let go where memory is wanting is then let go by one
-/// call each.
+/// A list of four, with room for eight, so that no block of a few values grows. It is of any type, since what is let go where
+/// memory is wanting is then let go by one call each.
 fn four<T: Drop>(alloc: Global, a: T, b: T, c: T, d: T) -> Result<Box<Vec<T>>, AllocError>
     ensures { IfOk result (λ list. list.value.items ≡ a ∷ b ∷ c ∷ d ∷ []) }
 {
-    let mut list = Vec::with_capacity(alloc, 4)?;
+    let mut list = Vec::with_capacity(alloc, 8)?;
     list.push(a)?;
     list.push(b)?;
     list.push(c)?;

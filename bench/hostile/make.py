@@ -6,6 +6,7 @@ a kind that is compared; make.py alone lists the kinds, each with its command an
 Each kind is small to write and dear to read or to run carelessly: it repeats one thing that a library, or a model, repeats only a
 few times."""
 import itertools
+import string
 import sys
 
 
@@ -228,6 +229,16 @@ def repeated(text):
 def deep(opening):
     """cells of groups that open so, thirty deep, as deep as groups may be"""
     return repeated(opening * 30 + "}" * 30)
+
+
+def any_letters(count, text):
+    """cells of this text with so many letters or digits in its places, all choices of them in turn"""
+
+    def made(n):
+        letters = itertools.cycle(itertools.product(string.ascii_letters + string.digits, repeat=count))
+        return repeated("".join(text % some for some in itertools.islice(letters, n)))(1)
+
+    return made
 
 
 def short_arguments(n):
@@ -617,6 +628,11 @@ TRANSLATED = {
     "two_arguments": (repeated("a(b,b);"), (500000, 1000000, 2000000)),
     "arguments_of_groups": (repeated("a(b,b){}a(b,c){}"), (250000, 500000, 1000000)),
     "groups_of_two": (repeated("a(){a:;a:;}"), (250000, 500000, 1000000)),
+    "unlike_groups_of_two": (repeated("a(b,b){a:;a:}a(b,c){a:;a:}"), (125000, 250000, 500000)),
+    "groups_of_any_two_arguments": (any_letters(2, "a(%s,%s){a:;a:}"), (125000, 250000, 500000)),
+    "groups_of_any_three_letters": (any_letters(3, "a(%s,%s%s){a:;a:}"), (125000, 250000, 500000)),
+    "groups_of_ten": (repeated("a(){" + "a:;" * 9 + "a:}"), (62500, 125000, 250000)),
+    "five_values": (repeated('a:b""b""b;'), (250000, 500000, 1000000)),
     "groups_of_five": (repeated("a(){" + "a:;" * 5 + "}"), (125000, 250000, 500000)),
     "short_arguments": (short_arguments, (1000000, 2000000, 4000000)),
     "long_timing_type": (long_timing_type, (250000, 500000, 1000000)),

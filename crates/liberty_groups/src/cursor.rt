@@ -5,6 +5,7 @@ ghost use Rattle.liberty_groups.specs.Lexeme.{lexemes_of, lexemes_behind, LieIns
 ghost use Rattle.liberty_groups.specs.Answer.{is_last};
 
 use crate::reader::is_argument;
+use crate::recent_arguments::RecentArguments;
 use crate::values::{Arguments, Values};
 use liberty_text::{Kept, Token, TokenKind, Unread};
 use small_bytes::{SharedBytes, SmallBytes};
@@ -21,10 +22,8 @@ pub struct Cursor<'a> {
     left: Unread,
     /// How many bytes stand before the part.
     before: usize,
-    /// No arguments, once a group has none.
-    no_arguments: Option<Arguments>,
-    /// The arguments of the group with some that ended last.
-    last_arguments: Option<Arguments>,
+    /// The arguments of the groups that were read.
+    recent: RecentArguments,
 }
 
 impl<'a> Model for Cursor<'a> {
@@ -46,14 +45,7 @@ impl<'a> Cursor<'a> {
         requires { LieInside text.now tokens.items }
         ensures { result ≡ lexemes_of text.now tokens.items }
     {
-        Cursor {
-            text,
-            shared: None,
-            left: Unread::new(tokens),
-            before: 0,
-            no_arguments: None,
-            last_arguments: None,
-        }
+        Cursor::behind(0, text, tokens)
     }
 
     /// The tokens of a part of a text, before which so many bytes stand.
@@ -65,10 +57,9 @@ impl<'a> Cursor<'a> {
         Cursor {
             text,
             shared: None,
+            recent: RecentArguments::new(tokens.len()),
             left: Unread::new(tokens),
             before,
-            no_arguments: None,
-            last_arguments: None,
         }
     }
 
@@ -81,10 +72,9 @@ impl<'a> Cursor<'a> {
         Cursor {
             text: shared.as_slice(),
             shared: Some(shared),
+            recent: RecentArguments::new(tokens.len()),
             left: Unread::new(tokens),
             before,
-            no_arguments: None,
-            last_arguments: None,
         }
     }
 
@@ -97,8 +87,7 @@ impl<'a> Cursor<'a> {
             shared: self.shared,
             left: self.left.again(alloc)?,
             before: self.before,
-            no_arguments: None,
-            last_arguments: None,
+            recent: RecentArguments::new(self.left.len()),
         })
     }
 
@@ -117,7 +106,7 @@ impl<'a> Cursor<'a> {
         self.left.give_back();
     }
 
-    /// The arguments of a group with these values. An `Err` comes only where memory is wanting.
+    /// The arguments of a group with these values. An `Err` comes only where memory is wanting, or no more groups can be counted.
     pub(crate) fn group_arguments(
         &mut self,
         alloc: Global,
@@ -126,10 +115,7 @@ impl<'a> Cursor<'a> {
         ensures same { IfOk result (λ same. same ≡ values) }
         ensures left { self.new ≡ self.old }
     {
-        if values.as_slice().is_empty() {
-            return Arguments::shared(alloc, &mut self.no_arguments, values);
-        }
-        Arguments::shared(alloc, &mut self.last_arguments, values)
+        self.recent.shared(alloc, values)
     }
 
     /// How many tokens are left.

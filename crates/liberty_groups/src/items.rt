@@ -101,8 +101,8 @@ impl Cursor<'_> {
             return Err(Stop::Refused(Refusal::TooDeep));
         }
         self.skip();
-        let items = self.statements(alloc, levels - 1)?;
         let arguments = self.group_arguments(alloc, arguments)?;
+        let items = self.statements(alloc, levels - 1)?;
         Ok(Item::Inner(Group {
             name,
             arguments,

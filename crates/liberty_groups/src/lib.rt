@@ -11,6 +11,7 @@ mod library;
 mod outline;
 mod read;
 mod reader;
+mod recent_arguments;
 mod token_texts;
 mod tree;
 mod values;

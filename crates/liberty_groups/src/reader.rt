@@ -226,10 +226,9 @@ impl Cursor<'_> {
             Some(token) if goes_on(Place::ValueStart, token) => {
                 let mut found = Values::new();
                 self.add_part(alloc, &mut found)?;
-                let mut found = self.parts(alloc, Place::Value, found)?;
-                found.give_back();
+                let found = self.parts(alloc, Place::Value, found)?;
                 self.value_end(Place::Value)?;
-                Ok(found)
+                Ok(found.exactly(alloc)?)
             }
             _ => {
                 self.value_end(Place::ValueStart)?;

@@ -64,12 +64,12 @@ fn three(alloc: Global, block: Boxed<[Value; 2]>, value: Value) -> Result<HeldVa
     Ok(HeldValues::Three(Boxed::new(alloc, [first, second, value])?))
 }
 
-/// A list of four, with room for no more. It is of any type, since what is let go where memory is wanting is then let go by one
-/// call each.
+/// A list of four, with room for eight, so that no block of a few values grows. It is of any type, since what is let go where
+/// memory is wanting is then let go by one call each.
 fn four<T: Drop>(alloc: Global, a: T, b: T, c: T, d: T) -> Result<Box<Vec<T>>, AllocError>
     ensures { IfOk result (λ list. list.value.items ≡ a ∷ b ∷ c ∷ d ∷ []) }
 {
-    let mut list = Vec::with_capacity(alloc, 4)?;
+    let mut list = Vec::with_capacity(alloc, 8)?;
     list.push(a)?;
     list.push(b)?;
     list.push(c)?;
@@ -139,6 +139,17 @@ pub fn one_text(values: Values) -> SmallBytes
 /// one the system has given no memory yet for most of what is not used.
 const FEW: usize = 1024;
 
+/// Moves a list to a block with room for no more. The block that it grew to is let go whole, so that the next list may stand
+/// there: what a block is cut down by would often be too little for anything else.
+fn move_exactly<T: Drop>(alloc: Global, list: &mut Vec<T>) -> Result<(), AllocError>
+    ensures { OnOk result (list.new.items ≡ list.old.items) }
+{
+    let mut exact = Vec::with_capacity(alloc, list.len())?;
+    exact.append(list)?;
+    *list = exact;
+    Ok(())
+}
+
 impl Values {
     /// No values.
     pub fn new() -> Values
@@ -189,16 +200,18 @@ impl Values {
         Ok(())
     }
 
-    /// Gives back room that is not used, where there are not too many values.
+    /// The same values in exactly the room that they need, where there are not too many. An `Err` comes only where memory is
+    /// wanting.
     #[inline(always)]
-    pub(crate) fn give_back(&mut self)
-        ensures { self.new ≡ self.old }
+    pub(crate) fn exactly(mut self, alloc: Global) -> Result<Values, AllocError>
+        ensures { IfOk result (λ same. same ≡ self) }
     {
         if let HeldValues::Several(several) = &mut self.held {
-            if several.len() <= FEW {
-                several.shrink_to_fit();
+            if several.len() <= FEW && several.len() < several.capacity() {
+                move_exactly(alloc, several)?;
             }
         }
+        Ok(self)
     }
 
     /// The values.
@@ -222,7 +235,7 @@ fn are_one(one: &Value, other: &Value) -> bool
     one.is_quoted() == other.is_quoted() && one.bytes() == other.bytes()
 }
 
-/// Whether two lists of at most two values are seen to be the same.
+/// Whether two lists of at most four values are seen to be the same.
 fn are_same(values: &[Value], others: &[Value]) -> bool
     ensures { IsTrue result → values.now ≡ others.now }
 {
@@ -234,6 +247,16 @@ fn are_same(values: &[Value], others: &[Value]) -> bool
         },
         [first, second] => match others {
             [other, next] => are_one(first, other) && are_one(second, next),
+            _ => false,
+        },
+        [first, second, third] => match others {
+            [other, next, last] => {
+                are_one(first, other) && are_one(second, next) && are_one(third, last)
+            }
+            _ => false,
+        },
+        [a, b, c, d] => match others {
+            [e, f, g, h] => are_one(a, e) && are_one(b, f) && are_one(c, g) && are_one(d, h),
             _ => false,
         },
         _ => false,
@@ -275,7 +298,7 @@ impl Arguments {
     }
 
     /// The same values, which share the place of the arguments that were `last` where they are seen to be the same. An `Err` comes
-    /// only where memory is wanting.
+    /// only where memory is wanting, or too many groups have them.
     pub(crate) fn shared(
         alloc: Global,
         last: &mut Option<Arguments>,

@@ -197,8 +197,9 @@ impl SmallBytes {
         Ok(SmallBytes { held })
     }
 
-    /// Those of some shared bytes from one place up to another. So few as stand in place are copied. An `Err` comes only where
-    /// memory is wanting.
+    /// Those of some shared bytes from one place up to another. So few as stand in place are copied, and so are more than 65,535
+    /// and those behind more than 4,294,967,295 others. An `Err` comes only where memory is wanting, or no more texts can be
+    /// counted that are parts of the bytes.
     pub fn part(
         alloc: Global,
         shared: &SharedBytes,

@@ -105,7 +105,7 @@ fn is_timed(group: &Group) -> bool
     false
 }
 
-/// Whether a group loses timing groups, where so many pins stand before it.
+/// Whether a group loses timing groups that may be read, where so many pins stand before it.
 pub(crate) fn loses(pin: usize, group: &Group) -> bool
     ensures { result ≡ spec.loses pin group.now }
 {

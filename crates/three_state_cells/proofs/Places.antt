@@ -1,6 +1,6 @@
 -- What is wrong in the timing of the pins of a cell is wrong in that of the trimmed cell or in that of the trimmed pins.
 use Rattle.std.proofs.Common.{◌≡◌, ℕ, ◌+◌, min, Bool, true, false, List, [], ◌∷◌, ◌++◌, if◌then◌else◌, refl, sym, ap, ◌∙◌, arith}
-use Rattle.std.proofs.Common.{◌&&◌, Option, Some, None, Ok, codes}
+use Rattle.std.proofs.Common.{◌&&◌, Option, Some, None, Ok}
 use Rattle.std.specs.Prelude.{flat_map}
 use Rattle.liberty_groups.specs.declared.tree.Group.{Group}
 use Rattle.cell_machine.specs.Delay.{lesser, least}

@@ -61,22 +61,12 @@ pub(crate) fn is_trimmed_item(pin: usize, item: &Item) -> bool
     }
 }
 
-/// Whether a statement is a group.
-fn is_group(item: &Item) -> bool
-    ensures { result ≡ spec.is_group (out-Item item.now) }
-{
-    match item {
-        Item::Simple { .. } | Item::Complex { .. } => false,
-        Item::Inner(_) => true,
-    }
-}
-
 /// Whether a group has groups. A timing group without any has no table.
 fn has_groups(group: &Group) -> bool
     ensures { result ≡ spec.has_groups group.now }
 {
     for item in group.items.as_slice() {
-        if is_group(item) {
+        if let Item::Inner(_) = item {
             return true;
         }
     }

@@ -326,13 +326,18 @@ def timing_of_a_bundle_with_a_pin(n):
     return library(cell(inputs(["R"]), "bundle (B) { members (%s); %s}\n" % (members, said)))
 
 
-def timing_that_names_a_bundle(n):
+def timing_that_names_a_bundle(n, group='timing () { related_pin : "A"; }\n'):
     """a bundle with this many members and as many timing groups, whose related pin is another bundle of as many members"""
     bundles = (
         "bundle (%s) { members (%s); direction : input; %s}\n" % (name, ", ".join("%s%d" % (name, k) for k in range(n)), said)
-        for name, said in (("A", ""), ("B", 'timing () { related_pin : "A"; }\n' * n))
+        for name, said in (("A", ""), ("B", group * n))
     )
     return library(cell(*bundles))
+
+
+def checks_that_name_a_bundle(n):
+    """the same with a table in each timing group"""
+    return timing_that_names_a_bundle(n, setup("A"))
 
 
 def timing_of_floating_bits(n):
@@ -610,6 +615,7 @@ TRANSLATED = {
     "timing_of_a_floating_bundle": (timing_of_a_floating_bundle, (100, 200, 400)),
     "timing_of_a_bundle_with_a_pin": (timing_of_a_bundle_with_a_pin, (100, 200, 400)),
     "timing_that_names_a_bundle": (timing_that_names_a_bundle, (100, 200, 400)),
+    "checks_that_name_a_bundle": (checks_that_name_a_bundle, (100, 200, 400)),
     "timing_of_floating_bits": (timing_of_floating_bits, (100, 200, 400)),
     "statements_of_a_bundle": (statements_of_a_bundle, (100, 200, 400)),
     "functions_of_a_bundle": (functions_of_a_bundle, (250, 500, 1000)),

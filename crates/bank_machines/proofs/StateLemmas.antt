@@ -252,27 +252,22 @@ module _
     single_name : (b : Bool) → is_called (codes "ff_bank") group ≡ b → single.name ≡ (if b then codes "ff" else codes "latch")
     single_name b bank_name = is.named ∙ ap (λ b. if b then codes "ff" else codes "latch") bank_name
 
-    flip_flop :
-        group.name ≡ codes "ff_bank" → IsSoundReading (state_reading v (length pins) single)
-        → AllByRecursion (Fits pins) (groups_in numbers single (state_reading v (length pins) single)) → is_state
-    flip_flop named sound =
-        let bank_name : is_called (codes "ff_bank") group ≡ true = ap (λ name. bytes_eq name (codes "ff_bank")) named in
-        let name : single.name ≡ codes "ff" = single_name true bank_name in
-        let ff : is_ff single ≡ true = ap (λ n. bytes_eq n (codes "ff")) name in
-        of_kind (texts_kind true) (ap (λ n. bytes_eq n (codes "statetable")) name) (ap texts_kind ff)
-        (λ same. ap kind.Ff (clocked_same ff (named_texts (codes "ff_bank") named) (subst (λ r. IsSoundReading r) same sound))
-        ∙ sym (ap its_kind bank_name))
+    ff_by : (b : Bool) → bytes_eq (if b then codes "ff" else codes "latch") (codes "ff") ≡ b
+    ff_by true = refl
+    ff_by false = refl
 
-    latch :
-        group.name ≡ codes "latch_bank" → IsSoundReading (state_reading v (length pins) single)
+    no_table : (b : Bool) → bytes_eq (if b then codes "ff" else codes "latch") (codes "statetable") ≡ false
+    no_table true = refl
+    no_table false = refl
+
+    of_bank :
+        (b : Bool) → is_called (codes "ff_bank") group ≡ b
+        → (is_ff single ≡ b → state_reading v (length pins) single ≡ reading → texts_kind b ≡ its_kind b)
         → AllByRecursion (Fits pins) (groups_in numbers single (state_reading v (length pins) single)) → is_state
-    latch named sound =
-        let bank_name : is_called (codes "ff_bank") group ≡ false = ap (λ name. bytes_eq name (codes "ff_bank")) named in
-        let name : single.name ≡ codes "latch" = single_name false bank_name in
-        let ff : is_ff single ≡ false = ap (λ n. bytes_eq n (codes "ff")) name in
-        of_kind (texts_kind false) (ap (λ n. bytes_eq n (codes "statetable")) name) (ap texts_kind ff)
-        (λ same. ap kind.Latch (gated_same ff (named_texts (codes "latch_bank") named) (subst (λ r. IsSoundReading r) same sound))
-        ∙ sym (ap its_kind bank_name))
+    of_bank b bank_name alike =
+        let ff : is_ff single ≡ b = ap (λ n. bytes_eq n (codes "ff")) (single_name b bank_name) ∙ ff_by b in
+        of_kind (texts_kind b) (ap (λ n. bytes_eq n (codes "statetable")) (single_name b bank_name) ∙ no_table b)
+        (ap texts_kind ff) (λ same. alike ff same ∙ sym (ap its_kind bank_name))
 
     -- the state of a bank's expanded group is that of the bank
     pub state_is :
@@ -281,6 +276,13 @@ module _
         → groups_in numbers single (state_reading v (length pins) single) ≡ state_at cell (length pins) group at ∷ []
     state_is many sound fits =
         elim (or_cases (is_called (codes "ff_bank") group) (is_called (codes "latch_bank") group) many) [
-          | inl e ↦ flip_flop (is_name (codes "ff_bank") group e) sound fits
-          | inr e ↦ latch (is_name (codes "latch_bank") group e) sound fits
+          | inl e ↦
+              of_bank true e
+              (λ ff same. ap kind.Ff (clocked_same ff (named_texts (codes "ff_bank") (is_name (codes "ff_bank") group e))
+              (subst (λ r. IsSoundReading r) same sound))) fits
+          | inr e ↦
+              let named : group.name ≡ codes "latch_bank" = is_name (codes "latch_bank") group e in
+              of_bank false (ap (λ name. bytes_eq name (codes "ff_bank")) named)
+              (λ ff same. ap kind.Latch (gated_same ff (named_texts (codes "latch_bank") named)
+              (subst (λ r. IsSoundReading r) same sound))) fits
         ]

@@ -34,12 +34,12 @@ clocked_at cell bank at = record {
 
 abbrev pub gated_at : CellNames → Group → ℕ → Gated
 gated_at cell bank at = record {
-  data_in = function_if cell at (attribute_of bank (codes "data_in"));
-  enable = function_if cell at (attribute_of bank (codes "enable"));
-  clear = function_if cell at (attribute_of bank (codes "clear"));
-  preset = function_if cell at (attribute_of bank (codes "preset"));
   both1 = unwrap_or (first_both bank) both.Unknown;
   both2 = unwrap_or (second_both bank) both.Unknown;
+  preset = function_if cell at (attribute_of bank (codes "preset"));
+  clear = function_if cell at (attribute_of bank (codes "clear"));
+  enable = function_if cell at (attribute_of bank (codes "enable"));
+  data_in = function_if cell at (attribute_of bank (codes "data_in"));
 }
 
 abbrev pub kind_at : CellNames → Group → ℕ → GroupKind

@@ -18,7 +18,7 @@ use Rattle.cell_attributes.specs.Pins.{direction_of, owner_as, owners_in, owners
 use Rattle.cell_attributes.specs.Scans.{is_output_group}
 use Rattle.core_groups.specs.Outputs.{ThreeStateOutput, three_state_of, is_three_state, three_state_outputs}
 use Rattle.core_groups.specs.CoreGroups.{stays_in_core, core_pin, core_statement, enable_pin, enable_pin_of, enable_pins, core_group}
-use Rattle.three_state_cells.specs.Trimmed.{is_timing, is_timed, in_core}
+use Rattle.three_state_cells.specs.Trimmed.{has_groups, is_timing, is_timed, in_core}
 use Rattle.three_state_cells.proofs.CorePins.{core_as, enable_as, core_statements}
 use Rattle.three_state_cells.proofs.Lists.{of_pins, of_pins_join}
 use Rattle.three_state_cells.proofs.Cores.{called_by, names_by, inner_in_core}
@@ -53,7 +53,7 @@ module _ (group : Group) where
 stays_untimed : (y : Item-F Item Group) → stays_in_core y ≡ true → is_timing y ≡ false
 stays_untimed (layer.Simple name value at) e = refl
 stays_untimed (layer.Complex name arguments at) e = refl
-stays_untimed (layer.Inner group) e = not_true (bytes_eq group.name (codes "timing")) e
+stays_untimed (layer.Inner group) e = ap (λ b. b && has_groups group) (not_true (bytes_eq group.name (codes "timing")) e)
 
 none_timed : (items : List Item)
     → list_any (λ item. is_timing (out-Item item)) (stay items) ≡ false

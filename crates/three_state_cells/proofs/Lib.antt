@@ -12,6 +12,7 @@ pub mod Untimed
 pub mod JoinedReasons
 pub mod Groups
 pub mod Owners
+pub mod Unused
 pub mod Places
 pub mod Limits
 pub mod Reasons

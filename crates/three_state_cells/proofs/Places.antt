@@ -1,13 +1,7 @@
 -- What is wrong in the timing of the pins of a cell is wrong in that of the trimmed cell or in that of the trimmed pins.
 use Rattle.std.proofs.Common.{◌≡◌, ℕ, ◌+◌, min, Bool, true, false, List, [], ◌∷◌, ◌++◌, if◌then◌else◌, refl, sym, ap, ◌∙◌, arith}
-use Rattle.std.proofs.Common.{◌&&◌, Option, Some, None, Ok, codes}
-use Rattle.std.specs.Prelude.{flat_map, bytes_eq}
-use Rattle.std.specs.List.{list_any, cons_option}
-use Rattle.std.proofs.lemmas.Bool.{or_parts}
-use Rattle.liberty_groups.specs.declared.tree.Item.{Item, out-Item}
-use Rattle.liberty_groups.specs.declared.tree.Item.TheOpen.{Item-F}
-use Rattle.liberty_groups.specs.declared.tree.Item.TheOpen as layer
-use Rattle.liberty_groups.specs.Attributes.{group_named, groups_named}
+use Rattle.std.proofs.Common.{◌&&◌, Option, Some, None, Ok}
+use Rattle.std.specs.Prelude.{flat_map}
 use Rattle.liberty_groups.specs.declared.tree.Group.{Group}
 use Rattle.cell_machine.specs.Delay.{lesser, least}
 use Rattle.cell_machine.proofs.LeastLemmas.{lesser_none, lesser_assoc, least_append}
@@ -26,8 +20,10 @@ use Rattle.cell_reader.proofs.AsWritten.{own_conditions_same}
 use Rattle.cell_reader.proofs.Refused.{least_none}
 use Rattle.three_state_cells.specs.Refusals.{first_of_two}
 use Rattle.three_state_cells.specs.PinAttributes.{untimed}
-use Rattle.three_state_cells.specs.Trimmed.{is_trimmed, is_timing, is_timed, loses, trimmed_pin, timing_told, wrong_pin, wrong_with}
+use Rattle.three_state_cells.specs.Trimmed.{is_trimmed, has_groups, is_timed, loses, trimmed_pin, timing_told, wrong_pin}
+use Rattle.three_state_cells.specs.Trimmed.{wrong_with}
 use Rattle.three_state_cells.proofs.Untimed.{again, attribute_numbers, no_malformed, no_unknown, no_own, kept_numbers}
+use Rattle.three_state_cells.proofs.Unused.{no_malformed_in, no_unknown_in, no_own_in, no_numbers_in, quiet_timings}
 use Rattle.three_state_cells.proofs.JoinedReasons.{IsAbove, above_or, joined}
 use Rattle.three_state_cells.proofs.Owners.{trimmed_owners}
 
@@ -59,42 +55,24 @@ pub record IsPart (f : Subject → Group → List ℕ) : Type 0 where
   pub part : (s : Subject) (group : Group) → lesser (least (f s (untimed group))) (least (f s group)) ≡ least (f s group)
   pub same : (s : Subject) (group : Group) → is_timed group ≡ false → least (f s (untimed group)) ≡ least (f s group)
 
-pub untimed_groups : (items : List Item) → list_any (λ item. is_timing (out-Item item)) items ≡ false
-    → groups_named (codes "timing") items ≡ []
-untimed_groups [] e = refl
-untimed_groups (item ∷ items) e =
-    let parts = or_parts (is_timing (out-Item item)) (list_any (λ item. is_timing (out-Item item)) items) e in
-    by (out-Item item) parts.0 (untimed_groups items parts.1)
-  where
-    inner : (b : Bool) (group : Group) → b ≡ false → groups_named (codes "timing") items ≡ []
-        → cons_option (if b then Some group else None) (groups_named (codes "timing") items) ≡ []
-    inner true group e rest = absurd cc
-    inner false group e rest = rest
-
-    by : (y : Item-F Item Group) → is_timing y ≡ false → groups_named (codes "timing") items ≡ []
-        → cons_option (group_named (codes "timing") y) (groups_named (codes "timing") items) ≡ []
-    by (layer.Simple name value at) e rest = rest
-    by (layer.Complex name arguments at) e rest = rest
-    by (layer.Inner group) e rest = inner (bytes_eq group.name (codes "timing")) group e rest
-
 -- what is told of timing groups alone
-told_of_timing : (f : Subject → Group → List ℕ) → ((s : Subject) (group : Group) → f s (untimed group) ≡ [])
-    → ((s : Subject) (group : Group) → timing_groups group ≡ [] → f s group ≡ []) → IsPart f
+told_of_timing : (f : Subject → Group → List ℕ)
+    → ((s : Subject) (group : Group) → flat_map (f s) (timing_groups (untimed group)) ≡ [])
+    → ((s : Subject) (group : Group) → has_groups group ≡ false → f s group ≡ [])
+    → IsPart (λ s group. flat_map (f s) (timing_groups group))
 told_of_timing f none empty = record {
-  part = λ s group. ap (λ l. lesser (least l) (least (f s group))) (none s group);
-  same = λ s group e. ap least (none s group ∙ sym (empty s group (untimed_groups group.items e)));
+  part = λ s group. ap (λ l. lesser (least l) (least (flat_map (f s) (timing_groups group)))) (none s group);
+  same = λ s group e. ap least (none s group ∙ sym (quiet_timings (f s) (empty s) group.items e));
 }
 
 pub malformed_part : IsPart malformed_at
-malformed_part =
-    told_of_timing malformed_at (λ s group. no_malformed group s) (λ s group none. ap (flat_map (malformed_in s)) none)
+malformed_part = told_of_timing malformed_in (λ s group. no_malformed group s) no_malformed_in
 
 pub unknown_part : IsPart unknown_names_at
-unknown_part =
-    told_of_timing unknown_names_at (λ s group. no_unknown group s) (λ s group none. ap (flat_map (unknown_in s)) none)
+unknown_part = told_of_timing unknown_in (λ s group. no_unknown group s) no_unknown_in
 
 pub own_part : IsPart own_conditions_of
-own_part = told_of_timing own_conditions_of (λ s group. no_own group s) (λ s group none. ap (flat_map (own_in s)) none)
+own_part = told_of_timing own_in (λ s group. no_own group s) no_own_in
 
 numbers_of_part : (s : Subject) (group : Group)
     → lesser (least (numbers_at s (untimed group))) (least (numbers_at s group)) ≡ least (numbers_at s group)
@@ -113,7 +91,7 @@ numbers_part = record {
   same = λ s group e.
       ap least
       (kept_numbers group s
-      ∙ sym (ap (λ l. flat_map (bad_numbers_in s) l ++ attribute_numbers s group) (untimed_groups group.items e)));
+      ∙ sym (ap (λ l. l ++ attribute_numbers s group) (quiet_timings (bad_numbers_in s) (no_numbers_in s) group.items e)));
 }
 
 told_of_pin : (f : Subject → Group → List ℕ) → IsPart f → (s : Subject) (pin : ℕ) (owner : Group)

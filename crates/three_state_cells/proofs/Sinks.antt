@@ -1,6 +1,6 @@
 -- What is held of the statements of a cell that were handed on one after another.
 use Rattle.std.proofs.Common.{◌≡◌, ℕ, ◌+◌, ◌-◌, ◌^◌, ◌<◌, ◌≤◌, min, Bool, true, false, not, ◌&&◌, ◌||◌, List, [], ◌∷◌, ◌++◌, length, map}
-use Rattle.std.proofs.Common.{filter, refl, sym, ap, ◌∙◌, arith, append-nil, if◌then◌else◌, Option, Some, None}
+use Rattle.std.proofs.Common.{filter, refl, sym, ap, ◌∙◌, arith, append-nil, codes, if◌then◌else◌, Option, Some, None}
 use Rattle.std.specs.Prelude.{flat_map, nat_le}
 use Rattle.std.specs.List.{fold, cons_option}
 use Rattle.std.proofs.Math.Bool.{and-false as no_and}
@@ -14,9 +14,9 @@ use Rattle.liberty_groups.specs.declared.tree.Item.TheVariants as made
 use Rattle.liberty_groups.specs.declared.tree.Item.TheViews.{roll-out-Item, rolls-Simple, rolls-Complex, rolls-Inner}
 use Rattle.liberty_groups.specs.declared.tree.Group.{Group}
 use Rattle.timing_arcs.specs.declared.subject.Subject.{Subject}
-use Rattle.timing_arcs.specs.Timing.{bad_attribute, reading_answer}
+use Rattle.timing_arcs.specs.Timing.{unknown_in, bad_numbers_in, bad_attribute, reading_answer}
 use Rattle.cell_machine.specs.CellRules.{is_input_pin}
-use Rattle.liberty_groups.specs.Attributes.{Attribute}
+use Rattle.liberty_groups.specs.Attributes.{Attribute, attributes_named, last_or}
 use Rattle.cell_attributes.specs.Groups.{is_pin, inner_of, inner_groups}
 use Rattle.cell_attributes.specs.Pins.{owner_as, owners_in}
 use Rattle.cell_reader.specs.declared.refusal.Refusal.{Refusal}
@@ -34,8 +34,8 @@ use Rattle.three_state_cells.specs.Trimmed.{all_keep_order, pins_in_item, trimme
 use Rattle.three_state_cells.specs.Trimmed.{wrong_pin, wrong_with, in_core}
 use Rattle.three_state_cells.specs.Sinks.{nothing_trimmed, after_trimmed, wrong_group, wrong_item, wrong_delays, after_wrong}
 use Rattle.three_state_cells.proofs.Groups.{no_more}
-use Rattle.three_state_cells.proofs.Places.{untimed_groups}
-use Rattle.three_state_cells.proofs.Single.{wrong_in, driver_items}
+use Rattle.three_state_cells.proofs.Single.{timings_in, wrong_in, driver_items}
+use Rattle.three_state_cells.proofs.Unused.{no_unknown_in, no_numbers_in, quiet_timings, quiet_drivers, no_attributes}
 use Rattle.three_state_cells.proofs.Owners.{next_pins, several_stay}
 use Rattle.three_state_cells.proofs.CoreOwners.{owners_as_core, core_untimed, core_names, no_output}
 use Rattle.three_state_cells.specs.declared.trimmed_items.TrimmedItems.{TrimmedItems}
@@ -356,9 +356,20 @@ no_limit false = refl
 
 untimed_delays : (s : Subject) (group : Group) → is_timed group ≡ false → delays_told s group ≡ None
 untimed_delays s group e =
-    ap (wrong_in s) (driver_items group ∙ ap (map driver_item) (untimed_groups group.items e))
-    ∙ ap (λ limit. first_refusal (met reason.UnknownName [] ∷ met reason.Number (bad_attribute s limit
-    ++ (bad_attribute s limit ++ bad_attribute s limit)) ∷ [])) (no_limit (is_input_pin s.pins s.place))
+    let items : List Item = map driver_item (timings_in group.items) in
+    let quiet = quiet_drivers group.items e in
+    ap (wrong_in s) (driver_items group)
+    ∙ (λ i. first_refusal (met reason.UnknownName (quiet_timings (unknown_in s) (no_unknown_in s) items quiet i)
+    ∷ met reason.Number (quiet_timings (bad_numbers_in s) (no_numbers_in s) items quiet i
+    ++ (bad_attribute s (limit (codes "min_pulse_width_high") i)
+    ++ (bad_attribute s (limit (codes "min_pulse_width_low") i) ++ bad_attribute s (limit (codes "min_period") i)))) ∷ []))
+  where
+    limit : (name : List ℕ)
+        → (if is_input_pin s.pins s.place then last_or None (attributes_named name (map driver_item (timings_in group.items)))
+        else None) ≡ no_attribute
+    limit name =
+        ap (λ l. if is_input_pin s.pins s.place then last_or None l else None) (no_attributes name (timings_in group.items))
+        ∙ no_limit (is_input_pin s.pins s.place)
 
 quiet_group : (s : Subject) (pin : ℕ) (group : Group) → has_apart pin group ≡ false
     → (wrong_group (subject_at s pin) group ≡ None) × (wrong_outputs (subject_at s pin) group ≡ None)

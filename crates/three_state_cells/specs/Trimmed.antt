@@ -55,11 +55,19 @@ is_trimmed_item pin (layer.Simple name value at) = false
 is_trimmed_item pin (layer.Complex name arguments at) = false
 is_trimmed_item pin (layer.Inner group) = is_trimmed pin group
 
--- It loses timing where it has timing groups.
+-- It loses timing where it has timing groups with groups in them. One without any has no table, so that nothing of it is read.
+abbrev pub is_group : Item-F Item Group → Bool
+is_group (layer.Simple name value at) = false
+is_group (layer.Complex name arguments at) = false
+is_group (layer.Inner group) = true
+
+abbrev pub has_groups : Group → Bool
+has_groups group = list_any (λ item. is_group (out-Item item)) group.items
+
 abbrev pub is_timing : Item-F Item Group → Bool
 is_timing (layer.Simple name value at) = false
 is_timing (layer.Complex name arguments at) = false
-is_timing (layer.Inner group) = is_called (codes "timing") group
+is_timing (layer.Inner group) = is_called (codes "timing") group && has_groups group
 
 abbrev pub is_timed : Group → Bool
 is_timed group = list_any (λ item. is_timing (out-Item item)) group.items

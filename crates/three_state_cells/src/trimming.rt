@@ -61,17 +61,29 @@ pub(crate) fn is_trimmed_item(pin: usize, item: &Item) -> bool
     }
 }
 
-/// Whether a statement is a timing group.
+/// Whether a group has groups. A timing group without any has no table.
+fn has_groups(group: &Group) -> bool
+    ensures { result ≡ spec.has_groups group.now }
+{
+    for item in group.items.as_slice() {
+        if let Item::Inner(_) = item {
+            return true;
+        }
+    }
+    false
+}
+
+/// Whether a statement is a timing group that may have tables.
 fn is_timing(item: &Item) -> bool
     ensures { result ≡ spec.is_timing (out-Item item.now) }
 {
     match item {
         Item::Simple { .. } | Item::Complex { .. } => false,
-        Item::Inner(group) => is_called(group, b"timing"),
+        Item::Inner(group) => is_called(group, b"timing") && has_groups(group),
     }
 }
 
-/// Whether a group has timing groups.
+/// Whether a group has such timing groups.
 fn is_timed(group: &Group) -> bool
     ensures { result ≡ spec.is_timed group.now }
 {
@@ -83,7 +95,7 @@ fn is_timed(group: &Group) -> bool
     false
 }
 
-/// Whether a group loses timing groups, where so many pins stand before it.
+/// Whether a group loses timing groups that may be read, where so many pins stand before it.
 pub(crate) fn loses(pin: usize, group: &Group) -> bool
     ensures { result ≡ spec.loses pin group.now }
 {

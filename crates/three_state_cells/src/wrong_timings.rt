@@ -28,50 +28,6 @@ fn timing_told(answer: &Result<PinTiming, TimingFault>) -> Option<Refusal>
     Some(Refusal { reason, at })
 }
 
-/// What is wrong in the timing that the pin of a group lost in the core, where the subject is that pin.
-fn wrong_group(
-    alloc: Global,
-    subject: &Subject,
-    group: &Group,
-) -> Result<Option<Refusal>, AllocError>
-    ensures { IfOk result (λ wrong. wrong ≡ wrong_group_of subject.now group.now) }
-{
-    if is_three_state(group) || !loses(subject.place, group) {
-        return Ok(None);
-    }
-    let room = Room {
-        checks: 0,
-        arcs: 0,
-        left_out: false,
-    };
-    let answer = read_timing(alloc, group, subject, room)?;
-    Ok(timing_told(&answer))
-}
-
-/// The same of a statement of a cell.
-fn wrong_item(alloc: Global, subject: &Subject, item: &Item) -> Result<Option<Refusal>, AllocError>
-    ensures { IfOk result (λ wrong. wrong ≡ wrong_item_of subject.now (out-Item item.now)) }
-{
-    match item {
-        Item::Simple { .. } | Item::Complex { .. } => Ok(None),
-        Item::Inner(group) => wrong_group(alloc, subject, group),
-    }
-}
-
-/// What is wrong in the delays of the outputs that a statement of a cell makes, if they are three-state outputs.
-fn wrong_delays(
-    alloc: Global,
-    subject: &Subject,
-    item: &Item,
-) -> Result<Option<Refusal>, AllocError>
-    ensures { IfOk result (λ wrong. wrong ≡ wrong_delays_of subject.now (out-Item item.now)) }
-{
-    match item {
-        Item::Simple { .. } | Item::Complex { .. } => Ok(None),
-        Item::Inner(group) => wrong_outputs(alloc, subject, group),
-    }
-}
-
 /// What decides of all that is wrong so far.
 #[derive(Drop)]
 pub(crate) struct WrongTimings {
@@ -94,12 +50,48 @@ impl WrongTimings {
     ghost use Rattle.std.specs.Prelude.{◌≡◌, OnOk};
     ghost use Rattle.three_state_cells.specs.Sinks.{after_wrong};
 
+    /// What is wrong in the timing that the pin of a group, the next one, lost in the core.
+    fn wrong_group(&self, alloc: Global, group: &Group) -> Result<Option<Refusal>, AllocError>
+        ensures { IfOk result (λ wrong. wrong ≡ wrong_group_of self.now.subject group.now) }
+    {
+        if is_three_state(group) || !loses(self.subject.place, group) {
+            return Ok(None);
+        }
+        let room = Room {
+            checks: 0,
+            arcs: 0,
+            left_out: false,
+        };
+        let answer = read_timing(alloc, group, &self.subject, room)?;
+        Ok(timing_told(&answer))
+    }
+
+    /// The same of a statement of a cell.
+    fn wrong_item(&self, alloc: Global, item: &Item) -> Result<Option<Refusal>, AllocError>
+        ensures { IfOk result (λ wrong. wrong ≡ wrong_item_of self.now.subject (out-Item item.now)) }
+    {
+        match item {
+            Item::Simple { .. } | Item::Complex { .. } => Ok(None),
+            Item::Inner(group) => self.wrong_group(alloc, group),
+        }
+    }
+
+    /// What is wrong in the delays of the outputs that a statement of a cell makes, if they are three-state outputs.
+    fn wrong_delays(&self, alloc: Global, item: &Item) -> Result<Option<Refusal>, AllocError>
+        ensures { IfOk result (λ wrong. wrong ≡ wrong_delays_of self.now.subject (out-Item item.now)) }
+    {
+        match item {
+            Item::Simple { .. } | Item::Complex { .. } => Ok(None),
+            Item::Inner(group) => wrong_outputs(alloc, &self.subject, group),
+        }
+    }
+
     /// Adds what is wrong in the next statement.
     fn add(&mut self, alloc: Global, item: &Item) -> Result<(), AllocError>
         ensures { OnOk result (self.new ≡ after_wrong self.old item.now) }
     {
-        let wrong = wrong_item(alloc, &self.subject, item)?;
-        let delays = wrong_delays(alloc, &self.subject, item)?;
+        let wrong = self.wrong_item(alloc, item)?;
+        let delays = self.wrong_delays(alloc, item)?;
         self.found = first_of_two(self.found, wrong);
         self.delays = first_of_two(self.delays, delays);
         self.subject.place = self.subject.place.saturating_add(pins_in_item(item));

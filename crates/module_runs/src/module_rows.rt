@@ -8,27 +8,6 @@ use sqlite_items::Items;
 use std::alloc::{AllocError, Global};
 use udp_tables::{RowKey, Udp, keys_of};
 
-/// What is known of the rows of a module's primitives.
-#[derive(Drop)]
-pub struct ModuleRows {
-    /// The keys of each primitive's rows.
-    pub keys: Items<Items<RowKey>>,
-    /// The masks of each primitive's rows, where there are few enough.
-    pub masks: Items<Items<RowMasks>>,
-}
-
-impl ModuleRows {
-    /// What is known of the rows of these primitives. `AllocError` comes only where memory is wanted and not there.
-    pub(crate) fn of(alloc: Global, udps: &[Udp]) -> Result<ModuleRows, AllocError>
-        ensures keys { IfOk result (λ rows. rows.keys ≡ map udp_keys udps.now) }
-        ensures masks { IfOk result (λ rows. rows.masks ≡ map udp_masks udps.now) }
-    {
-        let keys = keys_of_all(alloc, udps)?;
-        let masks = masks_of_all(alloc, udps)?;
-        Ok(ModuleRows { keys, masks })
-    }
-}
-
 /// The keys of each primitive's rows.
 fn keys_of_all(alloc: Global, udps: &[Udp]) -> Result<Items<Items<RowKey>>, AllocError>
     ensures { IfOk result (λ keys. keys ≡ map udp_keys udps.now) }
@@ -49,4 +28,25 @@ fn masks_of_all(alloc: Global, udps: &[Udp]) -> Result<Items<Items<RowMasks>>, A
         all.push(masks_of(alloc, udp.rows.as_slice(), udp.inputs.len())?)?;
     }
     Ok(all)
+}
+
+/// What is known of the rows of a module's primitives.
+#[derive(Drop)]
+pub struct ModuleRows {
+    /// The keys of each primitive's rows.
+    pub keys: Items<Items<RowKey>>,
+    /// The masks of each primitive's rows, where there are few enough.
+    pub masks: Items<Items<RowMasks>>,
+}
+
+impl ModuleRows {
+    /// What is known of the rows of these primitives. `AllocError` comes only where memory is wanted and not there.
+    pub(crate) fn of(alloc: Global, udps: &[Udp]) -> Result<ModuleRows, AllocError>
+        ensures keys { IfOk result (λ rows. rows.keys ≡ map udp_keys udps.now) }
+        ensures masks { IfOk result (λ rows. rows.masks ≡ map udp_masks udps.now) }
+    {
+        let keys = keys_of_all(alloc, udps)?;
+        let masks = masks_of_all(alloc, udps)?;
+        Ok(ModuleRows { keys, masks })
+    }
 }

@@ -26,15 +26,15 @@ use vital_models::VEntity;
 #[derive(Drop)]
 pub struct ProcessState {
     /// The violation at the last event.
-    pub violation: Trit,
+    pub(crate) violation: Trit,
     /// The value of each input.
-    pub inputs: Items<Trit>,
+    pub(crate) inputs: Items<Trit>,
     /// The value that each input had at the last event, with which the tables were looked up.
-    pub before: Items<Trit>,
+    pub(crate) before: Items<Trit>,
     /// Each state.
-    pub states: Items<Trit>,
+    pub(crate) states: Items<Trit>,
     /// For each check the times that it keeps.
-    pub stamps: Items<Times>,
+    pub(crate) stamps: Items<Times>,
 }
 
 /// The run of a process before any change.
@@ -61,13 +61,13 @@ pub(crate) fn start_state(alloc: Global, model: &VEntity) -> Result<ProcessState
 #[derive(Drop)]
 pub struct EntityState {
     /// The value of each condition.
-    pub conditions: Items<Trit>,
+    pub(crate) conditions: Items<Trit>,
     /// The run.
-    pub run: ProcessState,
+    pub(crate) run: ProcessState,
     /// Place for the columns of any table at the last event.
-    pub earlier: Items<Trit>,
+    pub(crate) earlier: Items<Trit>,
     /// Place for the columns of any table.
-    pub room: Items<Trit>,
+    pub(crate) room: Items<Trit>,
 }
 
 /// Whether some check reported.

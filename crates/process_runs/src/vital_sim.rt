@@ -1,14 +1,10 @@
 //! The simulator of a VITAL entity.
 ghost use Rattle.std.specs.Prelude.{◌≡◌, [], length, IfOk};
 ghost use Rattle.std.proofs.Props.{props};
-ghost use Rattle.process_runs.specs.EntityProps.{value_prop};
-ghost use Rattle.process_runs.specs.EntityIndexed.{IsEntityIndex};
-ghost use Rattle.process_runs.specs.EntityStarts.{IsEntityStart};
 ghost use Rattle.run_parts.specs.KeptDelays.{AreKept};
-ghost use Rattle.process_runs.specs.EntityStates.{IsStateReady};
+ghost use Rattle.process_runs.specs.{EntityProps.value_prop, EntityIndexed.IsEntityIndex, EntityStarts.IsEntityStart};
+ghost use Rattle.process_runs.specs.{EntityStates.IsStateReady, EntityRooms.IsSound, NumberedPaths.numbered_paths};
 ghost use Rattle.process_runs.specs.EntitySteps.{EntityStands, entity_machine, entity_sized};
-ghost use Rattle.process_runs.specs.NumberedPaths.{numbered_paths};
-ghost use Rattle.process_runs.specs.EntityRooms.{IsSound};
 
 use crate::entity_start::EntityStart;
 use crate::entity_tables::EntityTables;

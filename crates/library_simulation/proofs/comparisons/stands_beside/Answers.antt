@@ -1,4 +1,4 @@
-use Rattle.std.proofs.Common.{rules, ◌≡◌, ◌∙◌, ap, List, Some, None, get_or}
+use Rattle.std.proofs.Common.{◌≡◌, ◌∙◌, ap, List, Some, None, get_or, slice_get}
 use Rattle.std.proofs.lemmas.Option.{get_or_from_slice_get}
 use Rattle.three_state_cells.specs.DrivenCells.{driven_data_of}
 use Rattle.library_reader.specs.declared.library_cell.LibraryCell.TheVariants as kept
@@ -42,6 +42,14 @@ module-is c changes run =
     ∙ ap (λ k. get_or c.args.simulation.now.read.modules k.verilog c.index-as_slice-numbers.result) (numbers-are c changes run)
     ∙ get_or_from_slice_get c.args.simulation.now.read.modules run.numbers.verilog run.verilog c.index-as_slice-numbers.result run.is_module
 
+ports-are : (c : goal.After-index-as_slice-numbers-2) (changes : List Change) (run : Can c changes) → c.ports.result.now ≡ run.ports
+ports-are c changes run =
+    let at = c.args.section.now.cell in
+    let found : slice_get c.args.simulation.now.simulated.catalog.cells at ≡ Some c.ports.result.now = c.ports.ensures in
+    let wanted : slice_get c.args.simulation.now.simulated.catalog.cells at ≡ Some run.ports =
+    ap (λ s. slice_get s.catalog.cells at) c.requires.simulated ∙ run.has_ports in
+    cc
+
 entity-is : (c : goal.After-index-as_slice-numbers-2) (changes : List Change) (run : Can c changes) → c.index-as_slice-numbers-2.result ≡ run.vital
 entity-is c changes run =
     c.index-as_slice-numbers-2.is ∙ ap (λ l. get_or l c.in-Some.numbers.vital c.index-as_slice-numbers-2.result) c.as_slice-4.ensures
@@ -50,7 +58,7 @@ entity-is c changes run =
 
 pub returns : goal.returns
 returns c = λ changes run.
-    let ports-is : c.ports.result.now ≡ run.ports = search rules in (
+    let ports-is = ports-are c changes run in (
       runs_on _ _ _ _ run c.in-Accepted.cell c.ports.result.now c.index-as_slice-numbers.result c.index-as_slice-numbers-2.result (data-is c changes run) ports-is (module-is c changes run) (entity-is c changes run),
       can_be_given _ _ _ _ _ run (data-is c changes run) ports-is (module-is c changes run) (entity-is c changes run),
     )

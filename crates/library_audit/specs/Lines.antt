@@ -6,34 +6,35 @@ use Rattle.table_audit.specs.module_tables.declared.differences.AuditPart.{Audit
 use Rattle.table_audit.specs.module_tables.declared.differences.AuditPart.TheVariants as table
 use Rattle.table_audit.specs.module_tables.declared.differences.Difference.{Difference}
 use Rattle.table_audit.specs.module_shapes.declared.shape_parts.ShapePart.{ShapePart}
-use Rattle.table_audit.specs.module_shapes.declared.shape_parts.ShapePart.TheVariants as shape
+use Rattle.table_audit.specs.module_shapes.declared.shape_parts.ShapePart.TheVariants.{Ports, States, StateInputs, Checks, Paths}
+use Rattle.table_audit.specs.module_shapes.declared.shape_parts.ShapePart.TheVariants.{CheckInputs, PathInputs, Outputs}
 use Rattle.table_audit.specs.declared.verdicts.Verdict.{Verdict}
 use Rattle.table_audit.specs.declared.verdicts.Verdict.TheVariants as verdict
 
+-- a value as a model's text writes it
+abbrev pub value_text : Trit → List ℕ
+value_text Zero = codes "0"
+value_text One = codes "1"
+value_text Unknown = codes "x"
+
 -- what a module has of another shape than its cell
 abbrev pub shape_word : ShapePart → List ℕ
-shape_word shape.Ports = codes "ports"
-shape_word shape.States = codes "states"
-shape_word shape.StateInputs = codes "state-inputs"
-shape_word shape.Checks = codes "checks"
-shape_word shape.Paths = codes "paths"
-shape_word shape.CheckInputs = codes "check-inputs"
-shape_word shape.PathInputs = codes "path-inputs"
-shape_word shape.Outputs = codes "outputs"
+shape_word Ports = codes "ports"
+shape_word States = codes "states"
+shape_word StateInputs = codes "state-inputs"
+shape_word Checks = codes "checks"
+shape_word Paths = codes "paths"
+shape_word CheckInputs = codes "check-inputs"
+shape_word PathInputs = codes "path-inputs"
+shape_word Outputs = codes "outputs"
 
 -- what a table with another value than the cell is for
-abbrev pub table_word : AuditPart → List ℕ
+abbrev pub table_word : (part : AuditPart) → List ℕ
 table_word table.State = codes "state"
 table_word table.Notifier = codes "notifier"
 table_word table.Check = codes "check"
 table_word table.Path = codes "path"
 table_word table.Output = codes "output"
-
--- a value
-abbrev pub value_text : Trit → List ℕ
-value_text Zero = codes "0"
-value_text One = codes "1"
-value_text Unknown = codes "x"
 
 -- a value, a dash where there is none
 abbrev pub known_text : Option Trit → List ℕ

@@ -54,10 +54,10 @@ impl Comparison<'_> {
     /// After a fault a prefix of the line was appended.
     fn write_cell<D: Desk>(&self, desk: &mut D, cell: &LibraryCell) -> Result<bool, Stop>
         requires { AreReady self.now.named.now }
+        ensures cause { StopsWithCause (D.faults desk.old) (D.faults desk.new) result }
         ensures text { WritesTrace (D.state desk.old) (D.state desk.new)
             (audit_text self.now.named.now.models (described cell.now)) result }
         ensures differs { IfOk result (λ other. other ≡ differs self.now.named.now.models (described cell.now)) }
-        ensures cause { StopsWithCause (D.faults desk.old) (D.faults desk.new) result }
     {
         match cell {
             LibraryCell::Accepted { cell, .. } => self.write_accepted(desk, cell),

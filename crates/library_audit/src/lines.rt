@@ -3,7 +3,7 @@ ghost use Rattle.text_io.specs.declared.slots.OutSlot.TheVariants.{Report};
 ghost use Rattle.text_io.specs.Desk.{HasCause, WritesText};
 ghost use Rattle.library_audit.specs.Lines.{shape_text, difference_text, verdict_text, audit_line, left_out_line};
 
-use crate::words::{Known, Place, Values, shape_word, table_word, value_text};
+use crate::words::{Known, Place, Values, known_text, shape_word, table_word};
 use table_audit::{Difference, ShapePart, Verdict};
 use text_io::{Bytes, Decimal, Desk, Failed, Line, OutSlot, Part, Put, parts, write_part};
 
@@ -35,13 +35,13 @@ impl Part for OtherTable<'_> {
         let places = parts!(Bytes(b" new"), Values(found.places), stored);
         let old = parts!(Bytes(b" old "), Known(found.old), places);
         let arguments = parts!(Bytes(b" place "), Place(found.changed), old);
-        let of_model = value_text(found.of_model);
+        let of_model = known_text(Some(found.of_model));
         let model = parts!(Bytes(b" model "), Bytes(of_model), Bytes(b"\n"));
-        let of_cell = value_text(found.of_cell);
+        let of_cell = known_text(Some(found.of_cell));
         let values = parts!(Bytes(b" cell "), Bytes(of_cell), model);
         let number = Decimal(found.number as u128);
         let numbered = parts!(Bytes(b" "), number, arguments, values);
-        parts!(Bytes(b" differs "), Bytes(table_word(found.part)), numbered).put(line, desk, slot)
+        parts!(Bytes(b" differs "), Bytes(table_word(found)), numbered).put(line, desk, slot)
     }
 }
 

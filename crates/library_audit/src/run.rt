@@ -2,7 +2,7 @@
 ghost use Rattle.std.specs.Prelude.{◌≡◌};
 ghost use Rattle.text_io.specs.Plan.{plan};
 ghost use Rattle.run_outcome.specs.Runs.{RunsAs, StopsWithStatus};
-ghost use Rattle.library_audit.specs.Outcome.{audit_files, audit_of};
+ghost use Rattle.library_audit.specs.{Outcome.audit_files, Outcome.audit_of};
 
 use crate::audits::write_cells;
 use crate::files::read_files;
@@ -23,7 +23,7 @@ pub fn audit_library<D: Desk>(alloc: Global, desk: &mut D) -> Status
     ensures cause { StopsWithStatus (D.faults desk.old) (D.faults desk.new) result }
 {
     match read_files(alloc, desk) {
-        Ok(files) => compared_status(write_cells(alloc, desk, &files)),
         Err(status) => status,
+        Ok(files) => compared_status(write_cells(alloc, desk, &files)),
     }
 }

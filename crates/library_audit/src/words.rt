@@ -1,10 +1,9 @@
 //! The words and values of a line on a cell that is compared with its module.
 ghost use Rattle.std.specs.Prelude.{◌≡◌, flat_map};
 ghost use Rattle.library_audit.specs.Lines.{shape_word as shape_word_of, table_word as table_word_of};
-ghost use Rattle.library_audit.specs.Lines.{value_text as value_text_of, known_text as known_text_of, place_text, listed_value};
-ghost use Rattle.library_audit.specs.Lines.{listed_text};
+ghost use Rattle.library_audit.specs.Lines.{known_text as known_text_of, place_text, listed_value, listed_text};
 
-use table_audit::{AuditPart, ShapePart};
+use table_audit::{AuditPart, Difference, ShapePart};
 use text_io::{Bytes, Decimal, Desk, Line, OutSlot, Part, Put, parts};
 use trit_cubes::{Cube, Trit};
 
@@ -24,11 +23,11 @@ pub(crate) fn shape_word(part: ShapePart) -> &'static [u8]
     }
 }
 
-/// What a table with another value than the cell is for.
-pub(crate) fn table_word(part: AuditPart) -> &'static [u8]
-    ensures { result.now ≡ table_word_of part }
+/// What the table is for that has another value than the cell.
+pub(crate) fn table_word(difference: &Difference) -> &'static [u8]
+    ensures { result.now ≡ table_word_of difference.now.part }
 {
-    match part {
+    match difference.part {
         AuditPart::State => b"state",
         AuditPart::Notifier => b"notifier",
         AuditPart::Check => b"check",
@@ -37,14 +36,15 @@ pub(crate) fn table_word(part: AuditPart) -> &'static [u8]
     }
 }
 
-/// A value.
-pub(crate) fn value_text(value: Trit) -> &'static [u8]
-    ensures { result.now ≡ value_text_of value }
+/// A value as a model's text writes it, `0`, `1` or `x`, and a dash where there is none.
+pub(crate) fn known_text(value: Option<Trit>) -> &'static [u8]
+    ensures { result.now ≡ known_text_of value }
 {
     match value {
-        Trit::Zero => b"0",
-        Trit::One => b"1",
-        Trit::Unknown => b"x",
+        Some(Trit::Zero) => b"0",
+        Some(Trit::One) => b"1",
+        Some(Trit::Unknown) => b"x",
+        None => b"-",
     }
 }
 
@@ -56,10 +56,7 @@ impl Part for Known {
     ghost text = { λ k. known_text_of k.0 };
 
     fn put<D: Desk>(&self, line: &mut Line, desk: &mut D, slot: OutSlot) -> Put {
-        match self.0 {
-            Some(value) => Bytes(value_text(value)).put(line, desk, slot),
-            None => Bytes(b"-").put(line, desk, slot),
-        }
+        Bytes(known_text(self.0)).put(line, desk, slot)
     }
 }
 
@@ -103,7 +100,7 @@ impl Part for EachValue {
 
     fn put<D: Desk>(&self, line: &mut Line, desk: &mut D, slot: OutSlot) -> Put {
         for place in 0..self.0.len() {
-            let value = Bytes(value_text(self.0.place(place)));
+            let value = Bytes(known_text(Some(self.0.place(place))));
             parts!(Bytes(b" "), value).put(line, desk, slot)?;
         }
         Ok(())

@@ -3,8 +3,6 @@ pub mod SimulateLemmas
 pub mod BesideLemmas
 pub mod WholeSimulations
 pub mod OwnNames
-pub use Rattle.model_replay.proofs.VerilogModels as VerilogModels
-pub use Rattle.model_replay.proofs.VitalModels as VitalModels
 pub use Rattle.file_models.proofs as file_models
 pub use Rattle.library_reader.proofs as library_reader
 pub use Rattle.model_files.proofs as model_files
@@ -19,4 +17,6 @@ pub mod OwnModels
 pub mod GeneratedModels
 pub mod EqualTraces
 pub mod EqualEnds
+pub use Rattle.model_replay.proofs.VerilogModels as VerilogModels
+pub use Rattle.model_replay.proofs.VitalModels as VitalModels
 mod BadLineEnds

@@ -13,7 +13,7 @@ use Rattle.cell_machine.specs.CellRules.{is_name, are_distinct, are_pins}
 use Rattle.cell_machine.proofs.RuleLemmas.{cell_rules}
 use Rattle.three_state_cells.specs.declared.driven_cell.DrivenCell.{DrivenCell}
 use Rattle.three_state_cells.specs.Drivers.{own_pins}
-use Rattle.library_simulation.specs.PinNames.{same_direction, pin_names, AreNamedApart}
+use Rattle.library_simulation.specs.PinNames.{same_direction, directed_names, AreNamedApart}
 use Rattle.file_models.proofs.NewNames.{others_before, added_name}
 
 abbrev pub name_of_pin : Pin → List ℕ
@@ -65,56 +65,56 @@ own_pins_apart cell =
 
 -- the pins of one direction are some of all
 among_some : (direction : Direction) (name : List ℕ) (pins : List Pin) → list_any (bytes_eq name) (map name_of_pin pins) ≡ false
-    → list_any (bytes_eq name) (pin_names direction pins) ≡ false
+    → list_any (bytes_eq name) (directed_names direction pins) ≡ false
 among_some direction name [] h = refl
 among_some direction name (pin ∷ pins) h =
     let parts = or_parts (bytes_eq name pin.name) (list_any (bytes_eq name) (map name_of_pin pins)) h in
     elim (same_direction direction pin.direction) as
-    (λ b. list_any (bytes_eq name) (if b then pin.name ∷ pin_names direction pins else pin_names direction pins) ≡ false) [
-      | true ↦ or_from (bytes_eq name pin.name) (list_any (bytes_eq name) (pin_names direction pins)) parts.0
+    (λ b. list_any (bytes_eq name) (if b then pin.name ∷ directed_names direction pins else directed_names direction pins) ≡ false) [
+      | true ↦ or_from (bytes_eq name pin.name) (list_any (bytes_eq name) (directed_names direction pins)) parts.0
           (among_some direction name pins parts.1)
       | false ↦ among_some direction name pins parts.1
     ]
 
 names_of_both : (direction : Direction) (front back : List Pin)
-    → pin_names direction (front ++ back) ≡ pin_names direction front ++ pin_names direction back
+    → directed_names direction (front ++ back) ≡ directed_names direction front ++ directed_names direction back
 names_of_both direction [] back = refl
 names_of_both direction (pin ∷ front) back =
     elim (same_direction direction pin.direction) as
-    (λ b. (if b then pin.name ∷ pin_names direction (front ++ back) else pin_names direction (front ++ back)) ≡ (if b
-    then pin.name ∷ pin_names direction front else pin_names direction front) ++ pin_names direction back) [
+    (λ b. (if b then pin.name ∷ directed_names direction (front ++ back) else directed_names direction (front ++ back)) ≡ (if b
+    then pin.name ∷ directed_names direction front else directed_names direction front) ++ directed_names direction back) [
       | true ↦ ap (λ names. pin.name ∷ names) (names_of_both direction front back)
       | false ↦ names_of_both direction front back
     ]
 
 one_pin_more : (direction : Direction) (pins : List Pin) (i : ℕ) (pin : Pin) → i < length pins → pin ≡ get_or pins i pin
-    → pin_names direction (take (i + 1) pins) ≡ pin_names direction (take i pins) ++ pin_names direction (pin ∷ [])
+    → directed_names direction (take (i + 1) pins) ≡ directed_names direction (take i pins) ++ directed_names direction (pin ∷ [])
 one_pin_more direction pins i pin h e =
-    ap (pin_names direction) (take_more pins i pin h) ∙ names_of_both direction (take i pins) (get_or pins i pin ∷ [])
-    ∙ ap (λ p. pin_names direction (take i pins) ++ pin_names direction (p ∷ [])) (sym e)
+    ap (directed_names direction) (take_more pins i pin h) ∙ names_of_both direction (take i pins) (get_or pins i pin ∷ [])
+    ∙ ap (λ p. directed_names direction (take i pins) ++ directed_names direction (p ∷ [])) (sym e)
 
 -- the next pin has the direction, and its name is added
 pub pin_added : (direction : Direction) (pins : List Pin) (i : ℕ) (pin : Pin) (old new : List (List ℕ)) (found : Option ℕ)
     → AreNamedApart pins → i < length pins → pin ≡ get_or pins i pin → same_direction direction pin.direction ≡ true
-    → old ≡ pin_names direction (take i pins) → Adds old pin.name found new → new ≡ pin_names direction (take (i + 1) pins)
+    → old ≡ directed_names direction (take i pins) → Adds old pin.name found new → new ≡ directed_names direction (take (i + 1) pins)
 pin_added direction pins i pin old new found apart h e same before a =
     let others = others_before name_of_pin pins i pin h e apart in
     let none : number_of old pin.name ≡ None =
     ap (λ names. number_of names pin.name) before
-    ∙ position-none (bytes_eq pin.name) (pin_names direction (take i pins)) (among_some direction pin.name (take i pins) others)
+    ∙ position-none (bytes_eq pin.name) (directed_names direction (take i pins)) (among_some direction pin.name (take i pins) others)
     in
-    let last : pin_names direction (pin ∷ []) ≡ pin.name ∷ [] = ap (λ b. if b then pin.name ∷ [] else []) same in
+    let last : directed_names direction (pin ∷ []) ≡ pin.name ∷ [] = ap (λ b. if b then pin.name ∷ [] else []) same in
     added_name old new pin.name found none a ∙ ap (λ names. names ++ pin.name ∷ []) before
-    ∙ sym (one_pin_more direction pins i pin h e ∙ ap (λ names. pin_names direction (take i pins) ++ names) last)
+    ∙ sym (one_pin_more direction pins i pin h e ∙ ap (λ names. directed_names direction (take i pins) ++ names) last)
 
 -- it has not
 pub pin_passed : (direction : Direction) (pins : List Pin) (i : ℕ) (pin : Pin) (names : List (List ℕ))
     → i < length pins → pin ≡ get_or pins i pin → same_direction direction pin.direction ≡ false
-    → names ≡ pin_names direction (take i pins) → names ≡ pin_names direction (take (i + 1) pins)
+    → names ≡ directed_names direction (take i pins) → names ≡ directed_names direction (take (i + 1) pins)
 pin_passed direction pins i pin names h e same before =
-    let none : pin_names direction (pin ∷ []) ≡ [] = ap (λ b. if b then pin.name ∷ [] else []) same in
-    before ∙ sym (one_pin_more direction pins i pin h e ∙ ap (λ more. pin_names direction (take i pins) ++ more) none
-    ∙ nothing_more (pin_names direction (take i pins)))
+    let none : directed_names direction (pin ∷ []) ≡ [] = ap (λ b. if b then pin.name ∷ [] else []) same in
+    before ∙ sym (one_pin_more direction pins i pin h e ∙ ap (λ more. directed_names direction (take i pins) ++ more) none
+    ∙ nothing_more (directed_names direction (take i pins)))
   where
     nothing_more : (names : List (List ℕ)) → names ++ [] ≡ names
     nothing_more [] = refl

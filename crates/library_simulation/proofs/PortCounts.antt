@@ -30,7 +30,7 @@ use Rattle.model_replay.proofs.PortCounts.{length-input_names, length-output_nam
 use Rattle.stimulus.specs.declared.ports.Standing.{Standing}
 use Rattle.stimulus.specs.Comparison.{HavePorts}
 use Rattle.library_simulation.specs.declared.same_ports.Spelling.TheVariants.{Exact, AnyCase}
-use Rattle.library_simulation.specs.PinNames.{pin_names, named_ports}
+use Rattle.library_simulation.specs.PinNames.{directed_names, named_ports}
 use Rattle.library_simulation.specs.SamePorts.{same_ports}
 use Rattle.library_simulation.specs.Comparisons.{cell_machine}
 use Rattle.library_simulation.specs.Sections.{RunsByPorts}
@@ -40,8 +40,8 @@ use Rattle.library_simulation.proofs.PortLemmas.{same_directions}
 -- Pins have as many names of each direction as there are pins of it.
 
 record CountsPins (pins : List Pin) (inputs outputs : ℕ) : Type 0 where
-  of_inputs : length (pin_names Input pins) ≡ inputs
-  of_outputs : length (pin_names Output pins) ≡ outputs
+  of_inputs : length (directed_names Input pins) ≡ inputs
+  of_outputs : length (directed_names Output pins) ≡ outputs
 
 abbrev AreCounted : List Pin → Type 0
 AreCounted pins = CountsPins pins (count (map is_input_at pins)) (count (map is_output_at pins))
@@ -101,7 +101,6 @@ pub have_ports :
     (machine_by entity_machine e)
 have_ports standing cell entity m e keeps same other run run_too =
     let pins = pins_of cell in
-    let liberty = counts_cell cell keeps in
     let verilog =
     counts_model modules_of.IsSound module_machine pins m (sym (same_directions Exact (in_verilog.ports_of pins) m.ports same)
     ∙ verilog_directions 1 pins) run in
@@ -109,8 +108,8 @@ have_ports standing cell entity m e keeps same other run run_too =
     counts_model entities_of.IsSound entity_machine pins e
     (sym (same_directions AnyCase (in_vital.ports_of entity pins) e.ports other) ∙ vital_directions entity pins) run_too in
     record {
-      liberty_inputs = liberty.of_inputs;
-      liberty_outputs = liberty.of_outputs;
+      liberty_inputs = (counts_cell cell keeps).of_inputs;
+      liberty_outputs = (counts_cell cell keeps).of_outputs;
       verilog_inputs = verilog.of_inputs;
       verilog_outputs = verilog.of_outputs;
       vital_inputs = vital.of_inputs;

@@ -198,14 +198,14 @@ accepted_section all modules entities section cell entity keep modules_run entit
     record {
       cell = cell;
       entity_name = entity;
-      ports = ports_in models (Accepted cell entity);
-      numbers = h.numbers;
-      verilog = h.verilog;
-      vital = h.vital;
       is_accepted = there;
+      ports = ports_in models (Accepted cell entity);
       has_ports = ports_there;
+      numbers = h.numbers;
       has_models = models_there;
+      verilog = h.verilog;
       is_module = h.is_module;
+      vital = h.vital;
       is_entity = h.is_entity;
       is_compared = compared_as models cell entity h.numbers h.verilog h.vital (slice_get all section.cell) there h.are
           h.is_module h.is_entity;

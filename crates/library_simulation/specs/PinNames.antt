@@ -16,10 +16,10 @@ same_direction Output other = is_output other
 same_direction Internal other = not (is_input other || is_output other)
 
 -- the names of the pins with this direction
-abbrev pub pin_names : Direction → List Pin → List (List ℕ)
-pin_names direction [] = []
-pin_names direction (pin ∷ pins) =
-    if same_direction direction pin.direction then pin.name ∷ pin_names direction pins else pin_names direction pins
+abbrev pub directed_names : Direction → List Pin → List (List ℕ)
+directed_names direction [] = []
+directed_names direction (pin ∷ pins) =
+    if same_direction direction pin.direction then pin.name ∷ directed_names direction pins else directed_names direction pins
 
 -- no two pins have one name
 abbrev pub AreNamedApart : List Pin → Type 0
@@ -27,4 +27,5 @@ AreNamedApart pins = AreDistinct (map (λ (pin : Pin). pin.name) pins)
 
 -- the ports of a cell that stands so
 abbrev pub named_ports : Standing → List Pin → Ports
-named_ports standing pins = record { standing = standing; inputs = pin_names Input pins; outputs = pin_names Output pins }
+named_ports standing pins =
+    record { standing = standing; inputs = directed_names Input pins; outputs = directed_names Output pins }

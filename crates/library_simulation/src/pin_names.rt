@@ -1,7 +1,7 @@
 //! The names of a cell's ports.
 ghost use Rattle.std.specs.Prelude.{◌≡◌, IfOk};
 ghost use Rattle.library_simulation.specs.PinNames.{AreNamedApart, same_direction as same_direction_of};
-ghost use Rattle.library_simulation.specs.PinNames.{pin_names as pin_names_of, named_ports as named_ports_of};
+ghost use Rattle.library_simulation.specs.PinNames.{directed_names as directed_names_of, named_ports as named_ports_of};
 
 use bool_functions::Names;
 use cell_attributes::held::both_made;
@@ -19,8 +19,8 @@ pub(crate) fn named_ports(
     requires { AreNamedApart pins.now }
     ensures { IfOk result (λ ports. ports ≡ named_ports_of standing pins.now) }
 {
-    let inputs = pin_names(alloc, Direction::Input, pins);
-    let outputs = pin_names(alloc, Direction::Output, pins);
+    let inputs = directed_names(alloc, Direction::Input, pins);
+    let outputs = directed_names(alloc, Direction::Output, pins);
     let (inputs, outputs) = both_made(inputs, outputs)?;
     Ok(Ports {
         standing,
@@ -30,9 +30,9 @@ pub(crate) fn named_ports(
 }
 
 /// The names of those of these pins, of which no two have one name, that have this direction, in their order.
-fn pin_names(alloc: Global, direction: Direction, pins: &[Pin]) -> Result<Names, AllocError>
+fn directed_names(alloc: Global, direction: Direction, pins: &[Pin]) -> Result<Names, AllocError>
     requires { AreNamedApart pins.now }
-    ensures { IfOk result (λ names. names ≡ pin_names_of direction pins.now) }
+    ensures { IfOk result (λ names. names ≡ directed_names_of direction pins.now) }
 {
     let mut names = Names::new(alloc);
     for pin in pins {

@@ -48,9 +48,9 @@ pub(crate) struct Simulation {
 /// that ends the run.
 fn read_cells_and_models<D: Desk>(alloc: Global, desk: &mut D) -> Result<ModelsRead, Status>
     requires { plan (D.state desk.old).words ≡ simulate_files }
-    ensures read { IfOk result (ReadsModels (D.state desk.old) (D.state desk.new)) }
     ensures ended { IfErr result (RunsAs simulate_files (simulate_of (D.state desk.old).words) (D.state desk.old)
         (D.state desk.new)) }
+    ensures read { IfOk result (ReadsModels (D.state desk.old) (D.state desk.new)) }
     ensures kept { OnOk result (D.faults desk.new ≡ D.faults desk.old) }
     ensures cause { IfErr result (StopsWithStatus (D.faults desk.old) (D.faults desk.new)) }
 {

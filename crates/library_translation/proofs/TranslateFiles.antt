@@ -20,7 +20,7 @@ use Rattle.library_translation.specs.Models.{HoldsModels}
 use Rattle.library_translation.proofs.ModelsLemmas.{no_model_owed}
 use Rattle.library_reader.proofs.Claims.{OnOk-err}
 
--- Binding.
+-- Files bound one after another, up to the first call that fails.
 
 -- a call that fails after the first of the files were bound
 pub binds_stopped : {T : Type 0} (old new : DeskState) (bound others : Files) (bytes : InSlot → List ℕ) (r : Result T Failed)
@@ -77,7 +77,7 @@ binds_all : (all : List ℕ) → translate_files ≡ take (translate_outcome all
 unfolding outcome_at
 binds_all all = refl
 
--- Exits of the whole.
+-- How the run stands where a file could not be bound, and where all were.
 
 -- a file could not be bound
 pub unbound : (old new : DeskState) {T : Type 0} (r : Result T Failed) → Binds translate_files old new r
@@ -94,13 +94,13 @@ unbound old new r b =
 pub translated_runs : (old now new : DeskState) (bytes : InSlot → List ℕ) (result : Status) (taken : ℕ) (text : Written)
     (faults : List ℕ)
     → now ≡ bound_state old translate_files bytes → AreNamed old translate_files bytes
+    → IfSome (now.left Library) (λ all. HoldsModels all taken text)
     → new ≡ wrote (wrote_all (took now Library taken) text) Faults faults
     → IfSome (now.left Library) (λ all. IsPartOf text faults (translate_outcome all))
-    → IfSome (now.left Library) (λ all. HoldsModels all taken text)
     → (IsTrue (is_decided result) → IfSome (now.left Library) (λ all. IsAllOf result text faults (translate_outcome all)))
     → RunsTranslation old new result
 unfolding library_runs
-translated_runs old now new bytes result taken text faults h f state part models whole =
+translated_runs old now new bytes result taken text faults h f models state part whole =
     let run = library_runs translate_files _ translate_outcome old now new bytes result taken text faults reads_library binds_all
     h f state part whole in
     record {

@@ -99,8 +99,8 @@ pub record Finishes (old new : DeskState) (p : Progress) (ending : Ending) (resu
 pub record Translates (old new : DeskState) (result : Result Status Stop) : Type 0 where
   pub taken : ℕ
   pub text : Written
+  pub models : IfSome (old.left Library) (λ bytes. HoldsModels bytes taken text)
   pub faults : List ℕ
   pub state : new ≡ wrote (wrote_all (took old Library taken) text) Faults faults
   pub part : IfSome (old.left Library) (λ bytes. IsPartOf text faults (translate_outcome bytes))
-  pub models : IfSome (old.left Library) (λ bytes. HoldsModels bytes taken text)
   pub whole : IfOk result (λ status. IfSome (old.left Library) (λ bytes. IsAllOf status text faults (translate_outcome bytes)))

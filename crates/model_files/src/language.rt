@@ -3,9 +3,8 @@ ghost use Rattle.std.specs.Prelude.{◌≡◌, ◌≤◌, [], All, length, Ok, I
 ghost use Rattle.text_io.specs.Desk.{StopsWithCause};
 ghost use Rattle.cell_machine.specs.History.{IsProperFrom};
 ghost use Rattle.stimulus.specs.Writes.{WritesTrace};
-ghost use Rattle.model_files.specs.Languages.{Language, IsFaultIn, model_trace_text};
-ghost use Rattle.model_files.specs.ModelNames.{HaveOwnNames};
-ghost use Rattle.model_files.specs.Limits.{model_limit};
+ghost use Rattle.model_files.specs.{Languages.Language, Languages.IsFaultIn, Languages.model_trace_text};
+ghost use Rattle.model_files.specs.{Limits.model_limit, ModelNames.HaveOwnNames};
 
 use crate::format::ModelFormat;
 use cell_machine::Change;

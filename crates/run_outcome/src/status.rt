@@ -52,6 +52,14 @@ impl Status {
 }
 
 /// `Outside` where a call failed, and `Memory` where there was none.
+impl From<Failed> for Status {
+    ghost from_gives = { λ _ made. made ≡ status.Outside };
+
+    fn from(_failed: Failed) -> Status {
+        Status::Outside
+    }
+}
+
 impl From<Stop> for Status {
     ghost from_gives = { λ stop made. made ≡ stop_status stop };
 
@@ -60,14 +68,6 @@ impl From<Stop> for Status {
             Stop::Failed => Status::Outside,
             Stop::Memory => Status::Memory,
         }
-    }
-}
-
-impl From<Failed> for Status {
-    ghost from_gives = { λ _ made. made ≡ status.Outside };
-
-    fn from(_failed: Failed) -> Status {
-        Status::Outside
     }
 }
 

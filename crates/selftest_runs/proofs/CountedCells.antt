@@ -79,7 +79,7 @@ next_counted p group (next.Accepted cell entity) before more after cells h so_fa
 next_counted p group (next.Refused refusal) before more after cells h so_far here sum =
     refused_counted p group refusal after cells h (sum ∙ ap (plus before) here ∙ plus-none before ∙ so_far)
 
--- The library.
+-- What is counted of all cells of a library.
 
 -- this was counted of the cells
 abbrev IsCounted : Counts → List CellEntry → Type 0

@@ -15,7 +15,7 @@ input_of each Verilog = each.verilog
 input_of each Vital = each.vital
 input_of each Stimulus = each.stimulus
 
--- the value at an output slot
+-- what an output slot has of such a value for each
 abbrev pub output_of : {X : Type 0} → Outputs X → OutSlot → X
 output_of each VerilogText = each.verilog_text
 output_of each VitalText = each.vital_text

@@ -37,7 +37,8 @@ macro_rules! register {
         concat!(
             "library (L) {\ntype (B) { bit_from : 1; bit_to : 0; }\ntype (C) { bit_from : ",
             $first,
-            "; bit_to : 0; }\ncell (REG2) {\nbus (D) { bus_type : B; direction : input; }\npin (CK) { direction : input; }\n",
+            "; bit_to : 0; }\ncell (REG2) {\n",
+            "bus (D) { bus_type : B; direction : input; }\npin (CK) { direction : input; }\n",
             "bus (Q) { bus_type : C; direction : output; function : \"IQ\"; }\n",
             "ff_bank (IQ, IQN, 2) { next_state : \"D\"; clocked_on : \"CK\"; }\n}\n}\n"
         )

@@ -18,16 +18,16 @@ pub returns-in-Ok-translate_bound-clause-writes : goal.returns-in-Ok-translate_b
 returns-in-Ok-translate_bound-clause-writes g c =
     let binds = c.in-Ok.ensures.binds in
     let text = c.in-Ok-translate_bound.ensures.text in
-    translated_runs _ _ _ binds.bytes _ text.taken text.text text.faults (bound_all _ _ _ _ binds) (named_all _ _ _ _ binds) text.state text.part text.models (λ d. text.whole)
+    translated_runs _ _ _ binds.bytes _ text.taken text.text text.faults (bound_all _ _ _ _ binds) (named_all _ _ _ _ binds) text.models text.state text.part (λ d. text.whole)
 
 pub returns-in-Err-Failed-clause-writes : goal.returns-in-Err-Failed-clause-writes
 returns-in-Err-Failed-clause-writes g c =
     let binds = c.in-Ok.ensures.binds in
     let text = c.in-Err-Failed.ensures.text in
-    translated_runs _ _ _ binds.bytes _ text.taken text.text text.faults (bound_all _ _ _ _ binds) (named_all _ _ _ _ binds) text.state text.part text.models (λ d. absurd cc)
+    translated_runs _ _ _ binds.bytes _ text.taken text.text text.faults (bound_all _ _ _ _ binds) (named_all _ _ _ _ binds) text.models text.state text.part (λ d. absurd cc)
 
 pub returns-in-Err-Memory-clause-writes : goal.returns-in-Err-Memory-clause-writes
 returns-in-Err-Memory-clause-writes g c =
     let binds = c.in-Ok.ensures.binds in
     let text = c.in-Err-Memory.ensures.text in
-    translated_runs _ _ _ binds.bytes _ text.taken text.text text.faults (bound_all _ _ _ _ binds) (named_all _ _ _ _ binds) text.state text.part text.models (λ d. absurd cc)
+    translated_runs _ _ _ binds.bytes _ text.taken text.text text.faults (bound_all _ _ _ _ binds) (named_all _ _ _ _ binds) text.models text.state text.part (λ d. absurd cc)

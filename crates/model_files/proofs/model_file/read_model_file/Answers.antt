@@ -54,7 +54,7 @@ pub returns-clause-err : goal.returns-clause-err
 unfolding model_answer
 returns-clause-err g c =
     let l = g.L.ModelLanguage.language in
-    let opening = c.in_ok-bind_in.ensures.ok in
-    let there = placed _ _ _ _ (slot_of l.format) _ _ (c.slot-slot.ensures ∙ ap slot_of c.format.ensures) opening.2 c.in_ok-taken.ensures.ok in
-    taken_ends model_limit (long_model_stop l.format) (models_in_text l) _ _ _ _ (slot_of l.format) c.args.place opening.0
-    c.in_ok-taken.taken c.models_taken.result opening.1 there.0 there.1 c.models_taken.ensures.err
+    let named = c.slot-slot.ensures ∙ ap slot_of c.format.ensures in
+    let there = placed _ _ _ _ (slot_of l.format) _ _ named c.in_ok-bind_in.ensures.ok.2 c.in_ok-taken.ensures.ok in
+    taken_ends model_limit (long_model_stop l.format) (models_in_text l) _ _ _ _ (slot_of l.format) c.args.place c.in_ok-bind_in.ensures.ok.0
+    c.in_ok-taken.taken c.models_taken.result c.in_ok-bind_in.ensures.ok.1 there.0 there.1 c.models_taken.ensures.err

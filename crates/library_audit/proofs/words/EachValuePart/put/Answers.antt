@@ -17,7 +17,7 @@ loop-place-preserved g c =
     let within = rw c.len-place-end.ensures.value at c.loop-place-test.true in
     let is = sym (get_or_from_slice_get values c.loop-place.place c.place.result c.place.result c.place.ensures) in
     record {
-      gathered = put_item_as listed_value values c.loop-place.place c.place.result _ _ _ _ _ _ _ within is c.loop-place.invariant.gathered (rw c.value_text.ensures at c.in_ok-put.ensures.text.whole);
+      gathered = put_item_as listed_value values c.loop-place.place c.place.result _ _ _ _ _ _ _ within is c.loop-place.invariant.gathered (rw c.known_text.ensures at c.in_ok-put.ensures.text.whole);
       kept = omega (arith, c.in_ok-put.ensures.cause.kept, c.loop-place.invariant.kept);
     }
 
@@ -26,7 +26,7 @@ returns-in_err-put-clause-text g c =
     let values = c.args.self.now.0 in
     let within = rw c.len-place-end.ensures.value at c.loop-place-test.true in
     let is = sym (get_or_from_slice_get values c.loop-place.place c.place.result c.place.result c.place.ensures) in
-    part_of_put_item_as listed_value values c.loop-place.place c.place.result _ _ _ _ _ _ _ _ _ _ within is c.loop-place.invariant.gathered (rw c.value_text.ensures at c.in_err-put.ensures.text) c.from_residual.ensures.0
+    part_of_put_item_as listed_value values c.loop-place.place c.place.result _ _ _ _ _ _ _ _ _ _ within is c.loop-place.invariant.gathered (rw c.known_text.ensures at c.in_err-put.ensures.text) c.from_residual.ensures.0
 
 pub returns-clause-text : goal.returns-clause-text
 returns-clause-text g c =

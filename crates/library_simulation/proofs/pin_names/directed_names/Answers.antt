@@ -1,7 +1,7 @@
 use Rattle.std.proofs.Common.{sym, ◌∙◌}
 use Rattle.library_simulation.proofs.PinLemmas.{pin_added, pin_passed}
-use Rattle.library_simulation.proofs.pin_names.pin_names.Goals as goal
-use Rattle.library_simulation.proofs.pin_names.pin_names.Goals.{then-same_direction+in_ok-add, else-same_direction}
+use Rattle.library_simulation.proofs.pin_names.directed_names.Goals as goal
+use Rattle.library_simulation.proofs.pin_names.directed_names.Goals.{then-same_direction+in_ok-add, else-same_direction}
 
 pub loop-pin-preserved : goal.loop-pin-preserved
 loop-pin-preserved c = record {

@@ -13,8 +13,7 @@ use Rattle.cell_cursor.specs.Finish.{part_halt, may_go_on, answer_by, answer_at}
 use Rattle.cell_cursor.specs.Progress.{taken_by, to_do}
 use Rattle.cell_cursor.specs.Scanned.{stop_behind}
 use Rattle.cell_cursor.specs.declared.item.LibraryItem.{LibraryItem}
-use Rattle.cell_cursor.specs.declared.item.LibraryItem.TheVariants as item
-use Rattle.cell_cursor.specs.Items.{next_of}
+use Rattle.cell_cursor.specs.declared.item.Next.TheVariants as next
 use Rattle.cell_cursor.specs.Stands.{given_next, is_going, is_failed, is_ended}
 
 -- a byte was scanned, and the rest of the piece is shorter
@@ -111,8 +110,5 @@ pub not_going : {B : Type 0} (now first : Option Answer) → now ≡ None → is
 not_going now first e g k = absurd (let h : true ≡ false = sym (ap is_going (sym k ∙ e)) ∙ g in cc)
 
 -- an item is given
-pub item_given : (x : LibraryItem) → given_next (next_of x) ≡ [] → ⊥
-item_given (item.Cell group) e = cc
-item_given (item.Unit unit) e = cc
-item_given (item.LeftOut at) e = cc
-item_given (item.BusType group) e = cc
+pub item_given : (x : LibraryItem) → given_next (next.Item x) ≡ [] → ⊥
+item_given x e = cc

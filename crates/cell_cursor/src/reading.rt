@@ -10,7 +10,6 @@ ghost use Rattle.cell_cursor.specs.Leads.{is_start};
 ghost use Rattle.cell_cursor.specs.Scanned.{stop_behind};
 
 use crate::cursor::Answer;
-use crate::fault::CursorFault;
 use crate::item::LibraryItem;
 use crate::part::Place;
 use crate::statements::read_rest;
@@ -119,7 +118,7 @@ fn answer_by(whole: bool, fault: Option<LibraryFault>) -> Answer
     match fault {
         None if whole => Answer::End,
         None => Answer::Over,
-        Some(fault) if whole => Answer::Fault(CursorFault::Library(fault)),
+        Some(fault) if whole => Answer::Fault(fault),
         Some(fault) => Answer::Refused(fault),
     }
 }

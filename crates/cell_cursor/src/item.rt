@@ -4,7 +4,7 @@ ghost use Rattle.std.specs.Prelude.{◌≡◌};
 ghost use Rattle.std.specs.Option.{option_to_list};
 ghost use Rattle.cell_cursor.specs.Items.{named_item, given};
 
-use liberty_groups::{End, Group, Item, UnitLine, Values, one_text};
+use liberty_groups::{End, Group, Item, UnitLine, one_text};
 
 /// What is read of a library: an item.
 #[derive(Drop)]
@@ -40,19 +40,6 @@ fn named_item(name: &[u8], at: usize) -> Option<LibraryItem>
     }
 }
 
-/// The item that a simple attribute of the library is.
-#[tactic(auto, unfolding(crate::specs::Items::given))]
-fn simple_item(name: &[u8], value: Values, at: usize) -> Option<LibraryItem>
-    ensures { option_to_list result ≡ given (Item.Simple name.now value at) }
-{
-    if name == b"time_unit".as_slice() {
-        let value = one_text(value);
-        Some(LibraryItem::Unit(UnitLine { value, at }))
-    } else {
-        named_item(name, at)
-    }
-}
-
 /// The item that a group of the library is.
 #[tactic(auto, unfolding(crate::specs::Items::given))]
 fn group_item(group: Group) -> Option<LibraryItem>
@@ -73,7 +60,14 @@ pub(crate) fn item_of(statement: Item) -> Option<LibraryItem>
     ensures { option_to_list result ≡ given statement }
 {
     match statement {
-        Item::Simple { name, value, at } => simple_item(name.as_slice(), value, at),
+        Item::Simple { name, value, at } => {
+            if name.as_slice() == b"time_unit".as_slice() {
+                let value = one_text(value);
+                Some(LibraryItem::Unit(UnitLine { value, at }))
+            } else {
+                named_item(name.as_slice(), at)
+            }
+        }
         Item::Complex { name, at, .. } => named_item(name.as_slice(), at),
         Item::Inner(group) => group_item(group),
     }

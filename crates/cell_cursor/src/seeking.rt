@@ -6,7 +6,7 @@ ghost use Rattle.text_io.specs.declared.slots.InSlot.TheVariants.{Library};
 ghost use Rattle.text_io.specs.declared.slots.Slot.TheVariants.{Input};
 ghost use Rattle.text_io.specs.Desk.{is_bound, Rose};
 ghost use Rattle.liberty_text.specs.declared.scanner.Mode.TheVariants.{Between};
-ghost use Rattle.cell_cursor.specs.Progress.{taken_by, to_do, may_have_ended, is_whole};
+ghost use Rattle.cell_cursor.specs.Progress.{taken_by, to_do, may_have_ended, is_whole, ReadsNothing};
 ghost use Rattle.cell_cursor.specs.declared.item.LibraryItem.{LibraryItem as Given};
 ghost use Rattle.cell_cursor.specs.Stands.{answered, given_by, is_going, is_failed, is_failure, tells_failure, is_ended};
 ghost use Rattle.cell_cursor.specs.Stands.{Goes, GoesBy, Stands, Advances, Moves, IsSettled, IsAnswered};
@@ -32,6 +32,15 @@ pub(crate) enum Scanned {
     Misfit,
     /// The name of a statement ended with the last tokens, and the statements before it ended without a semicolon or a brace.
     Name,
+}
+
+impl Scanned {
+    /// Whether all that was read is scanned.
+    fn is_whole(self) -> bool
+        ensures { result ≡ is_whole self }
+    {
+        matches!(self, Scanned::All)
+    }
 }
 
 impl CellCursor {
@@ -88,8 +97,8 @@ impl CellCursor {
         requires scanned { self.old.piece ≡ [] }
         requires full { self.old.part.before + length self.old.part.bytes ≡ self.old.limit }
         ensures advances { Advances result self.old self.new (D.state desk.old) (D.state desk.new) }
-        ensures settled { OnOk result (is_going self.new.answer ≡ false) }
         ensures never { OnOk result (is_failed self.new.answer ≡ false) }
+        ensures settled { OnOk result (is_going self.new.answer ≡ false) }
         ensures empty { OnErr result (self.new.waiting.items ≡ []) }
         ensures later { D.faults desk.old ≤ D.faults desk.new }
         ensures kept { OnOk result (D.faults desk.new ≡ D.faults desk.old) }
@@ -102,26 +111,21 @@ impl CellCursor {
         Ok(())
     }
 
-    /// Takes some statements, or reads on.
-    fn advance<D: Desk>(&mut self, desk: &mut D) -> Result<(), Stop>
+    /// Reads on where all that was read is scanned, or takes what there is of a library that has ended or comes to the limit.
+    fn read_on<D: Desk>(&mut self, desk: &mut D) -> Result<(), Stop>
         requires bound { IsTrue (is_bound (D.state desk.old) (Input Library)) }
         requires going { self.old.answer ≡ None }
         requires none_waits { self.old.waiting.items ≡ [] }
+        requires scanned { self.old.piece ≡ [] }
+        ensures later { D.faults desk.old ≤ D.faults desk.new }
+        ensures kept { OnOk result (D.faults desk.new ≡ D.faults desk.old) }
         ensures advances { Advances result self.old self.new (D.state desk.old) (D.state desk.new) }
         ensures progress { OnOk result (is_going self.new.answer ≡ true → to_do self.new < to_do self.old) }
         ensures never { OnOk result (is_failed self.new.answer ≡ false) }
         ensures empty { OnErr result (self.new.waiting.items ≡ []) }
-        ensures later { D.faults desk.old ≤ D.faults desk.new }
-        ensures kept { OnOk result (D.faults desk.new ≡ D.faults desk.old) }
         ensures clean { IfErr result (λ stop. is_failure stop ≡ false → D.faults desk.new ≡ D.faults desk.old) }
         ensures failed { IfErr result (λ stop. stop ≡ Stop.Failed → Rose (D.faults desk.old) (D.faults desk.new)) }
     {
-        match self.scan_on()? {
-            Scanned::MayEnd => return Ok(self.take_part(true)?),
-            Scanned::Misfit => return Ok(self.take_part(false)?),
-            Scanned::Name => return Ok(self.take_before_name()?),
-            Scanned::All => {}
-        }
         let taken = self.part.before() + self.part.bytes().len();
         if taken == self.limit {
             return self.take_at_limit(desk);
@@ -130,6 +134,47 @@ impl CellCursor {
             self.take_end(true)?;
         }
         Ok(())
+    }
+
+    /// Takes statements of the part, or sees which token is refused, where scanning went no further for this.
+    fn take_scanned(&mut self, scanned: Scanned) -> Result<(), AllocError>
+        requires going { self.old.answer ≡ None }
+        requires mode { may_have_ended scanned ≡ true → self.old.part.mode ≡ Between false }
+        requires none_waits { self.old.waiting.items ≡ [] }
+        ensures reading { ReadsNothing self.old self.new }
+        ensures stands { OnOk result ((bytes : List ℕ) (items : List Given) → GoesBy (may_have_ended scanned) self.old bytes items
+            → Stands self.new bytes items) }
+        ensures never { is_failed self.old.answer ≡ false → is_failed self.new.answer ≡ false }
+        ensures open { OnOk result (is_ended self.new.answer ≡ false) }
+        ensures err { OnErr result (self.new.waiting.items ≡ []) }
+    {
+        match scanned {
+            Scanned::MayEnd => self.take_part(true),
+            Scanned::Misfit => self.take_part(false),
+            Scanned::Name => self.take_before_name(),
+            Scanned::All => Ok(()),
+        }
+    }
+
+    /// Takes some statements, or reads on.
+    fn advance<D: Desk>(&mut self, desk: &mut D) -> Result<(), Stop>
+        requires bound { IsTrue (is_bound (D.state desk.old) (Input Library)) }
+        requires going { self.old.answer ≡ None }
+        requires none_waits { self.old.waiting.items ≡ [] }
+        ensures advances { Advances result self.old self.new (D.state desk.old) (D.state desk.new) }
+        ensures progress { OnOk result (is_going self.new.answer ≡ true → to_do self.new < to_do self.old) }
+        ensures later { D.faults desk.old ≤ D.faults desk.new }
+        ensures kept { OnOk result (D.faults desk.new ≡ D.faults desk.old) }
+        ensures clean { IfErr result (λ stop. is_failure stop ≡ false → D.faults desk.new ≡ D.faults desk.old) }
+        ensures failed { IfErr result (λ stop. stop ≡ Stop.Failed → Rose (D.faults desk.old) (D.faults desk.new)) }
+        ensures never { OnOk result (is_failed self.new.answer ≡ false) }
+        ensures empty { OnErr result (self.new.waiting.items ≡ []) }
+    {
+        let scanned = self.scan_on()?;
+        if scanned.is_whole() {
+            return self.read_on(desk);
+        }
+        Ok(self.take_scanned(scanned)?)
     }
 
     /// Takes some statements or reads on, or is settled at why it stopped.

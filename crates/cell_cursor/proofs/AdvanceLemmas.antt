@@ -4,19 +4,18 @@ use Rattle.std.proofs.Common.{Option, Some, None, Result, Ok, Err, IfSome, refl,
 use Rattle.std.proofs.lemmas.List.{append-nil}
 use Rattle.std.specs.Option.{option_map}
 use Rattle.text_io.specs.declared.slots.InSlot.TheVariants.{Library}
+use Rattle.text_io.specs.declared.stop.Stop.{Stop}
 use Rattle.text_io.specs.Desk.{DeskState}
 use Rattle.text_io.proofs.Took.{left_after}
 use Rattle.cell_cursor.specs.declared.cursor.Answer.{Answer}
 use Rattle.cell_cursor.specs.declared.cursor.Answer.TheVariants as answer
 use Rattle.cell_cursor.specs.declared.cursor.CellCursor.{CellCursor}
-use Rattle.cell_cursor.specs.declared.fault.CursorFault.{CursorFault}
-use Rattle.cell_cursor.specs.declared.fault.CursorFault.TheVariants as fault
 use Rattle.cell_cursor.specs.declared.item.LibraryItem.{LibraryItem}
 use Rattle.cell_cursor.specs.Ends.{AreFirst}
 use Rattle.cell_cursor.specs.Finish.{part_outcome, answer_at}
 use Rattle.cell_cursor.specs.Given.{HasGiven}
 use Rattle.cell_cursor.specs.Items.{items_in}
-use Rattle.cell_cursor.specs.Stands.{is_going, is_ended, is_library, NothingLeft, Goes, GoesBy, Knows, Stands, Advances, Moves}
+use Rattle.cell_cursor.specs.Stands.{is_going, is_ended, NothingLeft, Goes, GoesBy, Knows, Stands, Advances, Moves}
 use Rattle.cell_cursor.specs.Taking.{Takes}
 use Rattle.cell_cursor.proofs.SeekingLemmas.{front_goes}
 use Rattle.cell_cursor.proofs.TakingLemmas.{takes_none}
@@ -43,12 +42,7 @@ pub going_on : {P : Type 0} (a : Option Answer) → is_going a ≡ true → is_e
 going_on None e h = absurd cc
 going_on (Some a) e h = absurd cc
 
-fault_goes : (f : CursorFault) → is_library f ≡ false → is_ended (Some (answer.Fault f)) ≡ false
-fault_goes (fault.Library l) e = absurd cc
-fault_goes fault.Failed e = refl
-fault_goes fault.Memory e = refl
-
-pub advance_fails : (o n : CellCursor) (s t : DeskState) (xs : List ℕ) (f : CursorFault) → Takes s t xs → n.limit ≡ o.limit
+pub advance_fails : (o n : CellCursor) (s t : DeskState) (xs : List ℕ) (f : Stop) → Takes s t xs → n.limit ≡ o.limit
     → n.waiting.items ≡ [] → length xs ≤ 16384 →
     o.part.before + (length o.part.bytes + length o.piece) + length xs ≤ o.limit + 1 → Advances (Err f) o n s t
 advance_fails o n s t xs f h limit_is none few most = record {
@@ -65,11 +59,11 @@ advance_fails o n s t xs f h limit_is none few most = record {
   ended = tt;
 }
 
-pub advance_failed : (r : Result (Unit {0}) CursorFault) (f : CursorFault) (o n : CellCursor) (s t : DeskState) (xs : List ℕ)
+pub advance_failed : (r : Result (Unit {0}) Stop) (f : Stop) (o n : CellCursor) (s t : DeskState) (xs : List ℕ)
     → r ≡ Err f → Takes s t xs → n.limit ≡ o.limit → n.waiting.items ≡ [] → length xs ≤ 16384 →
     o.part.before + (length o.part.bytes + length o.piece) + length xs ≤ o.limit + 1 → Advances r o n s t
 advance_failed r f o n s t xs e h limit_is none few most =
-    subst (λ (v : Result (Unit {0}) CursorFault). Advances v o n s t) (sym e)
+    subst (λ (v : Result (Unit {0}) Stop). Advances v o n s t) (sym e)
     (advance_fails o n s t xs f h limit_is none few most)
 
 -- statements were taken, or it was seen whether a token is refused
@@ -173,17 +167,11 @@ advance_limit o m n s t (y ∷ []) count scans limit_is none full h size most li
 advance_limit o m n s t (y ∷ z ∷ xs) count scans limit_is none full h size most limit_on answer_is waits source =
     absurd (omega (arith, size, most))
 
-fault_known : (n : CellCursor) (f : CursorFault) → is_library f ≡ false → (bytes : List ℕ) (all : List LibraryItem)
-    → AreFirst n.limit bytes all → Knows (Some (answer.Fault f)) n bytes all
-fault_known n (fault.Library l) e bytes all h = absurd cc
-fault_known n fault.Failed e bytes all h = h
-fault_known n fault.Memory e bytes all h = h
-
--- a step that failed settles the cursor
-pub settles_fault : (o m n : CellCursor) (s t : DeskState) (f : CursorFault) → o.answer ≡ None → o.waiting.items ≡ []
-    → is_library f ≡ false → Advances (Err f) o m s t → n.limit ≡ m.limit → n.answer ≡ Some (answer.Fault f)
+-- a step that stopped settles the cursor
+pub settles_stop : (o m n : CellCursor) (s t : DeskState) (f : Stop) → o.answer ≡ None → o.waiting.items ≡ []
+    → Advances (Err f) o m s t → n.limit ≡ m.limit → n.answer ≡ Some (answer.Stopped f)
     → n.waiting.items ≡ m.waiting.items → Moves o n s t []
-settles_fault o m n s t f going none kind a limit_on answer_is waits = record {
+settles_stop o m n s t f going none a limit_on answer_is waits = record {
   taken = a.taken;
   takes = a.takes;
   limit = limit_on ∙ a.limit;
@@ -191,14 +179,13 @@ settles_fault o m n s t f going none kind a limit_on answer_is waits = record {
       (let g = goes_of o bytes items going none st in
       let k = a.stands bytes items g in
       subst (λ (l : List LibraryItem). Stands n (bytes ++ a.taken) l) (sym (append-nil items))
-      (stands_by n (Some (answer.Fault f)) (bytes ++ a.taken) items [] answer_is (waits ∙ k.0)
-      (fault_known n f kind (bytes ++ a.taken) (items ++ [])
+      (stands_by n (Some (answer.Stopped f)) (bytes ++ a.taken) items [] answer_is (waits ∙ k.0)
       (subst (λ (l : ℕ). AreFirst l (bytes ++ a.taken) (items ++ [])) (sym limit_on)
-      (subst (λ (m' : List LibraryItem). AreFirst m.limit (bytes ++ a.taken) m') (sym (append-nil items)) k.1)))
+      (subst (λ (m' : List LibraryItem). AreFirst m.limit (bytes ++ a.taken) m') (sym (append-nil items)) k.1))
       (let j = k.2 in omega (arith, j, limit_on))
       (a.given bytes items g)));
   given_before = λ bytes items st. a.given bytes items (goes_of o bytes items going none st);
-  ended = λ _. never_ended n.answer (ap is_ended answer_is ∙ fault_goes f kind);
+  ended = λ _. never_ended n.answer (ap is_ended answer_is);
 }
 
 -- a step that did not fail
@@ -215,7 +202,7 @@ settles_step o n s t going none a = record {
 }
 
 -- a step after some scanning
-pub advance_scanned : (r : Result (Unit {0}) CursorFault) (o m n : CellCursor) (s t : DeskState)
+pub advance_scanned : (r : Result (Unit {0}) Stop) (o m n : CellCursor) (s t : DeskState)
     → ((bytes : List ℕ) (items : List LibraryItem) → Goes o bytes items → Goes m bytes items) →
     m.limit ≡ o.limit → Advances r m n s t → Advances r o n s t
 advance_scanned r o m n s t scans limit_is a = record {

@@ -33,7 +33,6 @@ use Rattle.liberty_groups.proofs.Completions.{used_stands, stands_used}
 use Rattle.liberty_groups.proofs.Exactly.{reads_so}
 use Rattle.cell_cursor.specs.declared.cursor.Answer.{Answer}
 use Rattle.cell_cursor.specs.declared.cursor.Answer.TheVariants as answer
-use Rattle.cell_cursor.specs.declared.fault.CursorFault.TheVariants as fault
 use Rattle.cell_cursor.specs.declared.item.LibraryItem.{LibraryItem}
 use Rattle.cell_cursor.specs.declared.part.Place.{Place}
 use Rattle.cell_cursor.specs.declared.part.Place.TheVariants as place
@@ -242,7 +241,7 @@ abbrev pub answer_for : Bool → Ending → Answer
 answer_for true Whole = answer.End
 answer_for false Whole = answer.Over
 answer_for w Cut = answer.Over
-answer_for true (Fault f) = answer.Fault (fault.Library f)
+answer_for true (Fault f) = answer.Fault f
 answer_for false (Fault f) = answer.Refused f
 
 by_fault : (w : Bool) (o : Option LibraryFault) → answer_by w o ≡ answer_for w (end_by o)

@@ -1,17 +1,16 @@
 -- One call of a cursor, step after step.
-use Rattle.std.proofs.Common.{◌≡◌, ℕ, true, List, [], ◌++◌, Some, Result, refl, sym, ap, subst, ◌∙◌}
+use Rattle.std.proofs.Common.{◌≡◌, ℕ, true, List, [], ◌∷◌, ◌++◌, Some, Result, refl, sym, ap, subst, ◌∙◌}
 use Rattle.std.specs.Option.{option_to_list}
 use Rattle.std.proofs.lemmas.List.{append_assoc, append-nil}
+use Rattle.text_io.specs.declared.stop.Stop.{Stop}
 use Rattle.text_io.specs.Desk.{DeskState}
 use Rattle.cell_cursor.specs.declared.cursor.Answer.{Answer}
 use Rattle.cell_cursor.specs.declared.cursor.Answer.TheVariants as answer
 use Rattle.cell_cursor.specs.declared.cursor.CellCursor.{CellCursor}
-use Rattle.cell_cursor.specs.declared.fault.CursorFault.{CursorFault}
 use Rattle.cell_cursor.specs.declared.item.LibraryItem.{LibraryItem}
 use Rattle.cell_cursor.specs.Given.{HasGiven}
-use Rattle.cell_cursor.specs.Items.{next_of}
 use Rattle.cell_cursor.specs.declared.item.Next.{Next}
-use Rattle.cell_cursor.specs.Stands.{answered, given_by, is_going, is_ended, given_next, Stands, Moves}
+use Rattle.cell_cursor.specs.Stands.{answered, given_by, is_going, is_ended, Stands, Moves}
 use Rattle.cell_cursor.proofs.TakingLemmas.{takes_none, takes_more}
 use Rattle.cell_cursor.proofs.StandsLemmas.{stands_same, stands_popped}
 use Rattle.cell_cursor.proofs.AdvanceLemmas.{going_on}
@@ -55,8 +54,9 @@ given_answer answer.Over = refl
 given_answer answer.End = refl
 given_answer (answer.Refused f) = refl
 given_answer (answer.Fault f) = refl
+given_answer (answer.Stopped stop) = refl
 
-pub moves_answered : (o m n : CellCursor) (s t : DeskState) (a : Answer) (r : Result Next CursorFault) → r ≡ answered a
+pub moves_answered : (o m n : CellCursor) (s t : DeskState) (a : Answer) (r : Result Next Stop) → r ≡ answered a
     → n.limit ≡ m.limit → n.place ≡ m.place → n.piece ≡ m.piece → n.part ≡ m.part → n.answer ≡ m.answer
     → n.waiting.items ≡ m.waiting.items →
     Moves o m s t [] → Moves o n s t (given_by r)
@@ -70,18 +70,17 @@ moves_answered o m n s t a r e b c d f g w h =
       ended = λ first end. h.ended first (sym (ap is_ended g) ∙ end);
     })
 
-pub moves_given : (o m n : CellCursor) (s t : DeskState) (x : LibraryItem) (v : Next) → v ≡ next_of x
+pub moves_given : (o m n : CellCursor) (s t : DeskState) (x : LibraryItem)
     → m.waiting.items ≡ n.waiting.items ++ option_to_list (Some x) → n.limit ≡ m.limit → n.answer ≡ m.answer → n.place ≡ m.place
     → n.piece ≡ m.piece → n.part ≡ m.part →
-    Moves o m s t [] → Moves o n s t (given_next v)
-moves_given o m n s t x v e popped a b c d f h =
-    subst (λ (w : Next). Moves o n s t (given_next w)) (sym e) (record {
-      taken = h.taken;
-      takes = h.takes;
-      limit = a ∙ h.limit;
-      stands = λ bytes items st.
-          stands_popped m n x popped a b c d f (bytes ++ h.taken) items
-          (subst (λ (l : List LibraryItem). Stands m (bytes ++ h.taken) l) (append-nil items) (h.stands bytes items st));
-      given_before = h.given_before;
-      ended = λ first end. h.ended first (sym (ap is_ended b) ∙ end);
-    })
+    Moves o m s t [] → Moves o n s t (x ∷ [])
+moves_given o m n s t x popped a b c d f h = record {
+  taken = h.taken;
+  takes = h.takes;
+  limit = a ∙ h.limit;
+  stands = λ bytes items st.
+      stands_popped m n x popped a b c d f (bytes ++ h.taken) items
+      (subst (λ (l : List LibraryItem). Stands m (bytes ++ h.taken) l) (append-nil items) (h.stands bytes items st));
+  given_before = h.given_before;
+  ended = λ first end. h.ended first (sym (ap is_ended b) ∙ end);
+}

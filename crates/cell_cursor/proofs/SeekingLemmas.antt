@@ -1,7 +1,9 @@
 -- What a call of a cursor has read and has still to do.
 use Rattle.std.proofs.Common.{◌≡◌, ℕ, ◌+◌, ◌-◌, ◌*◌, ◌<◌, ◌≤◌, Bool, true, false, not, ◌&&◌, cond, List, [], length, Option, Some}
-use Rattle.std.proofs.Common.{None, refl, sym, ap, subst, ◌∙◌, arith}
+use Rattle.std.specs.Prelude.{OnOk}
+use Rattle.std.proofs.Common.{None, Result, Ok, Err, refl, sym, ap, subst, ◌∙◌, arith}
 use Rattle.text_io.specs.Desk.{Rose}
+use Rattle.text_io.specs.declared.stop.Stop.{Stop}
 use Rattle.liberty_groups.specs.declared.fault.LibraryFault.{LibraryFault}
 use Rattle.liberty_groups.specs.Answer.{fault_of}
 use Rattle.liberty_text.specs.Scanner.{scan_of}
@@ -10,12 +12,13 @@ use Rattle.cell_cursor.specs.declared.cursor.Answer.TheVariants as answer
 use Rattle.cell_cursor.specs.declared.cursor.CellCursor.{CellCursor}
 use Rattle.cell_cursor.specs.declared.part.Place.{Place}
 use Rattle.cell_cursor.specs.Finish.{part_halt, may_go_on, answer_by, answer_at}
-use Rattle.cell_cursor.specs.Progress.{taken_by, to_do}
+use Rattle.cell_cursor.specs.Progress.{taken_by, to_do, is_whole, may_have_ended}
+use Rattle.cell_cursor.specs.declared.seeking.Scanned.{Scanned}
+use Rattle.cell_cursor.specs.declared.seeking.Scanned.TheVariants as scanned
 use Rattle.cell_cursor.specs.Scanned.{stop_behind}
 use Rattle.cell_cursor.specs.declared.item.LibraryItem.{LibraryItem}
-use Rattle.cell_cursor.specs.declared.item.LibraryItem.TheVariants as item
-use Rattle.cell_cursor.specs.Items.{next_of}
-use Rattle.cell_cursor.specs.Stands.{given_next, is_going, is_failed, is_ended}
+use Rattle.cell_cursor.specs.declared.item.Next.TheVariants as next
+use Rattle.cell_cursor.specs.Stands.{given_next, is_going, is_failed, is_ended, Goes, GoesBy}
 
 -- a byte was scanned, and the rest of the piece is shorter
 pub less_to_do : (o m n : CellCursor) → m.limit ≡ o.limit → taken_by m ≡ taken_by o → length m.piece < length o.piece
@@ -28,6 +31,30 @@ less_to_do o m n a b c d e f =
     let same : 2 * (n.limit - taken_by n) ≡ 2 * (o.limit - taken_by o) = ap (λ (l : ℕ). 2 * (l - taken_by n)) limit
     ∙ ap (λ (t : ℕ). 2 * (o.limit - t)) taken in
     omega (arith, same, size, c)
+
+-- nothing was read, and nothing is left to scan
+pub to_do_scanned : (o m : CellCursor) → m.limit ≡ o.limit → taken_by m ≡ taken_by o → m.piece ≡ [] → to_do m ≤ to_do o
+unfolding to_do
+to_do_scanned o m a b c =
+    let none = ap length c in
+    let same : 2 * (m.limit - taken_by m) ≡ 2 * (o.limit - taken_by o) = ap (λ (l : ℕ). 2 * (l - taken_by m)) a
+    ∙ ap (λ (t : ℕ). 2 * (o.limit - t)) b in
+    omega (arith, same, none)
+
+-- less than what was not more
+pub less_before : (P : Type 0) (r : Result (Unit {0}) Stop) (first between last : ℕ) → between ≤ first
+    → OnOk r (P → last < between) → OnOk r (P → last < first)
+less_before P (Ok u) first between last most less = λ p. (let k = less p in omega (arith, k, most))
+less_before P (Err stop) first between last most less = tt
+
+-- where all is scanned, no statement may have ended
+pub going_whole : (s : Scanned) (o m : CellCursor) → is_whole s ≡ true
+    → ((bytes : List ℕ) (items : List LibraryItem) → Goes o bytes items → GoesBy (may_have_ended s) m bytes items)
+    → (bytes : List ℕ) (items : List LibraryItem) → Goes o bytes items → Goes m bytes items
+going_whole scanned.All o m e h = h
+going_whole scanned.MayEnd o m e h = absurd cc
+going_whole scanned.Misfit o m e h = absurd cc
+going_whole scanned.Name o m e h = absurd cc
 
 -- a piece was read
 pub read_to_do : (o m n : CellCursor) (count : ℕ) → m.limit ≡ o.limit → taken_by m ≡ taken_by o → m.piece ≡ [] → n.limit ≡ m.limit
@@ -111,8 +138,5 @@ pub not_going : {B : Type 0} (now first : Option Answer) → now ≡ None → is
 not_going now first e g k = absurd (let h : true ≡ false = sym (ap is_going (sym k ∙ e)) ∙ g in cc)
 
 -- an item is given
-pub item_given : (x : LibraryItem) → given_next (next_of x) ≡ [] → ⊥
-item_given (item.Cell group) e = cc
-item_given (item.Unit unit) e = cc
-item_given (item.LeftOut at) e = cc
-item_given (item.BusType group) e = cc
+pub item_given : (x : LibraryItem) → given_next (next.Item x) ≡ [] → ⊥
+item_given x e = cc

@@ -19,7 +19,6 @@ use Rattle.liberty_groups.specs.Answer.{end_of_bytes}
 use Rattle.cell_cursor.specs.declared.cursor.Answer.{Answer}
 use Rattle.cell_cursor.specs.declared.cursor.Answer.TheVariants as answer
 use Rattle.cell_cursor.specs.declared.cursor.CellCursor.{CellCursor}
-use Rattle.cell_cursor.specs.declared.fault.CursorFault.TheVariants as fault
 use Rattle.cell_cursor.specs.declared.item.LibraryItem.{LibraryItem}
 use Rattle.cell_cursor.specs.declared.item.LibraryItem.TheVariants as item
 use Rattle.cell_cursor.specs.declared.part.Place.{Place}
@@ -28,13 +27,13 @@ use Rattle.cell_cursor.specs.Ends.{end_within, items_within, ReadsSo, AreFirst}
 use Rattle.cell_cursor.specs.Braces.{has_outer, LastMayBeOuter, LastIsNotOuter, kinds_of, lexeme_kinds}
 use Rattle.cell_cursor.specs.Finish.{part_outcome, answer_at}
 use Rattle.cell_cursor.specs.Given.{closed_items, IsFrontOf, HasSeen, HasGiven}
-use Rattle.cell_cursor.specs.Items.{rest_at, items_in, items_of_bytes, next_of}
+use Rattle.cell_cursor.specs.Items.{rest_at, items_in, items_of_bytes}
 use Rattle.cell_cursor.specs.Leads.{LeadTo, is_start}
 use Rattle.cell_cursor.specs.declared.statements.Reached.{Reached}
 use Rattle.cell_cursor.specs.declared.statements.Reached.TheVariants as reached
 use Rattle.cell_cursor.specs.Reached.{Comes, is_settled}
 use Rattle.cell_cursor.specs.Scanned.{Scanned, AreScanned}
-use Rattle.cell_cursor.specs.Stands.{given_next, Keeps, Goes, MayTake, GoesBy, Knows, Stands}
+use Rattle.cell_cursor.specs.Stands.{Keeps, Goes, MayTake, GoesBy, Knows, Stands}
 use Rattle.cell_cursor.proofs.EndsLemmas.{refused_reads, part_items, part_answers, answer_for, never_cut, never_whole}
 use Rattle.cell_cursor.specs.Part.{all_scanned}
 use Rattle.cell_cursor.specs.Progress.{scanned_by}
@@ -410,19 +409,12 @@ stands_going c bytes items e w g l =
     stands_by c None bytes items [] e w (subst (λ (m : List LibraryItem). Goes c bytes m) (sym (append-nil items)) g) l
     (given_still c bytes items g.keeps (seen_before (scanned_by c) bytes items g.seen))
 
-one_given : (x : LibraryItem) → given_next (next_of x) ≡ x ∷ []
-one_given (item.Cell group) = refl
-one_given (item.Unit unit) = refl
-one_given (item.LeftOut at) = refl
-one_given (item.BusType group) = refl
-
 popped_given : (items old new : List LibraryItem) (x : LibraryItem) → old ≡ new ++ option_to_list (Some x)
-    → items ++ reverse old ≡ (items ++ given_next (next_of x)) ++ reverse new
+    → items ++ reverse old ≡ (items ++ x ∷ []) ++ reverse new
 popped_given items old new x popped =
     ap (λ (l : List LibraryItem). items ++ reverse l) popped
     ∙ ap (λ (l : List LibraryItem). items ++ l) (reverse-append new (x ∷ []))
     ∙ sym (append_assoc items (x ∷ []) (reverse new))
-    ∙ ap (λ (l : List LibraryItem). (items ++ l) ++ reverse new) (sym (one_given x))
 
 keeps_same : (o n : CellCursor) → n.place ≡ o.place → n.piece ≡ o.piece → n.part ≡ o.part
     → (bytes : List ℕ) (all : List LibraryItem) → Keeps o bytes all → Keeps n bytes all
@@ -453,11 +445,9 @@ knows_on o n limit_is place_is piece_is part_is (Some answer.End) bytes all k =
     subst (λ (l : ℕ). ReadsSo l bytes all Whole) (sym limit_is) k
 knows_on o n limit_is place_is piece_is part_is (Some (answer.Refused f)) bytes all k =
     λ more. subst (λ (l : ℕ). ReadsSo l (bytes ++ more) all (Fault f)) (sym limit_is) (k more)
-knows_on o n limit_is place_is piece_is part_is (Some (answer.Fault (fault.Library f))) bytes all k =
+knows_on o n limit_is place_is piece_is part_is (Some (answer.Fault f)) bytes all k =
     subst (λ (l : ℕ). ReadsSo l bytes all (Fault f)) (sym limit_is) k
-knows_on o n limit_is place_is piece_is part_is (Some (answer.Fault fault.Failed)) bytes all k =
-    subst (λ (l : ℕ). AreFirst l bytes all) (sym limit_is) k
-knows_on o n limit_is place_is piece_is part_is (Some (answer.Fault fault.Memory)) bytes all k =
+knows_on o n limit_is place_is piece_is part_is (Some (answer.Stopped stop)) bytes all k =
     subst (λ (l : ℕ). AreFirst l bytes all) (sym limit_is) k
 
 pub stands_same : (o n : CellCursor) (bytes : List ℕ) (items : List LibraryItem) → n.limit ≡ o.limit → n.place ≡ o.place
@@ -475,15 +465,15 @@ stands_same o n bytes items a b c d e w st = record {
 -- an item that waited was given
 pub stands_popped : (o n : CellCursor) (x : LibraryItem) → o.waiting.items ≡ n.waiting.items ++ option_to_list (Some x)
     → n.limit ≡ o.limit → n.answer ≡ o.answer → n.place ≡ o.place → n.piece ≡ o.piece → n.part ≡ o.part →
-    (bytes : List ℕ) (items : List LibraryItem) → Stands o bytes items → Stands n bytes (items ++ given_next (next_of x))
+    (bytes : List ℕ) (items : List LibraryItem) → Stands o bytes items → Stands n bytes (items ++ x ∷ [])
 stands_popped o n x popped limit_is answer_is place_is piece_is part_is bytes items st = record {
   known =
-      subst (λ (v : Option Answer). Knows v n bytes ((items ++ given_next (next_of x)) ++ reverse n.waiting.items))
+      subst (λ (v : Option Answer). Knows v n bytes ((items ++ x ∷ []) ++ reverse n.waiting.items))
       (sym answer_is)
       (subst (λ (l : List LibraryItem). Knows o.answer n bytes l) (popped_given items o.waiting.items n.waiting.items x popped)
       (knows_on o n limit_is place_is piece_is part_is o.answer bytes (items ++ reverse o.waiting.items) st.known));
   within = (let k = st.within in omega (arith, k, limit_is));
-  given = given_items bytes items (given_next (next_of x)) st.given;
+  given = given_items bytes items (x ∷ []) st.given;
 }
 
 -- a cursor that has read nothing

@@ -12,7 +12,6 @@ use Rattle.liberty_groups.specs.Lexeme.{Lexeme, lexemes_behind}
 use Rattle.liberty_groups.specs.Answer.{is_nil, is_last, is_end, halt_at, fault_of, closed_text}
 use Rattle.cell_cursor.specs.declared.cursor.Answer.{Answer}
 use Rattle.cell_cursor.specs.declared.cursor.Answer.TheVariants as answer
-use Rattle.cell_cursor.specs.declared.fault.CursorFault.TheVariants as fault
 use Rattle.cell_cursor.specs.declared.item.LibraryItem.{LibraryItem}
 use Rattle.cell_cursor.specs.declared.part.Place.{Place}
 use Rattle.cell_cursor.specs.Items.{rest_at}
@@ -55,7 +54,7 @@ may_go_on here n bytes _ stop = goes_on_from here n bytes stop
 abbrev pub answer_by : Bool → Option LibraryFault → Answer
 answer_by true None = answer.End
 answer_by false None = answer.Over
-answer_by true (Some f) = answer.Fault (fault.Library f)
+answer_by true (Some f) = answer.Fault f
 answer_by false (Some f) = answer.Refused f
 
 -- how a library ends with a part or, where that is not whole, comes to its limit with it

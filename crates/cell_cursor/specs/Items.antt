@@ -25,8 +25,6 @@ use Rattle.cell_cursor.specs.declared.item.LibraryItem.{LibraryItem}
 use Rattle.cell_cursor.specs.declared.item.LibraryItem.TheVariants as item
 use Rattle.cell_cursor.specs.declared.part.Place.{Place}
 use Rattle.cell_cursor.specs.declared.part.Place.TheVariants as place
-use Rattle.cell_cursor.specs.declared.item.Next.{Next}
-use Rattle.cell_cursor.specs.declared.item.Next.TheVariants as next
 
 -- a statement that is neither cell nor type nor time unit
 abbrev pub named_item : List ℕ → ℕ → List LibraryItem
@@ -63,13 +61,6 @@ is_group statement = is_group_by (out-Item statement)
 abbrev pub has_ended : Item → List Lexeme → Bool
 has_ended statement [] = is_group statement
 has_ended statement (x ∷ left) = true
-
--- an item, as what comes next
-abbrev pub next_of : LibraryItem → Next
-next_of (item.Cell group) = next.Cell group
-next_of (item.Unit unit) = next.Unit unit
-next_of (item.LeftOut at) = next.LeftOut at
-next_of (item.BusType group) = next.BusType group
 
 -- A rule whose faults tell the items of the statements that had ended.
 abbrev pub Telling : Type 0 → Type 1

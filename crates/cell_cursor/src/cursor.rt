@@ -2,12 +2,12 @@
 
 ghost use Rattle.std.specs.Prelude.{◌<◌, ◌≤◌, ◌+◌, ◌^◌, length};
 
-use crate::fault::CursorFault;
 use crate::item::LibraryItem;
 use crate::part::{Part, Place};
 use crate::piece::Piece;
 use liberty_groups::LibraryFault;
 use std::alloc::Global;
+use text_io::Stop;
 
 /// What is answered from now on.
 #[derive(Clone, Copy)]
@@ -18,8 +18,10 @@ pub(crate) enum Answer {
     End,
     /// A fault of the library whatever follows the bytes that were read.
     Refused(LibraryFault),
-    /// Any other fault, one of the library among them that ended with these bytes.
-    Fault(CursorFault),
+    /// The end of the library, which has this fault.
+    Fault(LibraryFault),
+    /// A read failed, or there was no memory.
+    Stopped(Stop),
 }
 
 /// A library that is read from a desk, one item after another. It holds a read, the bytes and tokens of the statement that

@@ -2,10 +2,9 @@
 
 ghost use Rattle.std.specs.Prelude.{◌≡◌};
 ghost use Rattle.std.specs.Option.{option_to_list};
-ghost use Rattle.cell_cursor.specs.Items.{named_item, given, next_of};
+ghost use Rattle.cell_cursor.specs.Items.{named_item, given};
 
-use liberty_groups::{Group, Item, UnitLine, Values, one_text};
-use small_bytes::SmallBytes;
+use liberty_groups::{End, Group, Item, UnitLine, one_text};
 
 /// What is read of a library: an item.
 #[derive(Drop)]
@@ -23,19 +22,11 @@ pub enum LibraryItem {
 /// What comes next in a library.
 #[derive(Drop)]
 pub enum Next {
-    /// A group `cell`.
-    Cell(Group),
-    /// A simple attribute `time_unit`.
-    Unit(UnitLine),
-    /// A statement `include_file` of any form, at this offset: it names another file, which is not read.
-    LeftOut(usize),
-    /// A group `type`.
-    BusType(Group),
-    /// The library has more bytes than the limit, all items of so many were given, and some library text begins
-    /// with them.
-    Over,
-    /// The library ended, and all its items were given.
-    End,
+    /// An item.
+    Item(LibraryItem),
+    /// How the library ends, of which all items were given: `Cut` where it has more bytes than the limit, and some library text
+    /// begins with so many of them.
+    Ended(End),
 }
 
 /// The item that a statement of this name is, which is neither cell nor type nor time unit.
@@ -47,18 +38,6 @@ fn named_item(name: &[u8], at: usize) -> Option<LibraryItem>
     } else {
         None
     }
-}
-
-/// The item that a simple attribute of the library is.
-#[tactic(auto, unfolding(crate::specs::Items::given))]
-fn simple_item(name: SmallBytes, value: Values, at: usize) -> Option<LibraryItem>
-    ensures { option_to_list result ≡ given (Item.Simple name value at) }
-{
-    if name.as_slice() == b"time_unit".as_slice() {
-        let value = one_text(value);
-        return Some(LibraryItem::Unit(UnitLine { value, at }));
-    }
-    named_item(name.as_slice(), at)
 }
 
 /// The item that a group of the library is.
@@ -81,20 +60,15 @@ pub(crate) fn item_of(statement: Item) -> Option<LibraryItem>
     ensures { option_to_list result ≡ given statement }
 {
     match statement {
-        Item::Simple { name, value, at } => simple_item(name, value, at),
+        Item::Simple { name, value, at } => {
+            if name.as_slice() == b"time_unit".as_slice() {
+                let value = one_text(value);
+                Some(LibraryItem::Unit(UnitLine { value, at }))
+            } else {
+                named_item(name.as_slice(), at)
+            }
+        }
         Item::Complex { name, at, .. } => named_item(name.as_slice(), at),
         Item::Inner(group) => group_item(group),
-    }
-}
-
-/// An item, as what comes next.
-pub(crate) fn next_of(item: LibraryItem) -> Next
-    ensures { result ≡ next_of item }
-{
-    match item {
-        LibraryItem::Cell(group) => Next::Cell(group),
-        LibraryItem::Unit(unit) => Next::Unit(unit),
-        LibraryItem::LeftOut(at) => Next::LeftOut(at),
-        LibraryItem::BusType(group) => Next::BusType(group),
     }
 }

@@ -4,7 +4,6 @@
 
 mod cursor;
 mod cut;
-mod fault;
 mod item;
 mod laws;
 mod part;
@@ -16,6 +15,5 @@ mod taking;
 mod watch;
 
 pub use cursor::CellCursor;
-pub use fault::CursorFault;
 pub use item::{LibraryItem, Next};
 pub use laws::{items_are_found, items_ascend};

@@ -3,14 +3,14 @@
 ghost use Rattle.std.specs.Prelude.{◌≡◌, ◌<◌, ◌+◌, ◌^◌, ◌&&◌, [], length, OnOk, IfOk};
 ghost use Rattle.grammar_rules.specs.Reading.{read};
 ghost use Rattle.liberty_text.specs.Scanner.{scan_of};
-ghost use Rattle.liberty_groups.specs.Answer.{is_last};
+ghost use Rattle.liberty_groups.specs.Answer.{is_last, is_nil};
 ghost use Rattle.cell_cursor.specs.Items.{rest_at, items_in};
-ghost use Rattle.cell_cursor.specs.Finish.{part_outcome, part_halt, halt_in, goes_on_closed, may_go_on, answer_by, answer_at};
+ghost use Rattle.cell_cursor.specs.Finish.{part_outcome, part_halt, halt_in, left_in, goes_on_closed, may_go_on};
+ghost use Rattle.cell_cursor.specs.Finish.{answer_by, answer_at};
 ghost use Rattle.cell_cursor.specs.Leads.{is_start};
 ghost use Rattle.cell_cursor.specs.Scanned.{stop_behind};
 
 use crate::cursor::Answer;
-use crate::fault::CursorFault;
 use crate::item::LibraryItem;
 use crate::part::Place;
 use crate::statements::read_rest;
@@ -69,8 +69,22 @@ fn halt_of(
     })
 }
 
-/// Whether some library goes on with a part that ends in an open text, once that is closed.
+/// Whether a reading of these bytes of a part, before which so many others stand, takes all their tokens.
 #[tactic(auto, using(liberty_groups::proofs::Inside::lie_inside), unfolding(crate::specs::Finish::part_outcome))]
+fn takes_all(alloc: Global, before: usize, bytes: &[u8], place: Place) -> Result<bool, AllocError>
+    requires { before + length bytes.now < 2 ^ 64 }
+    ensures { IfOk result (λ all. all ≡ is_nil (left_in (part_outcome place before bytes.now))) }
+{
+    let KeptScan { tokens, .. } = scan_kept(alloc, bytes)?;
+    let mut cursor = Cursor::behind(before, bytes, tokens);
+    let mut items = Vec::new(alloc);
+    if let Err(Stop::Memory) = read_rest(&mut cursor, alloc, place, &mut items) {
+        return Err(AllocError);
+    }
+    Ok(cursor.peek().is_none())
+}
+
+/// Whether some library goes on with a part that ends in an open text, once that is closed.
 fn goes_on_closed(
     alloc: Global,
     before: usize,
@@ -82,13 +96,7 @@ fn goes_on_closed(
     let mut closed = Vec::from_slice(alloc, bytes)?;
     closed.extend_from_slice(b" \"")?;
     moved(before, closed.len())?;
-    let KeptScan { tokens, .. } = scan_kept(alloc, &closed)?;
-    let mut cursor = Cursor::behind(before, &closed, tokens);
-    let mut items = Vec::new(alloc);
-    if let Err(Stop::Memory) = read_rest(&mut cursor, alloc, place, &mut items) {
-        return Err(AllocError);
-    }
-    Ok(cursor.peek().is_none())
+    takes_all(alloc, before, &closed, place)
 }
 
 /// Whether some library goes on with a part whose tokens halt and stop so.
@@ -119,14 +127,37 @@ fn answer_by(whole: bool, fault: Option<LibraryFault>) -> Answer
     match fault {
         None if whole => Answer::End,
         None => Answer::Over,
-        Some(fault) if whole => Answer::Fault(CursorFault::Library(fault)),
+        Some(fault) if whole => Answer::Fault(fault),
         Some(fault) => Answer::Refused(fault),
     }
 }
 
+/// The items of a part of these bytes, before which so many others stand, where its tokens halt if it ends with the file, and how
+/// they stop.
+#[tactic(auto, using(liberty_groups::proofs::Inside::lie_inside), unfolding(crate::specs::Finish::part_outcome, crate::specs::Finish::part_halt))]
+fn read_part(
+    alloc: Global,
+    before: usize,
+    bytes: &[u8],
+    place: Place,
+    items: &mut Vec<LibraryItem>,
+) -> Result<(Halt, TextStop), AllocError>
+    requires fits { before + length bytes.now < 2 ^ 64 }
+    requires nothing { items.old.items ≡ [] }
+    ensures halt { IfOk result (λ read. read.0 ≡ part_halt place before bytes.now) }
+    ensures stop { IfOk result (λ read. read.1 ≡ (scan_of bytes.now).1) }
+    ensures items { OnOk result (items.new.items ≡ items_in (part_outcome place before bytes.now)) }
+{
+    let end = before + bytes.len();
+    let KeptScan { tokens, stop } = scan_kept(alloc, bytes)?;
+    let mut cursor = Cursor::behind(before, bytes, tokens);
+    let halt = halt_of(alloc, &mut cursor, place, end, items)?;
+    Ok((halt, stop))
+}
+
 /// The items of a part of these bytes, before which so many others stand, that ends where the file does or, where that is not
 /// `whole`, where the limit is, and how it ends.
-#[tactic(auto, using(liberty_groups::proofs::Inside::lie_inside), unfolding(crate::specs::Finish::part_outcome, crate::specs::Finish::part_halt, crate::specs::Finish::answer_at))]
+#[tactic(auto, unfolding(crate::specs::Finish::answer_at))]
 pub(crate) fn read_end(
     alloc: Global,
     before: usize,
@@ -140,13 +171,10 @@ pub(crate) fn read_end(
     ensures answer { IfOk result (λ answer. answer ≡ answer_at place before bytes.now whole) }
     ensures items { OnOk result (items.new.items ≡ items_in (part_outcome place before bytes.now)) }
 {
-    let end = before + bytes.len();
-    let KeptScan { tokens, stop } = scan_kept(alloc, bytes)?;
-    let mut cursor = Cursor::behind(before, bytes, tokens);
-    let halt = halt_of(alloc, &mut cursor, place, end, items)?;
+    let (halt, stop) = read_part(alloc, before, bytes, place, items)?;
     if !whole && may_go_on(alloc, before, bytes, place, halt, stop)? {
         return Ok(Answer::Over);
     }
     let stop = stop_behind(before, stop)?;
-    Ok(answer_by(whole, fault_of(end, halt, stop)))
+    Ok(answer_by(whole, fault_of(before + bytes.len(), halt, stop)))
 }

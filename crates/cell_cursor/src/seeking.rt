@@ -6,20 +6,20 @@ ghost use Rattle.text_io.specs.declared.slots.InSlot.TheVariants.{Library};
 ghost use Rattle.text_io.specs.declared.slots.Slot.TheVariants.{Input};
 ghost use Rattle.text_io.specs.Desk.{is_bound, Rose};
 ghost use Rattle.liberty_text.specs.declared.scanner.Mode.TheVariants.{Between};
-ghost use Rattle.cell_cursor.specs.Progress.{taken_by, to_do, may_have_ended, is_whole};
+ghost use Rattle.cell_cursor.specs.Progress.{taken_by, to_do, may_have_ended, is_whole, ReadsNothing};
 ghost use Rattle.cell_cursor.specs.declared.item.LibraryItem.{LibraryItem as Given};
 ghost use Rattle.cell_cursor.specs.Stands.{answered, given_by, is_going, is_failed, is_failure, tells_failure, is_ended};
-ghost use Rattle.cell_cursor.specs.Stands.{is_library, Goes, GoesBy, Stands, Advances, Moves, IsSettled, IsAnswered};
+ghost use Rattle.cell_cursor.specs.Stands.{Goes, GoesBy, Stands, Advances, Moves, IsSettled, IsAnswered};
 ghost use Rattle.cell_cursor.specs.Stands.{StaysSettled};
 
 use crate::cursor::{Answer, CellCursor};
-use crate::fault::CursorFault;
-use crate::item::{LibraryItem, Next, next_of};
+use crate::item::{LibraryItem, Next};
 use crate::part::{Part, Place};
 use crate::piece::Piece;
 use crate::watch::Sight;
+use liberty_groups::End;
 use std::alloc::{AllocError, Global};
-use text_io::{Desk, InSlot};
+use text_io::{Desk, InSlot, Stop};
 
 /// Why scanning went no further.
 #[derive(Clone, Copy)]
@@ -32,6 +32,15 @@ pub(crate) enum Scanned {
     Misfit,
     /// The name of a statement ended with the last tokens, and the statements before it ended without a semicolon or a brace.
     Name,
+}
+
+impl Scanned {
+    /// Whether all that was read is scanned.
+    fn is_whole(self) -> bool
+        ensures { result ≡ is_whole self }
+    {
+        matches!(self, Scanned::All)
+    }
 }
 
 impl CellCursor {
@@ -82,20 +91,19 @@ impl CellCursor {
     }
 
     /// Sees whether the library goes on behind the limit, and takes what there is of it.
-    fn take_at_limit<D: Desk>(&mut self, desk: &mut D) -> Result<(), CursorFault>
+    fn take_at_limit<D: Desk>(&mut self, desk: &mut D) -> Result<(), Stop>
         requires bound { IsTrue (is_bound (D.state desk.old) (Input Library)) }
         requires none_waits { self.old.waiting.items ≡ [] }
         requires scanned { self.old.piece ≡ [] }
         requires full { self.old.part.before + length self.old.part.bytes ≡ self.old.limit }
         ensures advances { Advances result self.old self.new (D.state desk.old) (D.state desk.new) }
-        ensures library { IfErr result (λ fault. is_library fault ≡ false) }
-        ensures settled { OnOk result (is_going self.new.answer ≡ false) }
         ensures never { OnOk result (is_failed self.new.answer ≡ false) }
+        ensures settled { OnOk result (is_going self.new.answer ≡ false) }
         ensures empty { OnErr result (self.new.waiting.items ≡ []) }
         ensures later { D.faults desk.old ≤ D.faults desk.new }
         ensures kept { OnOk result (D.faults desk.new ≡ D.faults desk.old) }
-        ensures clean { IfErr result (λ fault. is_failure fault ≡ false → D.faults desk.new ≡ D.faults desk.old) }
-        ensures failed { IfErr result (λ fault. fault ≡ CursorFault.Failed → Rose (D.faults desk.old) (D.faults desk.new)) }
+        ensures clean { IfErr result (λ stop. is_failure stop ≡ false → D.faults desk.new ≡ D.faults desk.old) }
+        ensures failed { IfErr result (λ stop. stop ≡ Stop.Failed → Rose (D.faults desk.old) (D.faults desk.new)) }
     {
         let mut byte = [0];
         let count = desk.read(InSlot::Library, &mut byte)?;
@@ -103,27 +111,21 @@ impl CellCursor {
         Ok(())
     }
 
-    /// Takes some statements, or reads on.
-    fn advance<D: Desk>(&mut self, desk: &mut D) -> Result<(), CursorFault>
+    /// Reads on where all that was read is scanned, or takes what there is of a library that has ended or comes to the limit.
+    fn read_on<D: Desk>(&mut self, desk: &mut D) -> Result<(), Stop>
         requires bound { IsTrue (is_bound (D.state desk.old) (Input Library)) }
         requires going { self.old.answer ≡ None }
         requires none_waits { self.old.waiting.items ≡ [] }
+        requires scanned { self.old.piece ≡ [] }
+        ensures later { D.faults desk.old ≤ D.faults desk.new }
+        ensures kept { OnOk result (D.faults desk.new ≡ D.faults desk.old) }
         ensures advances { Advances result self.old self.new (D.state desk.old) (D.state desk.new) }
-        ensures library { IfErr result (λ fault. is_library fault ≡ false) }
         ensures progress { OnOk result (is_going self.new.answer ≡ true → to_do self.new < to_do self.old) }
         ensures never { OnOk result (is_failed self.new.answer ≡ false) }
         ensures empty { OnErr result (self.new.waiting.items ≡ []) }
-        ensures later { D.faults desk.old ≤ D.faults desk.new }
-        ensures kept { OnOk result (D.faults desk.new ≡ D.faults desk.old) }
-        ensures clean { IfErr result (λ fault. is_failure fault ≡ false → D.faults desk.new ≡ D.faults desk.old) }
-        ensures failed { IfErr result (λ fault. fault ≡ CursorFault.Failed → Rose (D.faults desk.old) (D.faults desk.new)) }
+        ensures clean { IfErr result (λ stop. is_failure stop ≡ false → D.faults desk.new ≡ D.faults desk.old) }
+        ensures failed { IfErr result (λ stop. stop ≡ Stop.Failed → Rose (D.faults desk.old) (D.faults desk.new)) }
     {
-        match self.scan_on()? {
-            Scanned::MayEnd => return Ok(self.take_part(true)?),
-            Scanned::Misfit => return Ok(self.take_part(false)?),
-            Scanned::Name => return Ok(self.take_before_name()?),
-            Scanned::All => {}
-        }
         let taken = self.part.before() + self.part.bytes().len();
         if taken == self.limit {
             return self.take_at_limit(desk);
@@ -134,7 +136,48 @@ impl CellCursor {
         Ok(())
     }
 
-    /// Takes some statements or reads on, or is settled with a fault.
+    /// Takes statements of the part, or sees which token is refused, where scanning went no further for this.
+    fn take_scanned(&mut self, scanned: Scanned) -> Result<(), AllocError>
+        requires going { self.old.answer ≡ None }
+        requires mode { may_have_ended scanned ≡ true → self.old.part.mode ≡ Between false }
+        requires none_waits { self.old.waiting.items ≡ [] }
+        ensures reading { ReadsNothing self.old self.new }
+        ensures stands { OnOk result ((bytes : List ℕ) (items : List Given) → GoesBy (may_have_ended scanned) self.old bytes items
+            → Stands self.new bytes items) }
+        ensures never { is_failed self.old.answer ≡ false → is_failed self.new.answer ≡ false }
+        ensures open { OnOk result (is_ended self.new.answer ≡ false) }
+        ensures err { OnErr result (self.new.waiting.items ≡ []) }
+    {
+        match scanned {
+            Scanned::MayEnd => self.take_part(true),
+            Scanned::Misfit => self.take_part(false),
+            Scanned::Name => self.take_before_name(),
+            Scanned::All => Ok(()),
+        }
+    }
+
+    /// Takes some statements, or reads on.
+    fn advance<D: Desk>(&mut self, desk: &mut D) -> Result<(), Stop>
+        requires bound { IsTrue (is_bound (D.state desk.old) (Input Library)) }
+        requires going { self.old.answer ≡ None }
+        requires none_waits { self.old.waiting.items ≡ [] }
+        ensures advances { Advances result self.old self.new (D.state desk.old) (D.state desk.new) }
+        ensures progress { OnOk result (is_going self.new.answer ≡ true → to_do self.new < to_do self.old) }
+        ensures later { D.faults desk.old ≤ D.faults desk.new }
+        ensures kept { OnOk result (D.faults desk.new ≡ D.faults desk.old) }
+        ensures clean { IfErr result (λ stop. is_failure stop ≡ false → D.faults desk.new ≡ D.faults desk.old) }
+        ensures failed { IfErr result (λ stop. stop ≡ Stop.Failed → Rose (D.faults desk.old) (D.faults desk.new)) }
+        ensures never { OnOk result (is_failed self.new.answer ≡ false) }
+        ensures empty { OnErr result (self.new.waiting.items ≡ []) }
+    {
+        let scanned = self.scan_on()?;
+        if scanned.is_whole() {
+            return self.read_on(desk);
+        }
+        Ok(self.take_scanned(scanned)?)
+    }
+
+    /// Takes some statements or reads on, or is settled at why it stopped.
     fn go_on<D: Desk>(&mut self, desk: &mut D)
         requires bound { IsTrue (is_bound (D.state desk.old) (Input Library)) }
         requires going { self.old.answer ≡ None }
@@ -146,8 +189,8 @@ impl CellCursor {
         ensures empty { is_failed self.new.answer ≡ true → self.new.waiting.items ≡ [] }
         ensures failed { is_failed self.new.answer ≡ true → Rose (D.faults desk.old) (D.faults desk.new) }
     {
-        if let Err(fault) = self.advance(desk) {
-            self.answer = Some(Answer::Fault(fault));
+        if let Err(stop) = self.advance(desk) {
+            self.answer = Some(Answer::Stopped(stop));
         }
     }
 
@@ -155,13 +198,12 @@ impl CellCursor {
     ///
     /// It reads at most 16,384 bytes at once, and at most the limit and one byte in all. It does not read far ahead: when it
     /// answers a cell, the bytes that were read end at most 65,536 bytes behind the closing brace of the cell. After any call,
-    /// also one that ends with a fault, each cell was given whose closing brace has 65,536 bytes or more behind it among the
+    /// also one that stops, each cell was given whose closing brace has 65,536 bytes or more behind it among the
     /// bytes that were read.
     ///
-    /// Faults: `Library` with the first fault of the library, `Failed` where a read failed, `Memory`. After a fault, and after
-    /// `Over` and `End`, it answers the same and reads nothing. A call in which a read fails gives no item: every other answer of
-    /// a cursor comes only where no read of it has failed.
-    pub fn next_cell<D: Desk>(&mut self, desk: &mut D) -> Result<Next, CursorFault>
+    /// Faults: `Failed` where a read failed, `Memory`. After a fault, and after the end, it answers the same and reads nothing. A
+    /// call in which a read fails gives no item: every other answer of a cursor comes only where no read of it has failed.
+    pub fn next_cell<D: Desk>(&mut self, desk: &mut D) -> Result<Next, Stop>
         requires { IsTrue (is_bound (D.state desk.old) (Input Library)) }
         ensures moves { Moves self.old self.new (D.state desk.old) (D.state desk.new) (given_by result) }
         ensures answered { given_by result ≡ [] → IsAnswered self.new result }
@@ -169,7 +211,7 @@ impl CellCursor {
         ensures settled { (a : Answer) → IsSettled self.old a
             → StaysSettled a self.new (D.state desk.old) (D.state desk.new) result }
         ensures later { D.faults desk.old ≤ D.faults desk.new }
-        ensures failed { IfErr result (λ fault. fault ≡ CursorFault.Failed → (is_failed self.old.answer ≡ true)
+        ensures failed { IfErr result (λ stop. stop ≡ Stop.Failed → (is_failed self.old.answer ≡ true)
             ⊎ Rose (D.faults desk.old) (D.faults desk.new)) }
         ensures failing { is_failed self.new.answer ≡ true → (is_failed self.old.answer ≡ true)
             ⊎ Rose (D.faults desk.old) (D.faults desk.new) }
@@ -178,7 +220,7 @@ impl CellCursor {
     {
         loop {
             if let Some(item) = self.waiting.pop() {
-                return Ok(next_of(item));
+                return Ok(Next::Item(item));
             }
             if let Some(answer) = self.answer {
                 return answered(answer);
@@ -189,13 +231,13 @@ impl CellCursor {
 }
 
 /// An answer, as what a call returns.
-fn answered(answer: Answer) -> Result<Next, CursorFault>
+fn answered(answer: Answer) -> Result<Next, Stop>
     ensures { result ≡ answered answer }
 {
     match answer {
-        Answer::Over => Ok(Next::Over),
-        Answer::End => Ok(Next::End),
-        Answer::Refused(fault) => Err(CursorFault::Library(fault)),
-        Answer::Fault(fault) => Err(fault),
+        Answer::Over => Ok(Next::Ended(End::Cut)),
+        Answer::End => Ok(Next::Ended(End::Whole)),
+        Answer::Refused(fault) | Answer::Fault(fault) => Ok(Next::Ended(End::Fault(fault))),
+        Answer::Stopped(stop) => Err(stop),
     }
 }

@@ -101,8 +101,8 @@ fn read_statements(
 
 /// A statement of the library, whose item, if it is one, is added to `items`. Whether it was read and has ended whatever follows.
 fn statement_ends(
-    cursor: &mut Cursor<'_>,
     alloc: Global,
+    cursor: &mut Cursor<'_>,
     items: &mut Vec<LibraryItem>,
 ) -> Result<bool, AllocError>
     ensures { IfOk result (λ ends. ends ≡ true → (more : List Lexeme)
@@ -132,7 +132,7 @@ pub(crate) fn reach_rest(
         match cursor.start() {
             Start::Empty => cursor.skip(),
             Start::Named => {
-                if !statement_ends(cursor, alloc, items)? {
+                if !statement_ends(alloc, cursor, items)? {
                     return Ok(false);
                 }
             }

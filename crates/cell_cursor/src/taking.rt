@@ -87,11 +87,11 @@ impl CellCursor {
     pub(crate) fn take_before_name(&mut self) -> Result<(), AllocError>
         requires none_waits { self.old.waiting.items ≡ [] }
         requires going { self.old.answer ≡ None }
+        ensures reading { ReadsNothing self.old self.new }
         ensures stands { OnOk result ((bytes : List ℕ) (items : List Given) → Goes self.old bytes items
             → Stands self.new bytes items) }
         ensures err { OnErr result (self.new.waiting.items ≡ []) }
         ensures open { OnOk result (is_ended self.new.answer ≡ false) }
-        ensures reading { ReadsNothing self.old self.new }
         ensures never { is_failed self.old.answer ≡ false → is_failed self.new.answer ≡ false }
     {
         let mut items = Vec::new(self.alloc);

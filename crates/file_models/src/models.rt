@@ -1,5 +1,5 @@
 //! The models of a file, each as it is run.
-ghost use Rattle.std.specs.Prelude.{◌≡◌, ℕ, List, true, All, map, flat_map, IfOk};
+ghost use Rattle.std.specs.Prelude.{◌≡◌, ◌++◌, ℕ, List, true, All, map, flat_map, IfOk, OnOk};
 ghost use Rattle.bool_functions.specs.NameList.{AreDistinct};
 ghost use Rattle.driver_models.specs.declared.model.DriverModel.{DriverModel as Model};
 ghost use Rattle.file_models.specs.FileModels as spec;
@@ -77,24 +77,43 @@ fn own_models<L: SectionLanguage>(
     Ok(models)
 }
 
-/// Drivers over their cores, in order. The names are those of the cores, folded.
-fn drivers_over<L: SectionLanguage>(
+/// Adds drivers over their cores, in order. The names are those of the cores, folded.
+fn add_drivers<L: SectionLanguage>(
     alloc: Global,
+    models: &mut Vec<FileModel<L::Model>>,
     cores: &[Shared<L::Model>],
     names: &Names,
     drivers: &[DriverModel],
-) -> Result<Vec<FileModel<L::Model>>, AllocError>
+) -> Result<(), AllocError>
     requires same { (x y : List ℕ) → L.language.vocabulary.is_same x y ≡ L.Drivers.Spelling.is_same x y }
     requires folded { names.now ≡ folded_names L.Drivers.fold L.language cores.now }
     requires are_names { All (λ (driver : Model). L.Drivers.Spelling.is_name driver.core ≡ true) drivers.now }
-    ensures { IfOk result (λ models. models.items ≡ flat_map (spec.over_its_core L.language cores.now) drivers.now) }
+    ensures { OnOk result (models.new.items ≡ models.old.items
+        ++ flat_map (spec.over_its_core L.language cores.now) drivers.now) }
 {
-    let mut models = Vec::new(alloc);
     for driver in drivers {
         if let Some(core) = core_of::<L>(alloc, cores, names, driver.core.as_slice())? {
             models.push(driver_over(alloc, core, driver)?)?;
         }
     }
+    Ok(())
+}
+
+/// The models of a file whose own models are these cores: the cores, and behind them the drivers, each over the core of its name.
+fn models_over<L: SectionLanguage>(
+    alloc: Global,
+    cores: &[Shared<L::Model>],
+    drivers: &[DriverModel],
+) -> Result<Vec<FileModel<L::Model>>, AllocError>
+    requires same { (x y : List ℕ) → L.language.vocabulary.is_same x y ≡ L.Drivers.Spelling.is_same x y }
+    requires apart { AreDistinct (folded_names L.Drivers.fold L.language cores.now) }
+    requires are_names { All (λ (driver : Model). L.Drivers.Spelling.is_name driver.core ≡ true) drivers.now }
+    ensures { IfOk result (λ models. models.items ≡ map (spec.own_model L.language) cores.now
+        ++ flat_map (spec.over_its_core L.language cores.now) drivers.now) }
+{
+    let names = core_names::<L>(alloc, cores)?;
+    let mut models = own_models::<L>(alloc, cores)?;
+    add_drivers::<L>(alloc, &mut models, cores, &names, drivers)?;
     Ok(models)
 }
 
@@ -113,9 +132,5 @@ pub fn file_models<L: SectionLanguage>(
 {
     let DrivenModels { models, drivers } = found;
     let cores = shared_models(alloc, models)?;
-    let names = core_names::<L>(alloc, cores.as_slice())?;
-    let mut models = own_models::<L>(alloc, cores.as_slice())?;
-    let mut driven = drivers_over::<L>(alloc, cores.as_slice(), &names, drivers.as_slice())?;
-    models.append(&mut driven)?;
-    Ok(models)
+    models_over::<L>(alloc, cores.as_slice(), drivers.as_slice())
 }

@@ -13,17 +13,19 @@ use Rattle.text_io.proofs.Took.{took-zero, took-took, bound_still}
 use Rattle.run_outcome.specs.Written.{Written, nothing_written, joined, IsPart, wrote_all, Writes}
 use Rattle.run_outcome.proofs.WrittenLaws.{wrote_all-nothing, took-wrote_all, wrote_on, still_bound_all, IsPart-nothing}
 use Rattle.run_outcome.proofs.WrittenLaws.{IsPart-all, IsPart-after, IsPart-front}
+use Rattle.liberty_groups.specs.declared.read.End.{End}
 use Rattle.cell_cursor.specs.declared.item.LibraryItem.{LibraryItem}
+use Rattle.cell_cursor.specs.declared.item.Next.TheVariants as nexts
 use Rattle.cell_cursor.specs.declared.cursor.CellCursor.{CellCursor}
 use Rattle.cell_cursor.specs.Ends.{items_within}
 use Rattle.cell_cursor.specs.Given.{HasGiven, IsFrontOf}
-use Rattle.cell_cursor.specs.Stands.{Stands, Moves}
+use Rattle.cell_cursor.specs.Stands.{Stands, Moves, IsAnswered}
 use Rattle.library_reader.specs.declared.progress.Progress.{Progress}
 use Rattle.library_reader.specs.declared.ending.Ending.{Ending}
 use Rattle.library_reader.specs.LibraryCells.{CellEntry, cell_names}
 use Rattle.library_reader.specs.Progress.{no_progress, after_item}
-use Rattle.library_reader.specs.Steps.{IsAtEnd, TellsEnd}
-use Rattle.library_reader.specs.Endings.{ending_of}
+use Rattle.library_reader.specs.Steps.{IsAtEnd}
+use Rattle.library_reader.specs.Endings.{ending_by, ending_of}
 use Rattle.library_reader.specs.KeptCells.{item_kept, kept_cells}
 use Rattle.library_reader.specs.WrittenItems.{written_for, written_for_all, HoldsCells}
 use Rattle.library_reader.specs.Reached.{IsFront, HasFolded}
@@ -213,19 +215,20 @@ folds_within each Made Now limit base now next new p after n c d x y r h m a w e
     }
 
 -- at the end
-pub folds_all : (each : Progress → LibraryItem → Written) (Made : List CellEntry → Type 0) (limit : ℕ) (base now next : DeskState)
-    (p : Progress) (n : ℕ) (c d : CellCursor) (e : Ending)
-    → HasFolded each Made limit base now p n c → Moves c d now next [] → (IsAtEnd c now → IsAtEnd d next) → TellsEnd d e
-    → FoldsItems each Made limit base next p (Ok e)
-folds_all each Made limit base now next p n c d e h m a t =
-    sought each Made Made limit base now next p p n c d (Ok e) h m (record {
+pub folds_all : (each : Progress → LibraryItem → Written) (Made : List CellEntry → Type 0) (limit : ℕ) (base now after : DeskState)
+    (p : Progress) (n : ℕ) (c d : CellCursor) (end : End) (e : Ending) → e ≡ ending_by end
+    → HasFolded each Made limit base now p n c → Moves c d now after [] → (IsAtEnd c now → IsAtEnd d after)
+    → IsAnswered d (Ok (nexts.Ended end)) → FoldsItems each Made limit base after p (Ok e)
+folds_all each Made limit base now after p n c d end e same h m a t =
+    sought each Made Made limit base now after p p n c d (Ok e) h m (record {
       same_text = refl;
       same_progress = h.follows.progress;
       made = h.made;
       own = subst AreDistinct (sym h.names) h.own;
       told = IfSome-each (base.left Library) (λ bytes. (h.follows.items ≡ items_within limit bytes) × (e ≡ ending_of limit bytes))
           (λ bytes left.
-          all_given limit (base.left Library) now next no_progress p c d e bytes h.follows m a t left);
+          (let all = all_given limit (base.left Library) now after no_progress p c d end bytes h.follows m a t left in
+          (all.0, same ∙ all.1)));
     })
 
 -- The cells alone.

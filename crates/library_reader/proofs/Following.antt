@@ -1,6 +1,6 @@
 -- Going over the items of a library one after another.
 use Rattle.std.proofs.Common.{◌≡◌, ℕ, ◌+◌, ◌≤◌, Bool, true, false, List, [], ◌∷◌, ◌++◌, reverse, take, drop, length}
-use Rattle.std.proofs.Common.{length-append, Option, Some, None, Err, ◌⊎◌, inl, inr, refl, sym, ap, subst, ◌∙◌, append_assoc}
+use Rattle.std.proofs.Common.{length-append, Option, Some, None, Result, Ok, Err, ◌⊎◌, inl, inr, refl, sym, ap, subst, ◌∙◌, append_assoc}
 use Rattle.std.proofs.Common.{arith}
 use Rattle.std.proofs.lemmas.List.{append-nil, length-take}
 use Rattle.std.specs.Option.{option_map}
@@ -11,20 +11,22 @@ use Rattle.cell_cursor.specs.declared.item.LibraryItem.TheVariants as item
 use Rattle.cell_cursor.specs.declared.cursor.Answer.{Answer}
 use Rattle.cell_cursor.specs.declared.cursor.Answer.TheVariants as answer
 use Rattle.cell_cursor.specs.declared.cursor.CellCursor.{CellCursor}
-use Rattle.cell_cursor.specs.declared.fault.CursorFault.TheVariants as fault
+use Rattle.cell_cursor.specs.declared.item.Next.{Next}
+use Rattle.cell_cursor.specs.declared.item.Next.TheVariants as nexts
 use Rattle.cell_cursor.specs.Ends.{items_within, end_within}
-use Rattle.cell_cursor.specs.Stands.{Knows, Stands, Moves, is_ended, is_going}
+use Rattle.cell_cursor.specs.Stands.{Knows, Stands, Moves, IsAnswered, answered, is_ended, is_going}
+use Rattle.liberty_groups.specs.declared.read.End.{End}
+use Rattle.liberty_groups.specs.declared.read.End.TheVariants as ends
 use Rattle.cell_cursor.proofs.StandsLemmas.{first_of_going}
 use Rattle.cell_cursor.proofs.Ascending.{items_few}
 use Rattle.cell_attributes.specs.Groups.{cell_name}
 use Rattle.library_reader.specs.declared.progress.Progress.{Progress}
 use Rattle.library_reader.specs.declared.ending.Ending.{Ending}
-use Rattle.library_reader.specs.declared.ending.Ending.TheVariants as ending
 use Rattle.text_io.specs.declared.stop.Stop.{Stop}
 use Rattle.text_io.specs.declared.stop.Stop.TheVariants as stops
 use Rattle.library_reader.specs.Progress.{next_refusal, entity_by, after_cell, after_item, progress_after}
 use Rattle.library_reader.specs.Endings.{ending_by, ending_of}
-use Rattle.library_reader.specs.Steps.{end_told, TellsEnd, IsAtEnd}
+use Rattle.library_reader.specs.Steps.{IsAtEnd}
 use Rattle.library_reader.specs.Reached.{IsFront, Follows}
 use Rattle.library_reader.proofs.Fronts.{front-nil, front_moved, left-zero, left_moved, still_ended, rest_of, nothing_more}
 
@@ -83,11 +85,10 @@ first_known (Some answer.End) c bytes more items k ended =
     let none = ended refl in
     ([], append-nil items ∙ k.items_are ∙ ap (items_within c.limit) (sym (ap (λ t. bytes ++ t) none ∙ append-nil bytes)))
 first_known (Some (answer.Refused f)) c bytes more items k ended = ([], append-nil items ∙ (k more).items_are)
-first_known (Some (answer.Fault (fault.Library f))) c bytes more items k ended =
+first_known (Some (answer.Fault f)) c bytes more items k ended =
     let none = ended refl in
     ([], append-nil items ∙ k.items_are ∙ ap (items_within c.limit) (sym (ap (λ t. bytes ++ t) none ∙ append-nil bytes)))
-first_known (Some (answer.Fault fault.Failed)) c bytes more items k ended = k more
-first_known (Some (answer.Fault fault.Memory)) c bytes more items k ended = k more
+first_known (Some (answer.Stopped stop)) c bytes more items k ended = k more
 
 -- these items are the first ones of the library
 first_items : (limit : ℕ) (left : Option (List ℕ)) (now : DeskState) (taken : List ℕ) (items : List LibraryItem) (c : CellCursor)
@@ -104,54 +105,59 @@ first_items limit left now taken items c all stands at_limit at_end rest told e 
           ∙ ap (items_within c.limit) (rest_of taken all front.0) ∙ ap (λ n. items_within n all) at_limit,
     )
 
+-- the end that a settled cursor tells is that of its answer
+told_end : (e f : End) → ◌≡◌ {A = Result Next Stop} (Ok (nexts.Ended e)) (Ok (nexts.Ended f)) → e ≡ f
+told_end e f t = cc
+
 -- what an answer tells of the whole library
-end_known : (a : Answer) (c : CellCursor) (bytes more : List ℕ) (items : List LibraryItem) (e : Ending)
+end_known : (a : Answer) (c : CellCursor) (bytes more : List ℕ) (items : List LibraryItem) (e : End)
     → Knows (Some a) c bytes items
-    → (is_ended (Some a) ≡ true → more ≡ []) → end_told a ≡ Some e
-    → (items ≡ items_within c.limit (bytes ++ more)) × (e ≡ ending_by (end_within c.limit (bytes ++ more)))
+    → (is_ended (Some a) ≡ true → more ≡ []) → ◌≡◌ {A = Result Next Stop} (Ok (nexts.Ended e)) (answered a)
+    → (items ≡ items_within c.limit (bytes ++ more)) × (e ≡ end_within c.limit (bytes ++ more))
 end_known answer.Over c bytes more items e k ended t =
-    let known = k more in (known.items_are, rw known.end_is (let s : Some e ≡ Some ending.TooLong = sym t in cc))
+    let known = k more in (known.items_are, told_end e ends.Cut t ∙ sym known.end_is)
 end_known answer.End c bytes more items e k ended t =
-    let same : bytes ≡ bytes ++ more = sym (ap (λ u. bytes ++ u) (ended refl) ∙ append-nil bytes) in
-    (k.items_are ∙ ap (items_within c.limit) same, rw (← same) (rw k.end_is (let s : Some e ≡ Some ending.Whole = sym t in cc)))
-end_known (answer.Refused f) c bytes more items e k ended t =
-    let known = k more in (known.items_are, rw known.end_is (let s : Some e ≡ Some (ending.Fault f) = sym t in cc))
-end_known (answer.Fault (fault.Library f)) c bytes more items e k ended t =
     let same : bytes ≡ bytes ++ more = sym (ap (λ u. bytes ++ u) (ended refl) ∙ append-nil bytes) in (
       k.items_are ∙ ap (items_within c.limit) same,
-      rw (← same)
-          (rw k.end_is (let s : Some e ≡ Some (ending.Fault f) = sym t in cc)),
+      told_end e ends.Whole t ∙ sym k.end_is ∙ ap (end_within c.limit) same,
     )
-end_known (answer.Fault fault.Failed) c bytes more items e k ended t = absurd (let s : None ≡ Some e = t in cc)
-end_known (answer.Fault fault.Memory) c bytes more items e k ended t = absurd (let s : None ≡ Some e = t in cc)
+end_known (answer.Refused f) c bytes more items e k ended t =
+    let known = k more in (known.items_are, told_end e (ends.Fault f) t ∙ sym known.end_is)
+end_known (answer.Fault f) c bytes more items e k ended t =
+    let same : bytes ≡ bytes ++ more = sym (ap (λ u. bytes ++ u) (ended refl) ∙ append-nil bytes) in (
+      k.items_are ∙ ap (items_within c.limit) same,
+      told_end e (ends.Fault f) t ∙ sym k.end_is ∙ ap (end_within c.limit) same,
+    )
+end_known (answer.Stopped stop) c bytes more items e k ended t =
+    absurd (let s : ◌≡◌ {A = Result Next Stop} (Ok (nexts.Ended e)) (Err stop) = t in cc)
 
-end_stands : (d : CellCursor) (bytes more : List ℕ) (items : List LibraryItem) (e : Ending) → Stands d bytes (items ++ [])
-    → TellsEnd d e
+end_stands : (d : CellCursor) (bytes more : List ℕ) (items : List LibraryItem) (e : End) → Stands d bytes (items ++ [])
+    → IsAnswered d (Ok (nexts.Ended e))
     → (is_ended d.answer ≡ true → more ≡ [])
-    → (items ≡ items_within d.limit (bytes ++ more)) × (e ≡ ending_by (end_within d.limit (bytes ++ more)))
-end_stands d bytes more items e h t ended =
-    let settled : Knows (Some t.answer) d bytes ((items ++ []) ++ reverse d.waiting.items) =
-    subst (λ o. Knows o d bytes ((items ++ []) ++ reverse d.waiting.items)) t.settled.settled h.known in
-    let none_waits : Knows (Some t.answer) d bytes ((items ++ []) ++ []) =
-    subst (λ (waiting : List LibraryItem). Knows (Some t.answer) d bytes ((items ++ []) ++ reverse waiting)) t.settled.none_waits
-    settled in
-    let known : Knows (Some t.answer) d bytes items =
-    subst (λ all. Knows (Some t.answer) d bytes all) (append-nil (items ++ []) ∙ append-nil items) none_waits in
-    end_known t.answer d bytes more items e known (λ is. ended (ap is_ended t.settled.settled ∙ is)) t.told
+    → (items ≡ items_within d.limit (bytes ++ more)) × (e ≡ end_within d.limit (bytes ++ more))
+end_stands d bytes more items e h (a, at, told) ended =
+    let settled : Knows (Some a) d bytes ((items ++ []) ++ reverse d.waiting.items) =
+    subst (λ o. Knows o d bytes ((items ++ []) ++ reverse d.waiting.items)) at.settled h.known in
+    let none_waits : Knows (Some a) d bytes ((items ++ []) ++ []) =
+    subst (λ (waiting : List LibraryItem). Knows (Some a) d bytes ((items ++ []) ++ reverse waiting)) at.none_waits settled in
+    let known : Knows (Some a) d bytes items =
+    subst (λ all. Knows (Some a) d bytes all) (append-nil (items ++ []) ∙ append-nil items) none_waits in
+    end_known a d bytes more items e known (λ is. ended (ap is_ended at.settled ∙ is)) told
 
 -- at the end these are all of them
-all_items : (limit : ℕ) (left : Option (List ℕ)) (next : DeskState) (taken : List ℕ) (items : List LibraryItem) (d : CellCursor)
-    (e : Ending) (all : List ℕ)
-    → Stands d taken (items ++ []) → d.limit ≡ limit → IsAtEnd d next → next.left Library ≡ option_map (drop (length taken)) left
-    → IsFront left taken → TellsEnd d e → left ≡ Some all → (items ≡ items_within limit all) × (e ≡ ending_of limit all)
-all_items limit left next taken items d e all stands at_limit at_end rest told t is =
+all_items : (limit : ℕ) (left : Option (List ℕ)) (desk : DeskState) (taken : List ℕ) (items : List LibraryItem) (d : CellCursor)
+    (e : End) (all : List ℕ)
+    → Stands d taken (items ++ []) → d.limit ≡ limit → IsAtEnd d desk → desk.left Library ≡ option_map (drop (length taken)) left
+    → IsFront left taken → IsAnswered d (Ok (nexts.Ended e)) → left ≡ Some all
+    → (items ≡ items_within limit all) × (ending_by e ≡ ending_of limit all)
+all_items limit left desk taken items d e all stands at_limit at_end rest told t is =
     let front = rw is at told in
     let after_all : is_ended d.answer ≡ true
     → drop (length taken) all ≡ [] = λ ended. nothing_more left taken all is (rw rest at (at_end ended)) in
     let known = end_stands d taken (drop (length taken) all) items e stands t after_all in
     let whole = rest_of taken all front.0 in (
       known.0 ∙ ap (items_within d.limit) whole ∙ ap (λ n. items_within n all) at_limit,
-      known.1 ∙ ap (λ b. ending_by (end_within d.limit b)) whole ∙ ap (λ n. ending_by (end_within n all)) at_limit,
+      ap ending_by (known.1 ∙ ap (end_within d.limit) whole ∙ ap (λ n. end_within n all) at_limit),
     )
 
 -- The steps.
@@ -206,14 +212,14 @@ next_given limit left now next p q c d x all h m a e =
     (front_moved left now next h.taken m.taken h.rest h.told m.takes) e
 
 -- at the end these are all the items, and the end is that of the library
-pub all_given : (limit : ℕ) (left : Option (List ℕ)) (now next : DeskState) (p q : Progress) (c d : CellCursor) (e : Ending)
+pub all_given : (limit : ℕ) (left : Option (List ℕ)) (now after : DeskState) (p q : Progress) (c d : CellCursor) (e : End)
     (all : List ℕ)
-    (h : Follows limit left now p q c) → Moves c d now next [] → (IsAtEnd c now → IsAtEnd d next) → TellsEnd d e → left ≡ Some all
-    → (h.items ≡ items_within limit all) × (e ≡ ending_of limit all)
-all_given limit left now next p q c d e all h m a t is =
-    all_items limit left next (h.taken ++ m.taken) h.items d e all (m.stands h.taken h.items h.stands)
-    (m.limit ∙ h.limit_is) (a h.at_end) (left_moved left now next h.taken m.taken h.rest m.takes)
-    (front_moved left now next h.taken m.taken h.rest h.told m.takes) t is
+    (h : Follows limit left now p q c) → Moves c d now after [] → (IsAtEnd c now → IsAtEnd d after) → IsAnswered d (Ok (nexts.Ended e))
+    → left ≡ Some all → (h.items ≡ items_within limit all) × (ending_by e ≡ ending_of limit all)
+all_given limit left now after p q c d e all h m a t is =
+    all_items limit left after (h.taken ++ m.taken) h.items d e all (m.stands h.taken h.items h.stands)
+    (m.limit ∙ h.limit_is) (a h.at_end) (left_moved left now after h.taken m.taken h.rest m.takes)
+    (front_moved left now after h.taken m.taken h.rest h.told m.takes) t is
 
 -- No more items were given than the limit has bytes: each has a byte of its own.
 pub few_given : (limit : ℕ) (left : Option (List ℕ)) (now : DeskState) (p q : Progress) (c : CellCursor)

@@ -8,14 +8,13 @@ ghost use Rattle.library_reader.specs.{LibraryCells.CellEntry, Progress.no_progr
 ghost use Rattle.library_reader.specs.{KeptCells.item_kept, WrittenItems.written_for, Endings.library_limit, Folds.AreBound};
 ghost use Rattle.library_reader.specs.{Folds.IsNumbered, Folds.FoldsItems};
 
-use crate::ending::Ending;
+use crate::ending::{Ending, ending_by};
 use crate::fold::CellFold;
 use crate::next::{NextCell, count_cell, next_cell};
 use crate::progress::{Progress, unit_of};
-use crate::step::{Step, next_step};
 use crate::writer::ItemWriter;
 use cell_attributes::groups::cell_name;
-use cell_cursor::{CellCursor, LibraryItem};
+use cell_cursor::{CellCursor, LibraryItem, Next};
 use liberty_groups::Group;
 use run_outcome::FILE_LIMIT;
 use std::alloc::Global;
@@ -74,26 +73,26 @@ fn handle_item<D: Desk, W: ItemWriter, F: CellFold>(
     progress: &mut Progress,
     writer: &W,
     fold: &mut F,
-    item: &LibraryItem,
+    item: LibraryItem,
 ) -> Result<(), Stop>
     requires bound { AreBound (D.state desk.old) W.outputs }
     requires few { IsNumbered progress.old }
-    ensures text { Writes (D.state desk.old) (D.state desk.new) (written_for W.for_cell W.for_left_out progress.old item.now)
+    ensures text { Writes (D.state desk.old) (D.state desk.new) (written_for W.for_cell W.for_left_out progress.old item)
         result }
     ensures made { OnOk result ((cells : List CellEntry) → F.made fold.old cells
-        → F.made fold.new (cells ++ item_kept progress.old item.now)) }
-    ensures progress { OnOk result (progress.new ≡ after_item progress.old item.now) }
+        → F.made fold.new (cells ++ item_kept progress.old item)) }
+    ensures progress { OnOk result (progress.new ≡ after_item progress.old item) }
     ensures cause { StopsWithCause (D.faults desk.old) (D.faults desk.new) result }
 {
     match item {
-        LibraryItem::Cell(group) => handle_cell(alloc, desk, progress, writer, fold, group),
+        LibraryItem::Cell(group) => handle_cell(alloc, desk, progress, writer, fold, &group),
         LibraryItem::Unit(line) => {
             progress.unit = unit_of(line.value.as_slice());
             Ok(())
         }
         LibraryItem::LeftOut(_) => writer.write_left_out(desk),
         LibraryItem::BusType(group) => {
-            progress.count_type(alloc, group)?;
+            progress.count_type(alloc, &group)?;
             Ok(())
         }
     }
@@ -121,9 +120,9 @@ pub fn fold_items<D: Desk, W: ItemWriter, F: CellFold>(
 {
     let mut cursor = CellCursor::new(alloc, FILE_LIMIT)?;
     for _turn in 0..FILE_LIMIT + 1 {
-        match next_step(&mut cursor, desk) {
-            Ok(Step::Item(item)) => handle_item(alloc, desk, progress, writer, fold, &item)?,
-            Ok(Step::Ended(ending)) => return Ok(ending),
+        match cursor.next_cell(desk) {
+            Ok(Next::Item(item)) => handle_item(alloc, desk, progress, writer, fold, item)?,
+            Ok(Next::Ended(end)) => return Ok(ending_by(end)),
             Err(stop) => return Err(stop),
         }
     }

@@ -19,7 +19,6 @@ mod next;
 mod progress;
 mod reading;
 mod report_lines;
-mod step;
 mod writer;
 
 pub use cell_lines::{PrintedName, RefusalLine};

@@ -40,7 +40,7 @@ loop-item-preserved g c =
     }
 
 pub returns-in-Some-clause-answered : goal.returns-in-Some-clause-answered
-returns-in-Some-clause-answered g c = λ none. absurd (item_given c.in-Some.item (rw c.next_of.ensures at none))
+returns-in-Some-clause-answered g c = λ none. absurd (item_given c.in-Some.item none)
 
 pub returns-in-Some-answer-clause-answered : goal.returns-in-Some-answer-clause-answered
 returns-in-Some-answer-clause-answered g c =
@@ -48,7 +48,7 @@ returns-in-Some-answer-clause-answered g c =
 
 pub returns-in-Some-clause-moves : goal.returns-in-Some-clause-moves
 returns-in-Some-clause-moves g c =
-    moves_given c.args.self.now c.loop-item.self _ _ _ c.in-Some.item c.next_of.result c.next_of.ensures (c.pop.ensures.items ∙ ap (λ r. c.pop.new.self.items ++ option_to_list r) c.in-Some.is)
+    moves_given c.args.self.now c.loop-item.self _ _ _ c.in-Some.item (c.pop.ensures.items ∙ ap (λ r. c.pop.new.self.items ++ option_to_list r) c.in-Some.is)
     refl refl refl refl refl c.loop-item.invariant.moves
 
 pub returns-in-Some-answer-clause-moves : goal.returns-in-Some-answer-clause-moves

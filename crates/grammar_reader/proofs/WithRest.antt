@@ -1,6 +1,6 @@
 -- What is read with the rest behind a part.
 use Rattle.std.proofs.Common.{◌≡◌, ℕ, Bool, true, false, List, [], ◌∷◌, Result, Ok, Err, IfOk, refl}
-use Rattle.grammar_rules.specs.Reading.{Outcome, and_then, read}
+use Rattle.grammar_rules.specs.Reading.{Outcome, read}
 use Rattle.grammar_reader.specs.declared.refusal.Refusal.{Refusal}
 use Rattle.grammar_reader.specs.declared.refusal.Refusal.TheVariants.{Syntax}
 use Rattle.grammar_reader.specs.declared.refusal.Stop.{Stop}
@@ -16,14 +16,6 @@ pub reads_before : {A : Type 0} (o : Outcome (List ℕ) Refusal A) (value : A) (
 reads_before o value (Ok done) result left e reads = rw e reads
 reads_before o value (Err (Refused k)) result left e reads = rw e reads
 reads_before o value (Err Memory) result left e reads = rw e tt
-
--- the same where the rest is a rule of its own
-pub reads_rest : {A : Type 0} (o : Outcome (List ℕ) Refusal (Unit {0})) (value : A) (rest : Result (Unit {0}) Stop)
-    (result : Result A Stop) (left : List (List ℕ)) →
-    result ≡ where_read value rest → Reads o rest left → Reads (and_then o (λ _ r. Ok (value, r))) result left
-reads_rest {A} o value (Ok done) result left e reads = rw (e, reads) refl
-reads_rest o value (Err (Refused k)) result left e reads = rw (e, reads) refl
-reads_rest o value (Err Memory) result left e reads = rw e tt
 
 -- what holds of the part where the rest was read
 pub kept_before : {A : Type 0} (P : A → Type 0) (value : A) (rest : Result (Unit {0}) Stop) (result : Result A Stop) →

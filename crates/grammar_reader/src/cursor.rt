@@ -1,14 +1,12 @@
 //! A cursor over the tokens of a text.
 
-ghost use Rattle.std.specs.Prelude.{◌≡◌, [], length};
+ghost use Rattle.std.specs.Prelude.{◌≡◌, length};
 ghost use Rattle.lexer.specs.Spans.{LieInside, spelled};
 ghost use Rattle.grammar_reader.specs.Next.{is_next, is_next_name, next_bytes, rest};
 
 use crate::language::Language;
 use lexer::KeptSpan;
-use std::alloc::Global;
 use std::marker::{Model, PhantomData};
-use std::mem::replace;
 
 /// The tokens of a text that are not read yet, each seen as its bytes, in a language `L`. It holds their places, and can give back
 /// the memory of those that were read, so that the tokens of a text and what they are read as need not stand whole beside each
@@ -44,18 +42,6 @@ impl<'a, L: Language> Cursor<'a, L> {
         Cursor {
             text,
             left,
-            language: PhantomData,
-        }
-    }
-
-    /// A cursor of another language takes the tokens that are left, and leaves none.
-    pub fn in_language<M: Language>(&mut self, alloc: Global) -> Cursor<'a, M>
-        ensures taken { result ≡ self.old }
-        ensures none { self.new ≡ [] }
-    {
-        Cursor {
-            text: self.text,
-            left: replace(&mut self.left, Vec::new(alloc)),
             language: PhantomData,
         }
     }

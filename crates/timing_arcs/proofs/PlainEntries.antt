@@ -128,10 +128,10 @@ number_of_digits whole part all more some few =
     } in
     let number : IsNumber (whole ++ 46 ∷ part) w = record {
       sign = [];
-      dot = 46 ∷ [];
-      tail = [];
       sign_is = n.no_sign;
+      dot = 46 ∷ [];
       dot_is = n.some_point;
+      tail = [];
       tail_is = n.no_exponent;
       whole_is = all;
       fraction_is = more;

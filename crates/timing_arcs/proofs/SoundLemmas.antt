@@ -384,13 +384,12 @@ arcs_from-kept : (subject : Subject) (group : Group) → IsQuiet subject group �
 arcs_from-kept subject group q p h =
     let all : List ℕ = subject.place ∷ inputs_of subject group in
     let parts = and_parts (is_input_pin subject.pins p) (has all p) h in
+    let rise = limit_of-within subject.unit (rise_table (type_of group)) group in
+    let fall = limit_of-within subject.unit (fall_table (type_of group)) group in
+    let kept = condition-kept subject all (p ∷ []) (condition_of subject group) (group-sound subject group) q.own q.wide
+    (both _ _ parts.1 refl) in
     typed-arcs subject (type_of group) p (rise_of subject group) (fall_of subject group) (tree_of (condition_of subject group))
-    (used-stands subject group q.used)
-    parts.0
-    (limit_of-within subject.unit (rise_table (type_of group)) group)
-    (limit_of-within subject.unit (fall_table (type_of group)) group)
-    (condition-kept subject all (p ∷ []) (condition_of subject group) (group-sound subject group) q.own q.wide
-    (both _ _ parts.1 refl))
+    (used-stands subject group q.used) parts.0 rise fall kept
 
 -- what a group makes keeps a rule, where what it would make does and nothing is wrong with its condition
 when-made : {A : Type 0} (t : A → Bool) (subject : Subject) (group : Group) (xs : List A) → own_in subject group ≡ []

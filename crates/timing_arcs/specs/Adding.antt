@@ -117,11 +117,11 @@ nothing_found room = record {
   room = room;
   checks = [];
   check_at = [];
+  offsets =
+      no_offsets;
   arcs = [];
   arc_at = [];
   left_out = [];
-  offsets =
-      no_offsets;
 }
 
 -- what is found of a pin

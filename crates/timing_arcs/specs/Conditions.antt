@@ -1,5 +1,5 @@
 -- The condition of a timing group (Liberty Reference Manual, `when`).
-use Rattle.std.specs.Prelude.{◌≡◌, ℕ, Bool, true, false, ◌==◌, nat_lt, List, [], length, codes, Option, Some, None, Result, Ok}
+use Rattle.std.specs.Prelude.{ℕ, Bool, true, false, ◌==◌, nat_lt, List, [], length, codes, Option, Some, None, Result, Ok}
 use Rattle.std.specs.Prelude.{Err, if◌then◌else◌}
 use Rattle.std.specs.Option.{option_map_or}
 use Rattle.std.specs.List.{list_any, list_all}
@@ -27,11 +27,6 @@ constant_or f = if length (support_of f) == 0 then (if value_of [] f then Always
 -- The condition of a tree. It may name input pins alone. (This project's rule.)
 abbrev pub condition_of_tree : Subject → Node → Condition
 condition_of_tree subject f = if list_all (is_input_pin subject.pins) (support_of f) then constant_or f else Unknown
-
--- a value, or what stands in its place
-abbrev pub IsKept : {A P E : Type 0} → A → Result (Option P) E → Result A P → Type 0
-IsKept x instead (Ok y) = (instead ≡ Ok None) × (y ≡ x)
-IsKept x instead (Err p) = instead ≡ Ok (Some p)
 
 -- a condition without a function
 abbrev pub plain_condition : Plain → Condition

@@ -6,10 +6,10 @@ use Rattle.std.specs.Option.{option_copied}
 -- the arc on a path
 abbrev pub arc_on : Path → Arc
 arc_on path = record {
+  condition =
+      option_copied path.condition;
   from = path.from;
   to = path.to;
   rise = path.rise;
   fall = path.fall;
-  condition =
-      option_copied path.condition;
 }

@@ -41,6 +41,27 @@ pub(crate) struct Path<'a> {
     pub(crate) condition: Option<&'a Function>,
 }
 
+impl Path<'_> {
+    /// The arc on it, with this condition of its own.
+    pub(crate) fn arc(&self, condition: Option<Function>) -> Arc
+        ensures { result ≡ record {
+          from = self.now.from;
+          to = self.now.to;
+          rise = self.now.rise;
+          fall = self.now.fall;
+          condition = condition;
+        } }
+    {
+        Arc {
+            from: self.from,
+            to: self.to,
+            rise: self.rise,
+            fall: self.fall,
+            condition,
+        }
+    }
+}
+
 /// Whether two conditions are equal: the same tree, or none.
 fn same_condition(one: Option<&Function>, other: &Option<Function>) -> bool
     ensures { result ≡ same_condition (option_copied one.entry) other.now }

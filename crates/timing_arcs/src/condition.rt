@@ -4,7 +4,7 @@ ghost use Rattle.std.specs.List.{list_all};
 ghost use Rattle.std.specs.Option.{option_copied};
 ghost use Rattle.bool_functions.specs.Tree.{name_bound};
 ghost use Rattle.cell_machine.specs.CellRules.{is_input_pin};
-ghost use Rattle.timing_arcs.specs.Conditions.{IsKept, plain_condition, condition_by, condition_of_tree, condition_in, tree_of};
+ghost use Rattle.timing_arcs.specs.Conditions.{plain_condition, condition_by, condition_of_tree, condition_in, tree_of};
 ghost use Rattle.timing_arcs.specs.Conditions.{may_hold, is_malformed, has_unknown, named_pins};
 
 use crate::subject::Subject;
@@ -34,19 +34,6 @@ fn are_inputs(pins: &[Pin], numbers: &[usize]) -> bool
     ensures { result ≡ list_all (is_input_pin pins.now) numbers.now }
 {
     numbers.iter().all(|number| is_input_pin(pins, *number))
-}
-
-/// A value, or what stands in its place. It is a function of any types, so that what the value owns is let go at one place.
-fn kept_unless<T: Drop, P: Drop>(
-    value: T,
-    instead: Result<Option<P>, AllocError>,
-) -> Result<Result<T, P>, AllocError>
-    ensures { IfOk result (λ kept. IsKept value instead kept) }
-{
-    match instead? {
-        Some(instead) => Ok(Err(instead)),
-        None => Ok(Ok(value)),
-    }
 }
 
 /// A condition without a function.
@@ -94,6 +81,16 @@ impl Plain {
 }
 
 impl Condition {
+    /// The one with this function, or the plain one in its place.
+    fn by(plain: Option<Plain>, function: Function) -> Condition
+        ensures { result ≡ condition_by plain function }
+    {
+        match plain {
+            None => Condition::Where(function),
+            Some(plain) => plain.condition(),
+        }
+    }
+
     /// The condition that a function is.
     fn of_function(
         alloc: Global,
@@ -102,11 +99,8 @@ impl Condition {
     ) -> Result<Condition, AllocError>
         ensures { IfOk result (λ condition. condition ≡ condition_of_tree subject.now function) }
     {
-        let plain = Plain::of(alloc, subject, &function);
-        match kept_unless(function, plain)? {
-            Ok(function) => Ok(Condition::Where(function)),
-            Err(plain) => Ok(plain.condition()),
-        }
+        let plain = Plain::of(alloc, subject, &function)?;
+        Ok(Condition::by(plain, function))
     }
 
     /// The condition that a text stands for.

@@ -6,7 +6,7 @@ ghost use Rattle.timing_arcs.specs.GroupTexts.{is_full};
 use crate::arc_list::ArcList;
 use crate::fault::TimingFault;
 use crate::offsets::{Offsets, lesser};
-use crate::subject::{PinTiming, Room};
+use crate::subject::{PinTiming, Room, StatementOffsets};
 use crate::timing_type::TimingType;
 use cell_machine::{Arc, Check};
 use sqlite_items::Items;
@@ -20,11 +20,11 @@ pub(crate) struct Found {
     /// The checks, in order.
     pub(crate) checks: Items<Check>,
     /// For each check the offset of the group or attribute that made it.
-    pub(crate) check_at: Items<usize>,
+    pub(crate) check_at: StatementOffsets,
     /// The arcs, in order.
     pub(crate) arcs: ArcList,
     /// For each arc the offset of the group that first made it.
-    pub(crate) arc_at: Items<usize>,
+    pub(crate) arc_at: StatementOffsets,
     /// The places of the left-out groups.
     pub(crate) left_out: Items<usize>,
     /// What is noted.
@@ -65,6 +65,14 @@ impl Found {
         self.checks.len() < self.room.checks || self.check_at.len() < self.room.checks
     }
 
+    /// Whether one more arc is held.
+    pub(crate) fn has_arc_room(&self) -> bool
+        ensures { result ≡ (nat_lt (length self.now.arcs) self.now.room.arcs
+            || nat_lt (length self.now.arc_at) self.now.room.arcs) }
+    {
+        self.arcs.len() < self.room.arcs || self.arc_at.len() < self.room.arcs
+    }
+
     /// Adds a check that is made at this offset, if its limit is not 0 and there is room.
     pub(crate) fn add_check(&mut self, at: usize, check: Check) -> Result<(), AllocError>
         ensures { OnOk result (self.new ≡ with_check at self.old check) }
@@ -76,14 +84,6 @@ impl Found {
         };
         push_within(&mut self.checks, room, check)?;
         push_within(&mut self.check_at, room, at)
-    }
-
-    /// Whether one more arc is held.
-    pub(crate) fn has_arc_room(&self) -> bool
-        ensures { result ≡ (nat_lt (length self.now.arcs) self.now.room.arcs
-            || nat_lt (length self.now.arc_at) self.now.room.arcs) }
-    {
-        self.arcs.len() < self.room.arcs || self.arc_at.len() < self.room.arcs
     }
 
     /// Adds an arc of its own that is made at this offset, if there is room.

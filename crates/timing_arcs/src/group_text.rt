@@ -20,6 +20,8 @@ pub(crate) struct GroupText {
     pub(crate) place: usize,
     /// Its offset.
     pub(crate) at: usize,
+    /// The least offset of what is wrong in the tables.
+    pub(crate) number_at: Option<usize>,
     pub(crate) timing_type: TimingType,
     /// Whether it has a table that its type uses.
     pub(crate) has_table: bool,
@@ -31,8 +33,6 @@ pub(crate) struct GroupText {
     pub(crate) rise: u64,
     /// The limit or delay for a fall of the pin, in picoseconds.
     pub(crate) fall: u64,
-    /// The least offset of what is wrong in the tables.
-    pub(crate) number_at: Option<usize>,
 }
 
 /// Whether the pin is among these.
@@ -61,7 +61,7 @@ impl GroupText {
     {
         let timing_type = timing_type(group);
         let related = RelatedText::of_group(alloc, subject, group)?;
-        let when = WhenText::of_group(alloc, subject, group)?;
+        let when = WhenText::of(alloc, subject, group)?;
         let names_related = names_one(when.named.as_slice(), related.inputs.as_slice());
         let rise = Limit::of_tables(subject.unit, group, timing_type.rise_table());
         let fall = Limit::of_tables(subject.unit, group, timing_type.fall_table());

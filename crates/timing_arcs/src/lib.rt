@@ -26,5 +26,5 @@ pub use laws::{
     arcs_are_apart, arcs_are_sound, arcs_end_here, checks_are_sound, timings_are_placed,
 };
 pub use pin_timing::read_timing;
-pub use subject::{PinTiming, Room, Subject};
+pub use subject::{PinTiming, Room, StatementOffsets, Subject};
 pub use timing_texts::TimingTexts;

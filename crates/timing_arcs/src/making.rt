@@ -11,28 +11,34 @@ use crate::group_text::GroupText;
 use crate::subject::Subject;
 use crate::timing_type::TimingType;
 use bool_functions::Function;
-use cell_machine::{Arc, Check, CheckKind, Edge, Event};
+use cell_machine::{Check, CheckKind, Edge, Event};
 use std::alloc::{AllocError, Global};
 
-/// What a check stands between: an event, and one behind it.
+/// What a check of a kind stands between: an event, and one behind it.
 #[derive(Clone, Copy)]
 struct Span {
+    kind: CheckKind,
     first: Event,
     second: Event,
 }
 
 impl Span {
-    /// From one event to another.
-    fn new(first: Event, second: Event) -> Span
-        ensures { result ≡ record { first = first; second = second } }
+    /// That of a check of this kind, from one event to another.
+    fn new(kind: CheckKind, first: Event, second: Event) -> Span
+        ensures { result ≡ record { kind = kind; first = first; second = second } }
     {
-        Span { first, second }
+        Span {
+            kind,
+            first,
+            second,
+        }
     }
 }
 
 /// What a timing group says, under one of the cell's pins.
 #[derive(Drop)]
 pub(crate) struct Making<'a> {
+    pub(crate) alloc: Global,
     pub(crate) subject: &'a Subject,
     pub(crate) text: &'a GroupText,
 }
@@ -46,72 +52,52 @@ fn event(pin: usize, edge: Edge) -> Event
 
 impl Making<'_> {
     /// The condition of what the group makes. Each check and arc that is held has one of its own.
-    fn condition(&self, alloc: Global) -> Result<Option<Function>, AllocError>
+    fn condition(&self) -> Result<Option<Function>, AllocError>
         ensures { IfOk result (λ function. function ≡ tree_of self.now.text.now.when.condition) }
     {
-        self.text.when.condition.own_function(alloc)
+        self.text.when.condition.own_function(self.alloc)
     }
 
-    /// Adds a check of this kind.
-    fn add_check(
-        &self,
-        alloc: Global,
-        kind: CheckKind,
-        span: Span,
-        limit: u64,
-        found: &mut Found,
-    ) -> Result<(), AllocError>
+    /// Adds the check with this limit.
+    fn add_check(&self, span: Span, limit: u64, found: &mut Found) -> Result<(), AllocError>
         ensures { OnOk result (found.new ≡ with_check self.now.text.now.at found.old
-            (check kind span.first span.second limit (tree_of self.now.text.now.when.condition))) }
+            (check span.kind span.first span.second limit (tree_of self.now.text.now.when.condition))) }
     {
         if !found.has_check_room() {
             return Ok(());
         }
         let check = Check {
-            kind,
+            kind: span.kind,
             first: span.first,
             second: span.second,
             limit,
-            condition: self.condition(alloc)?,
+            condition: self.condition()?,
         };
         found.add_check(self.text.at, check)
     }
 
-    /// Adds a check of this kind, with the greater of both limits.
-    fn add_one(
-        &self,
-        alloc: Global,
-        kind: CheckKind,
-        span: Span,
-        found: &mut Found,
-    ) -> Result<(), AllocError>
+    /// Adds the check with the greater of both limits.
+    fn add_one(&self, span: Span, found: &mut Found) -> Result<(), AllocError>
         ensures { OnOk result (found.new ≡ with_checks self.now.text.now.at found.old
-            (check kind span.first span.second (max self.now.text.now.rise self.now.text.now.fall)
+            (check span.kind span.first span.second (max self.now.text.now.rise self.now.text.now.fall)
             (tree_of self.now.text.now.when.condition) ∷ [])) }
     {
         let both = self.text.rise.max(self.text.fall);
-        self.add_check(alloc, kind, span, both, found)
+        self.add_check(span, both, found)
     }
 
-    /// Adds the checks of this kind for a rise and for a fall of the pin, each with its own limit.
-    fn add_two(
-        &self,
-        alloc: Global,
-        kind: CheckKind,
-        rise: Span,
-        fall: Span,
-        found: &mut Found,
-    ) -> Result<(), AllocError>
+    /// Adds the checks for a rise and for a fall of the pin, each with its own limit.
+    fn add_two(&self, rise: Span, fall: Span, found: &mut Found) -> Result<(), AllocError>
         ensures { OnOk result (found.new ≡ with_checks self.now.text.now.at found.old
-            (check kind rise.first rise.second self.now.text.now.rise (tree_of self.now.text.now.when.condition)
-            ∷ check kind fall.first fall.second self.now.text.now.fall (tree_of self.now.text.now.when.condition) ∷ [])) }
+            (check rise.kind rise.first rise.second self.now.text.now.rise (tree_of self.now.text.now.when.condition)
+            ∷ check fall.kind fall.first fall.second self.now.text.now.fall (tree_of self.now.text.now.when.condition) ∷ [])) }
     {
-        self.add_check(alloc, kind, rise, self.text.rise, found)?;
-        self.add_check(alloc, kind, fall, self.text.fall, found)
+        self.add_check(rise, self.text.rise, found)?;
+        self.add_check(fall, self.text.fall, found)
     }
 
     /// Adds the checks with a pin that the group is related to.
-    fn add_checks(&self, alloc: Global, related: usize, found: &mut Found) -> Result<(), AllocError>
+    fn add_checks(&self, related: usize, found: &mut Found) -> Result<(), AllocError>
         ensures { OnOk result (found.new ≡ with_checks self.now.text.now.at found.old
             (checks_with self.now.text.now.timing_type self.now.subject.now.place related self.now.text.now.rise
             self.now.text.now.fall (tree_of self.now.text.now.when.condition))) }
@@ -123,36 +109,36 @@ impl Making<'_> {
         match self.text.timing_type {
             TimingType::Delay | TimingType::Other => Ok(()),
             TimingType::Setup(edge) => {
-                let span = Span::new(each, event(related, edge));
-                self.add_one(alloc, CheckKind::Setup, span, found)
+                let span = Span::new(CheckKind::Setup, each, event(related, edge));
+                self.add_one(span, found)
             }
             TimingType::Hold(edge) => {
-                let span = Span::new(event(related, edge), each);
-                self.add_one(alloc, CheckKind::Hold, span, found)
+                let span = Span::new(CheckKind::Hold, event(related, edge), each);
+                self.add_one(span, found)
             }
             TimingType::Recovery(edge) => {
                 let other = event(related, edge);
-                let (rise, fall) = (Span::new(rise, other), Span::new(fall, other));
-                self.add_two(alloc, CheckKind::Recovery, rise, fall, found)
+                let for_rise = Span::new(CheckKind::Recovery, rise, other);
+                let for_fall = Span::new(CheckKind::Recovery, fall, other);
+                self.add_two(for_rise, for_fall, found)
             }
             TimingType::Removal(edge) => {
                 let other = event(related, edge);
-                let (rise, fall) = (Span::new(other, rise), Span::new(other, fall));
-                self.add_two(alloc, CheckKind::Removal, rise, fall, found)
+                let for_rise = Span::new(CheckKind::Removal, other, rise);
+                let for_fall = Span::new(CheckKind::Removal, other, fall);
+                self.add_two(for_rise, for_fall, found)
             }
             TimingType::Width => {
-                let (high, low) = (Span::new(rise, fall), Span::new(fall, rise));
-                self.add_two(alloc, CheckKind::Width, high, low, found)
+                let high = Span::new(CheckKind::Width, rise, fall);
+                let low = Span::new(CheckKind::Width, fall, rise);
+                self.add_two(high, low, found)
             }
-            TimingType::Period => {
-                let span = Span::new(each, each);
-                self.add_one(alloc, CheckKind::Period, span, found)
-            }
+            TimingType::Period => { self.add_one(Span::new(CheckKind::Period, each, each), found) }
         }
     }
 
     /// Adds the arc from a pin that the group is related to, if the group is one of a delay.
-    fn add_arcs(&self, alloc: Global, related: usize, found: &mut Found) -> Result<(), AllocError>
+    fn add_arcs(&self, related: usize, found: &mut Found) -> Result<(), AllocError>
         ensures { OnOk result (found.new ≡ with_arcs self.now.text.now.at found.old
             (arcs_with self.now.text.now.timing_type self.now.subject.now.place related self.now.text.now.rise
             self.now.text.now.fall (tree_of self.now.text.now.when.condition))) }
@@ -173,28 +159,17 @@ impl Making<'_> {
         if !found.has_arc_room() {
             return Ok(());
         }
-        let arc = Arc {
-            from: related,
-            to: self.subject.place,
-            rise: self.text.rise,
-            fall: self.text.fall,
-            condition: self.condition(alloc)?,
-        };
+        let arc = path.arc(self.condition()?);
         found.push_arc(self.text.at, arc)
     }
 
     /// Adds what the group makes with these pins that it is related to, in order.
-    pub(crate) fn add_all(
-        &self,
-        alloc: Global,
-        inputs: &[usize],
-        found: &mut Found,
-    ) -> Result<(), AllocError>
+    pub(crate) fn add_all(&self, inputs: &[usize], found: &mut Found) -> Result<(), AllocError>
         ensures { OnOk result (found.new ≡ with_all_made self.now.subject.now self.now.text.now found.old inputs.now) }
     {
         for related in inputs {
-            self.add_checks(alloc, *related, found)?;
-            self.add_arcs(alloc, *related, found)?;
+            self.add_checks(*related, found)?;
+            self.add_arcs(*related, found)?;
         }
         Ok(())
     }

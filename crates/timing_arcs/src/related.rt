@@ -91,11 +91,7 @@ fn related_in(alloc: Global, subject: &Subject, text: &[u8]) -> Result<Vec<Relat
 }
 
 /// What the names in the `related_pin` of a timing group are, in order.
-fn named_related(
-    alloc: Global,
-    subject: &Subject,
-    group: &Group,
-) -> Result<Items<Related>, AllocError>
+fn related_of(alloc: Global, subject: &Subject, group: &Group) -> Result<Items<Related>, AllocError>
     ensures { IfOk result (λ related. related ≡ named_related subject.now group.now) }
 {
     match last_attribute(group, b"related_pin") {
@@ -143,6 +139,8 @@ fn inputs(alloc: Global, related: &[Related]) -> Result<Items<usize>, AllocError
 pub(crate) struct RelatedText {
     /// The offset of the statement.
     pub(crate) at: Option<usize>,
+    /// The input pins among its names, in order.
+    pub(crate) inputs: Items<usize>,
     /// Whether it has no name.
     pub(crate) is_empty: bool,
     /// Whether one of its names is a pin that the cell drives.
@@ -151,8 +149,6 @@ pub(crate) struct RelatedText {
     pub(crate) has_undriven: bool,
     /// Whether one of its names is no pin.
     pub(crate) has_unknown: bool,
-    /// The input pins among its names, in order.
-    pub(crate) inputs: Items<usize>,
 }
 
 /// The offset of the statement of this simple attribute that counts.
@@ -174,7 +170,7 @@ impl RelatedText {
     ) -> Result<RelatedText, AllocError>
         ensures { IfOk result (λ text. text ≡ related_text subject.now group.now) }
     {
-        let related = named_related(alloc, subject, group)?;
+        let related = related_of(alloc, subject, group)?;
         let names = related.as_slice();
         Ok(RelatedText {
             at: statement_at(group, b"related_pin"),

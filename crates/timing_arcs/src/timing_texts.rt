@@ -16,8 +16,8 @@ use std::alloc::{AllocError, Global};
 /// What the timing of a pin group says, whichever of its pins it is read for.
 #[derive(Drop)]
 pub struct TimingTexts<'a> {
-    pin: &'a Group,
     groups: Items<GroupText>,
+    pin: &'a Group,
     limits: PinLimits,
 }
 

@@ -12,8 +12,8 @@ use crate::subject::Subject;
 use crate::timing_type::stands_at;
 use std::alloc::{AllocError, Global};
 
-/// The greatest number of names in the support of a condition.
-const MAX_NAMES: usize = 10;
+/// The most pins in the support of a condition.
+const MOST_CONDITION_PINS: usize = 10;
 
 /// Whether one of the named pins is this one.
 fn names_pin(named: &[usize], pin: usize) -> bool
@@ -79,7 +79,7 @@ impl GroupText {
             unknown_name: where_so(self.when.condition.has_unknown(), at),
             own_condition: where_so(self.names_own(subject), at),
             number: self.number_at,
-            wide: where_so(MAX_NAMES < self.when.named.len(), at),
+            wide: where_so(MOST_CONDITION_PINS < self.when.named.len(), at),
         }
     }
 
@@ -124,13 +124,14 @@ impl GroupText {
             return Ok(());
         }
         let making = Making {
+            alloc,
             subject,
             text: self,
         };
         if self.timing_type.is_of_one_pin() {
-            making.add_all(alloc, &[subject.place], found)
+            making.add_all(&[subject.place], found)
         } else {
-            making.add_all(alloc, self.related.inputs.as_slice(), found)
+            making.add_all(self.related.inputs.as_slice(), found)
         }
     }
 }

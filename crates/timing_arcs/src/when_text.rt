@@ -21,11 +21,7 @@ pub(crate) struct WhenText {
 
 impl WhenText {
     /// What that of a timing group says.
-    pub(crate) fn of_group(
-        alloc: Global,
-        subject: &Subject,
-        group: &Group,
-    ) -> Result<WhenText, AllocError>
+    pub(crate) fn of(alloc: Global, subject: &Subject, group: &Group) -> Result<Self, AllocError>
         ensures { IfOk result (λ text. text ≡ when_text subject.now group.now) }
     {
         let Some(attribute) = last_attribute(group, b"when") else {

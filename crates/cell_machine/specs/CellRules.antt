@@ -56,18 +56,18 @@ abbrev pub are_distinct : List (List ℕ) → Bool
 are_distinct [] = true
 are_distinct (x ∷ xs) = not (list_any (bytes_eq x) xs) && are_distinct xs
 
--- the directions
+-- the directions, and the pins that have them
 abbrev pub is_input : Direction → Bool
 is_input direction.Input = true
 is_input _ = false
 
-abbrev pub is_output : Direction → Bool
-is_output direction.Output = true
-is_output _ = false
-
 -- whether this is the number of an input pin
 abbrev pub is_input_pin : List Pin → ℕ → Bool
 is_input_pin pins p = option_map_or (λ (pin : Pin). is_input pin.direction) (slice_get pins p) false
+
+abbrev pub is_output : Direction → Bool
+is_output direction.Output = true
+is_output _ = false
 
 -- whether this is the number of an output pin
 abbrev pub is_output_pin : List Pin → ℕ → Bool

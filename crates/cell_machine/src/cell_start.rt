@@ -1,9 +1,9 @@
 //! A cell before any change.
 ghost use Rattle.std.specs.Prelude.{◌≡◌, [], false, length, map, replicate, IfOk, None};
-ghost use Rattle.trit_cubes.specs.declared.trits.Trit.TheVariants.{Unknown};
 ghost use Rattle.cell_machine.specs.Inputs.{input_number};
 ghost use Rattle.cell_machine.specs.Times.{no_times};
 ghost use Rattle.cell_machine.specs.CellData.{data_of};
+ghost use Rattle.trit_cubes.specs.declared.trits.Trit.TheVariants.{Unknown};
 ghost use Rattle.cell_machine.specs.OutputTables.{AreOutputTables};
 ghost use Rattle.cell_machine.specs.LibertyStands.{shown_after};
 ghost use Rattle.cell_machine.specs.CellStarts.{IsCellStart};

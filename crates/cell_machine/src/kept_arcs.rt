@@ -11,6 +11,17 @@ use sqlite_items::Items;
 use std::alloc::{AllocError, Global};
 use trit_cubes::Trit;
 
+/// Nothing of so many values.
+fn nothing_kept<T: Copy>(alloc: Global, count: usize) -> Result<Items<Option<T>>, AllocError>
+    ensures { IfOk result (λ kept. kept ≡ replicate count None) }
+{
+    let mut kept = Items::new(alloc);
+    for _ in 0..count {
+        kept.push(None)?;
+    }
+    Ok(kept)
+}
+
 /// What is kept of the arcs, each by its number.
 #[derive(Drop)]
 pub struct KeptArcs {
@@ -46,15 +57,4 @@ impl KeptArcs {
         );
         forget(entry(&places.firsts, input).as_slice(), &mut self.delays);
     }
-}
-
-/// Nothing of so many values.
-fn nothing_kept<T: Copy>(alloc: Global, count: usize) -> Result<Items<Option<T>>, AllocError>
-    ensures { IfOk result (λ kept. kept ≡ replicate count None) }
-{
-    let mut kept = Items::new(alloc);
-    for _ in 0..count {
-        kept.push(None)?;
-    }
-    Ok(kept)
 }

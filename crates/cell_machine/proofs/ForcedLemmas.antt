@@ -3,9 +3,9 @@ use Rattle.std.proofs.Common.{◌≡◌, ◌≢◌, ℕ, zero, suc, Bool, true, 
 use Rattle.trit_cubes.specs.declared.trits.Trit.{Trit}
 use Rattle.trit_cubes.specs.declared.trits.Trit.TheVariants.{Zero, One, Unknown}
 use Rattle.trit_cubes.specs.Filling.{Fits, IsFilling}
-use Rattle.trit_cubes.specs.Resolution.{agreed}
+use Rattle.trit_cubes.specs.Resolution.{agreed, res}
 use Rattle.trit_cubes.proofs.InsideLemmas.{res-fillings, fillings-res, agreed-parts, agreed-same}
-use Rattle.cell_machine.specs.Machine.{Step, insert, around, forced_at, over}
+use Rattle.cell_machine.specs.Machine.{Step, insert, around, forced_at, forced, over}
 use Rattle.cell_machine.specs.Laws.{ForcedIsStep}
 use Rattle.cell_machine.proofs.StepLemmas.{machine_step-parts}
 
@@ -54,16 +54,52 @@ both-known :
 both-known step before after v true k e = (agreed-parts (step before after false) (step before after true) v k e).1
 both-known step before after v false k e = (agreed-parts (step before after false) (step before after true) v k e).0
 
+-- Inputs force a state: each filling of them after a change of the input at this place is a point that forces it.
+module _ (step : Step) (p : ℕ) (b : Trit) (others : List Trit) (v : Trit) (known : v ≢ Unknown)
+    (forced_to : forced step (insert p b others) ≡ v) where
+  -- what is forced at a filling of the inputs
+  at_filling : (new : Bool) (q : List Bool) → Fits b new → IsFilling others q → forced_at step (insert p new q) ≡ v
+  at_filling new q fits filling =
+      res-fillings (forced_at step) (insert p b others) v known forced_to (insert p new q)
+      (insert-filling p b new others q fits filling)
+
+  -- a change of the input to such a filling gives the value in each state, whatever the input was
+  known_step : (old new : Bool) (q : List Bool) (w : Bool) → Fits b new → IsFilling others q
+      → step (insert p old q) (insert p new q) w ≡ v
+  known_step old new q w fits filling =
+      let after : List Bool = insert p new q in
+      let both : agreed (step (insert p old q) after false) (step (insert p old q) after true) ≡ v
+      = around-insert (λ before. agreed (step before after false) (step before after true)) p new old q v known
+      (at_filling new q fits filling) in
+      both-known step (insert p old q) after v w known both
+
+  -- so it does where the state is a trit,
+  each_state : (s : Trit) (old new : Bool) (q : List Bool) → Fits b new → IsFilling others q
+      → over (step (insert p old q) (insert p new q)) s ≡ v
+  each_state s old new q fits filling =
+      over-known (step (insert p old q) (insert p new q)) s v (λ w _. known_step old new q w fits filling)
+
+  -- where the other inputs are trits,
+  each_filling : (s : Trit) (old new : Bool) → Fits b new
+      → res (λ q. over (step (insert p old q) (insert p new q)) s) others ≡ v
+  each_filling s old new fits =
+      fillings-res (λ q. over (step (insert p old q) (insert p new q)) s) others v
+      (λ q filling. each_state s old new q fits filling)
+
+  -- where the value after is one,
+  each_after : (s : Trit) (old : Bool)
+      → over (λ new. res (λ q. over (step (insert p old q) (insert p new q)) s) others) b ≡ v
+  each_after s old =
+      over-known (λ new. res (λ q. over (step (insert p old q) (insert p new q)) s) others) b v
+      (λ new fits. each_filling s old new fits)
+
+  -- and where the value before is one
+  each_before : (a s : Trit)
+      → over (λ old. over (λ new. res (λ q. over (step (insert p old q) (insert p new q)) s) others) b) a ≡ v
+  each_before a s =
+      over-known (λ old. over (λ new. res (λ q. over (step (insert p old q) (insert p new q)) s) others) b) a v
+      (λ old _. each_after s old)
+
 pub forced_is_step-lem : ForcedIsStep
 forced_is_step-lem step p a b others s v e k =
-    machine_step-parts step p a b others s
-    ∙ over-known _ a v (λ old _.
-    over-known _ b v (λ new fits.
-    fillings-res _ others v (λ q filling.
-    over-known _ s v (λ w _.
-    let point = res-fillings (forced_at step) (insert p b others) v k e (insert p new q)
-    (insert-filling p b new others q fits filling) in
-    both-known step (insert p old q) (insert p new q) v w k
-    (around-insert
-    (λ before. agreed (step before (insert p new q) false) (step before (insert p new q) true))
-    p new old q v k point)))))
+    machine_step-parts step p a b others s ∙ each_before step p b others v k e a s

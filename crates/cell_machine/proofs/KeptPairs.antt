@@ -1,6 +1,7 @@
 -- Least delays of two pins that are kept.
 use Rattle.std.proofs.Common.{◌≡◌, ℕ, zero, suc, ◌+◌, ◌<◌, eqb, Bool, true, false, not, ◌&&◌, ◌||◌, cond, List, [], ◌∷◌, ◌++◌}
-use Rattle.std.proofs.Common.{length, map, get_or, set, take, subst, refl, sym, ap, ◌∙◌, Option, Some, None, slice_get, arith, nat_eq}
+use Rattle.std.proofs.Common.{length, map, get_or, set, take, subst, refl, sym, ap, ◌∙◌, Option, Some, None, slice_get, arith}
+use Rattle.std.proofs.Common.{nat_eq}
 use Rattle.std.specs.Prelude.{⊤, filter, flat_map, option_map, option_to_list}
 use Rattle.std.specs.List.{list_all, list_any, range_with_len}
 use Rattle.std.proofs.lemmas.Bool.{and_parts, or_parts, eqb-true}
@@ -20,7 +21,8 @@ use Rattle.cell_machine.specs.Names.{has}
 use Rattle.cell_machine.specs.Inputs.{input_number}
 use Rattle.cell_machine.specs.Outputs.{is_zero}
 use Rattle.cell_machine.specs.Delay.{Path, least, active_delays}
-use Rattle.cell_machine.specs.CellTrace.{inputs_of, condition_names, arc_names, same_pins, is_off, is_quiet, is_active, path_of, is_between}
+use Rattle.cell_machine.specs.CellTrace.{inputs_of, condition_names, arc_names, same_pins, is_off, is_quiet, is_active, path_of}
+use Rattle.cell_machine.specs.CellTrace.{is_between}
 use Rattle.cell_machine.specs.KeptConditions.{names_input, AreForgotten}
 use Rattle.cell_machine.specs.Places.{places_from, entries_at, AreBelow}
 use Rattle.cell_machine.specs.ArcDelay.{least_delays}

@@ -1,6 +1,7 @@
 -- Values that are kept of entries.
 use Rattle.std.proofs.Common.{◌≡◌, ℕ, zero, suc, ◌+◌, ◌<◌, ◌==◌, eqb, Bool, true, false, not, ◌&&◌, List, [], ◌∷◌, length, map}
-use Rattle.std.proofs.Common.{replicate, get_or, set, drop, add-one, subst, refl, sym, ap, ◌∙◌, Option, Some, None, slice_get, arith}
+use Rattle.std.proofs.Common.{replicate, get_or, set, drop, add-one, subst, refl, sym, ap, ◌∙◌, Option, Some, None, slice_get}
+use Rattle.std.proofs.Common.{arith}
 use Rattle.std.specs.List.{list_all}
 use Rattle.std.specs.Prelude.{option_map}
 use Rattle.std.proofs.lemmas.List.{length-set}

@@ -181,10 +181,9 @@ report_is_whole_list-lem n k cs place inside =
             earlier = r.earlier;
             is_earlier = r.is_earlier;
             opened = r.opened;
-            event = r.first;
-            is_last =
-                r.is_last;
             time_is = refl;
+            event = r.first;
+            is_last = r.is_last;
           }) in
           let near = subst (λ o. IsTrue (is_within c.at k.limit o)) (sym last) (lt-ltb c.at (r.opened.at + k.limit) r.near) in
           subst (λ hs. IsTrue (report n k hs)) (sym gained)

@@ -1,5 +1,6 @@
 -- Changes of inputs that leave the state of a group.
-use Rattle.std.proofs.Common.{◌≡◌, ℕ, zero, suc, ◌+◌, ◌*◌, ◌^◌, ◌/◌, ◌<◌, Bool, true, false, List, [], ◌∷◌, ◌++◌, length, map, take, drop}
+use Rattle.std.proofs.Common.{◌≡◌, ℕ, zero, suc, ◌+◌, ◌*◌, ◌^◌, ◌/◌, ◌<◌, Bool, true, false, List, [], ◌∷◌, ◌++◌, length, map}
+use Rattle.std.proofs.Common.{take, drop}
 use Rattle.std.proofs.Common.{get_or, refl, sym, ap, ◌∙◌, subst, arith, pow-suc, Some, None, position, slice_get, length-append}
 use Rattle.std.specs.Prelude.{nat_eq, Option}
 use Rattle.std.specs.List.{list_all}
@@ -11,6 +12,7 @@ use Rattle.trit_cubes.specs.declared.trits.Trit.TheVariants.{Zero, One, Unknown}
 use Rattle.trit_cubes.specs.Filling.{bit, number, same, trit_of}
 use Rattle.trit_cubes.specs.Resolution.{agreed, res}
 use Rattle.trit_cubes.specs.Sets.{AreValuesOf}
+use Rattle.trit_cubes.proofs.InsideLemmas.{agreed-same}
 use Rattle.trit_cubes.proofs.PointLemmas.{number-below}
 use Rattle.cell_machine.specs.declared.groups.StateGroup.{StateGroup}
 use Rattle.cell_machine.specs.declared.changes.Change.{Change}
@@ -90,11 +92,6 @@ last-is n f values are left p true long =
     ∙ ap (λ k. get_or values k Unknown) number_is
     ∙ sym (get_or-drop (length values / 2) values (number p) Unknown)
     ∙ same-one _ (all-pass (same One) (drop (length values / 2) values) (number p) Unknown inside parts.1)
-
-agreed-same : (s : Trit) → agreed s s ≡ s
-agreed-same Zero = refl
-agreed-same One = refl
-agreed-same Unknown = refl
 
 res-last :
     (f : List Bool → Trit) (ts : List Trit) (s : Trit)

@@ -56,28 +56,28 @@ abbrev pub are_distinct : List (List ℕ) → Bool
 are_distinct [] = true
 are_distinct (x ∷ xs) = not (list_any (bytes_eq x) xs) && are_distinct xs
 
--- the directions
+-- the directions, and the pins that have them
 abbrev pub is_input : Direction → Bool
 is_input direction.Input = true
 is_input _ = false
-
-abbrev pub is_output : Direction → Bool
-is_output direction.Output = true
-is_output _ = false
 
 -- whether this is the number of an input pin
 abbrev pub is_input_pin : List Pin → ℕ → Bool
 is_input_pin pins p = option_map_or (λ (pin : Pin). is_input pin.direction) (slice_get pins p) false
 
--- whether this is the number of an output pin
-abbrev pub is_output_pin : List Pin → ℕ → Bool
-is_output_pin pins p = option_map_or (λ (pin : Pin). is_output pin.direction) (slice_get pins p) false
+abbrev pub is_output : Direction → Bool
+is_output direction.Output = true
+is_output _ = false
 
 -- the numbers of the output pins, in order, where the first pin has the number k
 abbrev pub output_pins_from : ℕ → List Pin → List ℕ
 output_pins_from k [] = []
 output_pins_from k (pin ∷ pins) =
     (if is_output pin.direction then k ∷ output_pins_from (k + 1) pins else output_pins_from (k + 1) pins)
+
+-- whether this is the number of an output pin
+abbrev pub is_output_pin : List Pin → ℕ → Bool
+is_output_pin pins p = option_map_or (λ (pin : Pin). is_output pin.direction) (slice_get pins p) false
 
 -- Pins: at most 64, with names that are distinct.
 abbrev pub are_pins : List Pin → Bool

@@ -38,9 +38,9 @@ impl ArcPlaces {
     {
         let pins = cell.pins.as_slice();
         let count = input_number(pins, pins.len());
-        let naming = all_naming(alloc, pins, names, count)?;
-        let between = all_between(alloc, cell, count)?;
-        let firsts = all_firsts(alloc, pins, names, between.as_slice(), count)?;
+        let naming = all_naming(alloc, count, pins, names)?;
+        let between = all_between(alloc, count, cell)?;
+        let firsts = all_firsts(alloc, count, pins, names, between.as_slice())?;
         Ok(ArcPlaces {
             naming,
             between,
@@ -86,12 +86,12 @@ fn naming(
     Ok(places)
 }
 
-/// The same for each input.
+/// The same for each of so many inputs.
 fn all_naming(
     alloc: Global,
+    count: usize,
     pins: &[Pin],
     named: &[Items<usize>],
-    count: usize,
 ) -> Result<Items<Items<usize>>, AllocError>
     ensures { IfOk result (λ all. all ≡ map (λ input. places_from (names_input pins.now input) 0 named.now)
         (range_with_len 0 count)) }
@@ -138,11 +138,11 @@ fn arcs_from(alloc: Global, cell: &Cell, input: usize) -> Result<Items<Items<usi
     Ok(lists)
 }
 
-/// The same for each input.
+/// The same for each of so many inputs.
 fn all_between(
     alloc: Global,
-    cell: &Cell,
     count: usize,
+    cell: &Cell,
 ) -> Result<Items<Items<Items<usize>>>, AllocError>
     ensures { IfOk result (λ all. all ≡ map (arcs_from_of (data_of cell.now)) (range_with_len 0 count)) }
 {
@@ -221,13 +221,13 @@ fn firsts(
     Ok(firsts)
 }
 
-/// The same for each input.
+/// The same for each of so many inputs.
 fn all_firsts(
     alloc: Global,
+    count: usize,
     pins: &[Pin],
     named: &[Items<usize>],
     between: &[Items<Items<usize>>],
-    count: usize,
 ) -> Result<Items<Items<usize>>, AllocError>
     ensures { IfOk result (λ all. all ≡ map (λ input. flat_map (flat_map (first_naming pins.now named.now input)) between.now)
         (range_with_len 0 count)) }

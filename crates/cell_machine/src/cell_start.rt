@@ -1,9 +1,9 @@
 //! A cell before any change.
 ghost use Rattle.std.specs.Prelude.{◌≡◌, [], false, length, map, replicate, IfOk, None};
-ghost use Rattle.trit_cubes.specs.declared.trits.Trit.TheVariants.{Unknown};
 ghost use Rattle.cell_machine.specs.Inputs.{input_number};
 ghost use Rattle.cell_machine.specs.Times.{no_times};
 ghost use Rattle.cell_machine.specs.CellData.{data_of};
+ghost use Rattle.trit_cubes.specs.declared.trits.Trit.TheVariants.{Unknown};
 ghost use Rattle.cell_machine.specs.OutputTables.{AreOutputTables};
 ghost use Rattle.cell_machine.specs.LibertyStands.{shown_after};
 ghost use Rattle.cell_machine.specs.CellStarts.{IsCellStart};
@@ -12,6 +12,7 @@ ghost use Rattle.cell_machine.specs.CheckInputs.{check_inputs};
 use crate::arc_places::ArcPlaces;
 use crate::cells::Cell;
 use crate::condition_names::{arc_names, check_names};
+use crate::entries::repeated;
 use crate::group_tables::{InputStep, step_tables};
 use crate::kept_arcs::KeptArcs;
 use crate::output_tables::output_tables;
@@ -122,16 +123,16 @@ impl StartValues {
         }) }
     {
         let count = input_number(cell.pins.as_slice(), cell.pins.len());
-        let inputs = vec![in alloc; Trit::Unknown; count]?;
-        let times = vec![in alloc; Times::none(); count]?;
-        let states = vec![in alloc; Trit::Unknown; cell.groups.len()]?;
-        let reports = vec![in alloc; false; cell.checks.len()]?;
+        let inputs = repeated(alloc, Trit::Unknown, count)?;
+        let times = repeated(alloc, Times::none(), count)?;
+        let states = repeated(alloc, Trit::Unknown, cell.groups.len())?;
+        let reports = repeated(alloc, false, cell.checks.len())?;
         let kept = KeptArcs::none(alloc, cell.arcs.len())?;
         Ok(StartValues {
-            inputs: Items::from_vec(inputs),
-            times: Items::from_vec(times),
-            states: Items::from_vec(states),
-            reports: Items::from_vec(reports),
+            inputs,
+            times,
+            states,
+            reports,
             kept,
         })
     }

@@ -1,11 +1,9 @@
 //! What a cell's simulator keeps of the cell's arcs from one change to the next.
 ghost use Rattle.std.specs.Prelude.{◌≡◌, ◌<◌, IfOk, None, [], length, replicate, slice_index_or};
-ghost use Rattle.cell_machine.specs.Places.{AreBelow};
-ghost use Rattle.cell_machine.specs.KeptConditions.{AreForgotten};
 
 use crate::arc_places::ArcPlaces;
 use crate::delays::Delays;
-use crate::entries::entry;
+use crate::entries::{entry, repeated};
 use crate::kept_conditions::forget;
 use sqlite_items::Items;
 use std::alloc::{AllocError, Global};
@@ -21,12 +19,15 @@ pub struct KeptArcs {
 }
 
 impl KeptArcs {
+    ghost use Rattle.cell_machine.specs.Places.{AreBelow};
+    ghost use Rattle.cell_machine.specs.KeptConditions.{AreForgotten};
+
     /// Nothing of so many arcs.
     pub(crate) fn none(alloc: Global, count: usize) -> Result<KeptArcs, AllocError>
         ensures { IfOk result (λ kept. kept ≡ record { conditions = replicate count None; delays = replicate count None }) }
     {
-        let conditions = nothing_kept(alloc, count)?;
-        let delays = nothing_kept(alloc, count)?;
+        let conditions = repeated(alloc, None, count)?;
+        let delays = repeated(alloc, None, count)?;
         Ok(KeptArcs { conditions, delays })
     }
 
@@ -46,15 +47,4 @@ impl KeptArcs {
         );
         forget(entry(&places.firsts, input).as_slice(), &mut self.delays);
     }
-}
-
-/// Nothing of so many values.
-fn nothing_kept<T: Copy>(alloc: Global, count: usize) -> Result<Items<Option<T>>, AllocError>
-    ensures { IfOk result (λ kept. kept ≡ replicate count None) }
-{
-    let mut kept = Items::new(alloc);
-    for _ in 0..count {
-        kept.push(None)?;
-    }
-    Ok(kept)
 }

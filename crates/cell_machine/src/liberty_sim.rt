@@ -1,10 +1,10 @@
 //! The simulator of a cell.
 ghost use Rattle.std.specs.Prelude.{◌≡◌, [], length, IfOk};
-ghost use Rattle.cell_machine.specs.Report.{any_true};
 ghost use Rattle.cell_machine.specs.CellData.{data_of};
 ghost use Rattle.cell_machine.specs.CellTrace.{inputs_of, cell_machine_of};
-ghost use Rattle.cell_machine.specs.CellStarts.{IsCellStart};
+ghost use Rattle.cell_machine.specs.Report.{any_true};
 ghost use Rattle.cell_machine.specs.LibertyStands.{Stands, cell_machine_sized};
+ghost use Rattle.cell_machine.specs.CellStarts.{IsCellStart};
 
 use crate::cell_start::{CellStart, StartValues};
 use crate::cells::Cell;

@@ -1,7 +1,7 @@
 //! Symbols as they are written: a word each.
 ghost use Rattle.std.specs.Prelude.{◌≡◌, IfOk, map};
 ghost use Rattle.std.specs.List.{list_any};
-ghost use Rattle.statetables.specs.Written.{level_words, meaning};
+ghost use Rattle.statetables.specs.Written.{level_words, meaning, in_symbol, current_symbol, next_symbol};
 ghost use Rattle.statetables.specs.Reading.{is_halved as is_halved_of, half_of, has_halves, half_row, split_rows};
 
 use crate::symbols::{CurrentSymbol, InSymbol, NextSymbol};
@@ -124,22 +124,7 @@ pub trait Symbol: Copy {
         ensures { result ≡ of_word word.now };
 }
 
-/// What a word stands for among those that each kind of symbol has, whose symbols of the two levels are these.
-fn level<S: Copy>(word: &[u8], low: S, high: S) -> Option<Written<S>>
-    ensures { result ≡ meaning (level_words low high) word.now }
-{
-    match word {
-        b"L" => Some(Written::Whole(low)),
-        b"H" => Some(Written::Whole(high)),
-        b"L/H" => Some(Written::Halves(low, high)),
-        b"H/L" => Some(Written::Halves(high, low)),
-        _ => None,
-    }
-}
-
 impl Symbol for InSymbol {
-    ghost use Rattle.statetables.specs.Written.{in_symbol};
-
     ghost of_word = { in_symbol };
 
     fn of_word(word: &[u8]) -> Option<Written<InSymbol>> {
@@ -154,9 +139,20 @@ impl Symbol for InSymbol {
     }
 }
 
-impl Symbol for CurrentSymbol {
-    ghost use Rattle.statetables.specs.Written.{current_symbol};
+/// What a word stands for among those that each kind of symbol has, whose symbols of the two levels are these.
+fn level<S: Copy>(word: &[u8], low: S, high: S) -> Option<Written<S>>
+    ensures { result ≡ meaning (level_words low high) word.now }
+{
+    match word {
+        b"L" => Some(Written::Whole(low)),
+        b"H" => Some(Written::Whole(high)),
+        b"L/H" => Some(Written::Halves(low, high)),
+        b"H/L" => Some(Written::Halves(high, low)),
+        _ => None,
+    }
+}
 
+impl Symbol for CurrentSymbol {
     ghost of_word = { current_symbol };
 
     fn of_word(word: &[u8]) -> Option<Written<CurrentSymbol>> {
@@ -168,14 +164,12 @@ impl Symbol for CurrentSymbol {
 }
 
 impl Symbol for NextSymbol {
-    ghost use Rattle.statetables.specs.Written.{next_symbol};
-
     ghost of_word = { next_symbol };
 
     fn of_word(word: &[u8]) -> Option<Written<NextSymbol>> {
         match word {
-            b"N" => Some(Written::Whole(NextSymbol::Keep)),
             b"X" | b"-" => Some(Written::Whole(NextSymbol::Unknown)),
+            b"N" => Some(Written::Whole(NextSymbol::Keep)),
             _ => level(word, NextSymbol::Low, NextSymbol::High),
         }
     }

@@ -104,8 +104,8 @@ impl<'a> StepTable<'a> {
         points[after].steps_from(points[before])
     }
 
-    /// The step from a state that these words tell at a change of this place.
-    fn told(&self, words: &[StepWords], place: usize, after: usize, state: bool) -> Trit
+    /// The state that follows this one at a change of this place, which these words tell.
+    fn next_state(&self, words: &[StepWords], place: usize, after: usize, state: bool) -> Trit
         requires words { TellSteps (data_of self.now.cell.now) self.now.group self.now.places words.now }
         requires place { place < 9 }
         requires after { after < 2 ^ self.now.places }
@@ -135,8 +135,8 @@ impl<'a> StepTable<'a> {
     {
         match changed_place(self.places, before, after) {
             Some(place) => StateSteps {
-                zero: self.told(words, place, after, false),
-                one: self.told(words, place, after, true),
+                zero: self.next_state(words, place, after, false),
+                one: self.next_state(words, place, after, true),
             },
             None => self.stepped(before, after),
         }

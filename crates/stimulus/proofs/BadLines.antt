@@ -16,7 +16,8 @@ use Rattle.stimulus.specs.declared.faults.StimulusFault.TheVariants as fault
 use Rattle.stimulus.specs.declared.line_meanings.TheConstants.{MAX_CHANGES}
 use Rattle.stimulus.specs.Catalog.{Listing, cell_found, pin_found}
 use Rattle.stimulus.specs.Context.{start, after}
-use Rattle.stimulus.specs.LineMeanings.{and_then, begun, input_of, value_of, is_later, changed_at, changed_in, changed, written_meaning}
+use Rattle.stimulus.specs.LineMeanings.{and_then, begun, input_of, value_of, is_later, changed_at, changed_in, changed}
+use Rattle.stimulus.specs.LineMeanings.{written_meaning}
 use Rattle.stimulus.specs.LineMeanings.{line_meaning}
 use Rattle.stimulus.specs.Sections.{sections_of}
 use Rattle.stimulus.specs.Stimulus.{at_line, all_said}

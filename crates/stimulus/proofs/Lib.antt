@@ -2,7 +2,7 @@ mod Examples
 pub mod DriveTraces
 pub mod Cuts
 pub mod TimeBounds
-pub mod Steps
+pub mod ReadSoFar
 pub mod TraceTexts
 pub mod Entries
 pub mod Properness

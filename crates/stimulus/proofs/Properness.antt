@@ -17,7 +17,8 @@ use Rattle.stimulus.specs.declared.context.Said.TheVariants.{Nothing, Begins, Ch
 use Rattle.stimulus.specs.declared.line_meanings.TheConstants.{MAX_CHANGES}
 use Rattle.stimulus.specs.Catalog.{Listing, cell_found, pin_found}
 use Rattle.stimulus.specs.Context.{start, after}
-use Rattle.stimulus.specs.LineMeanings.{and_then, begun, input_of, value_of, is_later, changed_at, changed, written_meaning, line_meaning}
+use Rattle.stimulus.specs.LineMeanings.{and_then, begun, input_of, value_of, is_later, changed_at, changed, written_meaning}
+use Rattle.stimulus.specs.LineMeanings.{line_meaning}
 use Rattle.stimulus.specs.Times.{time_of}
 use Rattle.stimulus.specs.Written.{Written, no_words, section_line, change_line, other_line, written_in}
 use Rattle.stimulus.specs.Sections.{changes_ahead, sections_of}

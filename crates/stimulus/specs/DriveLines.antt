@@ -32,6 +32,23 @@ pub record DriveLine : Type 0 where
 abbrev pub drive_line : Line → DriveLine
 drive_line line = record { values = map drive_of line.values; delays = line.delays; reports = line.reports }
 
+-- What a simulator runs: how many inputs, outputs and checks it has, and what its line is after each history.
+pub record DriveMachine : Type 0 where
+  pub inputs : ℕ
+  pub outputs : ℕ
+  pub checks : ℕ
+  pub line : List Change → DriveLine
+
+-- each line has an entry for each output and each check
+pub record IsSized (m : DriveMachine) : Type 0 where
+  pub values : (h : List Change) → length (m.line h).values ≡ m.outputs
+  pub delays : (h : List Change) → length (m.line h).delays ≡ m.outputs
+  pub reports : (h : List Change) → length (m.line h).reports ≡ m.checks
+
+-- a machine whose outputs are never z
+abbrev pub drive_machine : Machine → DriveMachine
+drive_machine m = record { inputs = m.inputs; outputs = m.outputs; checks = m.checks; line = λ h. drive_line (m.line h) }
+
 -- what is shown along changes, the oldest first, that go on from a history
 abbrev pub lines_after : {L : Type 0} → (List Change → L) → List Change → List Change → List L
 lines_after line h [] = []
@@ -40,20 +57,3 @@ lines_after line h (c ∷ cs) = line (c ∷ h) ∷ lines_after line (c ∷ h) cs
 -- what is shown along changes, the oldest first: at the start, and after each change
 abbrev pub lines_along : {L : Type 0} → (List Change → L) → List Change → List L
 lines_along line cs = line [] ∷ lines_after line [] cs
-
--- What a simulator runs: how many inputs, outputs and checks it has, and what its line is after each history.
-pub record DriveMachine : Type 0 where
-  pub inputs : ℕ
-  pub outputs : ℕ
-  pub checks : ℕ
-  pub line : List Change → DriveLine
-
--- a machine whose outputs are never z
-abbrev pub drive_machine : Machine → DriveMachine
-drive_machine m = record { inputs = m.inputs; outputs = m.outputs; checks = m.checks; line = λ h. drive_line (m.line h) }
-
--- each line has an entry for each output and each check
-pub record IsSized (m : DriveMachine) : Type 0 where
-  pub values : (h : List Change) → length (m.line h).values ≡ m.outputs
-  pub delays : (h : List Change) → length (m.line h).delays ≡ m.outputs
-  pub reports : (h : List Change) → length (m.line h).reports ≡ m.checks

@@ -128,7 +128,8 @@ fn put_lines<D: Desk, L: TraceSim, V: TraceSim, H: TraceSim>(
     ensures text { (h : List ChangeOf) → L.stands three.now.liberty h → V.stands three.now.verilog h → H.stands three.now.vital h
         → PutsTrace (D.state desk.old) (D.state desk.new) waiting.old
         (lines_text (option_copied change.entry) ports.now
-        (three_lines (L.machine three.now.liberty) (V.machine three.now.verilog) (H.machine three.now.vital) h)) waiting.new result }
+        (three_lines (L.machine three.now.liberty) (V.machine three.now.verilog) (H.machine three.now.vital) h))
+        waiting.new result }
     ensures alike { IfOk result (λ alike. (h : List ChangeOf) → L.stands three.now.liberty h → V.stands three.now.verilog h
         → H.stands three.now.vital h → alike ≡ are_alike
         (three_lines (L.machine three.now.liberty) (V.machine three.now.verilog) (H.machine three.now.vital) h)) }

@@ -1,7 +1,8 @@
 //! What a line says, after the lines before it.
 ghost use Rattle.std.specs.Prelude.{◌≡◌};
 ghost use Rattle.stimulus.specs.Written.{shown};
-ghost use Rattle.stimulus.specs.LineMeanings.{written_meaning, begun as begun_of, changed as changed_of, input_of as input_of_answer};
+ghost use Rattle.stimulus.specs.LineMeanings.{written_meaning, begun as begun_of, changed as changed_of};
+ghost use Rattle.stimulus.specs.LineMeanings.{input_of as input_of_answer};
 ghost use Rattle.stimulus.specs.LineMeanings.{value_of as value_of_word, is_later as is_later_of};
 
 use crate::catalog::{Catalog, CellFound, PinFound};

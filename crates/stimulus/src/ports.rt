@@ -24,7 +24,7 @@ impl Standing {
     ghost use Rattle.stimulus.specs.PortEntries.{entry_of_cell};
 
     /// What a catalog answers to the name of the cell with this number, which stands so.
-    fn answer(self, number: usize) -> CellFound
+    fn cell_found(self, number: usize) -> CellFound
         ensures { result ≡ cell_answer (Some (entry_of_cell number self)) }
     {
         match self {
@@ -127,7 +127,7 @@ impl PortCatalog {
             (slice_get self.now.cells number)) }
     {
         match self.cells.get(number) {
-            Some(ports) => ports.standing.answer(number),
+            Some(ports) => ports.standing.cell_found(number),
             None => CellFound::Unknown,
         }
     }

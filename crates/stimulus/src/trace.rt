@@ -27,9 +27,9 @@ pub(crate) fn push_shown<S: TraceSim>(
     ports: &Ports,
     sim: &S,
 ) -> Result<(), AllocError>
+    requires pin { IfSome change (λ change. change.now.pin < (S.machine sim.now).inputs) }
     requires inputs { length ports.now.inputs ≡ (S.machine sim.now).inputs }
     requires outputs { length ports.now.outputs ≡ (S.machine sim.now).outputs }
-    requires pin { IfSome change (λ change. change.now.pin < (S.machine sim.now).inputs) }
     ensures { OnOk result ((h : List ChangeOf) → S.stands sim.now h
         → text.new.items ++ pieces.new ≡ (text.old.items ++ pieces.old)
         ++ shown_text (option_copied change.entry) ports.now.inputs ports.now.outputs ((S.machine sim.now).line h)) }

@@ -22,7 +22,7 @@ use Rattle.run_outcome.proofs.LibraryRunLaws.{ReadsLibrary, library_runs}
 use Rattle.wave_reports.specs.Outcome.{report_limit, outcome_where, wave_files, translation_files, report_outcome, names_both}
 use Rattle.wave_reports.specs.Outcome.{files_where, run_where, files_of, run_of, usage_line}
 
--- Binding.
+-- The files of a report are bound by its words.
 
 -- an answer that a fault gives owes nothing
 unowed : {T : Type 0} (r : Result T Failed) (P : Type 0) → IsErr r → OnOk r P
@@ -88,7 +88,8 @@ report_of words folder = report_outcome (bytes_at words folder 1)
 -- both were bound, and the waves were drawn or not
 pub drawn_runs : (old now new : DeskState) (bytes : InSlot → List ℕ) (result : Status) (taken : ℕ) (text : Written)
     (faults : List ℕ)
-    → now ≡ bound_state old wave_files bytes → AreNamed old wave_files bytes
+    → now ≡ bound_state old wave_files bytes
+    → AreNamed old wave_files bytes
     → new ≡ wrote (wrote_all (took now Library taken) text) Faults faults
     → IfSome (now.left Library) (λ all. IsPartOf text faults (report_outcome all))
     → (IsTrue (is_decided result) → IfSome (now.left Library) (λ all. IsAllOf result text faults (report_outcome all)))
@@ -97,7 +98,7 @@ drawn_runs old now new bytes result taken text faults h f state part whole =
     library_runs wave_files _ report_outcome old now new bytes result taken text faults reads_report binds_both h f state part
     whole
 
--- The words.
+-- The words that ask for a report are planned as files.
 
 planned : (asked : Option FileCommand) → names_both asked ≡ true
     → planned_files asked ≡ translation_files

@@ -16,5 +16,5 @@ pub record Draws (old new : DeskState) (result : Result Status Stop) : Type 0 wh
   pub text : Written
   pub faults : List ℕ
   pub state : new ≡ wrote (wrote_all (took old Library taken) text) Faults faults
-  pub part : IfSome (old.left Library) (λ bytes. IsPartOf text faults (report_outcome bytes))
   pub whole : IfOk result (λ status. IfSome (old.left Library) (λ bytes. IsAllOf status text faults (report_outcome bytes)))
+  pub part : IfSome (old.left Library) (λ bytes. IsPartOf text faults (report_outcome bytes))

@@ -85,25 +85,25 @@ fn stands(latest: &BTreeMap<usize, usize>, moment: (u64, usize), change: ValueCh
     }
 }
 
-/// Appends what a section tells of its signals.
+/// Appends what a section with this number tells of its signals.
 pub(crate) fn push_changes(
     alloc: Global,
     text: &mut Vec<u8>,
-    number: usize,
     section: &Section,
+    number: usize,
 ) -> Result<(), AllocError>
     ensures { OnOk result (text.new.items ≡ text.old.items
         ++ spec.changes_text number section.now.keys [] None section.now.changes.entries) }
 {
     let mut latest = BTreeMap::new(alloc);
-    push_standing(text, number, section, &mut latest)
+    push_standing(text, section, number, &mut latest)
 }
 
 /// The same, where these lines were the last to tell what has shown of each signal.
 fn push_standing(
     text: &mut Vec<u8>,
-    number: usize,
     section: &Section,
+    number: usize,
     latest: &mut BTreeMap<usize, usize>,
 ) -> Result<(), AllocError>
     ensures { OnOk result (text.new.items ≡ text.old.items

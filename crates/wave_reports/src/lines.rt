@@ -20,6 +20,17 @@ pub(crate) enum Said<'a> {
     Unread,
 }
 
+/// A line of a report.
+#[derive(Clone, Copy)]
+pub(crate) struct ReportLine<'a> {
+    /// Its number, counted from 1.
+    pub number: usize,
+    /// The line before it, empty where it is the first one.
+    pub previous: &'a [u8],
+    /// Its bytes, without the line feed.
+    pub bytes: &'a [u8],
+}
+
 /// Whether all bytes are printable ASCII.
 fn is_plain(line: &[u8]) -> bool
     ensures { result ≡ list_all spec.is_plain line.now }

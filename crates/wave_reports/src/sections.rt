@@ -6,6 +6,7 @@ ghost use Rattle.wave_reports.specs.Signs.{seen as sign_seen};
 ghost use Rattle.wave_reports.specs.Traces.{seen as trace_seen, seen_input, trace_of as trace_of_line};
 ghost use Rattle.wave_reports.specs.Sections as spec;
 
+use crate::lines::ReportLine;
 use crate::pieces::cut;
 use crate::signs::{Sign, sign_of};
 use crate::texts::push_pieces;
@@ -155,18 +156,16 @@ impl Section {
         &mut self,
         alloc: Global,
         start: u64,
-        number: usize,
-        previous: &[u8],
-        line: &[u8],
+        line: &ReportLine<'_>,
         trace: &Trace<'_>,
     ) -> Result<(), AllocError>
-        ensures { OnOk result (spec.drawn self.new ≡ spec.with_trace (spec.drawn self.old) start number previous.now line.now
-            (trace_seen trace.now)) }
+        ensures { OnOk result (spec.drawn self.new ≡ spec.with_trace (spec.drawn self.old) start line.now.number
+            line.now.previous.now line.now.bytes.now (trace_seen trace.now)) }
     {
         let at = start.saturating_add(trace.at);
-        self.add_difference(number, at, differs_from(trace, line, previous))?;
-        self.add_input(alloc, number, at, trace.change)?;
-        self.add_signs(alloc, number, at, trace)
+        self.add_difference(line.number, at, differs_from(trace, line))?;
+        self.add_input(alloc, line.number, at, trace.change)?;
+        self.add_signs(alloc, line.number, at, trace)
     }
 }
 
@@ -226,14 +225,15 @@ fn behind_first(line: &[u8]) -> &[u8]
 }
 
 /// Whether the line before is one of another trace at the same time, and differs from this one behind the tag.
-fn differs_from(trace: &Trace<'_>, line: &[u8], previous: &[u8]) -> bool
-    ensures { result ≡ spec.differs_from (trace_seen trace.now) line.now (trace_of_line previous.now) previous.now }
+fn differs_from(trace: &Trace<'_>, line: &ReportLine<'_>) -> bool
+    ensures { result ≡ spec.differs_from (trace_seen trace.now) line.now.bytes.now (trace_of_line line.now.previous.now)
+        line.now.previous.now }
 {
-    match trace_of(previous) {
+    match trace_of(line.previous) {
         Some(before) => {
             rank(before.tag) < rank(trace.tag)
                 && before.at == trace.at
-                && behind_first(previous) != behind_first(line)
+                && behind_first(line.previous) != behind_first(line.bytes)
         }
         None => false,
     }

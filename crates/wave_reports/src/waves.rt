@@ -7,7 +7,7 @@ ghost use Rattle.wave_reports.specs.Waves as spec;
 
 use crate::changes::push_changes;
 use crate::definitions::{push_section_begin, push_section_end};
-use crate::lines::{Said, said_of};
+use crate::lines::{ReportLine, Said, said_of};
 use crate::pieces::cut;
 use crate::sections::Section;
 use crate::texts::push_pieces;
@@ -59,7 +59,7 @@ impl Waves {
             return Ok(());
         }
         push_section_end(alloc, &mut self.definitions, self.begun, &self.section.keys)?;
-        push_changes(alloc, &mut self.changes, self.begun, &self.section)
+        push_changes(alloc, &mut self.changes, &self.section, self.begun)
     }
 
     /// The time at which the next section begins.
@@ -95,40 +95,31 @@ impl Waves {
     fn show(
         &mut self,
         alloc: Global,
-        number: usize,
-        previous: &[u8],
-        line: &[u8],
+        line: &ReportLine<'_>,
         trace: &Trace<'_>,
     ) -> Result<(), AllocError>
-        ensures { OnOk result (spec.held self.new ≡ spec.with_shown (spec.held self.old) number previous.now line.now
-            (trace_seen trace.now)) }
+        ensures { OnOk result (spec.held self.new ≡ spec.with_shown (spec.held self.old) line.now.number line.now.previous.now
+            line.now.bytes.now (trace_seen trace.now)) }
     {
         if self.begun == 0 {
-            return self.tell(number, b"section");
+            return self.tell(line.number, b"section");
         }
-        self.section
-            .add_trace(alloc, self.start, number, previous, line, trace)
+        self.section.add_trace(alloc, self.start, line, trace)
     }
 
-    /// Adds what a line says, which has this number and stands behind this one.
-    fn add_line(
-        &mut self,
-        alloc: Global,
-        number: usize,
-        previous: &[u8],
-        line: &[u8],
-    ) -> Result<(), AllocError>
-        ensures { OnOk result (spec.held self.new ≡ spec.with_said (spec.held self.old) number previous.now line.now
-            (said_of_line line.now)) }
+    /// Adds what a line says.
+    fn add_line(&mut self, alloc: Global, line: &ReportLine<'_>) -> Result<(), AllocError>
+        ensures { OnOk result (spec.held self.new ≡ spec.with_said (spec.held self.old) line.now.number line.now.previous.now
+            line.now.bytes.now (said_of_line line.now.bytes.now)) }
     {
-        match said_of(line) {
+        match said_of(line.bytes) {
             Said::Nothing => Ok(()),
             Said::Cell(name) => {
                 self.close(alloc)?;
-                self.begin(alloc, number, name)
+                self.begin(alloc, line.number, name)
             }
-            Said::Trace(trace) => self.show(alloc, number, previous, line, &trace),
-            Said::Unread => self.tell(number, b"form"),
+            Said::Trace(trace) => self.show(alloc, line, &trace),
+            Said::Unread => self.tell(line.number, b"form"),
         }
     }
 
@@ -150,10 +141,15 @@ impl Waves {
         let mut previous: &[u8] = b"";
         let mut rest = Some(report);
         while let Some(text) = rest {
-            let (line, more) = cut(text, b'\n');
-            self.add_line(alloc, number, previous, line)?;
+            let (bytes, more) = cut(text, b'\n');
+            let line = ReportLine {
+                number,
+                previous,
+                bytes,
+            };
+            self.add_line(alloc, &line)?;
             number = number.saturating_add(1);
-            previous = line;
+            previous = bytes;
             rest = more;
         }
         Ok(())

@@ -23,6 +23,14 @@ push-requires c =
     c.loop-number.number in
     omega (arith, long, c.loop-number-test.true, c.point_count-number-end.ensures.few)
 
+pub returns : goal.returns
+returns c =
+    let all : c.loop-number.number ≡ 2 ^ c.args.places
+    = omega (arith, c.loop-number-test.false, c.loop-number.auto.number-end, c.point_count-number-end.ensures.is) in
+    c.loop-number.invariant
+    ∙ (λ i. map (λ k. point_at (data_of c.args.cell.now) c.args.group (c.point_of-low.ensures i) (point_of c.args.places k))
+    (range_with_len 0 (all i)))
+
 pub loop-number-preserved : goal.loop-number-preserved
 loop-number-preserved c =
     let f = λ (k : ℕ). point_at (data_of c.args.cell.now) c.args.group c.point_of-low.result (point_of c.args.places k) in
@@ -32,11 +40,3 @@ loop-number-preserved c =
     c.push.ensures
     ∙ (λ i. c.loop-number.invariant i ++ here i ∷ [])
     ∙ sym (map-range_with_len_more f 0 c.loop-number.number c.loop-number.number (omega arith))
-
-pub returns : goal.returns
-returns c =
-    let all : c.loop-number.number ≡ 2 ^ c.args.places
-    = omega (arith, c.loop-number-test.false, c.loop-number.auto.number-end, c.point_count-number-end.ensures.is) in
-    c.loop-number.invariant
-    ∙ (λ i. map (λ k. point_at (data_of c.args.cell.now) c.args.group (c.point_of-low.ensures i) (point_of c.args.places k))
-    (range_with_len 0 (all i)))

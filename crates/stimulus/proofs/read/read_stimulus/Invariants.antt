@@ -1,7 +1,7 @@
 use Rattle.std.proofs.Common.{◌≡◌, ◌+◌, ◌≤◌, length}
 use Rattle.std.specs.Option.{option_map}
 use Rattle.stimulus.specs.Stimulus.{stimulus_of, all_said}
-use Rattle.stimulus.proofs.Steps.{resumed, lines_left, left}
+use Rattle.stimulus.proofs.ReadSoFar.{resumed, lines_left, left}
 use Rattle.stimulus.proofs.read.read_stimulus.Given as goal
 
 -- the sections so far, with what the lines from here on say, are what all lines make

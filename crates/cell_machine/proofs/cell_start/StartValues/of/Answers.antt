@@ -7,19 +7,19 @@ use Rattle.cell_machine.proofs.cell_start.StartValues.of.Goals as goal
 pub returns-clause-inputs : goal.returns-clause-inputs
 returns-clause-inputs c =
     let count = rw (c.as_slice.ensures, c.len.ensures) at c.input_number-count.ensures in
-    c.from_vec.ensures ∙ c.in_ok-inputs.ensures.items_if_clones_equal (λ y e. e) ∙ ap (λ n. replicate n Unknown) count
+    c.in_ok-inputs.ensures ∙ ap (λ n. replicate n Unknown) count
 
 pub returns-clause-times : goal.returns-clause-times
 returns-clause-times c =
     let count = rw (c.as_slice.ensures, c.len.ensures) at c.input_number-count.ensures in
-    c.from_vec-2.ensures ∙ c.in_ok-times.ensures.items_if_clones_equal (λ y e. e) ∙ ap (replicate c.input_number-count.result) c.none.ensures
+    c.in_ok-times.ensures ∙ ap (replicate c.input_number-count.result) c.none.ensures
     ∙ ap (λ n. replicate n no_times) count
 
 pub returns-clause-states : goal.returns-clause-states
-returns-clause-states c = c.from_vec-3.ensures ∙ c.in_ok-states.ensures.items_if_clones_equal (λ y e. e) ∙ ap (λ n. replicate n Unknown) c.len-2.ensures
+returns-clause-states c = c.in_ok-states.ensures ∙ ap (λ n. replicate n Unknown) c.len-2.ensures
 
 pub returns-clause-reports : goal.returns-clause-reports
-returns-clause-reports c = c.from_vec-4.ensures ∙ c.in_ok-reports.ensures.items_if_clones_equal (λ y e. e) ∙ ap (λ n. replicate n false) c.len-3.ensures
+returns-clause-reports c = c.in_ok-reports.ensures ∙ ap (λ n. replicate n false) c.len-3.ensures
 
 pub returns-clause-kept : goal.returns-clause-kept
 returns-clause-kept c =

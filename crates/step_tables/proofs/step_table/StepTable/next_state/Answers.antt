@@ -5,7 +5,7 @@ use Rattle.statetables.specs.declared.lanes.StepWords.{StepWords}
 use Rattle.cell_machine.specs.CellData.{data_of}
 use Rattle.cell_machine.specs.Step.{trit_or_unknown}
 use Rattle.step_tables.proofs.KeptLemmas.{word_told, word_there}
-use Rattle.step_tables.proofs.step_table.StepTable.told.Goals as goal
+use Rattle.step_tables.proofs.step_table.StepTable.next_state.Goals as goal
 
 pub returns : goal.returns
 returns c =

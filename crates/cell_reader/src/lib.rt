@@ -21,3 +21,4 @@ pub use laws::{
 };
 pub use parts::names_of;
 pub use read::{ReadCell, read_cell};
+pub use scans::first_offset;

@@ -15,9 +15,9 @@ use cell_machine::{Both, Direction};
 use cell_refusals::Scan;
 use liberty_groups::{Group, last_attribute, simple_attribute};
 
-/// The least offset of the simple attributes of this name in a group.
+/// The least offset of the simple attributes of this name in a group, none where it has none. Offsets count bytes from 0.
 #[tactic(auto, using(cell_machine::proofs::LeastLemmas::lesser_assoc, cell_machine::proofs::LeastLemmas::lesser_none))]
-fn first_offset(group: &Group, name: &[u8]) -> Option<usize>
+pub fn first_offset(group: &Group, name: &[u8]) -> Option<usize>
     ensures { result ≡ least (offsets_of name.now group.now) }
 {
     let mut found = None;

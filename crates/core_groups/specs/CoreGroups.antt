@@ -10,6 +10,7 @@ use Rattle.liberty_groups.specs.declared.tree.Item.TheOpen as layer
 use Rattle.liberty_groups.specs.declared.tree.Item.TheVariants as item
 use Rattle.liberty_groups.specs.declared.tree.Group.{Group, roll-Group}
 use Rattle.liberty_groups.specs.Attributes.{Attribute}
+use Rattle.group_copies.specs.Copies.{with_items}
 use Rattle.core_groups.specs.Outputs.{ThreeStateOutput, three_state_of, is_three_state, three_state_outputs}
 
 -- What stays of a three-state output in the core: all but when it floats and its delays, which are the driver's.
@@ -19,13 +20,7 @@ stays_in_core (layer.Complex name arguments at) = true
 stays_in_core (layer.Inner group) = not (bytes_eq group.name (codes "timing"))
 
 abbrev pub core_pin : Group → Group
-core_pin pin =
-    roll-Group (record {
-      name = pin.name;
-      arguments = pin.arguments;
-      items = filter (λ item. stays_in_core (out-Item item)) pin.items;
-      at = pin.at;
-    })
+core_pin pin = with_items pin (filter (λ item. stays_in_core (out-Item item)) pin.items)
 
 -- a statement of the cell as it stands in the core
 abbrev pub core_statement_as : Item → Item-F Item Group → Item

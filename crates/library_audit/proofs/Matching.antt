@@ -196,12 +196,12 @@ all_match law library text done =
       are_cells = are_cells;
       models = models;
       are_models = are_models;
-      match_all = match_entries law models cells (none_where_done (any_differs models cells) ended);
+      hold_all = match_entries law models cells (none_where_done (any_differs models cells) ended);
     }
 
 pub done_is_match : SameIsMatching → DoneIsMatch
 done_is_match law library text = (
   λ done. all_match law library text done,
   λ h. ap (λ (o : Outcome). o.status) (audited_whole library text h.cells h.models h.are_cells h.are_models)
-      ∙ ap status_where (none_differs law h.models h.cells h.match_all),
+      ∙ ap status_where (none_differs law h.models h.cells h.hold_all),
 )

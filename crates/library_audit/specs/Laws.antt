@@ -41,13 +41,17 @@ SameLineIsMatch =
     (models : List (FileModel VModule)) (cell : DrivenData) (entity : List ℕ)
     → (audit_text models (Accepted cell entity) ≡ same_line cell.core.number cell.name) ↔ IsMatched models cell
 
--- The library and the Verilog file are read, and each accepted cell has such a module where none of its outputs may float.
-pub record AllMatch (library text : List ℕ) : Type 0 where
+-- The library and the Verilog file are read, and this holds of the models of the file and of each cell.
+pub record AllHold (Holds : List (FileModel VModule) → CellEntry → Type 0) (library text : List ℕ) : Type 0 where
   pub cells : List CellEntry
   pub are_cells : library_answer library ≡ Ok cells
   pub models : List (FileModel VModule)
   pub are_models : model_answer verilog text ≡ Ok models
-  pub match_all : All (HasMatchOrIsLeftOut models) cells
+  pub hold_all : All (Holds models) cells
+
+-- They are read, and each accepted cell has such a module where none of its outputs may float.
+abbrev pub AllMatch : List ℕ → List ℕ → Type 0
+AllMatch = AllHold HasMatchOrIsLeftOut
 
 -- A comparison is done exactly where that is so.
 abbrev pub DoneIsMatch : Type 0

@@ -30,13 +30,17 @@ kept_by p group (Some refusal) = Refused (cell_name group) refusal
 abbrev pub next_entry : Progress → Group → CellEntry
 next_entry p group = kept_by p group (next_refusal p group)
 
+-- what this makes of the group of a cell, and nothing of another item
+abbrev pub of_cell : {T : Type 0} → (Group → List T) → LibraryItem → List T
+of_cell made (item.Cell group) = made group
+of_cell made (item.Unit line) = []
+of_cell made (item.LeftOut at) = []
+of_cell made (item.BusType group) = []
+
 -- A cell is kept where no cell before it has its name: a second one of a name is refused whatever it says, and the name tells
 -- the first one.
 abbrev pub item_kept : Progress → LibraryItem → List CellEntry
-item_kept p (item.Cell group) = if is_some (number_of p.names (cell_name group)) then [] else next_entry p group ∷ []
-item_kept p (item.Unit line) = []
-item_kept p (item.LeftOut at) = []
-item_kept p (item.BusType group) = []
+item_kept p = of_cell (λ group. if is_some (number_of p.names (cell_name group)) then [] else next_entry p group ∷ [])
 
 -- what is kept of these items, in order
 abbrev pub kept_cells : Progress → List LibraryItem → List CellEntry

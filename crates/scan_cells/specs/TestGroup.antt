@@ -9,6 +9,7 @@ use Rattle.liberty_groups.specs.declared.tree.Item.TheOpen as layer
 use Rattle.liberty_groups.specs.declared.tree.Item.TheVariants as item
 use Rattle.liberty_groups.specs.declared.tree.Group.{Group, roll-Group}
 use Rattle.liberty_groups.specs.Attributes.{groups_named, first_of}
+use Rattle.group_copies.specs.Copies.{with_items}
 use Rattle.cell_attributes.specs.Groups.{inner_groups}
 
 -- The test cell of a cell: of several `test_cell` groups the first. (This project's rule.)
@@ -31,13 +32,7 @@ is_kept (layer.Inner group) = false
 
 -- a group with what is kept of its statements
 abbrev pub untimed : Group → Group
-untimed group =
-    roll-Group (record {
-      name = group.name;
-      arguments = group.arguments;
-      items = filter (λ item. is_kept (out-Item item)) group.items;
-      at = group.at;
-    })
+untimed group = with_items group (filter (λ item. is_kept (out-Item item)) group.items)
 
 abbrev pub untimed_item : Group → Item
 untimed_item group = item.Inner (untimed group)

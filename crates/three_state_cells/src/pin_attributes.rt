@@ -1,15 +1,12 @@
 //! Pin groups without their timing groups, with the attributes alone that are read of a pin.
 ghost use Rattle.std.specs.Prelude.{◌≡◌, ◌++◌, IfOk, OnOk, map, flat_map, option_map};
 ghost use Rattle.liberty_groups.specs.Attributes.{shown};
-ghost use Rattle.cell_machine.specs.Delay.{least};
-ghost use Rattle.cell_attributes.specs.Groups.{offsets_of};
 ghost use Rattle.three_state_cells.specs.PinAttributes as spec;
 
-use cell_machine::least::lesser;
+use cell_reader::first_offset;
 use group_copies::with_items;
 use liberty_groups::{
-    Attribute, Group, Item, Values, copy_bytes, copy_text, last_attribute, simple_attribute,
-    value_of,
+    Attribute, Group, Item, Values, copy_bytes, copy_text, last_attribute, value_of,
 };
 use sqlite_items::Items;
 use std::alloc::{AllocError, Global};
@@ -57,20 +54,6 @@ fn add_counted(
         add_statement(alloc, found, name, last_attribute(group, name))?;
     }
     Ok(())
-}
-
-/// The least offset of the attributes of this name.
-#[tactic(auto, using(cell_machine::proofs::LeastLemmas::lesser_assoc, cell_machine::proofs::LeastLemmas::lesser_none))]
-fn first_offset(group: &Group, name: &[u8]) -> Option<usize>
-    ensures { result ≡ least (offsets_of name.now group.now) }
-{
-    let mut found = None;
-    for item in group.items.as_slice() {
-        if let Some(attribute) = simple_attribute(item, name) {
-            found = lesser(found, Some(attribute.at));
-        }
-    }
-    found
 }
 
 /// The attribute of this name of which the least offset counts.

@@ -128,7 +128,7 @@ module _ (fit : MatchingModulesFit) (agree : FittingModulesAgree) where
         are_cells = h.are_cells;
         models = h.models;
         are_models = h.are_models;
-        agree_all = λ k d below. match_agrees h.models _ (rules k d below) sound (h.match_all k d below);
+        hold_all = λ k d below. match_agrees h.models _ (rules k d below) sound (h.hold_all k d below);
       }
 
   pub audited-cells-agree : SameLineIsMatch → DoneIsMatch → AuditedCellsAgree

@@ -137,8 +137,7 @@ module _ (match : GeneratedModulesMatch) (same : SameLineIsMatch) (done : DoneIs
         are_cells = whole;
         models = modules_of (cells_of library);
         are_models = e;
-        match_all =
-            all_own library;
+        hold_all = all_own library;
       }))
   by_modules library whole (inr (stop, e, long)) =
       let text = (translate_outcome library).text.verilog in

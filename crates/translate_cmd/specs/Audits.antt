@@ -20,7 +20,7 @@ use Rattle.library_simulation.specs.Verilog.{verilog}
 use Rattle.library_audit.specs.Lines.{left_out_line}
 use Rattle.library_audit.specs.Audits.{module_for, audit_text}
 use Rattle.library_audit.specs.Outcome.{audit_outcome}
-use Rattle.library_audit.specs.Laws.{same_line}
+use Rattle.library_audit.specs.Laws.{AllHold, same_line}
 
 -- A cell has a module with its name among these models of a file, and the module shows what the cell shows: its trace is the
 -- cell's for every list of changes of inputs at rising times, and the states of its primitives after each change are the cell's.
@@ -52,12 +52,8 @@ AgreesOrIsLeftOut models (Accepted cell entity) = may_float cell ≡ false → A
 AgreesOrIsLeftOut models (Refused name refusal) = Unit {0}
 
 -- The library and the Verilog file are read, and each accepted cell agrees with its module, where none of its outputs may float.
-pub record AllAgree (library text : List ℕ) : Type 0 where
-  pub cells : List CellEntry
-  pub are_cells : library_answer library ≡ Ok cells
-  pub models : List (FileModel VModule)
-  pub are_models : model_answer verilog text ≡ Ok models
-  pub agree_all : All (AgreesOrIsLeftOut models) cells
+abbrev pub AllAgree : List ℕ → List ℕ → Type 0
+AllAgree = AllHold AgreesOrIsLeftOut
 
 -- Where a library is read as these cells and a Verilog file as these models, each accepted cell whose line says `same` agrees
 -- with its module. Where the comparison is done, each accepted cell does none of whose outputs may float.

@@ -3,7 +3,6 @@ use Rattle.std.specs.Prelude.{ℕ, List, [], ◌∷◌, ◌++◌, Option, Some, 
 use Rattle.written_driven_models.specs.liberty_groups.declared.tree.Group.{Group}
 use Rattle.cell_reader.specs.declared.refusal.Refusal.{Refusal}
 use Rattle.cell_cursor.specs.declared.item.LibraryItem.{LibraryItem}
-use Rattle.cell_cursor.specs.declared.item.LibraryItem.TheVariants as item
 use Rattle.cell_cursor.specs.Ends.{items_within}
 use Rattle.written_driven_models.specs.three_state_cells.DrivenCells.{DrivenData}
 use Rattle.written_driven_models.specs.specify_blocks.declared.model.VModule.{VModule}
@@ -14,6 +13,7 @@ use Rattle.written_driven_models.specs.VerilogLibrary.{driven_modules_of}
 use Rattle.written_driven_models.specs.VitalLibrary.{driven_entities_of}
 use Rattle.library_simulation.specs.library_reader.declared.progress.Progress.{Progress}
 use Rattle.library_simulation.specs.library_reader.Progress.{no_progress, next_refusal, next_data, after_item}
+use Rattle.library_simulation.specs.library_reader.KeptCells.{of_cell}
 use Rattle.library_simulation.specs.library_reader.Endings.{library_limit}
 
 -- the next cell, where nothing refuses it
@@ -23,10 +23,7 @@ cells_by p group (Some refusal) = []
 
 -- the cell that an item is, where it is one and is accepted
 abbrev pub item_cells : Progress → LibraryItem → List DrivenData
-item_cells p (item.Cell group) = cells_by p group (next_refusal p group)
-item_cells p (item.Unit line) = []
-item_cells p (item.LeftOut at) = []
-item_cells p (item.BusType group) = []
+item_cells p = of_cell (λ group. cells_by p group (next_refusal p group))
 
 -- the accepted cells among these items, in order
 abbrev pub accepted_cells : Progress → List LibraryItem → List DrivenData

@@ -33,8 +33,5 @@ written_verilog = record {
 }
 
 abbrev pub well_formed_verilog : WellFormedness VModule
-well_formed_verilog = record {
-  AreWellFormed = AreWellFormed;
-  CanBeDeclared = CanBeDeclared;
-  IsWellFormedDriver = IsWellFormedDriver;
-}
+well_formed_verilog =
+    record { AreWellFormed = AreWellFormed; CanBeDeclared = CanBeDeclared; IsWellFormedDriver = IsWellFormedDriver }

@@ -19,17 +19,9 @@ abbrev pub vital_drivers : WrittenSections
 vital_drivers = record { grammar = vhdl_section_grammar; driver_section = driver_section; driver_text = driver_text }
 
 abbrev pub written_vital : WrittenLanguage VEntity
-written_vital = record {
-  language = vital_sections;
-  front = [];
-  model_text = entity_text;
-  drivers = vital_drivers;
-  IsText = IsVhdlText;
-}
+written_vital =
+    record { language = vital_sections; front = []; model_text = entity_text; drivers = vital_drivers; IsText = IsVhdlText }
 
 abbrev pub well_formed_vital : WellFormedness VEntity
-well_formed_vital = record {
-  AreWellFormed = AreWellFormed;
-  CanBeDeclared = IsWrittenDriver;
-  IsWellFormedDriver = IsWellFormedDriver;
-}
+well_formed_vital =
+    record { AreWellFormed = AreWellFormed; CanBeDeclared = IsWrittenDriver; IsWellFormedDriver = IsWellFormedDriver }

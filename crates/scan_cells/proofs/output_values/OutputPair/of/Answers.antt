@@ -12,11 +12,11 @@ use Rattle.scan_cells.proofs.output_values.OutputPair.of.Goals as goal
 
 pub invariant_of-result : goal.invariant_of-result
 invariant_of-result c =
+    let i = c.args.output in
+    let j = c.args.view_output in
     let cell = data_of c.args.cell.now in
     let given = view_data c.args.view.now in
     let view = view_data c.of-over.result.view.now in
-    let i = c.args.output in
-    let j = c.args.view_output in
     let same : given ≡ view = ap view_data (sym c.of-over.ensures.view) in
     let of_cell : c.as_slice-of_cell.result.now ≡ sources_at cell i
     = c.as_slice-of_cell.ensures

@@ -312,8 +312,8 @@ fn scan_some(
     Ok(count)
 }
 
-/// Scans some bytes as `scan_some` does. How many they are, and the kind of the token that ended last, if it is a brace of a group
-/// or a semicolon.
+/// Scans some bytes as `scan_some` does. How many they are, and the kind of the token that ended last, if it is a brace of a
+/// group or a semicolon.
 fn scan_token(
     scanner: &mut Scanner,
     is_inside: bool,

@@ -219,8 +219,9 @@ impl<L: DriverLanguage> Wired<L> {
     /// The terminals of a core, by the ports of its driver.
     #[tactic(auto, unfolding(crate::specs::Terminals::core_terminals))]
     fn terminals(&self, cursor: &mut Cursor<'_, L::Spelling>, ports: &[VPort]) -> Read<Items<usize>>
-        ensures { Reads (read (spec.core_terminals L.Spelling.is_name L.Spelling.is_same L.value L.enable self.now.count ports.now)
-            cursor.old) result cursor.new }
+        ensures { Reads
+            (read (spec.core_terminals L.Spelling.is_name L.Spelling.is_same L.value L.enable self.now.count ports.now) cursor.old)
+            result cursor.new }
     {
         let Terminals { drives, .. } = self.port_terminals(cursor, ports)?;
         self.enables(cursor, drives.len() == self.count)?;

@@ -50,8 +50,8 @@ impl Comparison<'_> {
         Ok(is_other(&found))
     }
 
-    /// Appends to the report the line of a cell, where it is accepted, and answers whether it then has no module that is the same.
-    /// After a fault a prefix of the line was appended.
+    /// Appends to the report the line of a cell, where it is accepted, and answers whether it then has no module that is the
+    /// same. After a fault a prefix of the line was appended.
     fn write_cell<D: Desk>(&self, desk: &mut D, cell: &LibraryCell) -> Result<bool, Stop>
         requires { AreReady self.now.named.now }
         ensures cause { StopsWithCause (D.faults desk.old) (D.faults desk.new) result }

@@ -1,6 +1,6 @@
-//! Simulating the cells of a library beside their Verilog and VITAL models: the files of the library, of both kinds of models and of
-//! the stimulus are read, and the traces of each section are printed and compared. The cells as those that a stimulus may name, the
-//! models of each, and what a simulation comes to.
+//! Simulating the cells of a library beside their Verilog and VITAL models: the files of the library, of both kinds of models and
+//! of the stimulus are read, and the traces of each section are printed and compared. The cells as those that a stimulus may
+//! name, the models of each, and what a simulation comes to.
 #![tactic(auto)]
 
 mod bad_lines;

@@ -29,7 +29,8 @@ impl Spelling {
         }
     }
 
-    /// Adds a name to others as it is looked up, where none of them is the same, and answers its number, which is the length before.
+    /// Adds a name to others as it is looked up, where none of them is the same, and answers its number, which is the length
+    /// before.
     pub(crate) fn add(
         self,
         alloc: Global,

@@ -10,8 +10,8 @@ use Rattle.module_runs.specs.OutputPaths.{AreByOutput}
 use Rattle.module_runs.specs.FedLists.{AreFed}
 use Rattle.module_runs.specs.Gates.{AreGates}
 
--- these are the keys and the masks of its tables, the numbers of its ports among the inputs, the drivers of its nets, the paths to its ports,
--- the instances that changes feed and the gates of its paths
+-- these are the keys and the masks of its tables, the numbers of its ports among the inputs, the drivers of its nets, the paths
+-- to its ports, the instances that changes feed and the gates of its paths
 pub record IsModuleIndex (m : VModule) (index : ModuleIndex) : Type 0 where
   pub keyed : index.rows.keys ≡ map udp_keys m.udps
   pub masked : index.rows.masks ≡ map udp_masks m.udps

@@ -50,9 +50,11 @@ impl<'a> ColumnValues for StateNets<'a> {
     ghost use Rattle.std.specs.Prelude.{map};
     ghost use Rattle.model_traces.specs.NetValues.{source_value};
 
-    ghost olds = { λ s. map (source_value s.values.now.tables.model.now s.values.now.inputs.now s.values.now.states.now) s.nets.now };
+    ghost olds = { λ s. map
+        (source_value s.values.now.tables.model.now s.values.now.inputs.now s.values.now.states.now) s.nets.now };
 
-    ghost news = { λ s. map (source_value s.values.now.tables.model.now s.values.now.inputs.now s.values.now.states.now) s.nets.now };
+    ghost news = { λ s. map
+        (source_value s.values.now.tables.model.now s.values.now.inputs.now s.values.now.states.now) s.nets.now };
 
     fn change(&self, place: usize) -> ValueChange {
         let value = source_value(self.values, self.nets[place]);

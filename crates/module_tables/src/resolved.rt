@@ -31,8 +31,8 @@ pub(crate) fn values_at<F: Fn(&[bool]) -> Trit>(places: usize, function: &F) -> 
     values
 }
 
-/// The value that a function of points gives on every filling of the places, else unknown, by its values at all points, each at the
-/// number of its point.
+/// The value that a function of points gives on every filling of the places, else unknown, by its values at all points, each at
+/// the number of its point.
 pub(crate) fn tabled(values: &[Trit], places: &[Trit]) -> Trit
     requires few { length places.now ≤ 10 }
     ensures { (f : List Bool → Trit) → AreValuesOf (length places.now) f values.now → result ≡ res f places.now }

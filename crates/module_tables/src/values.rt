@@ -47,8 +47,8 @@ fn compared(
     difference.found()
 }
 
-/// The first list of values of so many places at which a function of points, by its values at all points, is not what drives a net,
-/// as one of the part with this number.
+/// The first list of values of so many places at which a function of points, by its values at all points, is not what drives a
+/// net, as one of the part with this number.
 fn first_unlike(
     part: AuditPart,
     number: usize,
@@ -87,7 +87,8 @@ fn of_wire(
     requires few { length (support_of condition.now) ≤ 10 }
     requires fed { IsTrue (feeds_condition (data_of cell.now) model.now (record { condition = condition.now; wire = wire })) }
     ensures { result ≡ first_difference
-        (conditions_compared (data_of cell.now) model.now part number (Some (record { condition = condition.now; wire = wire }))) }
+        (conditions_compared (data_of cell.now) model.now part number
+        (Some (record { condition = condition.now; wire = wire }))) }
 {
     let names = support_of(condition, MOST_NAMES);
     let places = names.as_slice();

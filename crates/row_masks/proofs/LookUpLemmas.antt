@@ -21,7 +21,8 @@ use Rattle.vital_tables.specs.LookUps.{row_next as state_next}
 use Rattle.row_masks.specs.declared.row_tests.RowTest.{RowTest}
 use Rattle.row_masks.specs.declared.row_tests.RowTest.TheVariants as test
 use Rattle.row_masks.specs.declared.rows.RowMasks.{RowMasks}
-use Rattle.row_masks.specs.Masks.{row_mask, mask_at, state_masks, change_masks, row_masks, table_masks, matching, first_row, deciding, decisive, by_number, AreMasks}
+use Rattle.row_masks.specs.Masks.{row_mask, mask_at, state_masks, change_masks, row_masks, table_masks, matching, first_row}
+use Rattle.row_masks.specs.Masks.{deciding, decisive, by_number, AreMasks}
 use Rattle.row_masks.specs.LookUps.{udp_passes, truth_passes, state_passes}
 use Rattle.row_masks.proofs.MaskLemmas.{and-swapped, first-by, deciding-first}
 use Rattle.row_masks.proofs.ColumnLemmas.{all-matching}

@@ -23,7 +23,8 @@ udp_passes row test.Nothing = true
 
 -- what a row of a truth table passes
 abbrev pub truth_passes : TruthRow → RowTest → Bool
-truth_passes row (test.Column place old new) = option_map_or (λ e. truth_level_matches e old new) (slice_get row.inputs place) false
+truth_passes row (test.Column place old new) =
+    option_map_or (λ e. truth_level_matches e old new) (slice_get row.inputs place) false
 truth_passes row (test.State state) = true
 truth_passes row test.First = true
 truth_passes row test.Nothing = true

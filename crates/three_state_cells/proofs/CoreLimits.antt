@@ -31,7 +31,8 @@ use Rattle.three_state_cells.proofs.Owners.{trimmed_owners}
 use Rattle.three_state_cells.proofs.Limits.{are_above, both_above, all_whole, AreBehind, stand_behind}
 use Rattle.three_state_cells.proofs.Refused.{owners, places_join, refused, unaccepted}
 use Rattle.three_state_cells.proofs.CorePins.{core_as}
-use Rattle.three_state_cells.proofs.CoreOwners.{stay, core_items, core_place, owners_of_core, enable_owners, enable_group, AreEnables}
+use Rattle.three_state_cells.proofs.CoreOwners.{stay, core_items, core_place, owners_of_core, enable_owners, enable_group}
+use Rattle.three_state_cells.proofs.CoreOwners.{AreEnables}
 use Rattle.three_state_cells.proofs.CoreOwners.{are_enables}
 use Rattle.three_state_cells.proofs.UntimedCores.{enable_untimed, no_checks, no_arcs}
 use Rattle.three_state_cells.proofs.TrimmedCores.{trimmed_in_core, owners_stay, core_trimmed}

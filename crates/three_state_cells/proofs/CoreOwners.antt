@@ -1,6 +1,7 @@
 -- The groups that make the pins of a core: those of its cell as they stand in the core, and behind them the outputs for the
 -- three-state outputs.
-use Rattle.std.proofs.Common.{◌≡◌, ℕ, ◌+◌, Bool, true, false, not, ◌&&◌, ◌||◌, ◌==◌, List, [], ◌∷◌, ◌++◌, length, map, filter, codes}
+use Rattle.std.proofs.Common.{◌≡◌, ℕ, ◌+◌, Bool, true, false, not, ◌&&◌, ◌||◌, ◌==◌, List, [], ◌∷◌, ◌++◌, length, map, filter}
+use Rattle.std.proofs.Common.{codes}
 use Rattle.std.proofs.Common.{Option, Some, None, if◌then◌else◌, refl, sym, ap, ◌∙◌, subst}
 use Rattle.std.specs.Prelude.{⊤, flat_map, bytes_eq, is_some}
 use Rattle.std.specs.List.{list_any, cons_option}
@@ -17,7 +18,8 @@ use Rattle.cell_attributes.specs.Groups.{is_pin, inner_of, inner_groups}
 use Rattle.cell_attributes.specs.Pins.{direction_of, owner_as, owners_in, owners_of}
 use Rattle.cell_attributes.specs.Scans.{is_output_group}
 use Rattle.core_groups.specs.Outputs.{ThreeStateOutput, three_state_of, is_three_state, three_state_outputs}
-use Rattle.core_groups.specs.CoreGroups.{stays_in_core, core_pin, core_statement, enable_pin, enable_pin_of, enable_pins, core_group}
+use Rattle.core_groups.specs.CoreGroups.{stays_in_core, core_pin, core_statement, enable_pin, enable_pin_of, enable_pins}
+use Rattle.core_groups.specs.CoreGroups.{core_group}
 use Rattle.three_state_cells.specs.Trimmed.{has_groups, is_timing, is_timed, in_core}
 use Rattle.three_state_cells.proofs.CorePins.{core_as, enable_as, core_statements}
 use Rattle.three_state_cells.proofs.Lists.{of_pins, of_pins_join}

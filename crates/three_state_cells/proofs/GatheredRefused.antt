@@ -41,7 +41,8 @@ use Rattle.cell_reader.specs.Written.{coupled_of, own_conditions_of, wide_condit
 use Rattle.cell_reader.specs.Refusals.{refused_or, timing_answers, timing_places, malformed, unknown_names, coupled}
 use Rattle.cell_reader.specs.Refusals.{own_conditions, numbers, limits, udp_inputs, refusal_of, left_out_of}
 use Rattle.three_state_cells.specs.DrivenCells.{DrivenData, plain_of, data_by}
-use Rattle.three_state_cells.proofs.Single.{single, its_pin, its_entry, same_text, same_directions, same_three_states, same_left_out}
+use Rattle.three_state_cells.proofs.Single.{single, its_pin, its_entry, same_text, same_directions, same_three_states}
+use Rattle.three_state_cells.proofs.Single.{same_left_out}
 use Rattle.three_state_cells.proofs.Single.{same_no_function, same_wide_output, same_malformed, same_unknown, same_own, same_wide}
 use Rattle.three_state_cells.proofs.Single.{same_numbers, same_check_at, same_arc_at}
 use Rattle.three_state_cells.proofs.Lists.{apart, of_pins, by_name, least_same, states_apart, banks_apart}

@@ -22,7 +22,8 @@ use Rattle.cell_reader.specs.CellTexts.{subject_of}
 use Rattle.cell_reader.specs.Refusals.{refusal_of}
 use Rattle.core_groups.specs.Outputs.{ThreeStateOutput, is_three_state, outputs_from, three_state_outputs}
 use Rattle.core_groups.specs.CoreGroups.{core_pin, core_statement_as, core_statement, enable_pins, core_group}
-use Rattle.three_state_cells.specs.Refusals.{first_of_two, wrong_delays, wrong_group, refusal_with, driver_refusal, floating_refusal}
+use Rattle.three_state_cells.specs.Refusals.{first_of_two, wrong_delays, wrong_group, refusal_with, driver_refusal}
+use Rattle.three_state_cells.specs.Refusals.{floating_refusal}
 use Rattle.three_state_cells.specs.Refusals.{refusal_by, driven_refusal}
 use Rattle.three_state_cells.proofs.Lists.{of_pins}
 use Rattle.three_state_cells.proofs.CoreOwners.{no_output}

@@ -41,13 +41,15 @@ use Rattle.cell_reader.proofs.Refused.{least_none, all_unmet}
 use Rattle.cell_reader.proofs.PartCounts.{within_limits}
 use Rattle.three_state_cells.proofs.Lists.{of_pins}
 use Rattle.three_state_cells.specs.Trimmed.{trimmed_pin, trimmed_items, trimmed, wrong_with}
-use Rattle.three_state_cells.proofs.Untimed.{again, same_at, same_directions, same_three_states, same_left_out, same_no_function, same_text}
+use Rattle.three_state_cells.proofs.Untimed.{again, same_at, same_directions, same_three_states, same_left_out, same_no_function}
+use Rattle.three_state_cells.proofs.Untimed.{same_text}
 use Rattle.three_state_cells.proofs.Untimed.{same_pins, same_entries}
 use Rattle.three_state_cells.proofs.Groups.{trimmed_groups, no_more, inner_trimmed, same_of, same_pins_told, same_least_told}
 use Rattle.three_state_cells.proofs.Groups.{same_states, same_banks}
 use Rattle.three_state_cells.proofs.Groups.{same_declared_names}
 use Rattle.three_state_cells.proofs.Owners.{trimmed_owners, next_pins, owners_trimmed, front_stays}
-use Rattle.three_state_cells.proofs.Places.{commuted, dropped, IsPart, malformed_part, unknown_part, own_part, numbers_part, places_least}
+use Rattle.three_state_cells.proofs.Places.{commuted, dropped, IsPart, malformed_part, unknown_part, own_part, numbers_part}
+use Rattle.three_state_cells.proofs.Places.{places_least}
 use Rattle.three_state_cells.proofs.Places.{by_kinds, wrong_by_kinds}
 use Rattle.three_state_cells.proofs.Limits.{are_above, past, AreBehind, past_all}
 use Rattle.three_state_cells.proofs.Reasons.{all_joined}

@@ -1,5 +1,6 @@
 -- What is held of the statements of a cell that were handed on one after another.
-use Rattle.std.proofs.Common.{◌≡◌, ℕ, ◌+◌, ◌-◌, ◌^◌, ◌<◌, ◌≤◌, min, Bool, true, false, not, ◌&&◌, ◌||◌, List, [], ◌∷◌, ◌++◌, length, map}
+use Rattle.std.proofs.Common.{◌≡◌, ℕ, ◌+◌, ◌-◌, ◌^◌, ◌<◌, ◌≤◌, min, Bool, true, false, not, ◌&&◌, ◌||◌, List, [], ◌∷◌, ◌++◌}
+use Rattle.std.proofs.Common.{length, map}
 use Rattle.std.proofs.Common.{filter, refl, sym, ap, ◌∙◌, arith, append-nil, codes, if◌then◌else◌, Option, Some, None}
 use Rattle.std.specs.Prelude.{flat_map, nat_le}
 use Rattle.std.specs.List.{fold, cons_option}
@@ -26,7 +27,8 @@ use Rattle.core_groups.specs.CoreGroups.{core_pin}
 use Rattle.core_groups.specs.DriverGroups.{driver_item}
 use Rattle.cell_reader.specs.declared.refusal.Reason.TheVariants as reason
 use Rattle.cell_reader.specs.Refusals.{met, first_refusal}
-use Rattle.three_state_cells.specs.Refusals.{first_of_two, refusal_with, wrong_group as wrong_outputs, wrong_delays as delays_told}
+use Rattle.three_state_cells.specs.Refusals.{first_of_two, refusal_with, wrong_group as wrong_outputs}
+use Rattle.three_state_cells.specs.Refusals.{wrong_delays as delays_told}
 use Rattle.three_state_cells.specs.PinAttributes.{untimed}
 use Rattle.three_state_cells.specs.Trimmed.{has_one, all_behind, is_trimmed, is_trimmed_item, is_timed, has_apart, has_apart_in}
 use Rattle.three_state_cells.specs.Trimmed.{loses, keeps_order, keeps_order_in}

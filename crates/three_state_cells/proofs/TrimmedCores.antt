@@ -12,9 +12,11 @@ use Rattle.liberty_groups.specs.Attributes.{Attribute}
 use Rattle.cell_attributes.specs.Groups.{is_pin}
 use Rattle.cell_attributes.specs.Pins.{owners_of}
 use Rattle.core_groups.specs.Outputs.{ThreeStateOutput, three_state_of, is_three_state, outputs_from, three_state_outputs}
-use Rattle.core_groups.specs.CoreGroups.{core_pin, core_statement_as, core_statement, enable_pin, enable_pin_of, enable_pins, core_group}
+use Rattle.core_groups.specs.CoreGroups.{core_pin, core_statement_as, core_statement, enable_pin, enable_pin_of, enable_pins}
+use Rattle.core_groups.specs.CoreGroups.{core_group}
 use Rattle.three_state_cells.specs.PinAttributes.{untimed}
-use Rattle.three_state_cells.specs.Trimmed.{has_one, is_trimmed, trimmed_pin, pins_made, pins_in_item, trimmed_item, trimmed_items}
+use Rattle.three_state_cells.specs.Trimmed.{has_one, is_trimmed, trimmed_pin, pins_made, pins_in_item, trimmed_item}
+use Rattle.three_state_cells.specs.Trimmed.{trimmed_items}
 use Rattle.three_state_cells.specs.Trimmed.{trimmed, in_core}
 use Rattle.three_state_cells.proofs.Groups.{same_of}
 use Rattle.three_state_cells.proofs.Owners.{trimmed_owners}

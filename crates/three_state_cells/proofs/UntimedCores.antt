@@ -14,7 +14,8 @@ use Rattle.liberty_groups.specs.declared.tree.Item.TheOpen as layer
 use Rattle.liberty_groups.specs.declared.tree.Item.TheVariants as made
 use Rattle.liberty_groups.specs.declared.tree.Item.TheViews.{outs-Simple, out-roll-Group}
 use Rattle.liberty_groups.specs.declared.tree.Group.{Group, roll-Group}
-use Rattle.liberty_groups.specs.Attributes.{Attribute, simple_named, group_named, attributes_named, groups_named, text_of, last_or}
+use Rattle.liberty_groups.specs.Attributes.{Attribute, simple_named, group_named, attributes_named, groups_named, text_of}
+use Rattle.liberty_groups.specs.Attributes.{last_or}
 use Rattle.liberty_groups.specs.Attributes.{attribute_of}
 use Rattle.cell_machine.specs.CellRules.{is_input_pin}
 use Rattle.cell_machine.specs.Delay.{least}

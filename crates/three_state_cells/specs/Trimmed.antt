@@ -1,7 +1,8 @@
 -- A cell with more pins than the limit, of which pins behind the limit lose their timing groups and what is not read of them, and
 -- what is wrong in the timing. (This project's rule: such a cell is refused, by its number of pins or by a reason with a lesser
 -- number.)
-use Rattle.std.specs.Prelude.{◌≡◌, ℕ, ◌+◌, Bool, true, false, not, ◌&&◌, ◌||◌, nat_le, List, [], ◌∷◌, length, map, filter, flat_map}
+use Rattle.std.specs.Prelude.{◌≡◌, ℕ, ◌+◌, Bool, true, false, not, ◌&&◌, ◌||◌, nat_le, List, [], ◌∷◌, length, map, filter}
+use Rattle.std.specs.Prelude.{flat_map}
 use Rattle.std.specs.Prelude.{drop, codes, Option, Some, None, Ok, Err, if◌then◌else◌}
 use Rattle.std.specs.List.{list_any, list_all}
 use Rattle.liberty_groups.specs.declared.tree.Value.{Value}

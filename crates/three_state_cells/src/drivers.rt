@@ -122,8 +122,8 @@ impl Drivers {
         ensures outputs { OnOk result (self.new.driver.outputs ≡ self.old.driver.outputs) }
         ensures drives { OnOk result (self.new.driver.drives ≡ self.old.driver.drives
             ++ output_number_of core.old.pins output.entry.pin ∷ []) }
-        ensures paths { OnOk result
-            (self.new.driver.paths ≡ self.old.driver.paths ++ paths_of core.old (length self.old.driver.drives) (shown output.entry)) }
+        ensures paths { OnOk result (self.new.driver.paths ≡ self.old.driver.paths
+            ++ paths_of core.old (length self.old.driver.drives) (shown output.entry)) }
         ensures left_out { OnOk result (self.new.left_out ≡ self.old.left_out ++ left_out_of core.old (shown output.entry)) }
         ensures core { OnOk result (core.new ≡ subject_at core.old output.entry.pin) }
     {

@@ -228,8 +228,8 @@ fn read_gathered(alloc: Global, source: Source<'_>, number: usize) -> Result<Dri
 }
 
 /// The cell with this number in its library that a group with buses, bundles or banks describes, expanded to single bits with the
-/// types of buses that stand before it, where `unit` is the library's time unit, if it is a known one, and `earlier` are the names of
-/// the cells before it. The group is one that nothing refuses to expand.
+/// types of buses that stand before it, where `unit` is the library's time unit, if it is a known one, and `earlier` are the
+/// names of the cells before it. The group is one that nothing refuses to expand.
 ///
 /// Of a pin group behind the limit of pins that makes one pin, the timing is held only while it is read, where its statements
 /// stand in the order of their offsets. `Memory` comes only where memory is wanting.

@@ -1,7 +1,7 @@
 //! The group of a Liberty cell whose outputs may float to a core without Z and what drives its three-state outputs. A cell with
-//! buses, bundles or banks is read as its cell expanded to single bits. One of more pins than a cell may have is refused as that is,
-//! and no more than one of its pin groups behind the limit is held with its timing. That a cell whose alike pins are gathered is read
-//! as the expanded one is a law of its own.
+//! buses, bundles or banks is read as its cell expanded to single bits. One of more pins than a cell may have is refused as that
+//! is, and no more than one of its pin groups behind the limit is held with its timing. That a cell whose alike pins are gathered
+//! is read as the expanded one is a law of its own.
 #![tactic(auto)]
 
 mod driven_cell;

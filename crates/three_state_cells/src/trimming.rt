@@ -43,8 +43,8 @@ fn has_one(arguments: &[Value]) -> bool
     }
 }
 
-/// Whether a group loses its timing groups and what is not read of it, where so many pins stand before it: it makes one pin behind
-/// the limit.
+/// Whether a group loses its timing groups and what is not read of it, where so many pins stand before it: it makes one pin
+/// behind the limit.
 fn is_trimmed(pin: usize, group: &Group) -> bool
     ensures { result ≡ spec.is_trimmed pin group.now }
 {
@@ -210,8 +210,8 @@ fn first_stands_first(owners: &[&Group]) -> bool
     }
 }
 
-/// Whether there are pins behind the limit, where these groups make all pins, and none of the groups of these, and no statement of
-/// one, stands before the first of the groups.
+/// Whether there are pins behind the limit, where these groups make all pins, and none of the groups of these, and no statement
+/// of one, stands before the first of the groups.
 pub(crate) fn are_behind(owners: &[&Group]) -> bool
     ensures { result ≡ spec.are_behind (drop 64 (map (λ owner. owner.now) owners.now)) }
 {

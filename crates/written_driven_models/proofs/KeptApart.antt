@@ -10,7 +10,8 @@ use Rattle.driver_models.specs.Cores.{Core}
 use Rattle.written_modules.specs.driver_sections.Sections.{text_of}
 use Rattle.written_modules.specs.grammar_reader.ReadBack.{ReadsBack}
 use Rattle.written_modules.proofs.grammar_reader.Fronts.{Front, each}
-use Rattle.written_modules.proofs.section_outlines.Outlined.{Outlined, IsOutlined, nothing, one_behind, each_outlined, outlined_is}
+use Rattle.written_modules.proofs.section_outlines.Outlined.{Outlined, IsOutlined, nothing, one_behind, each_outlined}
+use Rattle.written_modules.proofs.section_outlines.Outlined.{outlined_is}
 use Rattle.sectioned_texts.specs.DrivenModels.{taken_names, rest_of, driven_models}
 use Rattle.sectioned_texts.proofs.WrittenTexts.{AreRead, text_read}
 use Rattle.written_modules.proofs.ModuleReading.{all_parts}

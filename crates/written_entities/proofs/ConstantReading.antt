@@ -39,7 +39,8 @@ use Rattle.written_entities.proofs.TableTokens.{truth_row_front, state_row_front
 use Rattle.written_entities.proofs.TableReading.{truth_table_read, state_table_read}
 use Rattle.written_entities.proofs.NameReading.{expected, known_as}
 use Rattle.written_entities.proofs.Counting.{counted, counted_anywhere, over}
-use Rattle.written_entities.proofs.Parts.{part_behind, fact_at, place_below, counted_parts, state_number, condition_number, table_number_is}
+use Rattle.written_entities.proofs.Parts.{part_behind, fact_at, place_below, counted_parts, state_number, condition_number}
+use Rattle.written_entities.proofs.Parts.{table_number_is}
 use Rattle.written_entities.proofs.Tests.{if_true, if_either}
 use Rattle.written_entities.proofs.Elements.{call_end}
 

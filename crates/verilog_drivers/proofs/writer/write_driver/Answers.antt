@@ -1,5 +1,6 @@
 use Rattle.verilog_writer.specs.Model.{wire_text}
-use Rattle.verilog_drivers.specs.DriverText.{driver_header_text, driver_declarations_text, core_text, drive_paths_text, driver_text}
+use Rattle.verilog_drivers.specs.DriverText.{driver_header_text, driver_declarations_text, core_text, drive_paths_text}
+use Rattle.verilog_drivers.specs.DriverText.{driver_text}
 use Rattle.verilog_drivers.proofs.writer.write_driver.Goals as goal
 
 pub returns-clause-text : goal.returns-clause-text

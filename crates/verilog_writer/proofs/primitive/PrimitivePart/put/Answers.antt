@@ -1,4 +1,5 @@
-use Rattle.verilog_writer.specs.Primitive.{opening_text, port_text, header_text, output_text, input_text, table_text, primitive_text}
+use Rattle.verilog_writer.specs.Primitive.{opening_text, port_text, header_text, output_text, input_text, table_text}
+use Rattle.verilog_writer.specs.Primitive.{primitive_text}
 use Rattle.verilog_writer.proofs.primitive.PrimitivePart.put.Goals as goal
 
 pub returns-clause-text : goal.returns-clause-text

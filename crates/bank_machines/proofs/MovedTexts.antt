@@ -26,6 +26,7 @@ use Rattle.cell_attributes.specs.Building.{function_in}
 use Rattle.cell_attributes.specs.Texts.{judged, text_as}
 use Rattle.cell_attributes.specs.Vocabulary.{Vocabulary}
 use Rattle.cell_attributes.proofs.TextNames.{IsSound}
+pub use Rattle.cell_attributes.proofs.Distinct.{no_place as unfaulted}
 use Rattle.bank_machines.specs.BankTexts.{CellNames, function_if}
 use Rattle.bank_machines.proofs.TextLemmas.{Spells, read_same, IsRead, judged_reads}
 
@@ -172,10 +173,6 @@ pin_other_kept vectors position name items h =
 -- the function of a rewritten text that reads is that of the text at the position
 abbrev pub cell_names : List Vector → Vocabulary → List ℕ → CellNames
 cell_names vectors v numbers = record { vectors = vectors; names = v.names; numbers = numbers }
-
-pub unfaulted : (b : Bool) (at : ℕ) → (if b then at ∷ [] else []) ≡ [] → b ≡ false
-unfaulted true at h = absurd cc
-unfaulted false at h = refl
 
 pub text_is :
     (vectors : List Vector) (v : Vocabulary) (numbers : List ℕ) (at : ℕ) → AllByRecursion Spells vectors

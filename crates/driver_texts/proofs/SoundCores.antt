@@ -1,5 +1,5 @@
 -- Of drivers that are read the driven outputs are outputs and ascend, and paths begin at inputs, in any language.
-use Rattle.std.proofs.Common.{◌≡◌, ℕ, suc, ◌+◌, ◌<◌, ◌≤◌, Bool, true, false, not, nat_lt, cond, if◌then◌else◌, IsTrue, List, []}
+use Rattle.std.proofs.Common.{◌≡◌, ℕ, ◌+◌, ◌<◌, ◌≤◌, Bool, true, false, not, nat_lt, cond, if◌then◌else◌, IsTrue, List, []}
 use Rattle.std.proofs.Common.{◌∷◌, ◌++◌, length, nat_eq, slice_get, Option, Some, None, refl, ap, ◌∙◌, arith}
 use Rattle.std.specs.Prelude.{All, is_some}
 use Rattle.std.specs.List.{AllByRecursion}
@@ -7,6 +7,7 @@ use Rattle.std.specs.Option.{option_map_or}
 use Rattle.std.proofs.lemmas.Bool.{and_from, and_parts, lt-ltb}
 use Rattle.std.proofs.lemmas.List.Sums.{sum_by-cons}
 use Rattle.std.proofs.lemmas.List.Elements.{All-push}
+use Rattle.std.proofs.lemmas.List.Elements.{All-head, All-tail}
 use Rattle.std.proofs.lemmas.Option.{slice_get_within}
 use Rattle.grammar_rules.specs.Rule as r
 use Rattle.grammar_rules.proofs.Promises.{Promises, token, gives, in_turn, keeps}
@@ -54,20 +55,14 @@ known_values is_name find = token (λ x a p e.
 
 -- The places of driven outputs.
 
-head_of : {X : Type 0} (P : X → Type 0) (x : X) (xs : List X) → All P (x ∷ xs) → P x
-head_of P x xs h = h 0 x (omega arith)
-
-tail_of : {X : Type 0} (P : X → Type 0) (x : X) (xs : List X) → All P (x ∷ xs) → All P xs
-tail_of P x xs h = λ k d l. h (suc k) d (omega arith)
-
 -- a place behind all others
 push_place : (xs : List ℕ) (n : ℕ) → IsTrue (is_ascending xs) → All (λ p. p < n) xs → IsTrue (is_ascending (xs ++ n ∷ []))
 push_place [] n h below = refl
-push_place (x ∷ []) n h below = and_from (nat_lt x n) true (lt-ltb x n (head_of (λ p. p < n) x [] below)) refl
+push_place (x ∷ []) n h below = and_from (nat_lt x n) true (lt-ltb x n (All-head (λ p. p < n) x [] below)) refl
 push_place (x ∷ y ∷ ys) n h below =
     let parts = and_parts (nat_lt x y) (is_ascending (y ∷ ys)) h in
     and_from (nat_lt x y) (is_ascending (y ∷ (ys ++ n ∷ []))) parts.0
-    (push_place (y ∷ ys) n parts.1 (tail_of (λ p. p < n) x (y ∷ ys) below))
+    (push_place (y ∷ ys) n parts.1 (All-tail (λ p. p < n) x (y ∷ ys) below))
 
 -- the terminals that were read are those of outputs, before these ports
 record AreGood (total : ℕ) (ports : List VPort) (found : Terminals) : Type 0 where

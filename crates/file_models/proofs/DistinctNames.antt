@@ -1,10 +1,10 @@
 -- The names of the models of a file: no two are the same.
-use Rattle.std.proofs.Common.{◌≡◌, ℕ, zero, suc, ◌+◌, ◌<◌, ◌≤◌, Bool, true, false, ◌||◌, List, [], ◌∷◌, ◌++◌, length, map, take}
+use Rattle.std.proofs.Common.{◌≡◌, ℕ, zero, suc, ◌+◌, ◌<◌, ◌≤◌, Bool, false, ◌||◌, List, [], ◌∷◌, ◌++◌, length, map, take}
 use Rattle.std.proofs.Common.{get_or, Option, refl, sym, ap, subst, ◌∙◌, arith, append_assoc}
 use Rattle.std.specs.Prelude.{All, flat_map}
 use Rattle.std.specs.Cmp.{IsEquivalence}
 use Rattle.std.specs.List.{IsDistinct, list_any}
-use Rattle.std.proofs.lemmas.Bool.{or_from}
+use Rattle.std.proofs.lemmas.Bool.{or_from, or_parts as neither}
 use Rattle.std.proofs.lemmas.List.{map-append, take_all, take_more, append-nil}
 use Rattle.std.proofs.lemmas.List.Elements.{All-head, All-tail}
 use Rattle.std.proofs.lemmas.List.Folds.{list_any-append}
@@ -60,10 +60,6 @@ module _ {M : Type 0} (l : SectionLanguage M) where
 -- a name that is none of those that a model takes is not the model's own
 abbrev pub TakesOwnName : {M : Type 0} → SectionLanguage M → Type 0
 TakesOwnName {M} l = (p : List ℕ → Bool) (m : M) → list_any p (l.names m) ≡ false → p (l.core m).name ≡ false
-
-pub neither : (a b : Bool) → (a || b) ≡ false → (a ≡ false) × (b ≡ false)
-neither true b e = absurd cc
-neither false b e = (refl, e)
 
 module _ {M : Type 0} (l : SectionLanguage M) (takes : TakesOwnName l) (p : List ℕ → Bool) where
   none_own : (models : List M) → list_any p (flat_map l.names models) ≡ false → list_any p (map (core_name_of l) models) ≡ false

@@ -4,7 +4,7 @@ use Rattle.std.proofs.Common.{Some, None, refl, sym, ap, ◌∙◌, arith, eqb-t
 use Rattle.std.specs.List.{list_all}
 use Rattle.std.specs.Bool.{beq}
 use Rattle.std.specs.Option.{option_map, option_and_then}
-use Rattle.std.proofs.lemmas.Bool.{and_parts}
+use Rattle.std.proofs.lemmas.Bool.{and_parts, not-true}
 use Rattle.std.proofs.lemmas.Option.{slice_get-map}
 use Rattle.std.proofs.lemmas.List.Sums.{sum_by-cons}
 use Rattle.udp_tables.specs.declared.models.VPort.{VPort}
@@ -34,16 +34,12 @@ outputs_alone [] h = (refl, refl)
 outputs_alone (port ∷ core) h =
     let parts = and_parts (not port.input) (list_all (λ (port : VPort). not port.input) core) h in
     let rest = outputs_alone core parts.1 in
-    let plain : port.input ≡ false = by port.input parts.0 in
+    let plain : port.input ≡ false = not-true port.input parts.0 in
     let inputs : input_count (port ∷ core) ≡ 0 + input_count core =
     inputs_more port core ∙ ap (λ (b : Bool). cond b 1 0 + input_count core) plain in
     let outputs : output_count (port ∷ core) ≡ 1 + output_count core =
     outputs_more port core ∙ ap (λ (b : Bool). cond (not b) 1 0 + output_count core) plain in
     (omega (arith, inputs, rest.0), omega (arith, outputs, rest.1))
-  where
-    by : (b : Bool) → not b ≡ true → b ≡ false
-    by true e = absurd cc
-    by false e = refl
 
 same_bool : (a b : Bool) → beq a b ≡ true → a ≡ b
 same_bool true true e = refl

@@ -1,5 +1,5 @@
 -- The names of generated entities and of their ports, which no case of letters makes equal.
-use Rattle.std.proofs.Common.{◌≡◌, ℕ, zero, suc, ◌+◌, ◌^◌, ◌<◌, ◌≤◌, Bool, true, false, not, ◌&&◌, ◌||◌, ◌==◌, ◌⊎◌, inl, inr}
+use Rattle.std.proofs.Common.{◌≡◌, ℕ, ◌+◌, ◌^◌, ◌<◌, ◌≤◌, Bool, true, false, not, ◌&&◌, ◌||◌, ◌==◌, ◌⊎◌, inl, inr}
 use Rattle.std.proofs.Common.{IsTrue, List, [], ◌∷◌, ◌++◌, map, refl, sym, ap, ◌∙◌, subst, arith, codes, decimal, nat_le, is_some}
 use Rattle.std.proofs.Common.{if◌then◌else◌}
 use Rattle.std.specs.Char.{is_ascii_alphabetic, is_ascii_alphanumeric, is_ascii_digit, is_ascii_uppercase, is_ascii_lowercase}
@@ -7,6 +7,7 @@ use Rattle.std.specs.Char.{to_ascii_lowercase}
 use Rattle.std.specs.List.{list_all}
 use Rattle.std.specs.Str.{str_eq_ignore_ascii_case}
 use Rattle.std.proofs.lemmas.Bool.{and_parts, and_from, not-true, true≢false, cases_Bool, leb-true, eq-eqb, or_right as or_true}
+use Rattle.std.proofs.lemmas.Bool.{cases_lt}
 use Rattle.std.proofs.lemmas.Fmt.{decimal_injective}
 use Rattle.std.proofs.lemmas.List.{append_cancel_left, map-append}
 use Rattle.std.proofs.lemmas.Slice.Eq.{bytes_eq-Decides}
@@ -51,18 +52,13 @@ lower_digit : (b d : ℕ) → IsTrue (is_ascii_digit d) → to_ascii_lowercase b
 lower_digit b d h e =
     let laws = lowercase_is b in
     let below = digit_below d h in
-    by (nat_lt_or b 65) below laws.1 laws.2 laws.0
+    by (cases_lt b 65) below laws.1 laws.2 laws.0
   where
-    nat_lt_or : (m n : ℕ) → (m < n) ⊎ (n ≤ m)
-    nat_lt_or m zero = inr (omega arith)
-    nat_lt_or zero (suc n) = inl (omega arith)
-    nat_lt_or (suc m) (suc n) = elim (nat_lt_or m n) [ inl h ↦ inl (omega (arith, h)) | inr h ↦ inr (omega (arith, h)) ]
-
     by : (b < 65) ⊎ (65 ≤ b) → d < 65 → (b < 65 → to_ascii_lowercase b ≡ b) → (90 < b → to_ascii_lowercase b ≡ b)
         → ((65 ≤ b) × (b ≤ 90) → to_ascii_lowercase b ≡ b + 32) → b ≡ d
     by (inl low) below small large upper = let same = small low in omega (arith, same, e)
     by (inr high) below small large upper =
-        elim (nat_lt_or 90 b) [
+        elim (cases_lt 90 b) [
           | inl more ↦ let same = large more in omega (arith, same, e)
           | inr less ↦ let same = upper (high, less) in absurd (omega (arith, same, e, below))
         ]

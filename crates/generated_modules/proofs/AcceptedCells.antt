@@ -1,6 +1,6 @@
 -- The accepted cells of a library have names and numbers of which none stands twice.
-use Rattle.std.proofs.Common.{◌≡◌, ℕ, ◌+◌, ◌≤◌, Bool, true, false, IsTrue, List, [], ◌∷◌, inl, inr, refl, sym, ap, ◌∙◌, subst}
-use Rattle.std.proofs.Common.{arith, Contains, Option, Some, None, is_some, nat_eq, if◌then◌else◌}
+use Rattle.std.proofs.Common.{◌≡◌, ℕ, ◌+◌, ◌≤◌, false, IsTrue, List, [], ◌∷◌, inl, inr, refl, sym, ap, ◌∙◌, subst}
+use Rattle.std.proofs.Common.{arith, Contains, Option, Some, None, is_some, nat_eq}
 use Rattle.std.specs.Prelude.{All}
 use Rattle.std.specs.List.{IsDistinct}
 use Rattle.std.specs.Str.{bytes_eq}
@@ -17,7 +17,7 @@ use Rattle.cell_machine.specs.CellRules.{is_cell}
 use Rattle.cell_machine.specs.CellData.{CellData}
 use Rattle.cell_attributes.specs.Groups.{cell_name}
 use Rattle.cell_attributes.specs.Declarations.{declared_of, known_cell, clashes_after}
-use Rattle.cell_attributes.proofs.Distinct.{nil_parts}
+use Rattle.cell_attributes.proofs.Distinct.{nil_parts, no_place as unknown}
 use Rattle.cell_reader.specs.CellTexts.{subject_of}
 use Rattle.cell_reader.proofs.Accepted.{accepted_meets_none, accepted_cells_are_sound}
 use Rattle.generated_modules.specs.Accepted.{IsAccepted, AreAccepted}
@@ -28,10 +28,6 @@ use Rattle.generated_modules.proofs.KeptNames.{with_distinct_names}
 use Rattle.generated_modules.proofs.ModuleLists.{modules-well-formed}
 
 -- the name of a cell that is not refused is none of those before it
-
-unknown : (b : Bool) (at : ℕ) → (if b then at ∷ [] else []) ≡ [] → b ≡ false
-unknown true at h = absurd cc
-unknown false at h = refl
 
 no_number : (o : Option ℕ) → is_some o ≡ false → o ≡ None
 no_number None h = refl

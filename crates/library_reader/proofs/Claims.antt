@@ -1,5 +1,6 @@
 -- What is claimed of a value that may be there, and of an answer that may be an error.
-use Rattle.std.proofs.Common.{◌≡◌, Option, Some, None, Result, Ok, Err, IsErr, IfOk, IfSome, OnOk, refl}
+use Rattle.std.proofs.Common.{◌≡◌, Option, Some, None, Result, Ok, Err, IsErr, IfSome, OnOk, refl}
+pub use Rattle.std.proofs.lemmas.Result.{IfOk-weaker as IfOk-map, IfOk-from_err as IfOk-err}
 
 -- each value that is there
 pub IfSome-each : {X : Type 0} (o : Option X) (P : X → Type 0) → ((x : X) → o ≡ Some x → P x) → IfSome o P
@@ -15,15 +16,7 @@ pub IfSome-map : {X : Type 0} (o : Option X) (P Q : X → Type 0) → ((x : X) �
 IfSome-map None P Q f h = tt
 IfSome-map (Some x) P Q f h = f x h
 
-pub IfOk-map : {T E : Type 0} (r : Result T E) (P Q : T → Type 0) → ((x : T) → P x → Q x) → IfOk r P → IfOk r Q
-IfOk-map (Ok x) P Q f h = f x h
-IfOk-map (Err y) P Q f h = tt
-
 -- nothing is claimed of what an error gave
-pub IfOk-err : {T E : Type 0} (r : Result T E) (P : T → Type 0) → IsErr r → IfOk r P
-IfOk-err (Ok x) P e = absurd (cc)
-IfOk-err (Err y) P e = tt
-
 pub OnOk-err : {T E : Type 0} (r : Result T E) (P : Type 0) → IsErr r → OnOk r P
 OnOk-err (Ok x) P e = absurd (cc)
 OnOk-err (Err y) P e = tt

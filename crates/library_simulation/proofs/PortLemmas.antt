@@ -4,17 +4,12 @@ use Rattle.std.proofs.lemmas.Bool.{and_parts}
 use Rattle.std.proofs.lemmas.List.{length-map}
 use Rattle.driver_models.specs.Models.{is_input, directions}
 use Rattle.stimulus.specs.Differences.{same_fact}
+use Rattle.stimulus.proofs.Compared.{same_fact-is}
 use Rattle.udp_tables.specs.declared.models.VPort.{VPort}
 use Rattle.library_simulation.specs.declared.same_ports.Spelling.{Spelling}
 use Rattle.library_simulation.specs.SamePorts.{same_name, same_port, same_ports}
 
 -- ports that are the same have the same directions
-
-same_fact-is : (a b : Bool) → same_fact a b ≡ true → a ≡ b
-same_fact-is true true e = refl
-same_fact-is true false e = absurd cc
-same_fact-is false true e = absurd cc
-same_fact-is false false e = refl
 
 same_way : (spelling : Spelling) (one other : VPort) → same_port spelling one other ≡ true → one.input ≡ other.input
 same_way spelling one other e =

@@ -2,7 +2,7 @@
 use Rattle.std.proofs.Common.{◌≡◌, ℕ, ◌<◌, ◌≤◌, List, take, length, get_or, Some, Result, Err, IsErr, slice_get, flat_map}
 use Rattle.std.proofs.Common.{refl, sym, ap, subst, ◌∙◌}
 use Rattle.std.specs.Option.{option_map}
-use Rattle.std.proofs.lemmas.Option.{slice_get-map, slice_get-get_or, slice_get_within}
+use Rattle.std.proofs.lemmas.Option.{slice_get-map, slice_get-get_or, slice_get_within, same_Some}
 use Rattle.text_io.specs.declared.slots.OutSlot.TheVariants.{Report}
 use Rattle.text_io.specs.declared.stop.Stop.{Stop}
 use Rattle.text_io.specs.Desk.{DeskState, wrote}
@@ -23,9 +23,6 @@ pub has_model : {M : Type 0} (l : Language M) (models : List M) (section : Secti
     → section.cell < length models
 has_model l models section run = slice_get_within models section.cell run.model run.found
 
-some_same : {X : Type 0} (x y : X) → Some x ≡ Some y → x ≡ y
-some_same x y e = cc
-
 pub is_found : {M : Type 0} (l : Language M) (models slice : List M) (catalog : NamedCells) (section : Section) (model : M)
     (ports : Ports) → CanBeRun l models section
     → catalog ≡ models_named l models → slice ≡ models → model ≡ get_or slice section.cell model
@@ -34,10 +31,10 @@ pub is_found : {M : Type 0} (l : Language M) (models slice : List M) (catalog : 
 is_found {M = M} l models slice catalog section model ports run cat all is found =
     let at : model ≡ get_or models section.cell model = rw all at is in
     let same : model ≡ run.model =
-    some_same _ _ (ap Some at ∙ sym (slice_get-get_or models section.cell model (has_model l models section run)) ∙ run.found) in
+    same_Some _ _ (ap Some at ∙ sym (slice_get-get_or models section.cell model (has_model l models section run)) ∙ run.found) in
     let there = rw cat at found in
     let named : ports ≡ ports_of (l.ports run.model) =
-    some_same _ _ (sym there ∙ slice_get-map (λ (m : M). ports_of (l.ports m)) models section.cell
+    same_Some _ _ (sym there ∙ slice_get-map (λ (m : M). ports_of (l.ports m)) models section.cell
     ∙ ap (option_map (λ (m : M). ports_of (l.ports m))) run.found) in
     subst (λ m. IsFound l models section m ports) (sym same)
     (subst (IsFound l models section run.model) (sym named)

@@ -5,6 +5,7 @@ use Rattle.std.specs.Str.{bytes_eq}
 use Rattle.std.specs.List.{IsDistinct, AllByRecursion, list_any}
 use Rattle.std.proofs.lemmas.List.Folds.{list_any-append}
 use Rattle.std.proofs.lemmas.Cmp.{nat_list_eq_equiv as bytes_equivalence}
+use Rattle.std.proofs.lemmas.Bool.{or_parts as neither}
 use Rattle.verilog_tokens.specs.Tokens.{is_name}
 use Rattle.verilog_grammar.specs.specify_blocks.declared.model.VModule.{VModule}
 use Rattle.verilog_grammar.specs.specify_blocks.Sound.{IsSound}
@@ -23,7 +24,7 @@ use Rattle.file_models.specs.declared.file_model.FileModel.{FileModel}
 use Rattle.file_models.specs.FileModels.{file_models}
 use Rattle.file_models.proofs.ReadDrivers.{read_parts}
 use Rattle.file_models.proofs.RunnableModels.{RunsByPorts, all_run}
-use Rattle.file_models.proofs.DistinctNames.{TakesOwnName, neither, names_apart}
+use Rattle.file_models.proofs.DistinctNames.{TakesOwnName, names_apart}
 use Rattle.model_files.specs.ModelNames.{model_names, HasOwnPorts}
 use Rattle.model_replay.specs.Verilog.{verilog}
 use Rattle.model_replay.specs.Laws.{AreOfText, ModulesHaveOwnNames}

@@ -4,6 +4,7 @@ use Rattle.std.specs.Str.{bytes_eq, str_eq_ignore_ascii_case}
 use Rattle.std.specs.List.{IsDistinct}
 use Rattle.std.proofs.lemmas.List.{length-map}
 use Rattle.std.proofs.lemmas.Simd.{map-map}
+use Rattle.std.proofs.lemmas.Bool.{or_parts as neither}
 use Rattle.file_models.specs.bool_functions.NameList.{AreDistinct}
 use Rattle.file_models.proofs.bool_functions.NameLists.{IsDistinct-map}
 use Rattle.vhdl_tokens.specs.Kept.{lowered}
@@ -27,7 +28,7 @@ use Rattle.file_models.specs.FileModels.{file_models}
 use Rattle.file_models.proofs.ReadDrivers.{read_parts}
 use Rattle.file_models.proofs.RestLengths.{rest_length}
 use Rattle.file_models.proofs.RunnableModels.{RunsByPorts, all_run}
-use Rattle.file_models.proofs.DistinctNames.{TakesOwnName, neither, names_apart}
+use Rattle.file_models.proofs.DistinctNames.{TakesOwnName, names_apart}
 use Rattle.model_files.specs.ModelNames.{model_names, HasOwnPorts}
 use Rattle.model_replay.specs.Vital.{vital}
 use Rattle.model_replay.specs.Laws.{AreEntities, EntitiesHaveOwnNames, WellFormedEntitiesHaveOwnNames}

@@ -1,5 +1,5 @@
 -- No question on the shape fails exactly where the module has the cell's shape.
-use Rattle.std.proofs.Common.{◌≡◌, ℕ, zero, suc, ◌<◌, Bool, true, false, List, [], ◌∷◌, find, length, Option, None, Some}
+use Rattle.std.proofs.Common.{◌≡◌, ℕ, ◌<◌, Bool, true, false, List, [], ◌∷◌, find, length, Option, None, Some}
 use Rattle.std.proofs.Common.{slice_get, nat_eq, refl, sym, ◌∙◌, subst, arith, eqb-true, eq-eqb, inl, inr}
 use Rattle.std.specs.List.{list_any, range_with_len}
 use Rattle.std.proofs.lemmas.Bool.{true≢false, and_parts, and_from, not_from_true as from-holds, not-false as holds-from}
@@ -14,6 +14,7 @@ use Rattle.cell_machine.specs.declared.checks.Event.{Event}
 use Rattle.cell_machine.specs.declared.checks.Check.{Check}
 use Rattle.cell_machine.specs.declared.arcs.Arc.{Arc}
 use Rattle.cell_machine.specs.CellData.{CellData}
+use Rattle.cell_machine.proofs.ArcDelays.{some_at as there}
 use Rattle.udp_tables.specs.declared.timing_checks.TimingCheck.{TimingCheck}
 use Rattle.udp_tables.specs.Ports.{port_number, event_of}
 use Rattle.specify_blocks.specs.declared.model.VPath.{VPath}
@@ -158,11 +159,6 @@ both-at :
     {X Y : Type 0} (test : X → Y → Bool) (a : Option X) (b : Option Y) (x : X) (y : Y)
     → both test a b ≡ true → a ≡ Some x → b ≡ Some y → test x y ≡ true
 both-at test a b x y h e f = sym (λ i. both test (e i) (f i)) ∙ h
-
-there : {X : Type 0} (xs : List X) (i : ℕ) → i < length xs → (x : X) × (slice_get xs i ≡ Some x)
-there [] i l = absurd (omega (arith, l))
-there (x ∷ xs) zero l = (x, refl)
-there (x ∷ xs) (suc i) l = there xs i (omega (arith, l))
 
 at-both :
     {X Y : Type 0} (test : X → Y → Bool) (xs : List X) (ys : List Y) (i : ℕ) → i < length xs → length ys ≡ length xs

@@ -3,7 +3,7 @@ use Rattle.std.proofs.Common.{◌≡◌, ◌≢◌, ℕ, zero, suc, ◌+◌, ◌
 use Rattle.std.proofs.Common.{length, Option, None, Some, slice_index_or, slice_get, if◌then◌else◌, refl, sym, ◌∙◌, ap, subst}
 use Rattle.std.proofs.Common.{arith, inl, inr}
 use Rattle.std.specs.List.{range_with_len}
-use Rattle.std.proofs.lemmas.Bool.{true≢false, not-false as like-by}
+use Rattle.std.proofs.lemmas.Bool.{true≢false}
 use Rattle.trit_cubes.specs.declared.trits.Trit.{Trit}
 use Rattle.trit_cubes.specs.declared.trits.Trit.TheVariants.{Zero, One, Unknown}
 use Rattle.trit_cubes.specs.Filling.{same}
@@ -15,7 +15,7 @@ use Rattle.cell_machine.specs.declared.checks.Check.{Check}
 use Rattle.cell_machine.specs.declared.arcs.Arc.{Arc}
 use Rattle.cell_machine.specs.CellData.{CellData}
 use Rattle.cell_machine.specs.CellTrace.{support_at, sources_at}
-use Rattle.cell_machine.proofs.StillLemmas.{same-self}
+use Rattle.cell_machine.proofs.StillLemmas.{same-self, same-is, same-equal as alike}
 use Rattle.udp_tables.specs.Sequential.{noted}
 use Rattle.udp_tables.specs.CellPrimitives.{has_notifier}
 use Rattle.udp_tables.specs.declared.timing_checks.TimingCheck.{TimingCheck}
@@ -55,28 +55,13 @@ all-lists (suc n) (Unknown ∷ c) e =
     (map (λ d. Unknown ∷ d) (cubes_of n))
     (map-among (λ d. Unknown ∷ d) c (cubes_of n) (all-lists n c (omega arith)))
 
--- values that are not unlike
-pub same-are : (a b : Trit) → same a b ≡ true → a ≡ b
-same-are Zero Zero h = refl
-same-are One One h = refl
-same-are Unknown Unknown h = refl
-same-are Zero One h = absurd (true≢false (sym h))
-same-are Zero Unknown h = absurd (true≢false (sym h))
-same-are One Zero h = absurd (true≢false (sym h))
-same-are One Unknown h = absurd (true≢false (sym h))
-same-are Unknown Zero h = absurd (true≢false (sym h))
-same-are Unknown One h = absurd (true≢false (sym h))
-
-alike : (cell model : Trit) → not (same cell model) ≡ false → model ≡ cell
-alike cell model h = sym (same-are cell model (like-by (same cell model) h))
-
 likeness : (cell model : Trit) → model ≡ cell → not (same cell model) ≡ false
 likeness cell model h = ap not (subst (λ x. same cell x ≡ true) (sym h) (same-self cell))
 
 -- a place that changes
 changes : (p : ℕ) (old : Trit) (values : List Trit) → old ≢ slice_index_or values p Unknown → changes_at p old values ≡ true
 changes p old values h = by (same old (slice_index_or values p Unknown))
-    (λ e. h (same-are old (slice_index_or values p Unknown) e))
+    (λ e. h (same-is old (slice_index_or values p Unknown) e))
   where
     by : (b : Bool) → (b ≡ true → ⊥) → not b ≡ true
     by true k = absurd (k refl)

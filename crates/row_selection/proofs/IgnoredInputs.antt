@@ -3,7 +3,7 @@ use Rattle.std.proofs.Common.{◌≡◌, ◌≢◌, ℕ, zero, suc, ◌<◌, ◌
 use Rattle.std.proofs.Common.{length, map, refl, sym, ◌∙◌, ap, inl, inr, arith}
 use Rattle.std.specs.Prelude.{All, slice_set, slice_index_or}
 use Rattle.std.specs.List.{list_all}
-use Rattle.std.proofs.lemmas.Bool.{cases_Bool, cases_eq, false≢true, eq-eqb}
+use Rattle.std.proofs.lemmas.Bool.{cases_Bool, cases_eq, false≢true, eq-eqb, and_parts, not-true}
 use Rattle.std.proofs.lemmas.List.{length-map}
 use Rattle.trit_cubes.specs.declared.trits.Trit.{Trit}
 use Rattle.trit_cubes.specs.declared.trits.Trit.TheVariants.{Unknown}
@@ -33,11 +33,6 @@ any-matches entry.F h a b = absurd (false≢true h)
 any-matches entry.P h a b = absurd (false≢true h)
 any-matches entry.N h a b = absurd (false≢true h)
 any-matches entry.Star h a b = absurd (false≢true h)
-
--- both of two tests
-both : (a b : Bool) → (a && b) ≡ true → (a ≡ true) × (b ≡ true)
-both true b h = (refl, h)
-both false b h = absurd (false≢true h)
 
 either : (a b : Bool) → (not a || b) ≡ true → a ≡ true → b ≡ true
 either true b h e = h
@@ -80,7 +75,7 @@ still n [] [] values others h same = refl
 still n [] (e ∷ es) values others h same = refl
 still n (k ∷ ks) [] values others h same = refl
 still n (k ∷ ks) (e ∷ es) values others h same =
-    let parts = both (not (nat_eq k n) || is_any e) (asks_nothing n ks es) h in
+    let parts = and_parts (not (nat_eq k n) || is_any e) (asks_nothing n ks es) h in
     λ i. entry-same n k e values others parts.0 same i && still n ks es values others parts.1 same i
 
 changing :
@@ -93,10 +88,10 @@ changing p old n [] (e ∷ es) values others h same = refl
 changing zero old n (k ∷ ks) [] values others h same = refl
 changing (suc p) old n (k ∷ ks) [] values others h same = refl
 changing zero old n (k ∷ ks) (e ∷ es) values others h same =
-    let parts = both (not (nat_eq k n) || is_any e) (asks_nothing n ks es) h in
+    let parts = and_parts (not (nat_eq k n) || is_any e) (asks_nothing n ks es) h in
     λ i. entry-changes n k e old values others parts.0 same i && still n ks es values others parts.1 same i
 changing (suc p) old n (k ∷ ks) (e ∷ es) values others h same =
-    let parts = both (not (nat_eq k n) || is_any e) (asks_nothing n ks es) h in
+    let parts = and_parts (not (nat_eq k n) || is_any e) (asks_nothing n ks es) h in
     λ i. entry-same n k e values others parts.0 same i && changing p old n ks es values others parts.1 same i
 
 -- a row matches both where it asks nothing of them, or may not match
@@ -107,10 +102,6 @@ not-selected :
 not-selected p old row values state h wide inside few =
     row-hit p old row values state wide inside few
     ∙ ap (λ b. b && selected_hit (value_word values) old (slice_index_or values p Unknown) state (selected_row p row)) h
-
-by-not : (b : Bool) → not b ≡ true → b ≡ false
-by-not true h = absurd (false≢true h)
-by-not false h = refl
 
 row-free :
     (p : ℕ) (old : Trit) (n : ℕ) (order : List ℕ) (row : UdpRow) (values others : List Trit) (state : Trit)
@@ -126,7 +117,7 @@ row-free p old n order row values others state h wide inside few same =
     elim (cases_Bool (asks_nothing n order row.inputs)) [
       | inl asks ↦ ap (λ b. b && level_matches row.state state) (changing p old n order row.inputs values others asks same)
       | inr asks ↦
-          let out = by-not (selects p old row) (sym (ap (λ b. b || not (selects p old row)) asks) ∙ h) in
+          let out = not-true (selects p old row) (sym (ap (λ b. b || not (selects p old row)) asks) ∙ h) in
           not-selected p old row one state out (wide ∙ sym one-long) (omega (arith, inside, one-long))
           (omega (arith, few, one-long))
           ∙ sym (not-selected p old row other state out (wide ∙ sym other-long) (omega (arith, inside, other-long))
@@ -141,7 +132,7 @@ first-same :
     → first one value rows o ≡ first other value rows r
 first-same one other value keep P [] o r k all same e = e
 first-same one other value keep P (row ∷ rows) o r k all same e =
-    let parts = both (keep row) (list_all keep rows) k in
+    let parts = and_parts (keep row) (list_all keep rows) k in
     let rest = first-same one other value keep P rows o r parts.1 (λ j d l. all (suc j) d (omega (arith, l))) same e in
     λ i. cond (same row parts.0 (all 0 row (omega arith)) i) (value row) (rest i)
 

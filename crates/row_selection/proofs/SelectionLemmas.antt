@@ -1,6 +1,6 @@
 -- Selected rows: their words tell exactly whether their levels match, and they decide as all rows do.
 use Rattle.std.proofs.Common.{◌≡◌, ℕ, zero, suc, ◌+◌, ◌*◌, ◌<◌, ◌≤◌, Bool, true, false, cond, ◌&&◌, ◌||◌, nat_eq, bit_and, List}
-use Rattle.std.proofs.Common.{[], ◌∷◌, ◌++◌, length, map, take, refl, sym, ◌∙◌, ap, subst, inl, inr, arith, length-set}
+use Rattle.std.proofs.Common.{[], ◌∷◌, length, map, take, refl, sym, ◌∙◌, ap, subst, inl, inr, arith, length-set}
 use Rattle.std.specs.Prelude.{All, filter, slice_set, slice_index_or}
 use Rattle.std.specs.List.{list_all}
 use Rattle.std.proofs.lemmas.Bool.{cases_Bool, false≢true, or_left, or_right}
@@ -23,6 +23,7 @@ use Rattle.udp_tables.specs.RowWords.{level_of, asked_bits, value_bits, words_of
 use Rattle.udp_tables.specs.RowKeys.{level_after}
 use Rattle.udp_tables.proofs.ColumnLemmas.{and-false, and-assoc, and-swap}
 use Rattle.udp_tables.proofs.FirstLemmas.{first-append}
+use Rattle.udp_tables.proofs.RowWordLemmas.{asked_bits-below, value_bits-below}
 use Rattle.row_selection.specs.declared.selected_rows.SelectedRow.{SelectedRow}
 use Rattle.row_selection.specs.Selection.{any, settled, may_go, selects, is_of, selected_row, selected_of, selected_hit}
 use Rattle.row_selection.specs.Laws.{SelectedRowsDecide}
@@ -44,12 +45,6 @@ bits-exact level.Any Unknown = refl
 bits-exact level.Binary Zero = refl
 bits-exact level.Binary One = refl
 bits-exact level.Binary Unknown = refl
-
-asked_bits-below : (l : Level) → asked_bits l < 4
-asked_bits-below l = grind arith
-
-value_bits-below : (l : Level) → value_bits l < 4
-value_bits-below l = grind arith
 
 -- at an input that does not change, no entry matches that is no level
 entry-exact : (e : Entry) (t : Trit)

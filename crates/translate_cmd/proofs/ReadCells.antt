@@ -1,6 +1,6 @@
 -- What is read of a cell that nothing refuses: its core is a cell without Z that nothing refuses, under a name of its own.
-use Rattle.std.proofs.Common.{◌≡◌, ℕ, ◌^◌, ◌<◌, Bool, true, false, List, [], ◌∷◌, ◌++◌, map, refl, sym, ap, subst, ◌∙◌, Option}
-use Rattle.std.proofs.Common.{Some, None, is_some, if◌then◌else◌}
+use Rattle.std.proofs.Common.{◌≡◌, ℕ, ◌^◌, ◌<◌, false, List, [], ◌∷◌, ◌++◌, map, refl, sym, ap, subst, ◌∙◌, Option}
+use Rattle.std.proofs.Common.{Some, None, is_some}
 use Rattle.library_simulation.specs.file_models.bool_functions.NameList.{number_of}
 use Rattle.written_driven_models.specs.liberty_text.declared.time.Unit.{Unit}
 use Rattle.written_driven_models.specs.liberty_groups.declared.tree.Item.{Item}
@@ -10,7 +10,7 @@ use Rattle.written_driven_models.specs.liberty_groups.declared.tree.Group.{Group
 use Rattle.library_simulation.specs.file_models.cell_machine.CellData.{CellData}
 use Rattle.cell_attributes.specs.Groups.{first_argument, cell_name}
 use Rattle.cell_attributes.specs.Declarations.{declared_of, known_cell, clashes_after}
-use Rattle.cell_attributes.proofs.Distinct.{nil_parts}
+use Rattle.cell_attributes.proofs.Distinct.{nil_parts, no_place as not_known}
 use Rattle.cell_reader.specs.declared.refusal.Refusal.{Refusal}
 use Rattle.cell_reader.specs.CellTexts.{subject_of}
 use Rattle.cell_reader.specs.Refusals.{refusal_of}
@@ -29,10 +29,6 @@ first_none : (one other : Option Refusal) → first_of_two one other ≡ None �
 first_none None other e = refl
 first_none (Some one) None e = absurd cc
 first_none (Some one) (Some other) e = absurd cc
-
-not_known : (b : Bool) (at : ℕ) → (if b then at ∷ [] else []) ≡ [] → b ≡ false
-not_known true at h = absurd cc
-not_known false at h = refl
 
 -- the core of a cell under the cell's own name
 abbrev pub under_own_name : DrivenData → CellData

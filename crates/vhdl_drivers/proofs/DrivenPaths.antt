@@ -4,6 +4,7 @@ use Rattle.std.proofs.Common.{◌++◌, length, get_or, drop, Result, Err, IsErr
 use Rattle.std.specs.List.{list_any}
 use Rattle.std.proofs.lemmas.Bool.Decides.{nat_tests}
 use Rattle.std.proofs.lemmas.List.{append-nil, drop_more, drop_all}
+use Rattle.std.proofs.lemmas.Bool.{eq-eqb as same, ne_eqb as different}
 use Rattle.text_io.specs.declared.outside.Failed.{Failed}
 use Rattle.text_io.specs.declared.slots.OutSlot.{OutSlot}
 use Rattle.text_io.specs.Desk.{DeskState}
@@ -12,12 +13,6 @@ use Rattle.text_io.proofs.LineLaws.{Gathers-Gathers, puts_on, put_stops}
 use Rattle.driven_traces.specs.declared.delays.DrivePath.{DrivePath}
 use Rattle.vhdl_writer.specs.Joined.{numbered_texts}
 use Rattle.vhdl_drivers.specs.DriverText.{paths_to}
-
-same : (a b : ℕ) → a ≡ b → nat_eq a b ≡ true
-same a b e = grind (arith, nat_tests, e)
-
-different : (a b : ℕ) → (a ≡ b → ⊥) → nat_eq a b ≡ false
-different a b never = grind (arith, nat_tests, never)
 
 one_more : (number : ℕ) (path : DrivePath) (paths : List DrivePath)
     → list_any (λ path. nat_eq path.drive number) paths ≡ nat_lt 0 (length (paths_to number paths)) → (b : Bool)

@@ -143,11 +143,7 @@ same_name (b ∷ x) y n = same_letters b x y (and_parts (is_ascii_alphabetic b) 
 -- a name is no word
 no_word : (x : List ℕ) → IsNamed x → is_vhdl_word x ≡ false
 no_word [] n = absurd (cc n.identifier)
-no_word (b ∷ x) n = by (is_vhdl_word (b ∷ x)) (and_parts (is_ascii_alphabetic b) (not (is_vhdl_word (b ∷ x))) n.named).1
-  where
-    by : (t : Bool) → not t ≡ true → t ≡ false
-    by true h = absurd cc
-    by false h = refl
+no_word (b ∷ x) n = is_other (is_vhdl_word (b ∷ x)) (and_parts (is_ascii_alphabetic b) (not (is_vhdl_word (b ∷ x))) n.named).1
 
 same_word : (x w : List ℕ) → str_to_ascii_lowercase x ≡ str_to_ascii_lowercase w → is_vhdl_word x ≡ is_vhdl_word w
 unfolding is_reserved is_used

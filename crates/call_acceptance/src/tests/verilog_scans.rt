@@ -39,11 +39,14 @@ impl Row for Scan {
     }
 }
 
-const SCANS: [Scan; 18] = [
+const SCANS: [Scan; 17] = [
     // the longest token
     Scan(b"`timescale 1ps/1psx", b"`timescale 1ps / 1ps x ", None),
-    Scan(b"(A=>B)=(11ps,1", b"( A => B ) = ( 11 ps , 1 ", None),
-    Scan(b"1'b0&&&1", b"1'b0 &&& 1 ", None),
+    Scan(
+        b"(A=>B)=(1'b0&&&1,11ps",
+        b"( A => B ) = ( 1'b0 &&& 1 , 11 ps ",
+        None,
+    ),
     Scan(b"$set_up2$", b"$set _up2 $ ", None),
     Scan(b"000000000000015", b"000000000000015 ", None),
     // the symbols of a table
